@@ -1,0 +1,19 @@
+use Rattle.std.proofs.Common.{refl}
+use Rattle.b3_core.specs.Compression.{mix}
+use Rattle.b3_core.proofs.lanes.mix.Goals as goal
+
+pub returns : goal.returns
+unfolding mix
+returns c j h =
+    rw (
+      c.xor_turn-b2.ensures j h,
+      c.add-c2.ensures j h,
+      c.xor_turn-d2.ensures j h,
+      c.add-a2.ensures j h,
+      c.add-a3.ensures j h,
+      c.xor_turn-b1.ensures j h,
+      c.add-c1.ensures j h,
+      c.xor_turn-d1.ensures j h,
+      c.add-a1.ensures j h,
+      c.add-a0.ensures j h,
+    ) refl

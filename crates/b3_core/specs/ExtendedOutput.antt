@@ -1,0 +1,32 @@
+-- The extended output of a root (BLAKE3, section 2.6).
+use Rattle.std.specs.Prelude.{ℕ, ◌+◌, ◌-◌, ◌/◌, ◌%◌, nat_eq, List, map, slice_index, if◌then◌else◌}
+use Rattle.std.specs.List.{range_with_len}
+use Rattle.std.specs.Int.{w32, to_le_bytes}
+use Rattle.b3_core.specs.Compression.{compress_of, root_flag}
+use Rattle.b3_core.specs.Tree.{Inputs}
+
+-- byte i of the words w, each with its low byte first
+abbrev pub byte_of : List ℕ → ℕ → ℕ
+byte_of w i = slice_index (to_le_bytes w32 (slice_index w (i / 4))) (i % 4)
+
+-- the 16 words of block t of the extended output of the root n: its last compression with ROOT, the counter
+-- being the number of the output's block
+abbrev pub root_words_of : Inputs → ℕ → List ℕ
+root_words_of n t = compress_of n.chaining_value n.block_words t n.block_len (n.flags + root_flag)
+
+-- byte i of the extended output of the root n
+unfoldable pub output_byte : Inputs → ℕ → ℕ
+output_byte n i = byte_of (root_words_of n (i / 64)) (i % 64)
+
+-- len bytes of the extended output, from byte i on
+abbrev pub output_of : Inputs → ℕ → ℕ → List ℕ
+output_of n i len = map (output_byte n) (range_with_len i len)
+
+-- what a reader of the output is: the root, and the place of the next byte
+pub record Reader : Type 0 where
+  pub root : Inputs
+  pub position : ℕ
+
+-- the blocks of 64 bytes that len bytes from byte i on touch
+abbrev pub blocks_touched : ℕ → ℕ → ℕ
+blocks_touched i len = if nat_eq len 0 then 0 else (i + len - 1) / 64 + 1 - i / 64

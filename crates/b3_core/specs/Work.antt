@@ -1,0 +1,15 @@
+-- Counts of compressions.
+use Rattle.std.specs.Prelude.{ℕ, ◌+◌, ◌-◌, ◌/◌, ◌^◌, min, max}
+use Rattle.b3_core.specs.Tree.{chunk_count}
+
+-- a count of n compressions, at most 2 ^ 64 - 1, after k more: it stays at its greatest value
+abbrev pub counted : ℕ → ℕ → ℕ
+counted n k = n + min k (2 ^ 64 - 1 - n)
+
+-- the blocks of n bytes; no bytes are one empty block
+abbrev pub block_count : ℕ → ℕ
+block_count n = max 1 ((n + 63) / 64)
+
+-- the compressions of the hash of n bytes: one for each block, and one for each parent
+abbrev pub hash_work : ℕ → ℕ
+hash_work n = block_count n + chunk_count n - 1

@@ -1,0 +1,340 @@
+// Eight chunks at a time, one lane a chunk.
+
+ghost use Rattle.std.specs.Prelude.{◌≡◌, ℕ, ◌+◌, ◌-◌, ◌*◌, ◌/◌, ◌%◌, ◌^◌, ◌<◌, ◌≤◌, List, take, slice_index, bit_xor};
+ghost use Rattle.b3_core.specs.Compression.{add32, xor_turn, mix, columns, diagonals, round, permute, start_state, compress_of, output_words};
+ghost use Rattle.b3_core.specs.Lanes.{lane, half_lane, chunk_bytes, chunk_at};
+ghost use Rattle.b3_core.specs.Tree.{chaining_value_of, word_at, block, block_words_of, chain};
+
+use crate::compression::{CHUNK_END, IV, high, low};
+use crate::mode::Mode;
+use crate::top::start_flag;
+use crate::words::word;
+use std::simd::u32x8;
+
+#[inline(always)]
+fn add(a: u32x8, b: u32x8) -> u32x8
+    ensures { (j : ℕ) → j < 8 → slice_index result j ≡ add32 (slice_index a j) (slice_index b j) }
+{
+    a + b
+}
+
+#[inline(always)]
+fn xor(a: u32x8, b: u32x8) -> u32x8
+    ensures { (j : ℕ) → j < 8 → slice_index result j ≡ bit_xor (slice_index a j) (slice_index b j) }
+{
+    a ^ b
+}
+
+#[inline(always)]
+fn xor_turn(a: u32x8, b: u32x8, k: u32) -> u32x8
+    requires { (0 < k) × (k < 32) }
+    ensures { (j : ℕ) → j < 8 → slice_index result j ≡ xor_turn (slice_index a j) (slice_index b j) k }
+{
+    let x = a ^ b;
+    (x >> u32x8::splat(k)) | (x << u32x8::splat(32 - k))
+}
+
+#[inline(always)]
+fn mix(a: u32x8, b: u32x8, c: u32x8, d: u32x8, x: u32x8, y: u32x8) -> (u32x8, u32x8, u32x8, u32x8)
+    ensures { (j : ℕ) → j < 8
+        → (slice_index result.0 j, slice_index result.1 j, slice_index result.2 j, slice_index result.3 j)
+        ≡ mix (slice_index a j) (slice_index b j) (slice_index c j) (slice_index d j) (slice_index x j) (slice_index y j) }
+{
+    let a0 = add(a, b);
+    let a1 = add(a0, x);
+    let d1 = xor_turn(d, a1, 16);
+    let c1 = add(c, d1);
+    let b1 = xor_turn(b, c1, 12);
+    let a3 = add(a1, b1);
+    let a2 = add(a3, y);
+    let d2 = xor_turn(d1, a2, 8);
+    let c2 = add(c1, d2);
+    let b2 = xor_turn(b1, c2, 7);
+    (a2, b2, c2, d2)
+}
+
+#[inline(always)]
+fn columns(v: [u32x8; 16], m: [u32x8; 16]) -> [u32x8; 16]
+    ensures { (j : ℕ) → j < 8 → lane j result ≡ columns (lane j v) (lane j m) }
+{
+    let [
+        v0,
+        v1,
+        v2,
+        v3,
+        v4,
+        v5,
+        v6,
+        v7,
+        v8,
+        v9,
+        v10,
+        v11,
+        v12,
+        v13,
+        v14,
+        v15,
+    ] = v;
+    let (v0, v4, v8, v12) = mix(v0, v4, v8, v12, m[0], m[1]);
+    let (v1, v5, v9, v13) = mix(v1, v5, v9, v13, m[2], m[3]);
+    let (v2, v6, v10, v14) = mix(v2, v6, v10, v14, m[4], m[5]);
+    let (v3, v7, v11, v15) = mix(v3, v7, v11, v15, m[6], m[7]);
+    [
+        v0, v1, v2, v3, v4, v5, v6, v7, v8, v9, v10, v11, v12, v13, v14, v15,
+    ]
+}
+
+#[inline(always)]
+fn diagonals(v: [u32x8; 16], m: [u32x8; 16]) -> [u32x8; 16]
+    ensures { (j : ℕ) → j < 8 → lane j result ≡ diagonals (lane j v) (lane j m) }
+{
+    let [
+        v0,
+        v1,
+        v2,
+        v3,
+        v4,
+        v5,
+        v6,
+        v7,
+        v8,
+        v9,
+        v10,
+        v11,
+        v12,
+        v13,
+        v14,
+        v15,
+    ] = v;
+    let (v0, v5, v10, v15) = mix(v0, v5, v10, v15, m[8], m[9]);
+    let (v1, v6, v11, v12) = mix(v1, v6, v11, v12, m[10], m[11]);
+    let (v2, v7, v8, v13) = mix(v2, v7, v8, v13, m[12], m[13]);
+    let (v3, v4, v9, v14) = mix(v3, v4, v9, v14, m[14], m[15]);
+    [
+        v0, v1, v2, v3, v4, v5, v6, v7, v8, v9, v10, v11, v12, v13, v14, v15,
+    ]
+}
+
+#[inline(always)]
+fn round(v: [u32x8; 16], m: [u32x8; 16]) -> [u32x8; 16]
+    ensures { (j : ℕ) → j < 8 → lane j result ≡ round (lane j v) (lane j m) }
+{
+    diagonals(columns(v, m), m)
+}
+
+#[inline(always)]
+fn permute(m: [u32x8; 16]) -> [u32x8; 16]
+    ensures { (j : ℕ) → j < 8 → lane j result ≡ permute (lane j m) }
+{
+    [
+        m[2], m[6], m[3], m[10], m[7], m[0], m[4], m[13], m[1], m[11], m[12], m[5], m[9], m[14],
+        m[15], m[8],
+    ]
+}
+
+#[inline(always)]
+fn splat(x: u32) -> u32x8
+    ensures { (j : ℕ) → j < 8 → slice_index result j ≡ x }
+{
+    u32x8::splat(x)
+}
+
+// The state before the rounds, in each lane.
+#[inline(always)]
+fn start_states(h: [u32x8; 8], t_low: u32x8, t_high: u32x8, d: u32) -> [u32x8; 16]
+    ensures { (j t : ℕ) → j < 8 → slice_index t_low j ≡ t % 2 ^ 32 → slice_index t_high j ≡ t / 2 ^ 32
+        → lane j result ≡ start_state (half_lane j h) t 64 d }
+{
+    let i0 = splat(IV[0]);
+    let i1 = splat(IV[1]);
+    let i2 = splat(IV[2]);
+    let i3 = splat(IV[3]);
+    let b = splat(64);
+    let f = splat(d);
+    [
+        h[0], h[1], h[2], h[3], h[4], h[5], h[6], h[7], i0, i1, i2, i3, t_low, t_high, b, f,
+    ]
+}
+
+// The chaining value of a whole block, in each lane.
+fn compress(h: [u32x8; 8], m0: [u32x8; 16], t_low: u32x8, t_high: u32x8, d: u32) -> [u32x8; 8]
+    ensures { (j t : ℕ) → j < 8 → slice_index t_low j ≡ t % 2 ^ 32 → slice_index t_high j ≡ t / 2 ^ 32
+        → half_lane j result ≡ take 8 (compress_of (half_lane j h) (lane j m0) t 64 d) }
+{
+    let v0 = start_states(h, t_low, t_high, d);
+    let v1 = round(v0, m0);
+    let m1 = permute(m0);
+    let v2 = round(v1, m1);
+    let m2 = permute(m1);
+    let v3 = round(v2, m2);
+    let m3 = permute(m2);
+    let v4 = round(v3, m3);
+    let m4 = permute(m3);
+    let v5 = round(v4, m4);
+    let m5 = permute(m4);
+    let v6 = round(v5, m5);
+    let m6 = permute(m5);
+    let v = round(v6, m6);
+    halves(v)
+}
+
+#[inline(always)]
+fn halves(v: [u32x8; 16]) -> [u32x8; 8]
+    ensures { (j : ℕ) (h : List ℕ) → j < 8 → half_lane j result ≡ take 8 (output_words h (lane j v)) }
+{
+    let w0 = xor(v[0], v[8]);
+    let w1 = xor(v[1], v[9]);
+    let w2 = xor(v[2], v[10]);
+    let w3 = xor(v[3], v[11]);
+    let w4 = xor(v[4], v[12]);
+    let w5 = xor(v[5], v[13]);
+    let w6 = xor(v[6], v[14]);
+    let w7 = xor(v[7], v[15]);
+    [w0, w1, w2, w3, w4, w5, w6, w7]
+}
+
+// The word at one place of each chunk.
+#[inline(always)]
+fn words_at(bytes: &[u8; 8192], at: usize) -> u32x8
+    requires { at + 4 ≤ 1024 }
+    ensures { (j : ℕ) → j < 8 → slice_index result j ≡ word_at bytes.now (1024 * j + at) }
+{
+    u32x8::from_array([
+        word(bytes, at),
+        word(bytes, 1024 + at),
+        word(bytes, 2048 + at),
+        word(bytes, 3072 + at),
+        word(bytes, 4096 + at),
+        word(bytes, 5120 + at),
+        word(bytes, 6144 + at),
+        word(bytes, 7168 + at),
+    ])
+}
+
+// Block `k` of each chunk.
+#[inline(always)]
+fn blocks_at(bytes: &[u8; 8192], k: usize) -> [u32x8; 16]
+    requires { k < 16 }
+    ensures { (j : ℕ) → j < 8 → lane j result ≡ block_words_of (block (chunk_bytes bytes.now j) k) }
+{
+    let at = 64 * k;
+    let w0 = words_at(bytes, at);
+    let w1 = words_at(bytes, at + 4);
+    let w2 = words_at(bytes, at + 8);
+    let w3 = words_at(bytes, at + 12);
+    let w4 = words_at(bytes, at + 16);
+    let w5 = words_at(bytes, at + 20);
+    let w6 = words_at(bytes, at + 24);
+    let w7 = words_at(bytes, at + 28);
+    let w8 = words_at(bytes, at + 32);
+    let w9 = words_at(bytes, at + 36);
+    let w10 = words_at(bytes, at + 40);
+    let w11 = words_at(bytes, at + 44);
+    let w12 = words_at(bytes, at + 48);
+    let w13 = words_at(bytes, at + 52);
+    let w14 = words_at(bytes, at + 56);
+    let w15 = words_at(bytes, at + 60);
+    [
+        w0, w1, w2, w3, w4, w5, w6, w7, w8, w9, w10, w11, w12, w13, w14, w15,
+    ]
+}
+
+// The low word of each chunk's number.
+fn low_words(number: u64) -> u32x8
+    requires { number ≤ 2 ^ 64 - 8 }
+    ensures { (j : ℕ) → j < 8 → slice_index result j ≡ (number + j) % 2 ^ 32 }
+{
+    u32x8::from_array([
+        low(number),
+        low(number + 1),
+        low(number + 2),
+        low(number + 3),
+        low(number + 4),
+        low(number + 5),
+        low(number + 6),
+        low(number + 7),
+    ])
+}
+
+// The high word of each chunk's number.
+fn high_words(number: u64) -> u32x8
+    requires { number ≤ 2 ^ 64 - 8 }
+    ensures { (j : ℕ) → j < 8 → slice_index result j ≡ (number + j) / 2 ^ 32 }
+{
+    u32x8::from_array([
+        high(number),
+        high(number + 1),
+        high(number + 2),
+        high(number + 3),
+        high(number + 4),
+        high(number + 5),
+        high(number + 6),
+        high(number + 7),
+    ])
+}
+
+// The key words, in each lane.
+fn keys(key: [u32; 8]) -> [u32x8; 8]
+    ensures { (j : ℕ) → j < 8 → half_lane j result ≡ key }
+{
+    let k0 = splat(key[0]);
+    let k1 = splat(key[1]);
+    let k2 = splat(key[2]);
+    let k3 = splat(key[3]);
+    let k4 = splat(key[4]);
+    let k5 = splat(key[5]);
+    let k6 = splat(key[6]);
+    let k7 = splat(key[7]);
+    [k0, k1, k2, k3, k4, k5, k6, k7]
+}
+
+// The chaining value of each of eight chunks after all of its blocks but the last.
+pub(crate) fn chains(mode: &Mode, bytes: &[u8; 8192], number: u64) -> [u32x8; 8]
+    requires { number ≤ 2 ^ 64 - 8 }
+    ensures { (j : ℕ) → j < 8 → half_lane j result ≡ chain (chunk_bytes bytes.now j) (number + j) mode.now 15 }
+{
+    let t_low = low_words(number);
+    let t_high = high_words(number);
+    let mut h = keys(mode.key());
+    'blocks: for k in 0..15 {
+        let m = blocks_at(bytes, k);
+        let next = compress(h, m, t_low, t_high, mode.flag() + start_flag(k));
+        h = next;
+    }
+    h
+}
+
+// The chaining value of each of eight chunks.
+pub(crate) fn chunk_values(mode: &Mode, bytes: &[u8; 8192], number: u64) -> [u32x8; 8]
+    requires { number ≤ 2 ^ 64 - 8 }
+    ensures { (j : ℕ) → j < 8 → half_lane j result ≡ chaining_value_of (chunk_at bytes.now number mode.now j) }
+{
+    let before_last = chains(mode, bytes, number);
+    let last_block = blocks_at(bytes, 15);
+    let t_low = low_words(number);
+    let t_high = high_words(number);
+    compress(
+        before_last,
+        last_block,
+        t_low,
+        t_high,
+        mode.flag() + CHUNK_END,
+    )
+}
+
+// The words of one lane.
+pub(crate) fn lane_words(h: &[u32x8; 8], i: usize) -> [u32; 8]
+    requires { i < 8 }
+    ensures { result ≡ half_lane i h.now }
+{
+    [
+        h[0].to_array()[i],
+        h[1].to_array()[i],
+        h[2].to_array()[i],
+        h[3].to_array()[i],
+        h[4].to_array()[i],
+        h[5].to_array()[i],
+        h[6].to_array()[i],
+        h[7].to_array()[i],
+    ]
+}

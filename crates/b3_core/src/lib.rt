@@ -1,0 +1,38 @@
+//! BLAKE3 (O'Connor, Aumasson, Neves and Wilcox-O'Hearn, the specification of 2020, sections 2.1 to 2.6).
+//!
+//! Every call gives the value of the specification's definition, which `specs/` restates, for each input,
+//! and says by how much it raises a count of compressions. No call takes memory, and none fails but
+//! `OutputReader::fill` past the output's end.
+//!
+//! - `compress` is the compression function.
+//! - `Mode` is one of the three modes: hash, keyed hash, derive key.
+//! - `Top` is a node of the tree before it is known whether it is the root: of one chunk, of eight chunks at a
+//!   time, or the parent of two nodes.
+//! - `hash` is the hash in a mode by plain recursion. `hash_wide` is the same value by eight chunks at a time, and
+//!   `Top::of_input` the node from which it comes.
+//! - `OutputReader` reads the extended output.
+//! - `tree_laws` states the tree in the specification's own words.
+#![tactic(auto)]
+
+mod compression;
+mod lanes;
+mod laws;
+mod mode;
+mod output;
+mod top;
+mod tree;
+mod wide;
+mod words;
+mod work;
+
+pub use compression::compress;
+pub use laws::tree_laws;
+pub use mode::Mode;
+pub use output::{OutputEnd, OutputReader};
+pub use top::Top;
+pub use tree::hash;
+pub use wide::hash_wide;
+pub use work::Work;
+
+#[cfg(test)]
+mod tests;

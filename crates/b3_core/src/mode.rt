@@ -1,0 +1,77 @@
+// The modes of the hash (section 2.3): the key words, and the flag of each compression.
+
+ghost use Rattle.std.specs.Prelude.{◌≡◌, ◌≤◌, length};
+ghost use Rattle.b3_core.specs.Modes.{hash_mode, keyed_mode, derive_mode};
+ghost use Rattle.b3_core.specs.Tree.{Keying};
+ghost use Rattle.b3_core.specs.Work.{counted, hash_work};
+
+use crate::compression::{DERIVE_KEY_CONTEXT, DERIVE_KEY_MATERIAL, IV, KEYED_HASH};
+use crate::tree::hash;
+use crate::words::words_of_key;
+use crate::work::Work;
+use std::marker::Model;
+
+/// One of the three modes (section 2.3), with its key.
+#[derive(Clone, Copy)]
+pub struct Mode {
+    key: [u32; 8],
+    flag: u32,
+}
+
+impl Model for Mode {
+    ghost Value = { Keying };
+
+    ghost view = { λ m. record { key = m.key; flag = m.flag } };
+
+    ghost inverse = { λ k. record { key = k.key; flag = k.flag } };
+
+    ghost invariant = { λ m. m.flag ≤ 64 };
+}
+
+impl Mode {
+    /// The default mode, `hash`.
+    pub fn hash() -> Mode
+        ensures { result ≡ hash_mode }
+    {
+        Mode { key: IV, flag: 0 }
+    }
+
+    /// The mode `keyed_hash`, with a key of 32 bytes.
+    pub fn keyed(key: &[u8; 32]) -> Mode
+        ensures { result ≡ keyed_mode key.now }
+    {
+        Mode {
+            key: words_of_key(key),
+            flag: KEYED_HASH,
+        }
+    }
+
+    /// The mode `derive_key`, with a context. The context is hashed here, which counts as the hash of it does.
+    pub fn derive(context: &[u8], work: &mut Work) -> Mode
+        ensures mode { result ≡ derive_mode context.now }
+        ensures count { work.new ≡ counted work.old (hash_work (length context.now)) }
+    {
+        let context_mode = Mode {
+            key: IV,
+            flag: DERIVE_KEY_CONTEXT,
+        };
+        let key = hash(&context_mode, context, work);
+        Mode {
+            key: words_of_key(&key),
+            flag: DERIVE_KEY_MATERIAL,
+        }
+    }
+
+    pub(crate) fn key(&self) -> [u32; 8]
+        ensures { result ≡ self.now.key }
+    {
+        self.key
+    }
+
+    pub(crate) fn flag(&self) -> u32
+        ensures value { result ≡ self.now.flag }
+        ensures below { result ≤ 64 }
+    {
+        self.flag
+    }
+}

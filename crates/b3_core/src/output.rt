@@ -1,0 +1,92 @@
+// The extended output of a root (section 2.6).
+
+ghost use Rattle.std.specs.Prelude.{◌≡◌, ◌+◌, ◌-◌, ◌^◌, ◌<◌, ◌↔◌, IsErr, OnOk, OnErr, length};
+ghost use Rattle.b3_core.specs.ExtendedOutput.{Reader, output_of, blocks_touched};
+ghost use Rattle.b3_core.specs.Work.{counted};
+
+use crate::top::Top;
+use crate::work::Work;
+use std::marker::Model;
+
+/// H1: the bytes asked for reach past the output's 2^64-1 bytes.
+#[derive(Debug, Drop)]
+pub struct OutputEnd;
+
+/// Reads the extended output of a root (section 2.6), 2^64-1 bytes, from any place on.
+#[derive(Drop)]
+pub struct OutputReader {
+    root: Top,
+    position: u64,
+}
+
+impl Model for OutputReader {
+    ghost Value = { Reader };
+
+    ghost view = { λ r. record { root = r.root; position = r.position } };
+}
+
+impl OutputReader {
+    /// A reader of the output of `root`, at its first byte.
+    pub fn new(root: Top) -> OutputReader
+        ensures { result ≡ record { root = root; position = 0 } }
+    {
+        OutputReader { root, position: 0 }
+    }
+
+    /// The place of the next byte, counted from 0.
+    pub fn position(&self) -> u64
+        ensures { result ≡ self.now.position }
+    {
+        self.position
+    }
+
+    /// Moves to a place, also past the output's end.
+    pub fn set_position(&mut self, position: u64)
+        ensures { self.new ≡ record self.old { position = position } }
+    {
+        self.position = position;
+    }
+
+    /// Fills `out` with the next bytes, and moves past them. It makes one compression for each block of 64 output
+    /// bytes that it touches.
+    ///
+    /// `OutputEnd` where the place plus the length of `out` is above 2^64-1: then nothing has changed.
+    pub fn fill(&mut self, out: &mut [u8], work: &mut Work) -> Result<(), OutputEnd>
+        ensures ends { IsErr result ↔ 2 ^ 64 - 1 < self.old.position + length out.old }
+        ensures bytes { OnOk result (out.new ≡ output_of self.old.root self.old.position (length out.old)) }
+        ensures moved { OnOk result (self.new ≡ record self.old { position = self.old.position + length out.old }) }
+        ensures count { OnOk result (work.new ≡ counted work.old (blocks_touched self.old.position (length out.old))) }
+        ensures err { OnErr result ((out.new ≡ out.old) × (self.new ≡ self.old) × (work.new ≡ work.old)) }
+    {
+        let len = out.len() as u64;
+        let start = self.position;
+        if len > u64::MAX - start {
+            return Err(OutputEnd);
+        }
+        let root = self.root;
+        fill_from(&root, start, out, work);
+        self.position = start + len;
+        Ok(())
+    }
+}
+
+// Fills `out` with the output's bytes from `start` on.
+fn fill_from(root: &Top, start: u64, out: &mut [u8], work: &mut Work)
+    requires { start + length out.old < 2 ^ 64 }
+    ensures bytes { out.new ≡ output_of root.now start (length out.old) }
+    ensures count { work.new ≡ counted work.old (blocks_touched start (length out.old)) }
+{
+    if out.is_empty() {
+        return;
+    }
+    let first = start / 64;
+    let last = (start + (out.len() as u64 - 1)) / 64;
+    let mut done = 0;
+    'blocks: for i in first..last + 1 {
+        let block = root.output_block(i, work);
+        let skip = ((start + done as u64) % 64) as usize;
+        let count = (64 - skip).min(out.len() - done);
+        out[done..done + count].copy_from_slice(&block[skip..skip + count]);
+        done += count;
+    }
+}

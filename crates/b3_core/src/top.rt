@@ -1,0 +1,204 @@
+// A node of the tree: one chunk, or the parent of two nodes.
+
+ghost use Rattle.std.specs.Prelude.{◌≡◌, ℕ, ◌+◌, ◌-◌, ◌*◌, ◌^◌, ◌<◌, ◌≤◌, length};
+ghost use Rattle.b3_core.specs.ExtendedOutput.{output_of, root_words_of};
+ghost use Rattle.b3_core.specs.Lanes.{half_lane, chunk_bytes, chunk_at, eight_chunks};
+ghost use Rattle.b3_core.specs.Tree.{Inputs, chain, chunk_top, parent_top, chaining_value_of, start_flag};
+ghost use Rattle.b3_core.specs.Work.{counted, block_count};
+
+use crate::compression::{BLOCK_LEN, CHUNK_END, CHUNK_LEN, CHUNK_START, PARENT, ROOT, compress};
+use crate::lanes::{chains, lane_words};
+use crate::mode::Mode;
+use crate::words::{bytes_of, first_half, joined, words_of_block, words_of_short_block};
+use crate::work::Work;
+use std::marker::Model;
+use std::simd::u32x8;
+
+/// A node of the tree: the inputs of its last compression, before it is known whether it is the root.
+///
+/// Each node can give either a chaining value for its parent or, as the root, the hash and the extended
+/// output. So it keeps what both need.
+#[derive(Clone, Copy, PartialEq, Eq, Debug)]
+pub struct Top {
+    chaining_value: [u32; 8],
+    block_words: [u32; 16],
+    counter: u64,
+    block_len: u32,
+    flags: u32,
+}
+
+impl Model for Top {
+    ghost Value = { Inputs };
+
+    ghost view = { λ n. record {
+      chaining_value = n.chaining_value;
+      block_words = n.block_words;
+      counter = n.counter;
+      block_len = n.block_len;
+      flags = n.flags;
+    } };
+
+    ghost inverse = { λ n. record {
+      chaining_value = n.chaining_value;
+      block_words = n.block_words;
+      counter = n.counter;
+      block_len = n.block_len;
+      flags = n.flags;
+    } };
+
+    ghost invariant = { λ n. n.flags ≤ 68 };
+}
+
+impl Top {
+    /// The node of one chunk of at most 1024 bytes (section 2.4). `number` counts the chunks before it in the input.
+    pub fn of_chunk(mode: &Mode, bytes: &[u8], number: u64, work: &mut Work) -> Top
+        requires { length bytes.now ≤ 1024 }
+        ensures node { result ≡ chunk_top bytes.now number mode.now }
+        ensures count { work.new ≡ counted work.old (block_count (length bytes.now) - 1) }
+    {
+        let last = bytes.len().saturating_sub(1) / BLOCK_LEN;
+        let mut chaining_value = mode.key();
+        'blocks: for j in 0..last {
+            let at = BLOCK_LEN * j;
+            let block = words_of_block(&bytes[at..at + BLOCK_LEN]);
+            let flags = mode.flag() + start_flag(j);
+            let words = compress(&chaining_value, &block, number, 64, flags, work);
+            chaining_value = first_half(words);
+        }
+        let tail = &bytes[BLOCK_LEN * last..];
+        Top {
+            chaining_value,
+            block_words: words_of_short_block(tail),
+            counter: number,
+            block_len: tail.len() as u32,
+            flags: mode.flag() + start_flag(last) + CHUNK_END,
+        }
+    }
+
+    /// The nodes of eight whole chunks, the first with the given number: node i is `of_chunk` of chunk i with
+    /// `number + i`. It counts their 120 compressions, and makes them side by side.
+    pub fn of_eight(mode: &Mode, bytes: &[u8; 8192], number: u64, work: &mut Work) -> [Top; 8]
+        requires { number ≤ 2 ^ 64 - 8 }
+        ensures nodes { result ≡ eight_chunks bytes.now number mode.now }
+        ensures count { work.new ≡ counted work.old 120 }
+    {
+        work.add(120);
+        let values = chains(mode, bytes, number);
+        let n0 = Top::of_lane(mode, bytes, number, &values, 0);
+        let n1 = Top::of_lane(mode, bytes, number, &values, 1);
+        let n2 = Top::of_lane(mode, bytes, number, &values, 2);
+        let n3 = Top::of_lane(mode, bytes, number, &values, 3);
+        let n4 = Top::of_lane(mode, bytes, number, &values, 4);
+        let n5 = Top::of_lane(mode, bytes, number, &values, 5);
+        let n6 = Top::of_lane(mode, bytes, number, &values, 6);
+        let n7 = Top::of_lane(mode, bytes, number, &values, 7);
+        [n0, n1, n2, n3, n4, n5, n6, n7]
+    }
+
+    // The node of chunk `i` of eight, from the chaining values before their last blocks.
+    fn of_lane(mode: &Mode, bytes: &[u8; 8192], number: u64, values: &[u32x8; 8], i: usize) -> Top
+        requires index { i < 8 }
+        requires number { number ≤ 2 ^ 64 - 8 }
+        ensures { half_lane i values.now ≡ chain (chunk_bytes bytes.now i) (number + i) mode.now 15
+            → result ≡ chunk_at bytes.now number mode.now i }
+    {
+        let at = CHUNK_LEN * i + 960;
+        Top {
+            chaining_value: lane_words(values, i),
+            block_words: words_of_block(&bytes[at..at + BLOCK_LEN]),
+            counter: number + i as u64,
+            block_len: 64,
+            flags: mode.flag() + CHUNK_END,
+        }
+    }
+
+    /// The parent of two nodes (section 2.5).
+    pub fn parent(mode: &Mode, left: &Top, right: &Top, work: &mut Work) -> Top
+        ensures node { result ≡ parent_top left.now right.now mode.now }
+        ensures count { work.new ≡ counted work.old 2 }
+    {
+        let left_value = left.cv(work);
+        let right_value = right.cv(work);
+        Top::of_children(mode, left_value, right_value)
+    }
+
+    // The parent of two nodes with these chaining values.
+    pub(crate) fn of_children(mode: &Mode, left: [u32; 8], right: [u32; 8]) -> Top
+        ensures { (l r : Inputs) → left ≡ chaining_value_of l → right ≡ chaining_value_of r
+            → result ≡ parent_top l r mode.now }
+    {
+        Top {
+            chaining_value: mode.key(),
+            block_words: joined(left, right),
+            counter: 0,
+            block_len: 64,
+            flags: mode.flag() + PARENT,
+        }
+    }
+
+    /// The chaining value of this node: the first 8 words of its last compression, without ROOT.
+    pub fn cv(&self, work: &mut Work) -> [u32; 8]
+        ensures value { result ≡ chaining_value_of self.now }
+        ensures count { work.new ≡ counted work.old 1 }
+    {
+        first_half(compress(
+            &self.chaining_value,
+            &self.block_words,
+            self.counter,
+            self.block_len,
+            self.flags,
+            work,
+        ))
+    }
+
+    // The 64 bytes of block `i` of the extended output of this node as the root (section 2.6).
+    pub(crate) fn output_block(&self, i: u64, work: &mut Work) -> [u8; 64]
+        ensures bytes { result ≡ output_of self.now (64 * i) 64 }
+        ensures count { work.new ≡ counted work.old 1 }
+    {
+        bytes_of(self.root_words(i, work))
+    }
+
+    // The 16 words of block `i` of the extended output.
+    fn root_words(&self, i: u64, work: &mut Work) -> [u32; 16]
+        ensures words { result ≡ root_words_of self.now i }
+        ensures count { work.new ≡ counted work.old 1 }
+    {
+        compress(
+            &self.chaining_value,
+            &self.block_words,
+            i,
+            self.block_len,
+            self.flags + ROOT,
+            work,
+        )
+    }
+
+    /// The hash of the input of which this node is the root: the first 32 bytes of its extended output.
+    pub fn root32(&self, work: &mut Work) -> [u8; 32]
+        ensures bytes { result ≡ output_of self.now 0 32 }
+        ensures count { work.new ≡ counted work.old 1 }
+    {
+        let w = self.root_words(0, work);
+        let [a0, a1, a2, a3] = w[0].to_le_bytes();
+        let [b0, b1, b2, b3] = w[1].to_le_bytes();
+        let [c0, c1, c2, c3] = w[2].to_le_bytes();
+        let [d0, d1, d2, d3] = w[3].to_le_bytes();
+        let [e0, e1, e2, e3] = w[4].to_le_bytes();
+        let [f0, f1, f2, f3] = w[5].to_le_bytes();
+        let [g0, g1, g2, g3] = w[6].to_le_bytes();
+        let [h0, h1, h2, h3] = w[7].to_le_bytes();
+        [
+            a0, a1, a2, a3, b0, b1, b2, b3, c0, c1, c2, c3, d0, d1, d2, d3, e0, e1, e2, e3, f0, f1,
+            f2, f3, g0, g1, g2, g3, h0, h1, h2, h3,
+        ]
+    }
+}
+
+// CHUNK_START at a chunk's first block.
+#[inline(always)]
+pub(crate) fn start_flag(block: usize) -> u32
+    ensures { result ≡ start_flag block }
+{
+    if block == 0 { CHUNK_START } else { 0 }
+}
