@@ -149,6 +149,7 @@ pub(crate) fn high(x: u64) -> u32
 
 /// The compression function (section 2.2): the 16 words that a block compresses to. Their first 8 are the new
 /// chaining value. `block_len` counts the block's bytes before it was filled with zeros.
+#[inline(always)]
 pub fn compress(
     chaining_value: &[u32; 8],
     block_words: &[u32; 16],

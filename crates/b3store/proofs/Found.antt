@@ -1,0 +1,26 @@
+-- The subcommand that a parse entered, from what the getters say.
+use Rattle.std.proofs.Common.{◌≡◌, ◌∙◌, List, Option, Some, None, refl, sym, ap, ap₂, rules}
+use Rattle.std.specs.Prelude.{option_map, Result, Ok, Err, ℕ}
+use Rattle.clap.specs.Words.{TriesOne}
+use Rattle.std.specs.Str.Parse.{digits_value, without_leading_plus}
+use Rattle.b3store.specs.Stated.{Spells}
+use Rattle.clap.specs.Words.{Row, Text, subcommand_rows_of, subcommand_name_of}
+use Rattle.clap.specs.declared.parser.matches.ArgMatches.{ArgMatches}
+
+pair_of : (o : Option (Text × List Row)) (n : Text) (rs : List Row) → Some n ≡ option_map (λ p. p.0) o → Some rs ≡ option_map (λ p. p.1) o → o ≡ Some (n, rs)
+pair_of None n rs a b = cc
+pair_of (Some (x, y)) n rs a b = cc
+
+names : (m : ArgMatches) → subcommand_name_of m ≡ option_map (λ p. p.0) (subcommand_rows_of m)
+names m = search rules
+
+pub entered : (m : ArgMatches) (n : Text) (rs : List Row) → Some n ≡ subcommand_name_of m → Some rs ≡ option_map (λ p. p.1) (subcommand_rows_of m) → subcommand_rows_of m ≡ Some (n, rs)
+entered m n rs a b = pair_of (subcommand_rows_of m) n rs (a ∙ names m) b
+
+-- what a number's getter says is what its text spells
+pub spells : {E : Type 0} (gives : List ℕ → Result ℕ E → Type 0) → ((t : List ℕ) (x : ℕ) → gives t (Ok x) → digits_value 10 (without_leading_plus t) ≡ x)
+    → (o : Option Text) (n : Option ℕ) → (o ≡ None → n ≡ None) → ((t : List ℕ) → o ≡ Some t → TriesOne gives t (Ok n)) → Spells o n
+spells gives exact None None none value = tt
+spells gives exact None (Some x) none value = let e = none refl in cc
+spells gives exact (Some t) None none value = value t refl
+spells gives exact (Some t) (Some x) none value = exact t x (value t refl)

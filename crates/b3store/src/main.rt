@@ -1,0 +1,67 @@
+//! The program `b3store`: each subcommand is an engine over a reader and a writer.
+#![tactic(auto)]
+
+mod command;
+mod outcome;
+mod said;
+mod streams;
+mod sum;
+#[cfg(test)]
+mod tests;
+mod words;
+
+use b3_core::Work;
+use outcome::Cause;
+use said::{Fault, Options};
+use std::io;
+use std::process::ExitCode;
+use sum::sum;
+use words::options;
+
+const GOOD: u8 = 0;
+
+const USAGE: u8 = 2;
+
+const STOPPED: u8 = 3;
+
+fn words_of(rt: &HostRuntime) -> io::Result<Vec<String>> {
+    let words: Vec<String> = std::env::args(rt)?.collect(rt.alloc())?;
+    Ok(words)
+}
+
+// Tells the cause on standard error. A standard error that can't be written changes no status.
+fn stopped(rt: &HostRuntime, cause: Cause) -> u8 {
+    let _ = eprintln!(rt; "b3store: {cause}");
+    STOPPED
+}
+
+fn run(rt: &HostRuntime, options: &Options<'_>) -> Result<u8, Cause> {
+    let alloc = rt.alloc();
+    let mut reader = rt.stdin();
+    let mut writer = io::writer(rt);
+    match options {
+        Options::Sum(options) => {
+            let mut work = Work::new(rt);
+            sum(alloc, options, &mut reader, &mut writer, &mut work)?;
+            Ok(GOOD)
+        }
+    }
+}
+
+fn main(rt: HostRuntime) -> ExitCode {
+    let Ok(words) = words_of(&rt) else {
+        return ExitCode::from(stopped(&rt, Cause::OutOfMemory));
+    };
+    let status = match options(rt.alloc(), words.as_slice()) {
+        Ok(options) => match run(&rt, &options) {
+            Ok(status) => status,
+            Err(cause) => stopped(&rt, cause),
+        },
+        Err(Fault::Usage(text)) => {
+            let _ = eprint!(rt; "{text}");
+            USAGE
+        }
+        Err(Fault::NoMemory) => stopped(&rt, Cause::OutOfMemory),
+    };
+    ExitCode::from(status)
+}

@@ -1,0 +1,41 @@
+//! What a command line says.
+
+use std::alloc::AllocError;
+
+/// The mode that `sum` hashes in.
+#[derive(Clone, Copy, Debug)]
+pub enum SumMode<'a> {
+    Hash,
+    /// With the key of `--key`.
+    Keyed([u8; 32]),
+    /// With the context of `--context`.
+    Derive(&'a str),
+}
+
+/// The options of `sum`.
+#[derive(Clone, Copy, Debug)]
+pub struct SumOptions<'a> {
+    pub mode: SumMode<'a>,
+    /// How many bytes of the extended output are asked for, in place of the check line.
+    pub length: Option<u32>,
+}
+
+/// A subcommand with its options.
+#[derive(Clone, Copy, Debug)]
+pub enum Options<'a> {
+    Sum(SumOptions<'a>),
+}
+
+/// Why a command line gives no options.
+#[derive(Debug, Drop)]
+pub enum Fault {
+    /// The words are wrong, or ask for help: the text that tells so.
+    Usage(String),
+    NoMemory,
+}
+
+impl From<AllocError> for Fault {
+    fn from(_: AllocError) -> Fault {
+        Fault::NoMemory
+    }
+}

@@ -1,0 +1,98 @@
+//! The engine of `sum`.
+
+ghost use Rattle.std.specs.Prelude.{◌≡◌, ◌≢◌, ◌++◌, IfErr, IfOk, IfSome, OnOk, codes, string_bytes};
+ghost use Rattle.std.specs.Io.KnownBytes.{Appends, IsAtEnd};
+ghost use Rattle.hex.specs.Hex.{encode_lower};
+ghost use Rattle.b3_core.specs.ExtendedOutput.{output_of};
+ghost use Rattle.b3_core.specs.Modes.{digest_of};
+ghost use Rattle.b3_core.specs.Tree.{tree_top};
+ghost use Rattle.b3store.specs.Sums.{mode_of, text_in, sum_text};
+
+use crate::outcome::Cause;
+use crate::said::{SumMode, SumOptions};
+use crate::streams::{read_all, write_all};
+use b3_core::{Mode, OutputReader, Top, Work, hash_wide};
+use std::alloc::{AllocError, Global};
+use std::io::{Read, Write};
+
+// The mode that the options say.
+fn mode_of(mode: SumMode<'_>, work: &mut Work) -> Mode
+    ensures { result ≡ mode_of mode.entry }
+{
+    match mode {
+        SumMode::Hash => Mode::hash(),
+        SumMode::Keyed(key) => Mode::keyed(&key),
+        SumMode::Derive(context) => Mode::derive(context.as_bytes(), work),
+    }
+}
+
+// The check line of an input, its name being `-`.
+fn check_line(
+    alloc: Global,
+    mode: &Mode,
+    input: &[u8],
+    work: &mut Work,
+) -> Result<String, AllocError>
+    ensures { IfOk result (λ line. string_bytes line ≡ encode_lower (digest_of input.now mode.now) ++ codes "  -\n") }
+{
+    let digest = hash_wide(mode, input, work);
+    let mut line = hex::encode(alloc, &digest[..])?;
+    line.push_str("  -\n")?;
+    Ok(line)
+}
+
+// The digits of the first `len` bytes of an input's extended output, and a line feed.
+fn output_line(
+    alloc: Global,
+    mode: &Mode,
+    input: &[u8],
+    len: u32,
+    work: &mut Work,
+) -> Result<String, AllocError>
+    ensures { IfOk result (λ line. string_bytes line ≡ encode_lower (output_of (tree_top input.now 0 mode.now) 0 len) ++ codes "\n") }
+{
+    let mut output = vec![in alloc; 0u8; len as usize]?;
+    let mut reader = OutputReader::new(Top::of_input(mode, input, work));
+    reader.fill(&mut output, work).unwrap();
+    let mut line = hex::encode(alloc, &output[..])?;
+    line.push_str("\n")?;
+    Ok(line)
+}
+
+// What `sum` writes of an input.
+fn text_of(
+    alloc: Global,
+    options: &SumOptions<'_>,
+    input: &[u8],
+    work: &mut Work,
+) -> Result<String, AllocError>
+    ensures { IfOk result (λ text. string_bytes text ≡ sum_text options.now input.now) }
+{
+    let mode = mode_of(options.mode, work);
+    match options.length {
+        None => check_line(alloc, &mode, input, work),
+        Some(len) => output_line(alloc, &mode, input, len, work),
+    }
+}
+
+/// Reads all its input, and then writes its check line, or the digits of so many bytes of its extended output as
+/// the options ask for.
+///
+/// It stops at the first read or write that fails, or where memory is refused. It writes nothing before it has
+/// read everything.
+pub fn sum<R: Read, W: Write>(
+    alloc: Global,
+    options: &SumOptions<'_>,
+    reader: &mut R,
+    writer: &mut W,
+    work: &mut Work,
+) -> Result<(), Cause>
+    ensures written { OnOk result (IfSome (R.remaining reader.old) (λ input.
+        Appends (W.contents writer.old) (W.contents writer.new) (sum_text options.now input))) }
+    ensures end { OnOk result (IsAtEnd (R.remaining reader.new)) }
+    ensures silent { IfErr result (λ cause. cause ≢ Cause.CannotWrite → W.contents writer.new ≡ W.contents writer.old) }
+{
+    let input = read_all(alloc, reader)?;
+    let text = text_of(alloc, options, &input, work)?;
+    write_all(writer, text.as_bytes())
+}

@@ -1,0 +1,20 @@
+//! Times the crates' calls over bytes in memory. It writes what was computed to standard output, and the
+//! microseconds that it took to standard error. `bench/run` calls it and prints ratios.
+//!
+//! Words: `hash MIB` or `hash_wide MIB`.
+#![tactic(auto)]
+
+mod hashing;
+mod words;
+
+use std::io;
+use words::{Job, job_of};
+
+fn main(rt: HostRuntime) -> io::Result<()> {
+    let words: Vec<String> = std::env::args(&rt)?.collect(rt.alloc())?;
+    match job_of(words.as_slice()) {
+        Some(Job::Hash { mib }) => hashing::time_hash(&rt, mib),
+        Some(Job::HashWide { mib }) => hashing::time_hash_wide(&rt, mib),
+        None => eprintln!(rt; "benchmarks: hash MIB | hash_wide MIB"),
+    }
+}
