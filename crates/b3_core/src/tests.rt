@@ -108,6 +108,7 @@ fn two_chunks_and_their_parent(rt: HostRuntime) -> Result<(), Fail> {
     assert_eq!(rt; work.count(), 15);
     let right = Top::of_chunk(&mode, rest, 1, &mut work);
     assert_eq!(rt; work.count(), 15);
+    assert_eq!(rt; Top::of_subtree(&mode, rest, 1, &mut work), right);
     let top = Top::parent(&mode, &left, &right, &mut work);
     assert_eq!(rt; work.count(), 17);
     assert_eq!(rt; hex(&rt, &top.root32(&mut work))?.as_str(), COUNTS[3].hash);

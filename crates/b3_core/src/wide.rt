@@ -67,6 +67,15 @@ impl Top {
     {
         wide_top(mode, bytes, 0, work)
     }
+
+    /// The top of the tree over bytes that lie within an input, as `of_input`. `number` counts the chunks before them.
+    pub fn of_subtree(mode: &Mode, bytes: &[u8], number: u64, work: &mut Work) -> Top
+        requires { number + length bytes.now / 1024 < 2 ^ 64 }
+        ensures node { result ≡ tree_top bytes.now number mode.now }
+        ensures count { work.new ≡ counted work.old (hash_work (length bytes.now) - 1) }
+    {
+        wide_top(mode, bytes, number, work)
+    }
 }
 
 /// The hash of `bytes` in a mode, as [`hash`](crate::hash) gives it and with the same count of compressions, made

@@ -1,0 +1,3 @@
+pub mod BoardClosings
+pub mod BoardSteps
+pub mod Sums

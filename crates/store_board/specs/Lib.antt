@@ -1,0 +1,3 @@
+pub mod BoardRule
+pub mod Drawn
+pub mod Seats

@@ -1,0 +1,129 @@
+ghost use Rattle.std.specs.Prelude.{◌≡◌, ◌+◌, ◌^◌, ◌≤◌, ◌↔◌, IfOk, IfErr, IsOk, OnOk, OnErr, Ok};
+ghost use Rattle.store_ledger.specs.Shares.{accepted_after, holding_after, sum_of, HasRoom, IsWhole, Agrees, IsMissing};
+ghost use Rattle.store_ledger.specs.declared.accepted.Accepted.{Accepted};
+
+use crate::accepted::Accepted;
+use crate::book_full::BookFull;
+use crate::holding::Holding;
+use crate::not_whole::NotWhole;
+use crate::share::{ALL_PARTS, Share};
+use std::marker::Model;
+use std::sync::ledger;
+use std::sync::ledger::{Blank, Ledger};
+
+/// The bytes and the calls of all its shares together.
+#[derive(Drop)]
+pub struct Book<B: Ledger, C: Ledger> {
+    accepted: Accepted,
+    byte_book: ledger::Book<B>,
+    call_book: ledger::Book<C>,
+}
+
+impl<B: Ledger, C: Ledger> Model for Book<B, C> {
+    ghost Value = { Accepted };
+
+    ghost view = { λ b. b.accepted };
+
+    ghost invariant = { λ b. (b.byte_book.total ≡ b.accepted.bytes) × (b.call_book.total ≡ b.accepted.calls) × (B.parts ≡ 2 ^ 32) × (C.parts ≡ 2 ^ 32) };
+}
+
+impl<B: Ledger, C: Ledger> Book<B, C> {
+    /// A new book, in which nothing is recorded, and the share with all of its parts.
+    pub fn open(bytes: Blank, calls: Blank) -> (Book<B, C>, Share<B, C>)
+        requires bytes { (bytes.name ≡ B.name) × (bytes.parts ≡ B.parts) × (bytes.parts ≡ 2 ^ 32) }
+        requires calls { (calls.name ≡ C.name) × (calls.parts ≡ C.parts) × (calls.parts ≡ 2 ^ 32) }
+        ensures book { result.0 ≡ record { bytes = 0; calls = 0 } }
+        ensures share { result.1 ≡ record { parts = 2 ^ 32; bytes = 0; calls = 0 } }
+    {
+        let (byte_book, byte_share) = bytes.open::<B>();
+        let (call_book, call_share) = calls.open::<C>();
+        let book = Book {
+            accepted: Accepted { bytes: 0, calls: 0 },
+            byte_book,
+            call_book,
+        };
+        let share = Share {
+            holding: Holding::new(ALL_PARTS),
+            byte_share,
+            call_share,
+        };
+        (book, share)
+    }
+
+    /// The bytes of all accepted calls together.
+    pub fn bytes(&self) -> u64
+        ensures { result ≡ self.now.bytes }
+    {
+        self.accepted.bytes
+    }
+
+    /// How many calls were accepted.
+    pub fn calls(&self) -> u64
+        ensures { result ≡ self.now.calls }
+    {
+        self.accepted.calls
+    }
+
+    /// Adds the bytes and one call to the book and to the share.
+    pub fn record(&mut self, share: &mut Share<B, C>, bytes: u64) -> Result<(), BookFull>
+        ensures room { IsOk result ↔ HasRoom self.old bytes }
+        ensures book { OnOk result (self.new ≡ accepted_after self.old bytes) }
+        ensures share { OnOk result (share.new ≡ holding_after share.old bytes) }
+        ensures full { OnErr result ((self.new ≡ self.old) × (share.new ≡ share.old)) }
+    {
+        let accepted = self.accepted(share).after(bytes).ok_or(BookFull)?;
+        self.byte_book.add(&mut share.byte_share, bytes);
+        self.call_book.add(&mut share.call_share, 1);
+        self.accepted = accepted;
+        share.holding.bytes += bytes;
+        share.holding.calls += 1;
+        Ok(())
+    }
+
+    /// The book's numbers where the share has the same, else what it lacks. Book and share stay as they are.
+    pub fn settle(&mut self, share: &mut Share<B, C>) -> Result<Accepted, NotWhole>
+        ensures same { (self.new ≡ self.old) × (share.new ≡ share.old) }
+        ensures ok { IfOk result (λ accepted. (accepted ≡ self.old) × Agrees self.old share.old) }
+        ensures missing { IfErr result (IsMissing self.old share.old) }
+        ensures whole { IsWhole share.old → result ≡ Ok self.old }
+    {
+        let accepted = self.accepted(share);
+        let holding = share.holding;
+        if holding.bytes == accepted.bytes && holding.calls == accepted.calls {
+            return Ok(accepted);
+        }
+        Err(NotWhole {
+            bytes: accepted.bytes - holding.bytes,
+            calls: accepted.calls - holding.calls,
+        })
+    }
+
+    /// The book's numbers, each of which is at least the share's. Book and share stay as they are.
+    pub fn accepted(&mut self, share: &mut Share<B, C>) -> Accepted
+        ensures same { (self.new ≡ self.old) × (share.new ≡ share.old) }
+        ensures numbers { result ≡ self.old }
+        ensures least { (share.old.bytes ≤ result.bytes) × (share.old.calls ≤ result.calls) }
+        ensures whole { IsWhole share.old → Agrees self.old share.old }
+    {
+        self.byte_book.audit(&mut share.byte_share);
+        self.call_book.audit(&mut share.call_share);
+        self.accepted
+    }
+
+    /// Adds another share of this book to the first. What the two have recorded is in the book, so the sums fit.
+    pub fn join(&mut self, share: &mut Share<B, C>, other: Share<B, C>)
+        ensures book { self.new ≡ self.old }
+        ensures share { share.new ≡ sum_of share.old other }
+    {
+        let Share {
+            holding,
+            byte_share,
+            call_share,
+        } = other;
+        share.byte_share.merge(byte_share);
+        share.call_share.merge(call_share);
+        self.byte_book.audit(&mut share.byte_share);
+        self.call_book.audit(&mut share.call_share);
+        share.holding = share.holding.plus(holding);
+    }
+}

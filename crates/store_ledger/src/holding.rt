@@ -1,0 +1,37 @@
+ghost use Rattle.std.specs.Prelude.{◌≡◌, ◌+◌, ◌^◌, ◌<◌};
+ghost use Rattle.store_ledger.specs.Shares.{sum_of};
+
+/// What a share has: some of its book's parts, and the bytes and the calls that were recorded with it.
+#[derive(Clone, Copy, Debug, PartialEq, Eq, Hash)]
+pub struct Holding {
+    pub parts: u64,
+    pub bytes: u64,
+    pub calls: u64,
+}
+
+impl Holding {
+    /// Parts with which nothing is recorded.
+    pub(crate) fn new(parts: u64) -> Holding
+        ensures { result ≡ record { parts = parts; bytes = 0; calls = 0 } }
+    {
+        Holding {
+            parts,
+            bytes: 0,
+            calls: 0,
+        }
+    }
+
+    /// What both have together.
+    pub(crate) fn plus(self, other: Holding) -> Holding
+        requires parts { self.parts + other.parts < 2 ^ 64 }
+        requires bytes { self.bytes + other.bytes < 2 ^ 64 }
+        requires calls { self.calls + other.calls < 2 ^ 64 }
+        ensures { result ≡ sum_of self other }
+    {
+        Holding {
+            parts: self.parts + other.parts,
+            bytes: self.bytes + other.bytes,
+            calls: self.calls + other.calls,
+        }
+    }
+}

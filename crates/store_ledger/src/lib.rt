@@ -1,0 +1,27 @@
+//! A book of what was accepted, and the shares that record in it.
+//!
+//! A `Book` has two numbers: the bytes that were accepted, and in how many calls. Whoever records has a `Share` of
+//! the book, and `Book::record` raises both by the same bytes and one call. So the book's numbers are the sums over
+//! its shares, whichever threads have these: the numbers of a share are never above the book's, and those of a whole
+//! share, which has all 2^32 parts, are the book's own. `Book::settle` compares a share with its book.
+//!
+//! The two type parameters name the ledgers, one of bytes and one of calls, that a book and its shares belong to. So
+//! a share is of its book by its type. A program opens a book in a function that is generic over both, calls that
+//! function with `Brand` for each, and hands it two `Blank`s of `ALL_PARTS` parts.
+#![tactic(auto)]
+
+mod accepted;
+mod book;
+mod book_full;
+mod holding;
+mod not_whole;
+mod share;
+#[cfg(test)]
+mod tests;
+
+pub use crate::accepted::Accepted;
+pub use crate::book::Book;
+pub use crate::book_full::BookFull;
+pub use crate::holding::Holding;
+pub use crate::not_whole::NotWhole;
+pub use crate::share::{ALL_PARTS, Share};

@@ -1,0 +1,22 @@
+use std::error::Error;
+use std::fmt;
+
+/// L1: other shares of the book are out, and these bytes and calls were recorded with them.
+#[derive(Clone, Copy, Debug, PartialEq, Eq, Hash)]
+pub struct NotWhole {
+    pub bytes: u64,
+    pub calls: u64,
+}
+
+impl fmt::Display for NotWhole {
+    fn fmt<W: fmt::Write>(&self, f: &mut fmt::Formatter<W>) -> fmt::Result {
+        let bytes = self.bytes;
+        let calls = self.calls;
+        write!(
+            f,
+            "the share is not whole: missing bytes {bytes}, calls {calls}"
+        )
+    }
+}
+
+impl Error for NotWhole {}

@@ -1,0 +1,88 @@
+ghost use Rattle.std.specs.Prelude.{◌≡◌, ◌+◌, ◌-◌, ◌^◌, ◌<◌};
+ghost use Rattle.store_ledger.specs.Shares.{sum_of};
+ghost use Rattle.store_ledger.specs.declared.holding.Holding.{Holding};
+
+use crate::holding::Holding;
+use std::marker::Model;
+use std::sync::ledger;
+use std::sync::ledger::Ledger;
+
+/// All parts of a book, and so how many a `Blank` for one has.
+pub const ALL_PARTS: u64 = 1 << 32;
+
+/// Some parts of a book, with the bytes and the calls that were recorded with them. It may be dropped: its parts
+/// are then lost, and no share of its book is whole again.
+#[derive(Drop)]
+pub struct Share<B: Ledger, C: Ledger> {
+    pub(crate) holding: Holding,
+    pub(crate) byte_share: ledger::Share<B>,
+    pub(crate) call_share: ledger::Share<C>,
+}
+
+impl<B: Ledger, C: Ledger> Model for Share<B, C> {
+    ghost Value = { Holding };
+
+    ghost view = { λ s. s.holding };
+
+    ghost invariant = { λ s. (s.byte_share.parts ≡ s.holding.parts) × (s.call_share.parts ≡ s.holding.parts) × (s.byte_share.amount ≡ s.holding.bytes) × (s.call_share.amount ≡ s.holding.calls) × (0 < s.holding.parts) × (B.parts ≡ 2 ^ 32) × (C.parts ≡ 2 ^ 32) };
+}
+
+impl<B: Ledger, C: Ledger> Share<B, C> {
+    /// How many of its book's parts the share has.
+    pub fn parts(&self) -> u64
+        ensures { result ≡ self.now.parts }
+    {
+        self.holding.parts
+    }
+
+    /// The bytes that were recorded with the share.
+    pub fn bytes(&self) -> u64
+        ensures { result ≡ self.now.bytes }
+    {
+        self.holding.bytes
+    }
+
+    /// How many calls were recorded with the share.
+    pub fn calls(&self) -> u64
+        ensures { result ≡ self.now.calls }
+    {
+        self.holding.calls
+    }
+
+    /// A new share of the same book, which takes over that many parts and has recorded nothing.
+    pub fn split(&mut self, parts: u64) -> Share<B, C>
+        requires some { 0 < parts }
+        requires some_left { parts < self.old.parts }
+        ensures new { result ≡ record { parts = parts; bytes = 0; calls = 0 } }
+        ensures left { self.new ≡ record self.old { parts = self.old.parts - parts } }
+    {
+        let byte_share = self.byte_share.split_off(parts, 0);
+        let call_share = self.call_share.split_off(parts, 0);
+        self.holding = Holding {
+            parts: self.holding.parts - parts,
+            ..self.holding
+        };
+        Share {
+            holding: Holding::new(parts),
+            byte_share,
+            call_share,
+        }
+    }
+
+    /// Takes in another share of the same book. Away from the book nothing bounds the two sums, so the caller has to
+    /// know that they fit; `Book::join` needs no such condition.
+    pub fn join(&mut self, other: Share<B, C>)
+        requires bytes { self.old.bytes + other.bytes < 2 ^ 64 }
+        requires calls { self.old.calls + other.calls < 2 ^ 64 }
+        ensures { self.new ≡ sum_of self.old other }
+    {
+        let Share {
+            holding,
+            byte_share,
+            call_share,
+        } = other;
+        self.byte_share.merge(byte_share);
+        self.call_share.merge(call_share);
+        self.holding = self.holding.plus(holding);
+    }
+}
