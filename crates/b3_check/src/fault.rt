@@ -1,0 +1,95 @@
+//! Why a line is no check line.
+ghost use Rattle.std.specs.Prelude.{◌≡◌, Some};
+ghost use Rattle.b3_check.specs.Faults.{code_of, error_text};
+ghost use Rattle.b3_check.specs.declared.fault.ReadError.TheVariants.{NoMemory};
+
+use std::alloc::{AllocError, AllocFailed};
+use std::error::Error;
+use std::fmt;
+
+/// Why a line is no check line: the first of these that applies. What follows the backslash at the front of an
+/// escaped line, and any other line, is the rest.
+#[derive(Clone, Copy, Debug, PartialEq, Eq)]
+pub enum Fault {
+    /// C1: the rest begins with `BLAKE3 (`.
+    Tagged,
+    /// C2: the rest has fewer than 66 bytes.
+    Short,
+    /// C3: one of the rest's first 64 bytes is no hexadecimal digit.
+    BadHex,
+    /// C4: the rest's bytes 65 and 66 are not two spaces.
+    BadSpaces,
+    /// C5: the rest has just 66 bytes, so that there is no name.
+    EmptyName,
+    /// C6: in an escaped line's name a backslash is not followed by `\`, `n` or `r`.
+    BadEscape,
+    /// C7: the name holds a byte 0.
+    NulInName,
+}
+
+impl Fault {
+    /// The fault's short name, `C1` to `C7`.
+    pub fn code(self) -> &'static str
+        ensures { result.now ≡ code_of self }
+    {
+        match self {
+            Fault::Tagged => "C1",
+            Fault::Short => "C2",
+            Fault::BadHex => "C3",
+            Fault::BadSpaces => "C4",
+            Fault::EmptyName => "C5",
+            Fault::BadEscape => "C6",
+            Fault::NulInName => "C7",
+        }
+    }
+}
+
+/// The short name.
+impl fmt::Display for Fault {
+    ghost output = { λ fault. Some (code_of fault) };
+
+    fn fmt<W: fmt::Write>(&self, f: &mut fmt::Formatter<W>) -> fmt::Result {
+        write!(f, "{}", self.code())
+    }
+}
+
+impl Error for Fault {}
+
+/// Why a line could not be read.
+#[derive(Clone, Copy, Debug, PartialEq, Eq)]
+pub enum ReadError {
+    /// It is no check line.
+    Fault(Fault),
+    /// There was no memory for its name.
+    NoMemory,
+}
+
+/// The fault's short name, or `out of memory`.
+impl fmt::Display for ReadError {
+    ghost output = { λ error. Some (error_text error) };
+
+    fn fmt<W: fmt::Write>(&self, f: &mut fmt::Formatter<W>) -> fmt::Result {
+        match self {
+            ReadError::Fault(fault) => write!(f, "{fault}"),
+            ReadError::NoMemory => write!(f, "out of memory"),
+        }
+    }
+}
+
+impl Error for ReadError {}
+
+impl From<AllocError> for ReadError {
+    ghost from_gives = { λ _ e. e ≡ NoMemory };
+
+    fn from(_e: AllocError) -> ReadError {
+        ReadError::NoMemory
+    }
+}
+
+impl<T: Drop> From<AllocFailed<T>> for ReadError {
+    ghost from_gives = { λ _ e. e ≡ NoMemory };
+
+    fn from(_e: AllocFailed<T>) -> ReadError {
+        ReadError::NoMemory
+    }
+}

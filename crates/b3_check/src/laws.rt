@@ -1,0 +1,12 @@
+//! Laws of check lines and check files.
+ghost use Rattle.b3_check.specs.Laws.{FaultsSayNothing, FeedsEndLines, LastLineKept, OneMeaning, OthersKept, ReturnsDropped, WrittenInGrammar, WrittenReadBack};
+
+/// What holds of the definitions that the other calls' contracts name. It does nothing.
+pub fn check_file_laws()
+    ensures returns { ReturnsDropped × OthersKept }
+    ensures feeds { FeedsEndLines × LastLineKept }
+    ensures written { WrittenInGrammar }
+    ensures one_meaning { OneMeaning }
+    ensures faults { FaultsSayNothing }
+    ensures read_back { WrittenReadBack }
+{}

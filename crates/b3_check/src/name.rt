@@ -1,0 +1,70 @@
+//! The names of check lines.
+ghost use Rattle.std.specs.Prelude.{◌≡◌, IfOk, IfErr, None, Some};
+ghost use Rattle.b3_check.specs.Names.{IsName, name_fault};
+
+use crate::fault::Fault;
+use std::marker::Model;
+
+/// A name of a check line: bytes that are not empty and have no byte 0. Contracts see it as the list of its bytes.
+#[derive(Clone, Debug, Drop)]
+pub struct Name {
+    bytes: Vec<u8>,
+}
+
+impl Model for Name {
+    ghost use Rattle.std.specs.Prelude.{ℕ, List};
+
+    ghost Value = { List ℕ };
+
+    ghost use Rattle.b3_check.specs.Names.{IsName};
+
+    ghost view = { λ n. n.bytes.items };
+
+    ghost invariant = { λ n. IsName n.bytes.items };
+}
+
+/// Bytes that are no name, and why.
+#[derive(Debug, Drop)]
+pub struct RefusedName {
+    pub fault: Fault,
+    pub bytes: Vec<u8>,
+}
+
+impl Name {
+    /// The bytes as a name, or the bytes back where they are none.
+    pub fn new(bytes: Vec<u8>) -> Result<Name, RefusedName>
+        ensures named { IfOk result (λ name. (name_fault bytes.items ≡ None) × (name ≡ bytes.items)) }
+        ensures refused { IfErr result (λ refused. (name_fault bytes.items ≡ Some refused.fault) × (refused.bytes.items ≡ bytes.items)) }
+    {
+        if bytes.is_empty() {
+            return Err(RefusedName {
+                fault: Fault::EmptyName,
+                bytes,
+            });
+        }
+        if bytes.contains(&0) {
+            return Err(RefusedName {
+                fault: Fault::NulInName,
+                bytes,
+            });
+        }
+        Ok(Name { bytes })
+    }
+
+    /// The bytes.
+    pub fn as_bytes(&self) -> &[u8]
+        ensures value { result.now ≡ self.now }
+        ensures named { IsName result.now }
+    {
+        self.bytes.as_slice()
+    }
+
+    /// The bytes, without taking memory.
+    pub fn into_bytes(self) -> Vec<u8>
+        ensures value { result.items ≡ self }
+        ensures named { IsName result.items }
+    {
+        let Name { bytes } = self;
+        bytes
+    }
+}
