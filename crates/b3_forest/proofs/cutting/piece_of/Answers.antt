@@ -1,0 +1,25 @@
+use Rattle.std.proofs.Common.{◌≡◌, ℕ, List, ◌-◌, ◌*◌, ◌^◌, min, length, take, drop, arith, ap, sym, ◌∙◌}
+use Rattle.std.proofs.lemmas.List.{take_min, length-drop}
+use Rattle.b3_core.specs.Modes.{hash_mode}
+use Rattle.b3_core.specs.Tree.{Inputs, Keying, tree_top}
+use Rattle.b3_forest.proofs.Ranges.{content_within}
+use Rattle.b3_forest.specs.declared.piece.Piece.{Piece}
+use Rattle.b3_forest.proofs.cutting.piece_of.Goals as goal
+
+pub returns-clause-piece : goal.returns-clause-piece
+returns-clause-piece c =
+    let b = c.args.bytes.now in
+    let w = c.requires.width.0 in
+    let skip = (c.args.first - c.args.start) * 1024 in
+    let n = 1024 * 2 ^ c.args.level in
+    let rest : length (drop skip b) ≡ length b - skip = length-drop skip b in
+    let count : c.min-end.result - skip ≡ min n (length (drop skip b)) = omega arith in
+    let place : skip ≡ 1024 * (c.args.first - c.args.start) = omega arith in
+    let content = content_within c.args.start b c.args.level c.args.first (omega arith) (omega arith) in
+    let bytes : take (c.min-end.result - skip) (drop skip b) ≡ take n (drop (1024 * (c.args.first - c.args.start)) b) =
+    ap (λ i. take i (drop skip b)) count ∙ take_min n (drop skip b) ∙ ap (λ i. take n (drop i b)) place in
+    let top = c.of_subtree-top.ensures.node
+    ∙ ap (λ (m : Keying). tree_top (take (c.min-end.result - skip) (drop skip b)) c.args.first m) c.hash.ensures
+    ∙ ap (λ (x : List ℕ). tree_top x c.args.first hash_mode) (bytes ∙ sym content) in
+    let Made : Inputs → Piece = λ t. record { first = c.args.first; level = c.args.level; top = t } in
+    ap Made top

@@ -1,0 +1,59 @@
+// A part is cut into pieces from the top: a range of chunks that the part covers is one piece, and any other range
+// that it meets is halved.
+
+ghost use Rattle.std.specs.Prelude.{◌≡◌, ℕ, ◌+◌, ◌-◌, ◌*◌, ◌/◌, ◌^◌, ◌<◌, ◌≤◌, ◌++◌, OnOk, length, min, max};
+ghost use Rattle.b3_core.specs.Work.{counted};
+ghost use Rattle.b3_forest.specs.Parts.{chunks_of};
+ghost use Rattle.b3_forest.specs.Pieces.{pieces_of, piece_at, part_work};
+
+use crate::piece::Piece;
+use b3_core::{Mode, Top, Work};
+use std::alloc::AllocError;
+
+const CHUNK_LEN: usize = 1024;
+
+// The piece of 2^level chunks from the chunk `first` on, of a part that begins at the chunk `start` and covers them.
+fn piece_of(start: u64, bytes: &[u8], level: u32, width: u64, first: u64, work: &mut Work) -> Piece
+    requires width { (width ≡ 2 ^ level) × (0 < width) × (width ≤ 2 ^ 30) }
+    requires len { length bytes.now ≤ 2 ^ 24 }
+    requires within { (start ≤ first) × (first + width ≤ start + (length bytes.now + 1023) / 1024) × (first < 2 ^ 30) }
+    ensures piece { result ≡ piece_at (chunks_of (record { offset = 1024 * start; bytes = bytes.now })) level first }
+    ensures count { work.new ≡ counted work.old (part_work (min (1024 * width) (length bytes.now - 1024 * (first - start))) 1) }
+{
+    let skip = (first - start) as usize * CHUNK_LEN;
+    let end = bytes.len().min(skip + width as usize * CHUNK_LEN);
+    let top = Top::of_subtree(&Mode::hash(), &bytes[skip..end], first, work);
+    Piece { first, level, top }
+}
+
+// Adds the pieces among 2^level chunks from the chunk `first` on, of a part that begins at the chunk `start`.
+pub(crate) fn push_pieces(
+    start: u64,
+    bytes: &[u8],
+    level: u32,
+    width: u64,
+    first: u64,
+    pieces: &mut Vec<Piece>,
+    work: &mut Work,
+) -> Result<(), AllocError>
+    requires width { (width ≡ 2 ^ level) × (0 < width) × (width ≤ 2 ^ 30) }
+    requires len { (length bytes.now ≤ 2 ^ 24) × (0 < length bytes.now) }
+    requires within { (first + width ≤ 2 ^ 30) × (start ≤ 2 ^ 30) }
+    ensures pieces { OnOk result (pieces.new.items ≡ pieces.old.items ++ pieces_of (chunks_of (record { offset = 1024 * start; bytes = bytes.now })) level first) }
+    ensures count { OnOk result (work.new ≡ counted work.old (part_work
+        (min (1024 * start + length bytes.now) (1024 * (first + width)) - max (1024 * start) (1024 * first))
+        (length (pieces_of (chunks_of (record { offset = 1024 * start; bytes = bytes.now })) level first)))) }
+{
+    let end = start + bytes.len().div_ceil(CHUNK_LEN) as u64;
+    if end <= first || first + width <= start {
+        return Ok(());
+    }
+    if start <= first && first + width <= end {
+        pieces.push(piece_of(start, bytes, level, width, first, work))?;
+        return Ok(());
+    }
+    let half = width / 2;
+    push_pieces(start, bytes, level - 1, half, first, pieces, work)?;
+    push_pieces(start, bytes, level - 1, half, first + half, pieces, work)?;
+    Ok(())
+}

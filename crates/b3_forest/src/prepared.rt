@@ -1,0 +1,122 @@
+// One part, hashed alone.
+
+ghost use Rattle.std.specs.Prelude.{◌≡◌, ◌+◌, ◌≤◌, IfErr, IfOk, IfSome, OnOk, length, unwrap_or, vec_len};
+ghost use Rattle.std.specs.Arc.{arc_value};
+ghost use Rattle.b3_core.specs.Work.{counted};
+ghost use Rattle.b3_forest.specs.PartRefusals.{part_refusal};
+ghost use Rattle.b3_forest.specs.Parts.{PlannedPart, chunks_of, planned};
+ghost use Rattle.b3_forest.specs.Pieces.{IsPrepared, part_work, piece_count};
+
+use crate::cutting::push_pieces;
+use crate::piece::Piece;
+use crate::plan::Plan;
+use crate::refusal::{PartFault, PartRefused, fault_of};
+use b3_core::Work;
+use std::alloc::Global;
+use std::marker::Model;
+use std::sync::Arc;
+
+/// A part of an upload with its pieces: complete subtrees of the tree over the whole upload. It was hashed with no
+/// other part at hand.
+#[derive(Drop)]
+pub struct Prepared {
+    plan: Plan,
+    offset: u64,
+    bytes: Arc<Vec<u8>>,
+    pieces: Vec<Piece>,
+}
+
+impl Model for Prepared {
+    ghost Value = { PlannedPart };
+
+    ghost view = { λ p. planned p.plan p.offset (arc_value p.bytes).items };
+
+    ghost invariant = { λ p. IsPrepared (planned p.plan p.offset (arc_value p.bytes).items) p.pieces.items };
+}
+
+// The level and the number of all chunks that an upload may have.
+const ROOT_LEVEL: u32 = 30;
+
+const ROOT_WIDTH: u64 = 1 << 30;
+
+impl Prepared {
+    /// Hashes a part of an upload, `bytes` at an offset.
+    ///
+    /// Refusals hand the bytes back, the first that applies: F2 no bytes, F3 the offset is not a multiple of 1024, F4
+    /// the part ends past the plan, F5 its length is not a multiple of 1024 and it does not end with the plan, F6 above
+    /// 2^24 bytes. Want of memory is F9. For each chunk it makes as many compressions as the chunk has blocks less one,
+    /// and two for each chunk beyond the number of pieces; none where F2 to F6 apply.
+    pub fn make(
+        alloc: Global,
+        plan: &Plan,
+        offset: u64,
+        bytes: Vec<u8>,
+        work: &mut Work,
+    ) -> Result<Prepared, PartRefused>
+        ensures made { IfOk result (λ p. p ≡ planned plan.now offset bytes.items) }
+        ensures fits { OnOk result (part_refusal plan.now offset (vec_len bytes) ≡ None) }
+        ensures fault { IfErr result (λ r. r.fault ≡ unwrap_or (part_refusal plan.now offset (vec_len bytes)) PartFault.NoMemory) }
+        ensures back { IfErr result (λ r. r.bytes.items ≡ bytes.items) }
+        ensures count { OnOk result (work.new ≡ counted work.old (part_work (vec_len bytes)
+            (piece_count (chunks_of (planned plan.now offset bytes.items).part)))) }
+        ensures uncounted { IfSome (part_refusal plan.now offset (vec_len bytes)) (λ _. work.new ≡ work.old) }
+    {
+        if let Some(fault) = fault_of(plan, offset, bytes.len() as u64) {
+            return Err(PartRefused { fault, bytes });
+        }
+        let mut pieces = Vec::new(alloc);
+        let start = offset / 1024;
+        let Ok(()) = push_pieces(
+            start,
+            bytes.as_slice(),
+            ROOT_LEVEL,
+            ROOT_WIDTH,
+            0,
+            &mut pieces,
+            work,
+        ) else {
+            let fault = PartFault::NoMemory;
+            return Err(PartRefused { fault, bytes });
+        };
+        match Arc::new(alloc, bytes) {
+            Ok(bytes) => Ok(Prepared {
+                plan: *plan,
+                offset,
+                bytes,
+                pieces,
+            }),
+            Err(refused) => Err(PartRefused {
+                fault: PartFault::NoMemory,
+                bytes: refused.value,
+            }),
+        }
+    }
+
+    /// Where the part begins in its upload.
+    pub fn offset(&self) -> u64
+        ensures { result ≡ self.now.part.offset }
+    {
+        self.offset
+    }
+
+    /// The part's bytes.
+    pub fn bytes(&self) -> &[u8]
+        ensures { result.now ≡ self.now.part.bytes }
+    {
+        self.bytes.as_slice()
+    }
+
+    /// The plan that the part was made for.
+    pub fn plan(&self) -> Plan
+        ensures { result ≡ self.now.plan }
+    {
+        self.plan
+    }
+
+    /// How many pieces the part has.
+    pub fn pieces(&self) -> usize
+        ensures { result ≡ piece_count (chunks_of self.now.part) }
+    {
+        self.pieces.len()
+    }
+}

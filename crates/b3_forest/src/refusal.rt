@@ -1,0 +1,58 @@
+// Why a part is refused when it is made.
+
+ghost use Rattle.std.specs.Prelude.{◌≡◌, ◌^◌, ◌≤◌, IfNone};
+ghost use Rattle.b3_forest.specs.PartRefusals.{part_refusal};
+ghost use Rattle.b3_forest.specs.Parts.{Fits};
+
+use crate::plan::Plan;
+
+const CHUNK_LEN: u64 = 1024;
+
+/// The most bytes of a part, 2^24.
+pub const MOST_PART_BYTES: u64 = 1 << 24;
+
+/// The refusals of `Prepared::make`, in the order in which they are checked.
+#[derive(Clone, Copy, PartialEq, Eq, Debug)]
+pub enum PartFault {
+    /// F2: no bytes.
+    EmptyPart,
+    /// F3: the offset is not a multiple of 1024.
+    OffAlign,
+    /// F4: offset plus length, as an exact sum, is above the plan's length.
+    PastEnd,
+    /// F5: the length is not a multiple of 1024, and the part does not end with the upload.
+    Ragged,
+    /// F6: above 2^24 bytes.
+    PartTooLong,
+    /// F9: memory was refused.
+    NoMemory,
+}
+
+/// A refused part: its bytes, handed back.
+#[derive(Drop, Debug)]
+pub struct PartRefused {
+    pub fault: PartFault,
+    pub bytes: Vec<u8>,
+}
+
+/// The first refusal that applies to a part of `len` bytes at an offset.
+pub(crate) fn fault_of(plan: &Plan, offset: u64, len: u64) -> Option<PartFault>
+    ensures fault { result ≡ part_refusal plan.now offset len }
+    ensures fits { IfNone result (Fits plan.now offset len) }
+    ensures most { plan.now ≤ 2 ^ 40 }
+{
+    let most = plan.length();
+    if len == 0 {
+        return Some(PartFault::EmptyPart);
+    }
+    if offset % CHUNK_LEN != 0 {
+        return Some(PartFault::OffAlign);
+    }
+    match offset.checked_add(len) {
+        None => Some(PartFault::PastEnd),
+        Some(end) if end > most => Some(PartFault::PastEnd),
+        Some(end) if len % CHUNK_LEN != 0 && end != most => Some(PartFault::Ragged),
+        Some(_) if len > MOST_PART_BYTES => Some(PartFault::PartTooLong),
+        Some(_) => None,
+    }
+}
