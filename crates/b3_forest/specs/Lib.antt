@@ -1,3 +1,4 @@
+pub mod Forests
+pub mod PartRefusals
 pub mod Parts
 pub mod Pieces
-pub mod PartRefusals

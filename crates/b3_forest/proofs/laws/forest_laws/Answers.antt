@@ -1,0 +1,11 @@
+use Rattle.std.proofs.Common.{arith}
+use Rattle.b3_forest.proofs.OneForest.{one_forest}
+use Rattle.b3_forest.proofs.PiecesAreForest.{pieces_are_forest}
+use Rattle.b3_forest.specs.Pieces.{root_level}
+use Rattle.b3_forest.proofs.laws.forest_laws.Goals as goal
+
+pub returns : goal.returns
+returns c = record {
+  forest = λ x. pieces_are_forest x root_level 0 0 (omega arith);
+  one = λ x ps forest. one_forest x root_level 0 0 ps (omega arith) forest;
+}
