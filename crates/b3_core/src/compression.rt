@@ -1,7 +1,7 @@
 // The compression function (section 2.2) and the constants of the specification.
 
-ghost use Rattle.std.specs.Prelude.{◌≡◌, ◌/◌, ◌%◌, ◌^◌};
-ghost use Rattle.b3_core.specs.Compression.{mix, columns, diagonals, round, permute, compress_of};
+ghost use Rattle.std.specs.Prelude.{◌≡◌, ◌/◌, ◌%◌, ◌^◌, take};
+ghost use Rattle.b3_core.specs.Compression.{mix, columns, diagonals, round, permute, rounds, start_state, compress_of};
 ghost use Rattle.b3_core.specs.Work.{counted};
 
 use crate::work::Work;
@@ -147,22 +147,20 @@ pub(crate) fn high(x: u64) -> u32
     (x >> 32) as u32
 }
 
-/// The compression function (section 2.2): the 16 words that a block compresses to. Their first 8 are the new
-/// chaining value. `block_len` counts the block's bytes before it was filled with zeros.
+// The state after the seven rounds, which count as one compression.
 #[inline(always)]
-pub fn compress(
-    chaining_value: &[u32; 8],
-    block_words: &[u32; 16],
+fn seven_rounds(
+    h: [u32; 8],
+    m0: [u32; 16],
     counter: u64,
     block_len: u32,
     flags: u32,
     work: &mut Work,
 ) -> [u32; 16]
-    ensures words { result ≡ compress_of chaining_value.now block_words.now counter block_len flags }
+    ensures state { result ≡ rounds 7 (start_state h counter block_len flags) m0 }
     ensures count { work.new ≡ counted work.old 1 }
 {
     work.add(1);
-    let h = *chaining_value;
     let v0 = [
         h[0],
         h[1],
@@ -181,7 +179,6 @@ pub fn compress(
         block_len,
         flags,
     ];
-    let m0 = *block_words;
     let v1 = round(v0, m0);
     let m1 = permute(m0);
     let v2 = round(v1, m1);
@@ -194,7 +191,24 @@ pub fn compress(
     let m5 = permute(m4);
     let v6 = round(v5, m5);
     let m6 = permute(m5);
-    let v = round(v6, m6);
+    round(v6, m6)
+}
+
+/// The compression function (section 2.2): the 16 words that a block compresses to. Their first 8 are the new
+/// chaining value. `block_len` counts the block's bytes before it was filled with zeros.
+pub fn compress(
+    chaining_value: &[u32; 8],
+    block_words: &[u32; 16],
+    counter: u64,
+    block_len: u32,
+    flags: u32,
+    work: &mut Work,
+) -> [u32; 16]
+    ensures words { result ≡ compress_of chaining_value.now block_words.now counter block_len flags }
+    ensures count { work.new ≡ counted work.old 1 }
+{
+    let h = *chaining_value;
+    let v = seven_rounds(h, *block_words, counter, block_len, flags, work);
     [
         v[0] ^ v[8],
         v[1] ^ v[9],
@@ -212,5 +226,37 @@ pub fn compress(
         v[13] ^ h[5],
         v[14] ^ h[6],
         v[15] ^ h[7],
+    ]
+}
+
+// The first 8 words that a block compresses to, the new chaining value.
+pub(crate) fn compress_to_value(
+    chaining_value: &[u32; 8],
+    block_words: &[u32; 16],
+    counter: u64,
+    block_len: u32,
+    flags: u32,
+    work: &mut Work,
+) -> [u32; 8]
+    ensures value { result ≡ take 8 (compress_of chaining_value.now block_words.now counter block_len flags) }
+    ensures count { work.new ≡ counted work.old 1 }
+{
+    let v = seven_rounds(
+        *chaining_value,
+        *block_words,
+        counter,
+        block_len,
+        flags,
+        work,
+    );
+    [
+        v[0] ^ v[8],
+        v[1] ^ v[9],
+        v[2] ^ v[10],
+        v[3] ^ v[11],
+        v[4] ^ v[12],
+        v[5] ^ v[13],
+        v[6] ^ v[14],
+        v[7] ^ v[15],
     ]
 }

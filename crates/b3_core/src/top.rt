@@ -6,10 +6,12 @@ ghost use Rattle.b3_core.specs.Lanes.{half_lane, chunk_bytes, chunk_at, eight_ch
 ghost use Rattle.b3_core.specs.Tree.{Inputs, chain, chunk_top, parent_top, chaining_value_of, start_flag};
 ghost use Rattle.b3_core.specs.Work.{counted, block_count};
 
-use crate::compression::{BLOCK_LEN, CHUNK_END, CHUNK_LEN, CHUNK_START, PARENT, ROOT, compress};
+use crate::compression::{
+    BLOCK_LEN, CHUNK_END, CHUNK_LEN, CHUNK_START, PARENT, ROOT, compress, compress_to_value,
+};
 use crate::lanes::{chains, lane_words};
 use crate::mode::Mode;
-use crate::words::{bytes_of, first_half, joined, words_of_block, words_of_short_block};
+use crate::words::{bytes_of, joined, words_of_block, words_of_short_block};
 use crate::work::Work;
 use std::marker::Model;
 use std::simd::u32x8;
@@ -62,8 +64,7 @@ impl Top {
             let at = BLOCK_LEN * j;
             let block = words_of_block(&bytes[at..at + BLOCK_LEN]);
             let flags = mode.flag() + start_flag(j);
-            let words = compress(&chaining_value, &block, number, 64, flags, work);
-            chaining_value = first_half(words);
+            chaining_value = compress_to_value(&chaining_value, &block, number, 64, flags, work);
         }
         let tail = &bytes[BLOCK_LEN * last..];
         Top {
@@ -141,14 +142,14 @@ impl Top {
         ensures value { result ≡ chaining_value_of self.now }
         ensures count { work.new ≡ counted work.old 1 }
     {
-        first_half(compress(
+        compress_to_value(
             &self.chaining_value,
             &self.block_words,
             self.counter,
             self.block_len,
             self.flags,
             work,
-        ))
+        )
     }
 
     // The 64 bytes of block `i` of the extended output of this node as the root (section 2.6).

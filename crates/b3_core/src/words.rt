@@ -1,6 +1,6 @@
 // Words and bytes: blocks, keys and chaining values as words, and words as bytes, all little endian.
 
-ghost use Rattle.std.specs.Prelude.{◌≡◌, ◌+◌, ◌-◌, ◌≤◌, ◌++◌, length, take, replicate, map};
+ghost use Rattle.std.specs.Prelude.{◌≡◌, ◌+◌, ◌-◌, ◌≤◌, ◌++◌, length, replicate, map};
 ghost use Rattle.std.specs.List.{range_with_len};
 ghost use Rattle.b3_core.specs.ExtendedOutput.{byte_of};
 ghost use Rattle.b3_core.specs.Modes.{key_words_of};
@@ -74,15 +74,6 @@ pub(crate) fn words_of_key(bytes: &[u8; 32]) -> [u32; 8]
         word(bytes, 20),
         word(bytes, 24),
         word(bytes, 28),
-    ]
-}
-
-#[inline(always)]
-pub(crate) fn first_half(words: [u32; 16]) -> [u32; 8]
-    ensures { result ≡ take 8 words }
-{
-    [
-        words[0], words[1], words[2], words[3], words[4], words[5], words[6], words[7],
     ]
 }
 

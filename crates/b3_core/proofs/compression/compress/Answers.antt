@@ -1,24 +1,7 @@
 use Rattle.std.proofs.Common.{refl}
-use Rattle.b3_core.specs.Compression.{compress_of, rounds, message}
+use Rattle.b3_core.specs.Compression.{compress_of}
 use Rattle.b3_core.proofs.compression.compress.Goals as goal
 
 pub returns-clause-words : goal.returns-clause-words
-unfolding compress_of rounds message
-returns-clause-words c =
-    rw (
-      c.round-v.ensures,
-      c.round-v6.ensures,
-      c.round-v5.ensures,
-      c.round-v4.ensures,
-      c.round-v3.ensures,
-      c.round-v2.ensures,
-      c.round-v1.ensures,
-      c.permute-m6.ensures,
-      c.permute-m5.ensures,
-      c.permute-m4.ensures,
-      c.permute-m3.ensures,
-      c.permute-m2.ensures,
-      c.permute-m1.ensures,
-      c.low.ensures,
-      c.high.ensures,
-    ) refl
+unfolding compress_of
+returns-clause-words c = rw c.seven_rounds-v.ensures.state refl

@@ -14,10 +14,10 @@ blocks-2-preserved c =
     let width : 64 * j + 64 - 64 * j ≡ 64 = omega arith in
     record {
       chained =
-          rw (c.first_half-chaining_value.ensures, c.compress-words.ensures.words)
-          (chain_step c.args.bytes.now c.args.number c.args.mode.now j _ _ _ c.blocks-2.invariant.chained
+          c.compress_to_value-chaining_value.ensures.value
+          ∙ chain_step c.args.bytes.now c.args.number c.args.mode.now j _ _ _ c.blocks-2.invariant.chained
           (rw width at c.words_of_block-block.ensures)
-          (ap₂ (λ a b. a + b) c.flag.ensures.value c.start_flag.ensures));
+          (ap₂ (λ a b. a + b) c.flag.ensures.value c.start_flag.ensures);
       work = omega arith;
     }
 
