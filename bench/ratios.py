@@ -42,6 +42,7 @@ def main():
             "portable": lambda: inner(official.format("portable"), str(MIB)),
             "hash_wide": lambda: inner("crates/benchmarks/out/benchmarks", "hash_wide", str(MIB)),
             "sse41": lambda: inner(official.format("sse41"), str(MIB)),
+            "make": lambda: inner("crates/benchmarks/out/benchmarks", "make", str(MIB // 16)),
             "sum": lambda: whole(path, "target/b3store", "sum"),
             "b3sum": lambda: whole(path, "b3sum", "--num-threads", "1"),
         }
@@ -55,6 +56,7 @@ def main():
         print(f"{name:10} {size / micros / 1000:6.2f} GB/s")
     print(f"hash / official portable        {best['portable'] / best['hash']:.2f}  (goal 1.1)")
     print(f"hash_wide / official SSE4.1     {best['sse41'] / best['hash_wide']:.2f}  (goal 0.9)")
+    print(f"make, 16 MiB / official SSE4.1  {best['sse41'] / best['make']:.2f}  (goal 0.9)")
     print(f"sum / b3sum --num-threads 1     {best['b3sum'] / best['sum']:.2f}  (whole processes; b3sum takes what the processor has)")
     print(f"memory of sum / input           {memory / size:.2f}  (goal at most 2.1)")
 

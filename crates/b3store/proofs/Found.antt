@@ -1,6 +1,6 @@
 -- The subcommand that a parse entered, from what the getters say.
-use Rattle.std.proofs.Common.{◌≡◌, ◌∙◌, List, Option, Some, None, refl, sym, ap, ap₂, rules}
-use Rattle.std.specs.Prelude.{option_map, Result, Ok, Err, ℕ}
+use Rattle.std.proofs.Common.{◌≡◌, ◌∙◌, List, Option, Some, None, refl, rules}
+use Rattle.std.specs.Prelude.{option_map, Result, Ok, ℕ}
 use Rattle.clap.specs.Words.{TriesOne}
 use Rattle.std.specs.Str.Parse.{digits_value, without_leading_plus}
 use Rattle.b3store.specs.Stated.{Spells}

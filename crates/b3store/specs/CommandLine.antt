@@ -11,11 +11,15 @@ value_rule id = record (new_rule id) { long = Some id; value_names = 1 }
 abbrev pub number_rule : Text → ℕ → Rule
 number_rule id most = record (value_rule id) { parser = Some (vp.Signed (pos 1) (pos most)) }
 
--- `sum [--key HEX64] [--context TEXT] [--length N]`
+-- `sum [--name NAME] [--key HEX64] [--context TEXT] [--length N]`
 abbrev pub sum_line : App
 sum_line =
-    with_rule (with_rule (with_rule (new_app (codes "sum")) (value_rule (codes "key"))) (value_rule (codes "context")))
-    (number_rule (codes "length") 65536)
+    with_rule (with_rule (with_rule (with_rule (new_app (codes "sum")) (value_rule (codes "name"))) (value_rule (codes "key")))
+    (value_rule (codes "context"))) (number_rule (codes "length") 65536)
+
+-- `check`
+abbrev pub check_line : App
+check_line = new_app (codes "check")
 
 abbrev pub command_line : App
-command_line = with_subcommand (new_app (codes "b3store")) sum_line.top
+command_line = with_subcommand (with_subcommand (new_app (codes "b3store")) sum_line.top) check_line.top

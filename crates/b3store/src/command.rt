@@ -3,7 +3,7 @@
 ghost use Rattle.std.specs.Prelude.{◌≡◌, IfOk, false};
 ghost use Rattle.clap.specs.Words.{app_of, rule_of};
 ghost use Rattle.clap.specs.declared.builder.command.Command.TheViews.{out-Command as fields_of};
-ghost use Rattle.b3store.specs.CommandLine.{value_rule, sum_line, command_line};
+ghost use Rattle.b3store.specs.CommandLine.{value_rule, sum_line, check_line, command_line};
 
 use clap::{Arg, Command, value_parser};
 use std::alloc::{AllocError, Global};
@@ -23,6 +23,7 @@ fn sum_command<'a>(alloc: Global) -> Result<Command<'a>, AllocError>
     ensures shape { IfOk result (λ c. app_of c ≡ sum_line) }
     ensures local { IfOk result (λ c. (fields_of c).has_globals ≡ false) }
 {
+    let name = value_argument(alloc, "name", "NAME", "Write this name in the check line");
     let key = value_argument(
         alloc,
         "key",
@@ -43,10 +44,22 @@ fn sum_command<'a>(alloc: Global) -> Result<Command<'a>, AllocError>
     )
     .value_parser(value_parser!(u32).range(1..65537));
     Command::new(alloc, "sum")
-        .about("Read standard input, and write its check line: the BLAKE3 hash and the name -")
+        .about(
+            "Read standard input, and write its check line: the BLAKE3 hash and a name, - by default",
+        )
+        .arg(name)?
         .arg(key)?
         .arg(context)?
         .arg(length)
+}
+
+fn check_command<'a>(alloc: Global) -> Command<'a>
+    ensures shape { app_of result ≡ check_line }
+    ensures local { (fields_of result).has_globals ≡ false }
+{
+    Command::new(alloc, "check").about(
+        "Read check lines, and report of each whether the file of its name has its hash",
+    )
 }
 
 /// The command line of the program.
@@ -57,5 +70,6 @@ pub fn program<'a>(alloc: Global) -> Result<Command<'a>, AllocError>
     let sum = sum_command(alloc)?;
     Command::new(alloc, "b3store")
         .about("A content-addressed store: objects under their BLAKE3 hash")
-        .subcommand(sum)
+        .subcommand(sum)?
+        .subcommand(check_command(alloc))
 }

@@ -1,7 +1,11 @@
 //! The program `b3store`: each subcommand is an engine over a reader and a writer.
 #![tactic(auto)]
 
+ghost use Rattle.b3store.specs.Stated.{InRange};
+
+mod check;
 mod command;
+mod files;
 mod outcome;
 mod said;
 mod streams;
@@ -11,7 +15,9 @@ mod tests;
 mod words;
 
 use b3_core::Work;
-use outcome::Cause;
+use check::check;
+use files::SystemFiles;
+use outcome::{Cause, Verdict};
 use said::{Fault, Options};
 use std::io;
 use std::process::ExitCode;
@@ -19,6 +25,8 @@ use sum::sum;
 use words::options;
 
 const GOOD: u8 = 0;
+
+const REFUSED: u8 = 1;
 
 const USAGE: u8 = 2;
 
@@ -35,7 +43,9 @@ fn stopped(rt: &HostRuntime, cause: Cause) -> u8 {
     STOPPED
 }
 
-fn run(rt: &HostRuntime, options: &Options<'_>) -> Result<u8, Cause> {
+fn run(rt: &HostRuntime, options: &Options<'_>) -> Result<u8, Cause>
+    requires { InRange options.now }
+{
     let alloc = rt.alloc();
     let mut reader = rt.stdin();
     let mut writer = io::writer(rt);
@@ -44,6 +54,13 @@ fn run(rt: &HostRuntime, options: &Options<'_>) -> Result<u8, Cause> {
             let mut work = Work::new(rt);
             sum(alloc, options, &mut reader, &mut writer, &mut work)?;
             Ok(GOOD)
+        }
+        Options::Check => {
+            let mut names = SystemFiles::new(rt);
+            match check(alloc, &mut names, &mut reader, &mut writer)? {
+                Verdict::Good => Ok(GOOD),
+                Verdict::Refused => Ok(REFUSED),
+            }
         }
     }
 }

@@ -15,6 +15,8 @@ pub enum SumMode<'a> {
 /// The options of `sum`.
 #[derive(Clone, Copy, Debug)]
 pub struct SumOptions<'a> {
+    /// The name that stands in the check line.
+    pub name: &'a str,
     pub mode: SumMode<'a>,
     /// How many bytes of the extended output are asked for, in place of the check line.
     pub length: Option<u32>,
@@ -24,6 +26,7 @@ pub struct SumOptions<'a> {
 #[derive(Clone, Copy, Debug)]
 pub enum Options<'a> {
     Sum(SumOptions<'a>),
+    Check,
 }
 
 /// Why a command line gives no options.

@@ -1,8 +1,10 @@
 //! The engine of `sum`.
 
-ghost use Rattle.std.specs.Prelude.{◌≡◌, ◌≢◌, ◌++◌, IfErr, IfOk, IfSome, OnOk, codes, string_bytes};
+ghost use Rattle.std.specs.Prelude.{◌≡◌, ◌≢◌, ◌++◌, IfErr, IfOk, IfSome, OnOk, codes};
 ghost use Rattle.std.specs.Io.KnownBytes.{Appends, IsAtEnd};
 ghost use Rattle.hex.specs.Hex.{encode_lower};
+ghost use Rattle.b3_check.specs.Lines.{written_line};
+ghost use Rattle.b3_check.specs.Names.{IsName};
 ghost use Rattle.b3_core.specs.ExtendedOutput.{output_of};
 ghost use Rattle.b3_core.specs.Modes.{digest_of};
 ghost use Rattle.b3_core.specs.Tree.{tree_top};
@@ -11,6 +13,7 @@ ghost use Rattle.b3store.specs.Sums.{mode_of, text_in, sum_text};
 use crate::outcome::Cause;
 use crate::said::{SumMode, SumOptions};
 use crate::streams::{read_all, write_all};
+use b3_check::Line;
 use b3_core::{Mode, OutputReader, Top, Work, hash_wide};
 use std::alloc::{AllocError, Global};
 use std::io::{Read, Write};
@@ -26,19 +29,21 @@ fn mode_of(mode: SumMode<'_>, work: &mut Work) -> Mode
     }
 }
 
-// The check line of an input, its name being `-`.
+// The check line of an input.
 fn check_line(
     alloc: Global,
     mode: &Mode,
+    name: &str,
     input: &[u8],
     work: &mut Work,
-) -> Result<String, AllocError>
-    ensures { IfOk result (λ line. string_bytes line ≡ encode_lower (digest_of input.now mode.now) ++ codes "  -\n") }
+) -> Result<Vec<u8>, AllocError>
+    requires { IsName name.now }
+    ensures { IfOk result (λ line. line.items ≡ written_line (record { digest = digest_of input.now mode.now; name = name.now })) }
 {
+    let name = Vec::from_slice(alloc, name.as_bytes())?;
     let digest = hash_wide(mode, input, work);
-    let mut line = hex::encode(alloc, &digest[..])?;
-    line.push_str("  -\n")?;
-    Ok(line)
+    let line = Line::new(digest, name).unwrap();
+    line.text(alloc)
 }
 
 // The digits of the first `len` bytes of an input's extended output, and a line feed.
@@ -48,15 +53,15 @@ fn output_line(
     input: &[u8],
     len: u32,
     work: &mut Work,
-) -> Result<String, AllocError>
-    ensures { IfOk result (λ line. string_bytes line ≡ encode_lower (output_of (tree_top input.now 0 mode.now) 0 len) ++ codes "\n") }
+) -> Result<Vec<u8>, AllocError>
+    ensures { IfOk result (λ line. line.items ≡ encode_lower (output_of (tree_top input.now 0 mode.now) 0 len) ++ codes "\n") }
 {
     let mut output = vec![in alloc; 0u8; len as usize]?;
     let mut reader = OutputReader::new(Top::of_input(mode, input, work));
     reader.fill(&mut output, work).unwrap();
     let mut line = hex::encode(alloc, &output[..])?;
     line.push_str("\n")?;
-    Ok(line)
+    Ok(line.into_bytes())
 }
 
 // What `sum` writes of an input.
@@ -65,17 +70,18 @@ fn text_of(
     options: &SumOptions<'_>,
     input: &[u8],
     work: &mut Work,
-) -> Result<String, AllocError>
-    ensures { IfOk result (λ text. string_bytes text ≡ sum_text options.now input.now) }
+) -> Result<Vec<u8>, AllocError>
+    requires { IsName options.now.name.now }
+    ensures { IfOk result (λ text. text.items ≡ sum_text options.now input.now) }
 {
     let mode = mode_of(options.mode, work);
     match options.length {
-        None => check_line(alloc, &mode, input, work),
+        None => check_line(alloc, &mode, options.name, input, work),
         Some(len) => output_line(alloc, &mode, input, len, work),
     }
 }
 
-/// Reads all its input, and then writes its check line, or the digits of so many bytes of its extended output as
+/// Reads all its input, and then writes its check line with the options' name, or the digits of so many bytes of its extended output as
 /// the options ask for.
 ///
 /// It stops at the first read or write that fails, or where memory is refused. It writes nothing before it has
@@ -87,6 +93,7 @@ pub fn sum<R: Read, W: Write>(
     writer: &mut W,
     work: &mut Work,
 ) -> Result<(), Cause>
+    requires { IsName options.now.name.now }
     ensures written { OnOk result (IfSome (R.remaining reader.old) (λ input.
         Appends (W.contents writer.old) (W.contents writer.new) (sum_text options.now input))) }
     ensures end { OnOk result (IsAtEnd (R.remaining reader.new)) }
@@ -94,5 +101,5 @@ pub fn sum<R: Read, W: Write>(
 {
     let input = read_all(alloc, reader)?;
     let text = text_of(alloc, options, &input, work)?;
-    write_all(writer, text.as_bytes())
+    write_all(writer, &text)
 }

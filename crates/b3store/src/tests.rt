@@ -1,6 +1,8 @@
 //! The engines over memory, and the command line.
 
+mod checks;
 mod command_line;
 mod fakes;
+mod files;
 mod sums;
 mod vectors;

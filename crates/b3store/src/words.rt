@@ -2,8 +2,9 @@
 
 ghost use Rattle.std.specs.Prelude.{◌≡◌, ◌≤◌, IfOk, IfSome, codes, map};
 ghost use Rattle.clap.specs.Words.{found_of, first_of, one_of, rows_of, subcommand_of};
+ghost use Rattle.b3_check.specs.Names.{IsName};
 ghost use Rattle.b3store.specs.CommandLine.{command_line};
-ghost use Rattle.b3store.specs.Stated.{InRange, Says, SaysMode, SaysSum, Spells};
+ghost use Rattle.b3store.specs.Stated.{InRange, Says, SaysMode, SaysName, SaysSum, Spells};
 
 use crate::command::program;
 use crate::said::{Fault, Options, SumMode, SumOptions};
@@ -76,18 +77,37 @@ fn sum_mode<'a>(alloc: Global, found: &ArgMatches<'a>) -> Result<SumMode<'a>, Fa
     }
 }
 
+// The name that a check line gets: `-` where none is given.
+fn sum_name<'a>(alloc: Global, found: &ArgMatches<'a>) -> Result<&'a str, Fault>
+    ensures says { IfOk result (λ name. SaysName name.now (first_of (codes "name") (rows_of (found_of found.now)))) }
+    ensures lawful { IfOk result (λ name. IsName name.now) }
+{
+    let Some(name) = found.get_str("name") else {
+        return Ok("-");
+    };
+    if name.is_empty() || name.as_bytes().contains(&0) {
+        return Err(usage(
+            alloc,
+            "b3store: --name takes a name that is not empty and has no byte 0\n",
+        ));
+    }
+    Ok(name)
+}
+
 fn sum_options<'a>(alloc: Global, found: &ArgMatches<'a>) -> Result<SumOptions<'a>, Fault>
     ensures says { IfOk result (λ o. SaysSum o (rows_of (found_of found.now))) }
+    ensures named { IfOk result (λ o. IsName o.name.now) }
     ensures range { IfOk result (λ o. IfSome o.length (λ n. (1 ≤ n) × (n ≤ 65536))) }
 {
+    let name = sum_name(alloc, found)?;
     let mode = sum_mode(alloc, found)?;
     let length = number_within(alloc, found, "length", 65536)?;
-    Ok(SumOptions { mode, length })
+    Ok(SumOptions { name, mode, length })
 }
 
 /// What the words say, the first of them being the program's name: `Ok` only with the subcommand and the values
-/// that clap states of the words, each number within its range, never a key and a context together. All other
-/// words are `Usage`, a request for help too.
+/// that clap states of the words, each number within its range, a name that is not empty and has no byte 0, never
+/// a key and a context together. All other words are `Usage`, a request for help too.
 pub fn options<'a, S: AsStr>(alloc: Global, words: &'a [S]) -> Result<Options<'a>, Fault>
     ensures says { IfOk result (λ o. Says o (subcommand_of command_line (map S.text words.entry.now))) }
     ensures range { IfOk result InRange }
@@ -98,6 +118,7 @@ pub fn options<'a, S: AsStr>(alloc: Global, words: &'a [S]) -> Result<Options<'a
     };
     match matches.subcommand() {
         Some(("sum", found)) => Ok(Options::Sum(sum_options(alloc, found)?)),
+        Some(("check", _)) => Ok(Options::Check),
         _ => Err(usage(
             alloc,
             "b3store: a subcommand is needed; see b3store --help\n",

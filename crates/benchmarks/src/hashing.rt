@@ -6,8 +6,8 @@ use std::io;
 use std::rt::Clock;
 use std::time::Instant;
 
-// So many MiB of the pattern bytes `i mod 251`.
-fn pattern(alloc: Global, mib: u16) -> Result<Vec<u8>, AllocError> {
+/// So many MiB of the pattern bytes `i mod 251`.
+pub fn pattern(alloc: Global, mib: u16) -> Result<Vec<u8>, AllocError> {
     let mut bytes = vec![in alloc; 0u8; mib as usize * 1_048_576]?;
     let mut next = 0u8;
     for byte in bytes.iter_mut() {

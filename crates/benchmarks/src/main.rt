@@ -1,10 +1,11 @@
 //! Times the crates' calls over bytes in memory. It writes what was computed to standard output, and the
 //! microseconds that it took to standard error. `bench/run` calls it and prints ratios.
 //!
-//! Words: `hash MIB` or `hash_wide MIB`.
+//! Words: `hash MIB`, `hash_wide MIB` or `make PARTS`.
 #![tactic(auto)]
 
 mod hashing;
+mod parts;
 mod words;
 
 use std::io;
@@ -15,6 +16,7 @@ fn main(rt: HostRuntime) -> io::Result<()> {
     match job_of(words.as_slice()) {
         Some(Job::Hash { mib }) => hashing::time_hash(&rt, mib),
         Some(Job::HashWide { mib }) => hashing::time_hash_wide(&rt, mib),
-        None => eprintln!(rt; "benchmarks: hash MIB | hash_wide MIB"),
+        Some(Job::Make { parts }) => parts::time_make(&rt, parts),
+        None => eprintln!(rt; "benchmarks: hash MIB | hash_wide MIB | make PARTS"),
     }
 }

@@ -7,6 +7,8 @@ pub enum Job {
     Hash { mib: u16 },
     /// The hash by eight chunks at a time.
     HashWide { mib: u16 },
+    /// Parts of 16 MiB, made.
+    Make { parts: u16 },
 }
 
 /// The measurement that the words name, the first of them being the program's name.
@@ -14,10 +16,11 @@ pub fn job_of(words: &[String]) -> Option<Job> {
     if words.len() < 3 {
         return None;
     }
-    let mib = words[2].parse::<u16>().ok()?;
+    let count = words[2].parse::<u16>().ok()?;
     match words[1].as_str() {
-        "hash" => Some(Job::Hash { mib }),
-        "hash_wide" => Some(Job::HashWide { mib }),
+        "hash" => Some(Job::Hash { mib: count }),
+        "hash_wide" => Some(Job::HashWide { mib: count }),
+        "make" => Some(Job::Make { parts: count }),
         _ => None,
     }
 }

@@ -17,6 +17,7 @@ fn is_usage<R: AllocGlobal + Abort>(rt: &R, words: &[&str]) {
 fn sum_alone(rt: HostRuntime) {
     match options(rt.alloc(), &["b3store", "sum"]) {
         Ok(Options::Sum(said)) => {
+            assert_eq!(rt; said.name, "-");
             assert!(rt; matches!(said.mode, SumMode::Hash));
             assert_eq!(rt; said.length, None);
         }
@@ -61,11 +62,41 @@ fn the_longest_length(rt: HostRuntime) {
 }
 
 #[test]
+fn sum_with_a_name(rt: HostRuntime) {
+    for name in ["a\\b", "-", "two words\n"] {
+        match options(rt.alloc(), &["b3store", "sum", "--name", name]) {
+            Ok(Options::Sum(said)) => assert_eq!(rt; said.name, name),
+            _ => panic!(rt; "no options"),
+        }
+    }
+}
+
+#[test]
+fn wrong_names_are_usage(rt: HostRuntime) {
+    for name in ["", "\0", "a\0b"] {
+        is_usage(&rt, &["b3store", "sum", "--name", name]);
+        is_usage(&rt, &["b3store", "sum", "--length", "1", "--name", name]);
+    }
+    is_usage(&rt, &["b3store", "sum", "--name"]);
+    is_usage(&rt, &["b3store", "sum", "--name", "a", "--name", "a"]);
+}
+
+#[test]
+fn check_alone(rt: HostRuntime) {
+    match options(rt.alloc(), &["b3store", "check"]) {
+        Ok(Options::Check) => {}
+        _ => panic!(rt; "no options"),
+    }
+}
+
+#[test]
 fn wrong_words_are_usage(rt: HostRuntime) {
     is_usage(&rt, &["b3store"]);
     is_usage(&rt, &["b3store", "frob"]);
     is_usage(&rt, &["b3store", "sum", "frob"]);
     is_usage(&rt, &["b3store", "sum", "--frob"]);
+    is_usage(&rt, &["b3store", "check", "frob"]);
+    is_usage(&rt, &["b3store", "check", "--name", "frob"]);
     is_usage(&rt, &["b3store", "sum", "--length", "0"]);
     is_usage(&rt, &["b3store", "sum", "--length", "65537"]);
     is_usage(&rt, &["b3store", "sum", "--length", "-1"]);
@@ -90,5 +121,6 @@ fn wrong_words_are_usage(rt: HostRuntime) {
 fn help_is_usage(rt: HostRuntime) {
     is_usage(&rt, &["b3store", "--help"]);
     is_usage(&rt, &["b3store", "sum", "--help"]);
+    is_usage(&rt, &["b3store", "check", "--help"]);
     is_usage(&rt, &["b3store", "help", "sum"]);
 }

@@ -1,5 +1,7 @@
 //! The engine of `sum`.
 
+ghost use Rattle.b3_check.specs.Names.{IsName};
+
 use crate::outcome::Cause;
 use crate::said::{SumMode, SumOptions};
 use crate::sum::sum;
@@ -10,6 +12,7 @@ use std::process::Abort;
 use std::test::Fail;
 
 const PLAIN: SumOptions<'static> = SumOptions {
+    name: "-",
     mode: SumMode::Hash,
     length: None,
 };
@@ -19,7 +22,9 @@ fn summed<R: AllocGlobal + Abort>(
     rt: &R,
     options: &SumOptions<'_>,
     input: &[u8],
-) -> Result<Vec<u8>, Fail> {
+) -> Result<Vec<u8>, Fail>
+    requires { IsName options.now.name.now }
+{
     let mut reader = input;
     let mut writer: Vec<u8> = Vec::new(rt.alloc());
     let mut work = Work::new(rt);
@@ -38,15 +43,29 @@ fn check_line_of_abc(rt: HostRuntime) -> Result<(), Fail> {
 }
 
 #[test]
+fn check_line_of_a_name_with_a_backslash(rt: HostRuntime) -> Result<(), Fail> {
+    let options = SumOptions {
+        name: "a\\b",
+        mode: SumMode::Hash,
+        length: None,
+    };
+    let line = format!(in rt.alloc(); "\\{ABC}  a\\\\b\n")?;
+    assert_eq!(rt; summed(&rt, &options, b"abc")?.as_slice(), line.as_bytes());
+    Ok(())
+}
+
+#[test]
 fn keyed_and_derived(rt: HostRuntime) -> Result<(), Fail> {
     let length = Some(32);
     let keyed = SumOptions {
+        name: "-",
         mode: SumMode::Keyed(*b"whats the Elvish word for friend"),
         length,
     };
     let line = format!(in rt.alloc(); "{KEYED}\n")?;
     assert_eq!(rt; summed(&rt, &keyed, b"")?.as_slice(), line.as_bytes());
     let derived = SumOptions {
+        name: "-",
         mode: SumMode::Derive(CONTEXT),
         length,
     };
@@ -58,6 +77,7 @@ fn keyed_and_derived(rt: HostRuntime) -> Result<(), Fail> {
 #[test]
 fn longer_output_begins_with_the_hash(rt: HostRuntime) -> Result<(), Fail> {
     let options = SumOptions {
+        name: "-",
         mode: SumMode::Hash,
         length: Some(64),
     };

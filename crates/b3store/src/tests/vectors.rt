@@ -1,5 +1,8 @@
 //! Hashes from outside, in digits.
 
+/// The hash of no bytes.
+pub const EMPTY: &str = "af1349b9f5f9a1a6a0404dea36dcc9499bcb25c9adc112b7cc9a93cae41f3262";
+
 /// The hash of `abc`.
 pub const ABC: &str = "6437b3ac38465133ffb63b75273a8db548c558465d79db03fd359c6cd5bd9d85";
 

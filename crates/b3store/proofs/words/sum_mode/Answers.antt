@@ -1,6 +1,6 @@
-use Rattle.std.proofs.Common.{◌≡◌, ◌∙◌, Option, Some, None, List, ℕ, ap, sym, subst, codes}
+use Rattle.std.proofs.Common.{◌≡◌, ◌∙◌, Option, ap, sym, subst, codes}
 use Rattle.std.specs.Prelude.{IsSomeAnd, Ok, option_map}
-use Rattle.clap.specs.Words.{Text, found_of, rows_of, first_of}
+use Rattle.clap.specs.Words.{Text, found_of}
 use Rattle.clap.proofs.WalkLemmas.{first_value-rows}
 use Rattle.hex.specs.Hex.{decode_sized}
 use Rattle.b3store.proofs.words.sum_mode.Goals as goal
