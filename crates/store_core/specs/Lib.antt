@@ -1,0 +1,4 @@
+pub mod Entries
+pub mod Journal
+pub mod Replay
+pub mod Laws
