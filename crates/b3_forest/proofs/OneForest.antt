@@ -183,7 +183,7 @@ and_true : (a b : Bool) → (a && b) ≡ true → (a ≡ true) × (b ≡ true)
 and_true true b both = (refl, both)
 and_true false b both = cc
 
-full_halves : (x : ℕ → List ℕ) (k s : ℕ) → is_full x (suc k) s ≡ true → (is_full x k s ≡ true) × (is_full x k (s + 2 ^ k) ≡ true)
+pub full_halves : (x : ℕ → List ℕ) (k s : ℕ) → is_full x (suc k) s ≡ true → (is_full x k s ≡ true) × (is_full x k (s + 2 ^ k) ≡ true)
 unfolding is_full
 full_halves x k s full = and_true (is_full x k s) (is_full x k (s + 2 ^ k)) full
 

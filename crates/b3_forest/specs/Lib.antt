@@ -1,4 +1,7 @@
+pub mod Followed
 pub mod Forests
+pub mod Nodes
 pub mod PartRefusals
 pub mod Parts
 pub mod Pieces
+pub mod Uploads

@@ -1,21 +1,49 @@
 //! The parts of an upload, hashed alone and in any order (hash mode).
 //!
 //! A `Plan` is the length of an upload. `Prepared::make` takes one part of it and hashes it, with no other part at
-//! hand: it keeps the part's pieces, which are complete subtrees of the tree over the whole upload. They are the
-//! canonical forest of the part's chunks, and `forest_laws` states that there is one such forest of what is held.
+//! hand: it keeps the part's pieces, which are complete subtrees of the tree over the whole upload.
+//!
+//! A `Forest` holds the parts of one upload. `Forest::add` puts a part's pieces among the others, and merges those that
+//! are the halves of one aligned range; it hashes no bytes. `Forest::finish` gives the top of the tree over the whole
+//! content, whichever way it was cut and in whatever order its parts came.
+//!
+//! A `Follow` does the same for bytes that are lent: it notes parts of them, and tells their top, without copies.
+//!
+//! The pieces are always the canonical forest of the held chunks, and `forest_laws` states that there is one such
+//! forest of what is held. They stand in an ordered map by their first chunk.
 #![tactic(auto)]
 
+mod add_refused;
 mod cutting;
+mod follow;
+#[cfg(test)]
+mod follow_tests;
+mod forest;
+#[cfg(test)]
+mod forest_tests;
+mod halves;
+mod held;
+mod incomplete;
 mod laws;
+mod node;
+mod nodes;
+mod note_fault;
 mod piece;
 mod plan;
 mod prepared;
 mod refusal;
+mod segment;
 
-pub use laws::forest_laws;
+pub use add_refused::{AddFault, AddRefused};
+pub use follow::Follow;
+pub use forest::Forest;
+pub use incomplete::Incomplete;
+pub use laws::{forest_laws, upload_laws};
+pub use note_fault::NoteFault;
 pub use plan::{Plan, PlanTooLong};
 pub use prepared::Prepared;
 pub use refusal::{PartFault, PartRefused};
+pub use segment::Segment;
 
 #[cfg(test)]
 mod tests;

@@ -1,16 +1,18 @@
 // One part, hashed alone.
 
-ghost use Rattle.std.specs.Prelude.{◌≡◌, ◌+◌, ◌≤◌, IfErr, IfOk, IfSome, OnOk, length, unwrap_or, vec_len};
+ghost use Rattle.std.specs.Prelude.{◌≡◌, ◌+◌, ◌^◌, ◌≤◌, IfErr, IfOk, IfSome, OnOk, length, unwrap_or, vec_len};
 ghost use Rattle.std.specs.Arc.{arc_value};
 ghost use Rattle.b3_core.specs.Work.{counted};
 ghost use Rattle.b3_forest.specs.PartRefusals.{part_refusal};
-ghost use Rattle.b3_forest.specs.Parts.{PlannedPart, chunks_of, planned};
-ghost use Rattle.b3_forest.specs.Pieces.{IsPrepared, part_work, piece_count};
+ghost use Rattle.b3_forest.specs.Parts.{Fits, PlannedPart, chunks_of, planned};
+ghost use Rattle.b3_forest.specs.Uploads.{part_of};
+ghost use Rattle.b3_forest.specs.Pieces.{IsPrepared, part_work, piece_count, pieces_of, root_level};
 
 use crate::cutting::push_pieces;
 use crate::piece::Piece;
 use crate::plan::Plan;
 use crate::refusal::{PartFault, PartRefused, fault_of};
+use crate::segment::Segment;
 use b3_core::Work;
 use std::alloc::Global;
 use std::marker::Model;
@@ -110,7 +112,36 @@ impl Prepared {
     pub fn plan(&self) -> Plan
         ensures { result ≡ self.now.plan }
     {
-        self.plan
+        let Prepared { plan, .. } = self;
+        *plan
+    }
+
+    // The part's bytes, which fit its plan.
+    pub(crate) fn fitting(&self) -> &[u8]
+        ensures bytes { result.now ≡ self.now.part.bytes }
+        ensures fits { Fits self.now.plan self.now.part.offset (length self.now.part.bytes) }
+        ensures most { self.now.plan ≤ 2 ^ 40 }
+    {
+        let _most = self.plan.length();
+        self.bytes()
+    }
+
+    // The pieces.
+    pub(crate) fn piece_list(&self) -> &[Piece]
+        ensures pieces { result.now ≡ pieces_of (chunks_of self.now.part) root_level 0 }
+        ensures fits { Fits self.now.plan self.now.part.offset (length self.now.part.bytes) }
+    {
+        self.pieces.as_slice()
+    }
+
+    // The part's bytes and where they begin, without its pieces.
+    pub(crate) fn into_segment(self) -> Segment
+        ensures { part_of result ≡ self.part }
+    {
+        Segment {
+            offset: self.offset,
+            bytes: self.bytes,
+        }
     }
 
     /// How many pieces the part has.

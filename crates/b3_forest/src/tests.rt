@@ -5,7 +5,7 @@ use std::process::Abort;
 use std::test::Fail;
 
 // The pattern bytes `i mod 251` of an object, from `first` on.
-fn pattern(alloc: Global, first: u64, len: u64) -> Result<Vec<u8>, AllocError> {
+pub(crate) fn pattern(alloc: Global, first: u64, len: u64) -> Result<Vec<u8>, AllocError> {
     let mut bytes = Vec::new(alloc);
     let mut next = (first % 251) as u8;
     for _ in 0..len {
@@ -13,6 +13,22 @@ fn pattern(alloc: Global, first: u64, len: u64) -> Result<Vec<u8>, AllocError> {
         next = if next >= 250 { 0 } else { next + 1 };
     }
     Ok(bytes)
+}
+
+// A part of a pattern for an upload of `len` bytes.
+pub(crate) fn part_of_pattern<R: AllocGlobal + Abort>(
+    rt: &R,
+    len: u64,
+    offset: u64,
+    size: u64,
+    work: &mut Work,
+) -> Result<Prepared, Fail> {
+    let plan = Plan::new(len).expect(rt, "a plan");
+    let bytes = pattern(rt.alloc(), offset, size)?;
+    match Prepared::make(rt.alloc(), &plan, offset, bytes, work) {
+        Ok(part) => Ok(part),
+        Err(refused) => panic!(rt; "{refused:?}"),
+    }
 }
 
 // A part of a pattern, with its pieces and its compressions.

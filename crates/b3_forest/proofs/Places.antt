@@ -1,0 +1,161 @@
+-- Where pieces stand in a map.
+use Rattle.std.proofs.Common.{◌≡◌, ℕ, ◌+◌, ◌^◌, ◌<◌, ◌≤◌, ◌++◌, List, [], ◌∷◌, Option, Some, None, true, false, arith, refl, ap, sym, ◌∙◌, inl, inr}
+use Rattle.std.specs.Prelude.{IfNone, IfSome, IsSome}
+use Rattle.std.specs.BTreeMap.{BTreeMap}
+use Rattle.std.specs.BTreeMap.Range.{IsRangeOf}
+use Rattle.std.specs.Ordering.{nat_cmp}
+use Rattle.std.specs.declared.ops.Bound.TheVariants.{Included, Excluded, Unbounded}
+use Rattle.std.proofs.lemmas.Bool.Decides.{nat_tests}
+use Rattle.std.proofs.lemmas.Bool.{cases_lt}
+use Rattle.std.proofs.lemmas.Nat.{pow_pos}
+use Rattle.b3_forest.specs.Nodes.{Nodes, AreForest, ArePieces, HasChunk, IsBound, IsFirstGap, IsLastUpto, IsLeastHeld, IsNextFrom, NoneFrom, NoneHeld, NoneUpto, is_held, node_at}
+use Rattle.b3_forest.specs.declared.node.Node.{Node}
+use Rattle.b3_forest.proofs.Chunks.{full_at}
+use Rattle.b3_forest.proofs.Maps.{three}
+use Rattle.b3_forest.proofs.Merging.{some_same}
+use Rattle.b3_forest.proofs.OneForest.{bool_cases}
+
+is_some_of : (o : Option Node) (m : Node) → o ≡ Some m → IsSome o
+is_some_of (Some n) m is = refl
+is_some_of None m is = cc
+
+pub if_some_by : (o : Option ℕ) (P Q : ℕ → Type 0) → ((v : ℕ) → P v → Q v) → IfSome o P → IfSome o Q
+if_some_by (Some v) P Q by holds = by v holds
+if_some_by None P Q by holds = tt
+
+pub if_none_by : (o : Option ℕ) (P Q : Type 0) → (P → Q) → IfNone o P → IfNone o Q
+if_none_by (Some v) P Q by holds = tt
+if_none_by None P Q by holds = by holds
+
+-- ---- ranges of the map
+
+pub last_upto : (m : BTreeMap ℕ Node) (start first : ℕ) (n : Node) (r t : List (ℕ × Node)) → IsRangeOf nat_cmp Unbounded (Included start) m r
+    → r ≡ t ++ (first, n) ∷ [] → IsLastUpto m.entries start first n
+last_upto m start first n r t range cut =
+    let e = range.3 (first, n) t cut in
+    record {
+      upto = let low = e.0.1 in grind (arith, nat_tests, low);
+      is = e.1;
+      last = λ s k is upto. let order = range.4 (first, n) t cut s (tt, grind (arith, nat_tests)) (is_some_of _ k is) in grind (arith, nat_tests, order);
+    }
+
+pub none_upto : (m : BTreeMap ℕ Node) (start : ℕ) (r : List (ℕ × Node)) → IsRangeOf nat_cmp Unbounded (Included start) m r → r ≡ [] → NoneUpto m.entries start
+none_upto m start r range empty s k is = elim (cases_lt start s) [
+  | inl behind ↦ behind
+  | inr upto ↦ let none = range.5 empty s (tt, grind (arith, nat_tests)) in let bad = sym is ∙ none in cc
+]
+
+pub next_from : (m : BTreeMap ℕ Node) (start end first : ℕ) (n : Node) (r t : List (ℕ × Node)) → IsRangeOf nat_cmp (Included start) (Excluded end) m r
+    → r ≡ (first, n) ∷ t → IsNextFrom m.entries start end first
+next_from m start end first n [] t range cut = cc
+next_from m start end first n (f ∷ r) t range cut =
+    let same : f ≡ (first, n) = cc in
+    let key : f.0 ≡ first = ap (λ (e : ℕ × Node). e.0) same in
+    let node : f.1 ≡ n = ap (λ (e : ℕ × Node). e.1) same in
+    let e = range.1 in
+    let below : first < end = let high = e.0.1 in grind (arith, nat_tests, high, key) in
+    record {
+      from = let low = e.0.0 in grind (arith, nat_tests, low, key);
+      below = below;
+      is = (n, ap (node_at m.entries) (sym key) ∙ e.1 ∙ ap Some node);
+      next = λ s k is from. elim (cases_lt s end) [
+        | inl inside ↦ let order = range.2 s (grind (arith, nat_tests), grind (arith, nat_tests)) (is_some_of _ k is) in grind (arith, nat_tests, order, key)
+        | inr outside ↦ omega (arith, below, outside)
+      ];
+    }
+
+pub none_from : (m : BTreeMap ℕ Node) (start end : ℕ) (r : List (ℕ × Node)) → IsRangeOf nat_cmp (Included start) (Excluded end) m r → r ≡ [] → NoneFrom m.entries start end
+none_from m start end r range empty s k is from = elim (cases_lt s end) [
+  | inl inside ↦ let none = range.5 empty s (grind (arith, nat_tests), grind (arith, nat_tests)) in let bad = sym is ∙ none in cc
+  | inr outside ↦ outside
+]
+
+-- ---- held chunks
+
+pub held_in : (x : ℕ → List ℕ) (es : Nodes) (s i : ℕ) (n : Node) → ArePieces x es → node_at es s ≡ Some n → s ≤ i → i < s + 2 ^ n.level → is_held x i ≡ true
+held_in x es s i n pieces is after before = full_at x n.level s i (pieces.lawful s n is).full after before
+
+-- what is not held, where no piece can be
+not_held : (x : ℕ → List ℕ) (es : Nodes) (i : ℕ) → AreForest x [] es → i < 2 ^ 30 → (HasChunk es i → ⊥) → is_held x i ≡ false
+not_held x es i forest low never = elim (bool_cases (is_held x i)) [
+  | inl held ↦ absurd (never (forest.all i held low))
+  | inr none ↦ none
+]
+
+pub least_at_start : (x : ℕ → List ℕ) (es : Nodes) (start end first : ℕ) (n : Node) → AreForest x [] es → start < end → IsLastUpto es start first n → start < first + 2 ^ n.level
+    → IsLeastHeld x start end start
+least_at_start x es start end first n forest order last inside = record {
+  after = omega arith;
+  before = order;
+  held = held_in x es first start n forest.pieces last.is last.upto inside;
+  least = λ i after before. absurd (omega (arith, after, before));
+}
+
+-- no piece reaches past the start
+pub record NoneReaches (es : Nodes) (start : ℕ) : Type 0 where
+  pub none : (s : ℕ) (m : Node) → node_at es s ≡ Some m → s ≤ start → s + 2 ^ m.level ≤ start
+
+pub none_reaches : (x : ℕ → List ℕ) (es : Nodes) (start first : ℕ) (n : Node) → AreForest x [] es → IsLastUpto es start first n → first + 2 ^ n.level ≤ start → NoneReaches es start
+none_reaches x es start first n forest last before = record {
+  none = λ s m is upto. elim (three s first) [
+    | inl less ↦ let apart = forest.pieces.apart s first m n is last.is less in omega (arith, apart, last.upto)
+    | inr (inl same) ↦
+        let node : m ≡ n = some_same m n (sym is ∙ ap (node_at es) same ∙ last.is) in
+        let wide : 2 ^ m.level ≡ 2 ^ n.level = ap (λ (k : Node). 2 ^ k.level) node in
+        omega (arith, before, same, wide)
+    | inr (inr more) ↦ let late = last.last s m is upto in absurd (omega (arith, late, more))
+  ];
+}
+
+pub nothing_reaches : (es : Nodes) (start : ℕ) → NoneUpto es start → NoneReaches es start
+nothing_reaches es start none = record { none = λ s m is upto. let late = none s m is in absurd (omega (arith, late, upto)) }
+
+pub least_next : (x : ℕ → List ℕ) (es : Nodes) (start end first : ℕ) → AreForest x [] es → NoneReaches es start → IsNextFrom es start end first → IsLeastHeld x start end first
+least_next x es start end first forest reaches next =
+    let found = next.is in
+    let wide = pow_pos found.0.level in
+    let most = forest.pieces.within first found.0 found.1 in
+    record {
+      after = next.from;
+      before = next.below;
+      held = held_in x es first first found.0 forest.pieces found.1 (omega arith) (omega (arith, wide));
+      least = λ i after before. not_held x es i forest (omega (arith, before, most, wide)) (λ has.
+          elim (cases_lt start has.first) [
+            | inl behind ↦ let late = next.next has.first has.node has.is (omega (arith, behind)) in omega (arith, late, has.after, before)
+            | inr upto ↦ let short = reaches.none has.first has.node has.is upto in omega (arith, short, has.before, after)
+          ]);
+    }
+
+pub none_held : (x : ℕ → List ℕ) (es : Nodes) (start end : ℕ) → AreForest x [] es → end ≤ 2 ^ 30 → NoneReaches es start → NoneFrom es start end → NoneHeld x start end
+none_held x es start end forest most reaches none i after before = not_held x es i forest (omega (arith, before, most)) (λ has.
+    elim (cases_lt start has.first) [
+      | inl behind ↦ let late = none has.first has.node has.is (omega (arith, behind)) in omega (arith, late, has.after, before)
+      | inr upto ↦ let short = reaches.none has.first has.node has.is upto in omega (arith, short, has.before, after)
+    ])
+
+-- ---- the first gap
+
+pub gap_at : (x : ℕ → List ℕ) (es : Nodes) (next : ℕ) → AreForest x [] es → IsBound es next → ((i : ℕ) → i < next → is_held x i ≡ true)
+    → ((i : ℕ) → 2 ^ 30 ≤ i → is_held x i ≡ false) → ((n : Node) → next < 2 ^ 30 → node_at es next ≡ Some n → ⊥) → IsFirstGap x next
+gap_at x es next forest bound held past none = record {
+  held = held;
+  gap = elim (cases_lt next (2 ^ 30)) [
+    | inr high ↦ past next high
+    | inl low ↦ not_held x es next forest low (λ has. elim (three has.first next) [
+      | inr (inr more) ↦ omega (arith, more, has.after)
+      | inr (inl same) ↦ none has.node low (ap (node_at es) (sym same) ∙ has.is)
+      | inl less ↦ inside x es next has.first has.node forest bound has.is less has.before
+    ])
+  ];
+}
+  where
+    inside : (x : ℕ → List ℕ) (es : Nodes) (next s : ℕ) (m : Node) → AreForest x [] es → IsBound es next → node_at es s ≡ Some m → s < next → next < s + 2 ^ m.level → ⊥
+    inside x es next s m forest (inl zero_) is less before = omega (arith, zero_, less)
+    inside x es next s m forest (inr b) is less before = elim (three s b.0) [
+      | inl low ↦ let apart = forest.pieces.apart s b.0 m b.1 is b.2 low in let wide = pow_pos b.1.level in omega (arith, apart, before, b.3, wide)
+      | inr (inl same) ↦
+          let node : m ≡ b.1 = some_same m b.1 (sym is ∙ ap (node_at es) same ∙ b.2) in
+          let wide : 2 ^ m.level ≡ 2 ^ b.1.level = ap (λ (k : Node). 2 ^ k.level) node in
+          omega (arith, same, wide, b.3, before)
+      | inr (inr high) ↦ let apart = forest.pieces.apart b.0 s b.1 m b.2 is high in omega (arith, apart, b.3, less)
+    ]

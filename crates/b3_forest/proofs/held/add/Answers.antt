@@ -1,0 +1,36 @@
+use Rattle.std.proofs.Common.{List, ◌-◌, arith, ap₂, subst, sym, ◌∙◌}
+use Rattle.b3_forest.specs.Nodes.{AreForest, firsts}
+use Rattle.b3_forest.specs.Parts.{chunk_in}
+use Rattle.b3_forest.specs.Uploads.{with_part}
+use Rattle.b3_forest.specs.declared.piece.Piece.{Piece}
+use Rattle.b3_forest.proofs.HeldParts.{placed_chunks, placed_more}
+use Rattle.b3_forest.proofs.Holding.{is_put, on_err, put_fresh, put_keeps, put_merges}
+use Rattle.b3_forest.proofs.held.add.Goals as goal
+
+pub returns-in_err-put_in-clause-unchanged : goal.returns-in_err-put_in-clause-unchanged
+returns-in_err-put_in-clause-unchanged c ps keeps none =
+    let p = c.args.part.now in
+    let fresh = put_fresh p.plan ps p.part c.piece_list.result.now c.args.nodes.now.entries keeps none c.piece_list.ensures.pieces in
+    on_err c.from_residual.result _ (c.in_err-put_in.ensures.back fresh)
+
+pub returns-clause-kept : goal.returns-clause-kept
+returns-clause-kept c ps keeps none =
+    let p = c.args.part.now in
+    let es = c.args.nodes.now.entries in
+    let put = is_put p.plan ps p.part c.piece_list.result.now es c.put_in.new.nodes.entries keeps none c.piece_list.ensures.pieces c.in_ok-put_in.ensures.put in
+    let fits = c.piece_list.ensures.fits in
+    let chunks = placed_chunks p.plan 0 (with_part p.part ps) (placed_more p.plan 0 p.part ps (omega arith) fits keeps.upload.placed none) in
+    let same = c.piece_list.ensures.pieces ∙ sym c.piece_list-2.ensures.pieces in
+    let forest = c.settle_all.ensures.forest p.plan (chunk_in (with_part p.part ps)) chunks
+    (subst (λ (l : List Piece). AreForest (chunk_in (with_part p.part ps)) (firsts l) c.put_in.new.nodes.entries) same put.forest) in
+    put_keeps p.plan ps p.part es c.settle_all.new.nodes.entries keeps none fits forest c.len.ensures.ordered
+
+pub returns-clause-merges : goal.returns-clause-merges
+returns-clause-merges c ps keeps none =
+    let p = c.args.part.now in
+    let es = c.args.nodes.now.entries in
+    let fs = c.settle_all.new.nodes.entries in
+    let put = is_put p.plan ps p.part c.piece_list.result.now es c.put_in.new.nodes.entries keeps none c.piece_list.ensures.pieces c.in_ok-put_in.ensures.put in
+    let kept = returns-clause-kept c ps keeps none in
+    ap₂ (λ i j. i - j) c.len-before.ensures.len c.len.ensures.len
+    ∙ put_merges p.plan ps p.part es c.put_in.new.nodes.entries fs keeps kept put.len

@@ -1,0 +1,90 @@
+-- Parts that are noted over the bytes that they are to be of.
+use Rattle.std.specs.Prelude.{◌≡◌, ◌≢◌, ◌↔◌, ℕ, ◌+◌, ◌-◌, ◌*◌, ◌^◌, ◌<◌, ◌≤◌, ◌⊎◌, List, [], ◌∷◌, length, map, take, drop}
+use Rattle.b3_forest.specs.Nodes.{Keeps, Nodes}
+use Rattle.b3_forest.specs.Parts.{Part, PlannedPart, chunks_of, end_of}
+use Rattle.b3_forest.specs.Pieces.{piece_count}
+use Rattle.b3_forest.specs.declared.note_fault.NoteFault.{NoteFault}
+use Rattle.b3_forest.specs.declared.note_fault.NoteFault.TheVariants.{NoMemory, Overlap, Stranger, WrongPlan}
+
+-- lent bytes, and what of them was noted: chunks, from one to before another, a range for each piece
+pub record Followed : Type 0 where
+  pub bytes : List ℕ
+  pub ranges : List (ℕ × ℕ)
+
+abbrev pub InRanges : List (ℕ × ℕ) → ℕ → Type 0
+InRanges [] i = ⊥
+InRanges (r ∷ rs) i = ((1024 * r.0 ≤ i) × (i < 1024 * r.1)) ⊎ InRanges rs i
+
+-- offset i was noted
+abbrev pub IsNoted : Followed → ℕ → Type 0
+IsNoted f i = (i < length f.bytes) × InRanges f.ranges i
+
+-- offset i is in the part
+abbrev pub IsIn : Part → ℕ → Type 0
+IsIn p i = (p.offset ≤ i) × (i < end_of p)
+
+-- the bytes that stand where a part is
+abbrev pub bytes_at : List ℕ → Part → List ℕ
+bytes_at b p = take (length p.bytes) (drop p.offset b)
+
+-- ---- a part more
+
+abbrev pub NothingNoted : Followed → Part → Type 0
+NothingNoted f p = (i : ℕ) → IsIn p i → IsNoted f i → ⊥
+
+-- the least offset of a part that was noted
+pub record IsFirstNoted (f : Followed) (p : Part) (at : ℕ) : Type 0 where
+  pub inside : IsIn p at
+  pub noted : IsNoted f at
+  pub least : (i : ℕ) → p.offset ≤ i → i < at → IsNoted f i → ⊥
+
+-- a part that may be noted: it is for these bytes, nothing of it was noted, and it has the bytes at its offset
+pub record MayNote (f : Followed) (p : PlannedPart) : Type 0 where
+  pub plan : p.plan ≡ length f.bytes
+  pub apart : NothingNoted f p.part
+  pub same : p.part.bytes ≡ bytes_at f.bytes p.part
+
+-- what a refusal says of a part
+abbrev pub IsRefused : Followed → PlannedPart → NoteFault → Type 0
+IsRefused f p WrongPlan = p.plan ≢ length f.bytes
+IsRefused f p (Overlap at) = (p.plan ≡ length f.bytes) × IsFirstNoted f p.part at
+IsRefused f p Stranger = (p.plan ≡ length f.bytes) × NothingNoted f p.part × (p.part.bytes ≢ bytes_at f.bytes p.part)
+IsRefused f p NoMemory = MayNote f p
+
+-- what noting a part leaves
+pub record IsNotedWith (f g : Followed) (p : Part) : Type 0 where
+  pub bytes : g.bytes ≡ f.bytes
+  pub noted : (i : ℕ) → IsNoted g i ↔ (IsNoted f i ⊎ IsIn p i)
+
+-- the merges of a part more: the pieces before and those of the part, less the pieces after
+abbrev pub noting_merges : Followed → Followed → Part → ℕ
+noting_merges f g p = length f.ranges + piece_count (chunks_of p) - length g.ranges
+
+-- ---- what is missing
+
+pub record IsFirstUnnoted (f : Followed) (m : ℕ) : Type 0 where
+  pub below : m < length f.bytes
+  pub missing : IsNoted f m → ⊥
+  pub least : (i : ℕ) → i < m → IsNoted f i
+
+abbrev pub AllNoted : Followed → Type 0
+AllNoted f = (i : ℕ) → i < length f.bytes → IsNoted f i
+
+-- ---- what is kept
+
+abbrev pub range_of : Nodes → List (ℕ × ℕ)
+range_of es = map (λ e. (e.0, e.0 + 2 ^ e.1.level)) es
+
+abbrev pub followed : List ℕ → Nodes → Followed
+followed b es = record { bytes = b; ranges = range_of es }
+
+-- each part has the bytes that stand where it is
+abbrev pub ArePartsOf : List ℕ → List Part → Type 0
+ArePartsOf b [] = Unit {0}
+ArePartsOf b (p ∷ ps) = (p.bytes ≡ bytes_at b p) × ArePartsOf b ps
+
+-- the pieces are those of some parts of the bytes
+pub record Follows (b : List ℕ) (es : Nodes) : Type 0 where
+  pub parts : List Part
+  pub keeps : Keeps (length b) parts es
+  pub same : ArePartsOf b parts

@@ -1,0 +1,110 @@
+// The parts of bytes that are lent, without copies of them.
+
+ghost use Rattle.std.specs.Prelude.{◌≡◌, ◌≢◌, ℕ, ◌*◌, ◌-◌, ◌<◌, ◌^◌, ◌↔◌, IfErr, IfNone, IfOk, IfSome, IsErr, OnErr, OnOk, false, length, true};
+ghost use Rattle.b3_core.specs.Modes.{hash_mode};
+ghost use Rattle.b3_core.specs.Tree.{tree_top};
+ghost use Rattle.b3_core.specs.Work.{counted};
+ghost use Rattle.b3_forest.specs.Followed.{AllNoted, IsFirstUnnoted, IsNoted, IsNotedWith, IsRefused, MayNote, bytes_at, noting_merges};
+
+use crate::held;
+use crate::incomplete::Incomplete;
+use crate::node::Node;
+use crate::note_fault::NoteFault;
+use crate::plan::{Plan, PlanTooLong};
+use crate::prepared::Prepared;
+use b3_core::{Top, Work};
+use std::alloc::Global;
+use std::collections::BTreeMap;
+use std::marker::Model;
+
+/// The parts of an upload whose bytes are lent: the pieces of those that were noted, without copies of their bytes.
+#[derive(Drop)]
+pub struct Follow<'a> {
+    bytes: &'a [u8],
+    nodes: BTreeMap<u64, Node>,
+}
+
+impl<'a> Model for Follow<'a> {
+    ghost use Rattle.b3_forest.specs.Followed.{Followed, Follows, followed};
+
+    ghost Value = { Followed };
+
+    ghost view = { λ f. followed f.bytes.now f.nodes.entries };
+
+    ghost invariant = { λ f. Follows f.bytes.now f.nodes.entries };
+}
+
+impl<'a> Follow<'a> {
+    /// Follows the parts of an upload of these bytes; none is noted. F1 where they are more than 2^40. It takes no
+    /// memory.
+    pub fn new(alloc: Global, bytes: &'a [u8]) -> Result<Follow<'a>, PlanTooLong>
+        ensures bytes { IfOk result (λ f. f.bytes ≡ bytes.now) }
+        ensures nothing { IfOk result (λ f. (i : ℕ) → IsNoted f i → ⊥) }
+        ensures too_long { IsErr result ↔ 2 ^ 40 < length bytes.now }
+    {
+        let plan = Plan::new(bytes.len() as u64)?;
+        let _most = plan.length();
+        let nodes = BTreeMap::new(alloc);
+        Ok(Follow { bytes, nodes })
+    }
+
+    /// Notes a part, and answers how many merges that took, of two compressions each.
+    ///
+    /// Refusals leave what was noted and make no compression: F7 the part was made for a plan of another length, F8
+    /// some offset of the part was noted already, F11 the part's bytes are not the lent bytes at its offset. Want of
+    /// memory is F9.
+    pub fn note(&mut self, part: &Prepared, work: &mut Work) -> Result<u64, NoteFault>
+        ensures noted { OnOk result (IsNotedWith self.old self.new part.now.part) }
+        ensures allowed { OnOk result (MayNote self.old part.now) }
+        ensures merges { IfOk result (λ n. n ≡ noting_merges self.old self.new part.now.part) }
+        ensures count { IfOk result (λ n. work.new ≡ counted work.old (2 * n)) }
+        ensures fault { IfErr result (IsRefused self.old part.now) }
+        ensures unchanged { OnErr result (self.new ≡ self.old) }
+        ensures uncounted { OnErr result (work.new ≡ work.old) }
+    {
+        if part.plan().length() != self.bytes.len() as u64 {
+            return Err(NoteFault::WrongPlan);
+        }
+        if let Some(at) = held::overlap(&self.nodes, part) {
+            return Err(NoteFault::Overlap { at });
+        }
+        if !has_bytes(self.bytes, part) {
+            return Err(NoteFault::Stranger);
+        }
+        let Ok(merges) = held::add(&mut self.nodes, part, work) else {
+            return Err(NoteFault::NoMemory);
+        };
+        Ok(merges)
+    }
+
+    /// The least offset that was not noted; none where all were.
+    pub fn first_missing(&self) -> Option<u64>
+        ensures some { IfSome result (IsFirstUnnoted self.now) }
+        ensures none { IfNone result (AllNoted self.now) }
+    {
+        held::first_missing(&self.nodes, self.bytes.len() as u64)
+    }
+
+    /// The top of the tree over the lent bytes, or F10 with the least offset that was not noted. It makes two
+    /// compressions for each piece after the first, and none where something is missing.
+    pub fn finish(&self, work: &mut Work) -> Result<Top, Incomplete>
+        ensures missing { IfErr result (λ r. IsFirstUnnoted self.now r.missing) }
+        ensures complete { OnOk result (AllNoted self.now) }
+        ensures top { IfOk result (λ top. top ≡ tree_top self.now.bytes 0 hash_mode) }
+        ensures count { OnOk result (work.new ≡ counted work.old (2 * (length self.now.ranges - 1))) }
+        ensures uncounted { OnErr result (work.new ≡ work.old) }
+    {
+        held::finish(&self.nodes, self.bytes.len() as u64, work)
+    }
+}
+
+// Whether a part has the bytes that stand where it is.
+fn has_bytes(bytes: &[u8], part: &Prepared) -> bool
+    requires plan { part.now.plan ≡ length bytes.now }
+    ensures yes { result ≡ true → part.now.part.bytes ≡ bytes_at bytes.now part.now.part }
+    ensures no { result ≡ false → part.now.part.bytes ≢ bytes_at bytes.now part.now.part }
+{
+    let own = part.fitting();
+    let start = part.offset() as usize;
+    own == &bytes[start..start + own.len()]
+}

@@ -1,0 +1,91 @@
+// What the pieces of an upload tell of its parts.
+
+ghost use Rattle.std.specs.Prelude.{◌≡◌, ◌+◌, ◌*◌, ◌^◌, ◌≤◌, List, [], IfErr, IfOk, OnErr, OnOk, None, Some, length};
+ghost use Rattle.b3_core.specs.Modes.{hash_mode};
+ghost use Rattle.b3_core.specs.Tree.{tree_top};
+ghost use Rattle.b3_core.specs.Work.{counted};
+ghost use Rattle.b3_forest.specs.Nodes.{Keeps};
+ghost use Rattle.b3_forest.specs.Parts.{Fits, Part};
+ghost use Rattle.b3_forest.specs.Uploads.{content_of, finish_work, first_missing as first_missing_of, merges_of, overlap_at, put_work, with_part};
+
+use crate::incomplete::Incomplete;
+use crate::node::Node;
+use crate::nodes::{first_gap, first_held, put_in, settle_all, top_of};
+use crate::prepared::Prepared;
+use b3_core::{Mode, Top, Work, tree_laws};
+use std::alloc::AllocError;
+use std::collections::BTreeMap;
+
+const CHUNK_LEN: u64 = 1024;
+
+// The least offset of a part that is held already.
+pub(crate) fn overlap(nodes: &BTreeMap<u64, Node>, part: &Prepared) -> Option<u64>
+    ensures at { (ps : List Part) → Keeps part.now.plan ps nodes.now.entries → result ≡ overlap_at part.now.part ps }
+    ensures fits { Fits part.now.plan part.now.part.offset (length part.now.part.bytes) }
+{
+    let bytes = part.fitting();
+    let start = part.offset() / CHUNK_LEN;
+    let end = (part.offset() + bytes.len() as u64).div_ceil(CHUNK_LEN);
+    match first_held(nodes, start, end) {
+        Some(chunk) => Some(chunk.saturating_mul(CHUNK_LEN)),
+        None => None,
+    }
+}
+
+// The least offset of an upload of `len` bytes that is not held.
+pub(crate) fn first_missing(nodes: &BTreeMap<u64, Node>, len: u64) -> Option<u64>
+    ensures { (ps : List Part) → Keeps len ps nodes.now.entries → result ≡ first_missing_of (record { len = len; parts = ps }) }
+{
+    let offset = first_gap(nodes, 0).saturating_mul(CHUNK_LEN);
+    if offset < len { Some(offset) } else { None }
+}
+
+// Adds a part's pieces, and answers the merges. Where memory is refused, the pieces are as before.
+pub(crate) fn add(
+    nodes: &mut BTreeMap<u64, Node>,
+    part: &Prepared,
+    work: &mut Work,
+) -> Result<u64, AllocError>
+    ensures kept { (ps : List Part) → Keeps part.now.plan ps nodes.old.entries → overlap_at part.now.part ps ≡ None
+        → OnOk result (Keeps part.now.plan (with_part part.now.part ps) nodes.new.entries) }
+    ensures merges { (ps : List Part) → Keeps part.now.plan ps nodes.old.entries → overlap_at part.now.part ps ≡ None
+        → IfOk result (λ n. n ≡ merges_of (record { len = part.now.plan; parts = ps }) part.now.part) }
+    ensures count { IfOk result (λ n. work.new ≡ counted work.old (2 * n)) }
+    ensures unchanged { (ps : List Part) → Keeps part.now.plan ps nodes.old.entries → overlap_at part.now.part ps ≡ None
+        → OnErr result (nodes.new.entries ≡ nodes.old.entries) }
+    ensures uncounted { OnErr result (work.new ≡ work.old) }
+{
+    put_in(nodes, part.piece_list())?;
+    let before = nodes.len();
+    settle_all(nodes, part.piece_list(), work);
+    let merges = before - nodes.len();
+    Ok(merges as u64)
+}
+
+// The top over an upload of `len` bytes, or the least offset that is not held.
+pub(crate) fn finish(
+    nodes: &BTreeMap<u64, Node>,
+    len: u64,
+    work: &mut Work,
+) -> Result<Top, Incomplete>
+    ensures missing { (ps : List Part) → Keeps len ps nodes.now.entries
+        → IfErr result (λ r. first_missing_of (record { len = len; parts = ps }) ≡ Some r.missing) }
+    ensures complete { (ps : List Part) → Keeps len ps nodes.now.entries
+        → OnOk result (first_missing_of (record { len = len; parts = ps }) ≡ None) }
+    ensures top { (ps : List Part) → Keeps len ps nodes.now.entries
+        → IfOk result (λ top. top ≡ tree_top (content_of ps) 0 hash_mode) }
+    ensures len { (ps : List Part) → Keeps len ps nodes.now.entries → OnOk result (length (content_of ps) ≡ len) }
+    ensures count { (ps : List Part) → Keeps len ps nodes.now.entries
+        → OnOk result (work.new ≡ counted work.old (finish_work (record { len = len; parts = ps }))) }
+    ensures uncounted { OnErr result (work.new ≡ work.old) }
+{
+    tree_laws();
+    if let Some(missing) = first_missing(nodes, len) {
+        return Err(Incomplete { missing });
+    }
+    let top = top_of(nodes, work);
+    match top {
+        Some(top) => Ok(top),
+        None => Ok(Top::of_input(&Mode::hash(), &[], work)),
+    }
+}

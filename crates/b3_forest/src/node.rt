@@ -1,0 +1,32 @@
+// A piece in a map.
+
+ghost use Rattle.std.specs.Prelude.{◌≡◌, ◌^◌, ◌<◌, ◌≤◌};
+
+use crate::piece::Piece;
+use b3_core::Top;
+
+/// The node over 2^level chunks; the chunk that it begins with is its key.
+#[derive(Clone, Copy, PartialEq, Eq, Debug)]
+pub(crate) struct Node {
+    pub(crate) level: u32,
+    pub(crate) top: Top,
+}
+
+impl Node {
+    pub(crate) fn of(piece: &Piece) -> Node
+        ensures { result ≡ record { level = piece.now.level; top = piece.now.top } }
+    {
+        Node {
+            level: piece.level,
+            top: piece.top,
+        }
+    }
+
+    // How many chunks the piece has.
+    pub(crate) fn width(&self) -> u64
+        ensures width { self.now.level ≤ 30 → result ≡ 2 ^ self.now.level }
+        ensures some { 0 < result }
+    {
+        1u64.wrapping_shl(self.level)
+    }
+}
