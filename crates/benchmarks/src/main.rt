@@ -1,9 +1,10 @@
 //! Times the crates' calls over bytes in memory. It writes what was computed to standard output, and the
 //! microseconds that it took to standard error. `bench/run` calls it and prints ratios.
 //!
-//! Words: `hash MIB`, `hash_wide MIB` or `make PARTS`.
+//! Words: `hash MIB`, `hash_wide MIB`, `make PARTS`, or `add LOG2`, whose two numbers are nanoseconds.
 #![tactic(auto)]
 
+mod adding;
 mod hashing;
 mod parts;
 mod words;
@@ -17,6 +18,7 @@ fn main(rt: HostRuntime) -> io::Result<()> {
         Some(Job::Hash { mib }) => hashing::time_hash(&rt, mib),
         Some(Job::HashWide { mib }) => hashing::time_hash_wide(&rt, mib),
         Some(Job::Make { parts }) => parts::time_make(&rt, parts),
-        None => eprintln!(rt; "benchmarks: hash MIB | hash_wide MIB | make PARTS"),
+        Some(Job::Add { log2 }) => adding::time_add(&rt, log2),
+        None => eprintln!(rt; "benchmarks: hash MIB | hash_wide MIB | make PARTS | add LOG2"),
     }
 }

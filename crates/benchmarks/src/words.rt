@@ -9,6 +9,8 @@ pub enum Job {
     HashWide { mib: u16 },
     /// Parts of 16 MiB, made.
     Make { parts: u16 },
+    /// Parts added to a forest of 2^log2 pieces.
+    Add { log2: u16 },
 }
 
 /// The measurement that the words name, the first of them being the program's name.
@@ -20,6 +22,7 @@ pub fn job_of(words: &[String]) -> Option<Job> {
     match words[1].as_str() {
         "hash" => Some(Job::Hash { mib: count }),
         "hash_wide" => Some(Job::HashWide { mib: count }),
+        "add" => Some(Job::Add { log2: count }),
         "make" => Some(Job::Make { parts: count }),
         _ => None,
     }

@@ -14,22 +14,48 @@
 
 mod address;
 mod bad_text;
+mod closing;
+mod contents;
 mod entry;
+mod filed;
+mod held;
+mod holders;
+mod journal;
+mod known;
 mod laws;
+mod limits;
+mod object;
+mod open_upload;
+mod put_refused;
 mod read_error;
 mod reading;
+mod refusal;
+mod sealed;
+mod store;
+mod tenant;
 mod tenant_id;
+mod totals;
 mod upload_id;
+mod usage;
 mod writing;
 
 pub use address::Address;
 pub use bad_text::BadText;
 pub use entry::Entry;
+pub use held::Held;
 pub use laws::journal_laws;
+pub use limits::{BadLimits, Limits};
+pub use object::Object;
+pub use put_refused::PutRefused;
 pub use read_error::ReadError;
 pub use reading::{read_entry, read_journal};
+pub use refusal::Refusal;
+pub use sealed::Sealed;
+pub use store::Store;
 pub use tenant_id::TenantId;
+pub use totals::Totals;
 pub use upload_id::UploadId;
+pub use usage::Usage;
 pub use writing::write_entry;
 
 #[cfg(test)]

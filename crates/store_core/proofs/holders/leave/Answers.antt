@@ -1,0 +1,7 @@
+use Rattle.std.proofs.Common.{rules, ◌≡◌, ◌∙◌}
+use Rattle.std.proofs.lemmas.Fn.{filter_same}
+use Rattle.store_core.proofs.RisingHolders.{filtered}
+use Rattle.store_core.proofs.holders.leave.Goals as goal
+
+pub returns : goal.returns
+returns c = filter_same _ _ _ (λ x b f' k. search rules) _ _ c.retain.ensures.filtered ∙ filtered c.args.tenant 0 c.args.holders.now.items c.requires

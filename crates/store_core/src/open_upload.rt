@@ -1,0 +1,71 @@
+//! Open uploads.
+ghost use Rattle.std.specs.Prelude.{◌≡◌, IfErr, IfOk, IsSome, None, OnErr, OnOk, Some};
+ghost use Rattle.std.specs.Map.{lookup, set_value};
+ghost use Rattle.b3_core.specs.Work.{counted};
+ghost use Rattle.b3_forest.specs.Uploads.{IsUpload, add_refusal, put_work, with_more};
+ghost use Rattle.store_core.specs.Commands.{held_of};
+ghost use Rattle.store_core.specs.Lawful.{model_uploads};
+ghost use Rattle.store_core.specs.Model.{ModelUpload as Upload};
+ghost use Rattle.store_core.specs.Replay.{is_number};
+
+use crate::held::Held;
+use b3_core::Work;
+use b3_forest::{Forest, Prepared};
+use std::collections::BTreeMap;
+
+// An upload that is not closed: its tenant's number, and what it holds.
+#[derive(Drop)]
+pub(crate) struct OpenUpload {
+    pub(crate) tenant: u64,
+    pub(crate) forest: Forest,
+}
+
+impl OpenUpload {
+    // Adds a part that fits. Where memory is refused, the part is handed back.
+    fn add(&mut self, part: Prepared, work: &mut Work) -> Result<Held, Prepared>
+        requires { add_refusal self.old.forest part ≡ None }
+        ensures tenant { self.new.tenant ≡ self.old.tenant }
+        ensures added { OnOk result (self.new.forest ≡ with_more self.old.forest part.part) }
+        ensures lawful { OnOk result (IsUpload self.new.forest) }
+        ensures held { IfOk result (λ held. held ≡ held_of self.new.forest) }
+        ensures count { OnOk result (work.new ≡ counted work.old (put_work self.old.forest part.part)) }
+        ensures unchanged { OnErr result (self.new.forest ≡ self.old.forest) }
+        ensures uncounted { OnErr result (work.new ≡ work.old) }
+        ensures back { IfErr result (λ back. back ≡ part) }
+    {
+        match self.forest.add(part, work) {
+            Ok(_merges) => {
+                let _lawful = self.forest.plan();
+                Ok(Held {
+                    held: self.forest.held(),
+                    missing: self.forest.first_missing(),
+                })
+            }
+            Err(refused) => Err(refused.part),
+        }
+    }
+}
+
+// Adds a part that fits to the open upload of the number. Where memory is refused, the part is handed back.
+pub(crate) fn add_part(
+    uploads: &mut BTreeMap<u64, OpenUpload>,
+    number: u64,
+    part: Prepared,
+    work: &mut Work,
+) -> Result<Held, Prepared>
+    requires found { IsSome (lookup (is_number number) (model_uploads uploads.old.entries)) }
+    requires fits { (u : Upload) → lookup (is_number number) (model_uploads uploads.old.entries) ≡ Some u → add_refusal u.upload part ≡ None }
+    ensures added { OnOk result ((u : Upload) → lookup (is_number number) (model_uploads uploads.old.entries) ≡ Some u
+        → model_uploads uploads.new.entries ≡ set_value (is_number number) (model_uploads uploads.old.entries) (record u { upload = with_more u.upload part.part })) }
+    ensures lawful { OnOk result ((u : Upload) → lookup (is_number number) (model_uploads uploads.old.entries) ≡ Some u → IsUpload (with_more u.upload part.part)) }
+    ensures held { IfOk result (λ held. (u : Upload) → lookup (is_number number) (model_uploads uploads.old.entries) ≡ Some u → held ≡ held_of (with_more u.upload part.part)) }
+    ensures count { OnOk result ((u : Upload) → lookup (is_number number) (model_uploads uploads.old.entries) ≡ Some u → work.new ≡ counted work.old (put_work u.upload part.part)) }
+    ensures unchanged { OnErr result (uploads.new.entries ≡ uploads.old.entries) }
+    ensures uncounted { OnErr result (work.new ≡ work.old) }
+    ensures back { IfErr result (λ back. back ≡ part) }
+{
+    match uploads.get_mut(&number) {
+        Some(open) => open.add(part, work),
+        None => unreachable!(),
+    }
+}
