@@ -1,3 +1,4 @@
+pub mod Counted
 pub mod Accepting
 pub mod Carrying
 pub mod Fields
@@ -7,6 +8,7 @@ pub mod Journals
 pub mod Keeping
 pub mod Leaving
 pub mod Lines
+pub mod Listing
 pub mod Listed
 pub mod ModelRows
 pub mod Numbers

@@ -268,9 +268,12 @@ plan_in s number = on_upload s number (λ u. Ok u.upload.len)
 abbrev pub fetch_in : ModelStore → ℕ → List ℕ → Result (List ℕ) Refusal
 fetch_in s tenant address = refuse_if (is_absent s tenant) NoTenant (on_held s tenant address (λ o. Ok o.bytes))
 
--- addresses and lengths of what the tenant holds, in filing order
+-- addresses and lengths of those objects that the tenant holds, in their order
+abbrev pub listed : ℕ → List ModelObject → List (List ℕ × ℕ)
+listed tenant objects = map (λ o. (hash_of o.bytes, length o.bytes)) (filter (is_held_by tenant) objects)
+
 abbrev pub list_in : ModelStore → ℕ → Result (List (List ℕ × ℕ)) Refusal
-list_in s tenant = refuse_if (is_absent s tenant) NoTenant (Ok (map (λ o. (hash_of o.bytes, length o.bytes)) (filter (is_held_by tenant) s.objects)))
+list_in s tenant = refuse_if (is_absent s tenant) NoTenant (Ok (listed tenant s.objects))
 
 -- ---- compressions
 

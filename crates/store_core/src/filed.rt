@@ -24,7 +24,11 @@ pub(crate) struct Filed {
 }
 
 // What is filed under the address.
-pub(crate) fn known(objects: &IndexMap<Address, Filed>, address: Address, tenant: u64) -> Option<Known>
+pub(crate) fn known(
+    objects: &IndexMap<Address, Filed>,
+    address: Address,
+    tenant: u64,
+) -> Option<Known>
     requires { AreAddressed objects.now.entries }
     ensures found { IfSome result (IsKnown (model_objects objects.now.entries) address tenant) }
     ensures absent { IfNone result (object_among (model_objects objects.now.entries) address ≡ None) }
@@ -40,7 +44,10 @@ pub(crate) fn known(objects: &IndexMap<Address, Filed>, address: Address, tenant
 }
 
 // The object of the address, shared.
-pub(crate) fn share(objects: &IndexMap<Address, Filed>, address: Address) -> Result<Arc<Object>, AllocError>
+pub(crate) fn share(
+    objects: &IndexMap<Address, Filed>,
+    address: Address,
+) -> Result<Arc<Object>, AllocError>
     requires addressed { AreAddressed objects.now.entries }
     requires found { IsSome (object_among (model_objects objects.now.entries) address) }
     ensures { IfOk result (λ object. (o : Item) → object_among (model_objects objects.now.entries) address ≡ Some o → arc_value object ≡ o.bytes) }
@@ -52,7 +59,13 @@ pub(crate) fn share(objects: &IndexMap<Address, Filed>, address: Address) -> Res
 }
 
 // Files an object of one tenant last.
-pub(crate) fn file_last(alloc: Global, objects: &mut IndexMap<Address, Filed>, address: Address, object: Arc<Object>, tenant: u64) -> Result<(), AllocError>
+pub(crate) fn file_last(
+    alloc: Global,
+    objects: &mut IndexMap<Address, Filed>,
+    address: Address,
+    object: Arc<Object>,
+    tenant: u64,
+) -> Result<(), AllocError>
     requires addressed { AreAddressed objects.old.entries }
     requires absent { object_among (model_objects objects.old.entries) address ≡ None }
     requires address { address ≡ hash_of (arc_value object) }
@@ -70,7 +83,11 @@ pub(crate) fn file_last(alloc: Global, objects: &mut IndexMap<Address, Filed>, a
 }
 
 // Adds a holder to the object of the address.
-pub(crate) fn add_holder(objects: &mut IndexMap<Address, Filed>, address: Address, tenant: u64) -> Result<(), AllocError>
+pub(crate) fn add_holder(
+    objects: &mut IndexMap<Address, Filed>,
+    address: Address,
+    tenant: u64,
+) -> Result<(), AllocError>
     requires addressed { AreAddressed objects.old.entries }
     requires found { IsSome (object_among (model_objects objects.old.entries) address) }
     ensures objects { OnOk result ((o : Item) → object_among (model_objects objects.old.entries) address ≡ Some o
@@ -85,7 +102,12 @@ pub(crate) fn add_holder(objects: &mut IndexMap<Address, Filed>, address: Addres
 }
 
 // Takes a holder from the object of the address, and the object away where it has no other.
-pub(crate) fn drop_holder(objects: &mut IndexMap<Address, Filed>, address: Address, tenant: u64, is_alone: bool)
+pub(crate) fn drop_holder(
+    objects: &mut IndexMap<Address, Filed>,
+    address: Address,
+    tenant: u64,
+    is_alone: bool,
+)
     requires addressed { AreAddressed objects.old.entries }
     requires found { IsSome (object_among (model_objects objects.old.entries) address) }
     requires held { (o : Item) → object_among (model_objects objects.old.entries) address ≡ Some o

@@ -60,3 +60,6 @@ pub use writing::write_entry;
 
 #[cfg(test)]
 mod tests;
+
+#[cfg(test)]
+mod store_tests;

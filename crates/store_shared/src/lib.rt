@@ -1,0 +1,19 @@
+//! A store that threads share.
+//!
+//! - `Locked` is a store and the book of what it accepted. Its type keeps that the store is lawful and that the book is the sum
+//!   and the count of the journal's put entries, so both hold whenever the lock is free.
+//! - A `lent_` function for each command does the whole step of the model on what the lock lends. `lent_put` raises book and
+//!   share by the part's length and one call, exactly where the part was accepted.
+//! - `Shared` is a `Locked` under one lock.
+#![tactic(auto)]
+
+mod lent;
+mod locked;
+mod shared;
+
+pub use lent::{
+    lent_abort, lent_begin, lent_forget, lent_open_tenant, lent_put, lent_seal, lent_seal_as,
+    lent_set_limit,
+};
+pub use locked::Locked;
+pub use shared::Shared;
