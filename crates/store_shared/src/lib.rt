@@ -17,3 +17,6 @@ pub use lent::{
 };
 pub use locked::Locked;
 pub use shared::Shared;
+
+#[cfg(test)]
+mod tests;
