@@ -19,3 +19,12 @@ pub mod Replays
 pub mod RisingHolders
 pub mod StoreSums
 pub mod Texts
+pub mod Accounts
+pub mod Filing
+pub mod Going
+pub mod HeldParts
+pub mod HolderKeys
+pub mod Maps
+pub mod Options
+pub mod InUse
+pub mod Weight

@@ -1,6 +1,6 @@
 -- Lists of entries whose values are seen another way, and what holds of each.
-use Rattle.std.proofs.Common.{◌≡◌, ◌∙◌, ◌+◌, ◌<◌, ◌≤◌, ℕ, Bool, true, false, List, [], ◌∷◌, ◌++◌, Some, None, refl, ap, ap₂, sym, arith, rules, length, map, cond, subst}
-use Rattle.std.specs.Prelude.{Option, sum_by, option_map, unwrap_or}
+use Rattle.std.proofs.Common.{◌≡◌, ◌∙◌, ◌+◌, ℕ, Bool, true, false, List, [], ◌∷◌, ◌++◌, Some, refl, ap, sym, map, cond, subst}
+use Rattle.std.specs.Prelude.{Option, sum_by, unwrap_or}
 use Rattle.std.specs.List.{AllByRecursion}
 use Rattle.std.specs.Map.{lookup, remove_entry, set_value, values_of}
 use Rattle.std.proofs.lemmas.List.Sums.{sum_by-cons}

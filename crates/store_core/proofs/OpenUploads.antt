@@ -1,12 +1,12 @@
 -- The map of open uploads, by number.
-use Rattle.std.proofs.Common.{◌≡◌, ◌≢◌, ◌∙◌, ◌<◌, ◌≤◌, ◌+◌, ℕ, Bool, true, false, List, [], ◌∷◌, ◌++◌, Some, None, refl, ap, ap₂, sym, arith, cond, map}
-use Rattle.std.specs.Prelude.{nat_lt, ◌==◌, Option, option_map, unwrap_or}
+use Rattle.std.proofs.Common.{◌≡◌, ◌≢◌, ◌∙◌, ◌<◌, ℕ, Bool, true, false, List, [], ◌∷◌, ◌++◌, Some, refl, ap, ap₂, sym, arith, cond}
+use Rattle.std.specs.Prelude.{nat_lt, ◌==◌, option_map, unwrap_or}
 use Rattle.std.specs.BTreeMap.{insert_entry, is_at}
 use Rattle.std.specs.List.{AllByRecursion}
 use Rattle.std.specs.Map.{lookup, remove_entry, set_value}
 use Rattle.std.specs.Ordering.{nat_cmp, is_eq}
 use Rattle.std.specs.declared.cmp.Ordering.TheVariants.{Less, Equal, Greater}
-use Rattle.std.proofs.lemmas.Bool.{eqb-true, le-ltb, ltb-true, ne_eqb}
+use Rattle.std.proofs.lemmas.Bool.{le-ltb, ltb-true, ne_eqb}
 use Rattle.std.proofs.lemmas.Map.Made.{lookup-map_values}
 use Rattle.std.proofs.lemmas.Map.Steps.{set_value_same}
 use Rattle.b3_forest.specs.Uploads.{Upload}
@@ -15,7 +15,7 @@ use Rattle.store_core.specs.Lawful.{model_upload, model_uploads}
 use Rattle.store_core.specs.Model.{ModelUpload}
 use Rattle.store_core.specs.Replay.{is_number}
 use Rattle.store_core.specs.Sound.{IsOpen}
-use Rattle.store_core.proofs.Listed.{removed_seen, seen, set_seen}
+use Rattle.store_core.proofs.Listed.{removed_seen, set_seen}
 
 -- ---- a new number
 

@@ -6,3 +6,6 @@ pub mod Model
 pub mod Commands
 pub mod Sound
 pub mod Lawful
+pub mod Held
+pub mod Index
+pub mod Replayed

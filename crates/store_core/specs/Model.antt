@@ -1,5 +1,5 @@
 -- The store that commands speak of: lists alone. No hash, no tree value and no sum is kept in it.
-use Rattle.std.specs.Prelude.{◌+◌, ◌-◌, ◌==◌, ℕ, Bool, List, [], ◌∷◌, Option, length, if◌then◌else◌, map, sum_by}
+use Rattle.std.specs.Prelude.{◌+◌, ◌-◌, ◌==◌, ℕ, Bool, List, Option, length, if◌then◌else◌, map, sum_by}
 use Rattle.std.specs.List.{list_any, slice_index_or}
 use Rattle.std.specs.Map.{lookup, values_of}
 use Rattle.std.specs.Str.{bytes_eq}

@@ -1,4 +1,4 @@
-use Rattle.std.proofs.Common.{rules, ◌≡◌, ◌∙◌, ap, sym, subst, true, false}
+use Rattle.std.proofs.Common.{◌∙◌, ap, sym, subst}
 use Rattle.std.specs.Prelude.{option_map}
 use Rattle.store_core.specs.Lawful.{AreAddressed, model_object, model_objects}
 use Rattle.store_core.specs.Model.{ModelObject}

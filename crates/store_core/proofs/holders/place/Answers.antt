@@ -1,4 +1,4 @@
-use Rattle.std.proofs.Common.{rules, ◌≡◌, ◌<◌, ◌≤◌, arith, refl, sym, get_or, length}
+use Rattle.std.proofs.Common.{rules, ◌≡◌, arith, length}
 use Rattle.store_core.proofs.RisingHolders.{passed_by, placed_before, placed_last, placed_there}
 use Rattle.store_core.proofs.holders.place.Goals as goal
 

@@ -1,10 +1,9 @@
-use Rattle.std.proofs.Common.{rules, ◌≡◌, ◌∙◌, ap, sym, refl, Some, subst, ℕ}
+use Rattle.std.proofs.Common.{◌≡◌, ◌∙◌, ap, sym, Some, subst}
 use Rattle.std.specs.Prelude.{option_map, Result, Ok, Err, OnOk, IfOk}
 use Rattle.std.specs.Map.{lookup, set_value}
-use Rattle.std.proofs.lemmas.Result.{IfOk-weaker, on_err_weaker, on_ok_weaker}
+use Rattle.std.proofs.lemmas.Result.{on_err_weaker, on_ok_weaker}
 use Rattle.b3_core.specs.Work.{counted}
 use Rattle.b3_forest.specs.Uploads.{IsUpload, Upload, put_work, with_more}
-use Rattle.store_core.specs.declared.held.Held.{Held}
 use Rattle.store_core.specs.Commands.{held_of}
 use Rattle.store_core.specs.Lawful.{model_upload, model_uploads}
 use Rattle.store_core.specs.Model.{ModelUpload}

@@ -1,4 +1,3 @@
-use Rattle.std.proofs.Common.{rules, ◌≡◌}
 use Rattle.std.proofs.lemmas.List.{map-set}
 use Rattle.store_core.specs.declared.tenant.Tenant.{Tenant}
 use Rattle.store_core.proofs.tenant.change_limit.Goals as goal
