@@ -21,5 +21,9 @@ sum_line =
 abbrev pub check_line : App
 check_line = new_app (codes "check")
 
+-- `audit`
+abbrev pub audit_line : App
+audit_line = new_app (codes "audit")
+
 abbrev pub command_line : App
-command_line = with_subcommand (with_subcommand (new_app (codes "b3store")) sum_line.top) check_line.top
+command_line = with_subcommand (with_subcommand (with_subcommand (new_app (codes "b3store")) sum_line.top) check_line.top) audit_line.top

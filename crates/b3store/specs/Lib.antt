@@ -1,3 +1,4 @@
+pub mod Audits
 pub mod Checks
 pub mod CommandLine
 pub mod Stated

@@ -5,7 +5,7 @@ use Rattle.clap.specs.Words.{Row, Text, first_of, one_of}
 use Rattle.hex.specs.Hex.{decode_sized}
 use Rattle.b3_check.specs.Names.{IsName}
 use Rattle.b3store.specs.declared.said.Options.{Options}
-use Rattle.b3store.specs.declared.said.Options.TheVariants.{Sum, Check}
+use Rattle.b3store.specs.declared.said.Options.TheVariants.{Sum, Check, Audit}
 use Rattle.b3store.specs.declared.said.SumMode.{SumMode}
 use Rattle.b3store.specs.declared.said.SumMode.TheVariants.{Hash, Keyed, Derive}
 use Rattle.b3store.specs.declared.said.SumOptions.{SumOptions}
@@ -37,8 +37,10 @@ pub record SaysSum (o : SumOptions) (rows : List Row) : Type 0 where
 abbrev pub Says : Options → Option (Text × List Row) → Type 0
 Says (Sum o) found = (rows : List Row) × (found ≡ Some (codes "sum", rows)) × SaysSum o rows
 Says Check found = (rows : List Row) × (found ≡ Some (codes "check", rows))
+Says Audit found = (rows : List Row) × (found ≡ Some (codes "audit", rows))
 
 -- the name is one that a check line may have, and the numbers are within their ranges
 abbrev pub InRange : Options → Type 0
 InRange (Sum o) = IsName o.name.now × IfSome o.length (λ n. (1 ≤ n) × (n ≤ 65536))
 InRange Check = Unit {0}
+InRange Audit = Unit {0}

@@ -3,7 +3,7 @@
 ghost use Rattle.std.specs.Prelude.{◌≡◌, IfOk, false};
 ghost use Rattle.clap.specs.Words.{app_of, rule_of};
 ghost use Rattle.clap.specs.declared.builder.command.Command.TheViews.{out-Command as fields_of};
-ghost use Rattle.b3store.specs.CommandLine.{value_rule, sum_line, check_line, command_line};
+ghost use Rattle.b3store.specs.CommandLine.{value_rule, sum_line, check_line, audit_line, command_line};
 
 use clap::{Arg, Command, value_parser};
 use std::alloc::{AllocError, Global};
@@ -62,6 +62,15 @@ fn check_command<'a>(alloc: Global) -> Command<'a>
     )
 }
 
+fn audit_command<'a>(alloc: Global) -> Command<'a>
+    ensures shape { app_of result ≡ audit_line }
+    ensures local { (fields_of result).has_globals ≡ false }
+{
+    Command::new(alloc, "audit").about(
+        "Read a journal, and write the totals that it leaves and what it accepted",
+    )
+}
+
 /// The command line of the program.
 pub fn program<'a>(alloc: Global) -> Result<Command<'a>, AllocError>
     ensures shape { IfOk result (λ c. app_of c ≡ command_line) }
@@ -71,5 +80,6 @@ pub fn program<'a>(alloc: Global) -> Result<Command<'a>, AllocError>
     Command::new(alloc, "b3store")
         .about("A content-addressed store: objects under their BLAKE3 hash")
         .subcommand(sum)?
-        .subcommand(check_command(alloc))
+        .subcommand(check_command(alloc))?
+        .subcommand(audit_command(alloc))
 }

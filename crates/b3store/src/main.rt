@@ -3,6 +3,7 @@
 
 ghost use Rattle.b3store.specs.Stated.{InRange};
 
+mod audit;
 mod check;
 mod command;
 mod files;
@@ -14,6 +15,7 @@ mod sum;
 mod tests;
 mod words;
 
+use audit::audit;
 use b3_core::Work;
 use check::check;
 use files::SystemFiles;
@@ -43,6 +45,13 @@ fn stopped(rt: &HostRuntime, cause: Cause) -> u8 {
     STOPPED
 }
 
+fn status_of(verdict: Verdict) -> u8 {
+    match verdict {
+        Verdict::Good => GOOD,
+        Verdict::Refused => REFUSED,
+    }
+}
+
 fn run(rt: &HostRuntime, options: &Options<'_>) -> Result<u8, Cause>
     requires { InRange options.now }
 {
@@ -57,11 +66,9 @@ fn run(rt: &HostRuntime, options: &Options<'_>) -> Result<u8, Cause>
         }
         Options::Check => {
             let mut names = SystemFiles::new(rt);
-            match check(alloc, &mut names, &mut reader, &mut writer)? {
-                Verdict::Good => Ok(GOOD),
-                Verdict::Refused => Ok(REFUSED),
-            }
+            Ok(status_of(check(alloc, &mut names, &mut reader, &mut writer)?))
         }
+        Options::Audit => Ok(status_of(audit(alloc, &mut reader, &mut writer)?)),
     }
 }
 

@@ -27,6 +27,7 @@ pub struct SumOptions<'a> {
 pub enum Options<'a> {
     Sum(SumOptions<'a>),
     Check,
+    Audit,
 }
 
 /// Why a command line gives no options.

@@ -1,5 +1,6 @@
 //! The engines over memory, and the command line.
 
+mod audits;
 mod checks;
 mod command_line;
 mod fakes;

@@ -119,6 +119,7 @@ pub fn options<'a, S: AsStr>(alloc: Global, words: &'a [S]) -> Result<Options<'a
     match matches.subcommand() {
         Some(("sum", found)) => Ok(Options::Sum(sum_options(alloc, found)?)),
         Some(("check", _)) => Ok(Options::Check),
+        Some(("audit", _)) => Ok(Options::Audit),
         _ => Err(usage(
             alloc,
             "b3store: a subcommand is needed; see b3store --help\n",

@@ -1,0 +1,101 @@
+//! The engine of `audit`.
+
+use crate::audit::audit;
+use crate::outcome::{Cause, Verdict};
+use crate::tests::fakes::{FailingReader, FailingWriter};
+use std::process::Abort;
+use std::test::Fail;
+
+// The address of no bytes, and of the byte 00.
+const EMPTY: &str = "af1349b9f5f9a1a6a0404dea36dcc9499bcb25c9adc112b7cc9a93cae41f3262";
+
+const ZERO: &str = "2d3adedff11b61f14c886e35afa036736dcd87a74d27b5c1510225d0f592e213";
+
+// What `audit` writes of `input`, and its verdict.
+fn audited<R: AllocGlobal + Abort>(rt: &R, input: &[u8]) -> Result<(Vec<u8>, Verdict), Fail> {
+    let mut reader = input;
+    let mut writer: Vec<u8> = Vec::new(rt.alloc());
+    match audit(rt.alloc(), &mut reader, &mut writer) {
+        Ok(verdict) => Ok((writer, verdict)),
+        Err(_) => panic!(rt; "no verdict"),
+    }
+}
+
+// The journal of a tenant that files two objects, forgets one, and files it again.
+fn journal<R: AllocGlobal + Abort>(rt: &R) -> Result<String, Fail> {
+    let text = format!(in rt.alloc();
+        "tenant 0 4096\nbegin 0 0 1\nput 0 0 1\nseal 0 {ZERO} new\nbegin 1 0 0\nseal 1 {EMPTY} new\nforget 0 {ZERO}\nbegin 2 0 1\nput 2 0 1\nseal 2 {ZERO} new\n"
+    )?;
+    Ok(text)
+}
+
+#[test]
+fn ten_entries(rt: HostRuntime) -> Result<(), Fail> {
+    let input = journal(&rt)?;
+    let (text, verdict) = audited(&rt, input.as_bytes())?;
+    assert_eq!(rt;
+        text.as_slice(),
+        b"objects 2 bytes 1 uploads 0 held 0 parts 0\naccepted 2 2\n".as_slice()
+    );
+    assert_eq!(rt; verdict, Verdict::Good);
+    Ok(())
+}
+
+#[test]
+fn texts_that_are_refused_or_empty(rt: HostRuntime) -> Result<(), Fail> {
+    let rows: [(&[u8], &[u8], Verdict); 7] = [
+        (b"put 0 0 1", b"refused J1 1\n", Verdict::Refused),
+        (b"begin 0", b"refused J2 1\n", Verdict::Refused),
+        (b"tenant 0 01", b"refused J2 1\n", Verdict::Refused),
+        (
+            b"tenant 0 18446744073709551615",
+            b"refused J1 1\n",
+            Verdict::Refused,
+        ),
+        (b"tenant 0 5\n\n", b"refused J2 2\n", Verdict::Refused),
+        (
+            b"tenant 0 5\ntenant 0 5\n",
+            b"refused J1 2\n",
+            Verdict::Refused,
+        ),
+        (
+            b"",
+            b"objects 0 bytes 0 uploads 0 held 0 parts 0\naccepted 0 0\n",
+            Verdict::Good,
+        ),
+    ];
+    for (input, wanted, verdict) in rows.iter() {
+        let (text, found) = audited(&rt, *input)?;
+        assert_eq!(rt; text.as_slice(), *wanted);
+        assert_eq!(rt; found, *verdict);
+    }
+    Ok(())
+}
+
+#[test]
+fn a_failed_read_or_write(rt: HostRuntime) -> Result<(), Fail> {
+    let mut reader = FailingReader {
+        bytes: b"tenant 0 5\n",
+        calls: 0,
+        fails_at: 4,
+    };
+    let mut writer: Vec<u8> = Vec::new(rt.alloc());
+    assert_eq!(rt;
+        audit(rt.alloc(), &mut reader, &mut writer),
+        Err(Cause::CannotRead)
+    );
+    assert!(rt; writer.is_empty());
+    let mut text = b"tenant 0 5\n".as_slice();
+    let mut failing = FailingWriter {
+        taken: Vec::new(rt.alloc()),
+        calls: 0,
+        fails_at: 3,
+        calls_after: 0,
+    };
+    assert_eq!(rt;
+        audit(rt.alloc(), &mut text, &mut failing),
+        Err(Cause::CannotWrite)
+    );
+    assert_eq!(rt; failing.taken.as_slice(), b"obj".as_slice());
+    Ok(())
+}
