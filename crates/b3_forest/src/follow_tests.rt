@@ -47,7 +47,9 @@ fn notes_parts_in_any_order(rt: HostRuntime) -> Result<(), Fail> {
 #[test]
 fn refuses_what_is_not_of_the_bytes(rt: HostRuntime) -> Result<(), Fail> {
     let mut bytes = pattern(rt.alloc(), 0, 4096)?;
-    bytes[3071] = bytes[3071] ^ 1;
+    if let Some(byte) = bytes.get_mut(3071) {
+        *byte ^= 1;
+    }
     let mut follow = Follow::new(rt.alloc(), bytes.as_slice()).expect(&rt, "bytes");
     assert_eq!(rt;
         noted(&rt, &mut follow, 8192, 0, 1024)?,

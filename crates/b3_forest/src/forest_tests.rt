@@ -177,3 +177,41 @@ fn one_long_part(rt: HostRuntime) -> Result<(), Fail> {
     assert_eq!(rt; root(&rt, &forest).1, 1);
     Ok(())
 }
+
+// The root of a pattern that is cut into parts of `size` bytes, which come in turns of `step`.
+fn root_of_cut<R: AllocGlobal + Abort>(
+    rt: &R,
+    len: u64,
+    size: u64,
+    step: u64,
+) -> Result<[u8; 32], Fail> {
+    let mut forest = forest(rt, len);
+    for turn in 0..step {
+        for number in 0..17u64 {
+            let offset = size.wrapping_mul(number);
+            if offset < len && number.checked_rem(step) == Some(step - 1 - turn) {
+                let _ = added(rt, &mut forest, offset, size.min(len - offset))?;
+            }
+        }
+    }
+    Ok(root(rt, &forest).0)
+}
+
+#[test]
+fn cuttings_and_orders_agree_with_the_hash(rt: HostRuntime) -> Result<(), Fail> {
+    let lengths = [
+        1u64, 1023, 1024, 1025, 2048, 2049, 3072, 3073, 4095, 4096, 4097, 5120, 5121, 8192, 8193,
+        9216, 9217, 16_383, 16_384, 16_385,
+    ];
+    for len in lengths.iter() {
+        let bytes = pattern(rt.alloc(), 0, *len)?;
+        let mut work = Work::new(&rt);
+        let hash = b3_core::hash(&b3_core::Mode::hash(), bytes.as_slice(), &mut work);
+        for size in [1024u64, 2048, 3072, 5120].iter() {
+            for step in [1u64, 2, 3].iter() {
+                assert_eq!(rt; root_of_cut(&rt, *len, *size, *step)?, hash);
+            }
+        }
+    }
+    Ok(())
+}

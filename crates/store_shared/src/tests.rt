@@ -11,7 +11,7 @@ use std::sync::ledger::{Blank, Ledger};
 use std::test::Fail;
 use std::thread;
 use std::thread::Threads;
-use store_core::{Address, Limits, Refusal, TenantId, UploadId};
+use store_core::{Address, Limits, Object, Refusal, TenantId, UploadId};
 use store_ledger::{Accepted, NotWhole, Share};
 
 // The hash of the pattern of 2048 bytes, from the standard's vectors.
@@ -114,6 +114,16 @@ fn two_halves<
     Ok(())
 }
 
+// The object has the pattern's bytes.
+fn assert_pattern<R: AllocGlobal + Abort>(rt: &R, object: &Object) -> Result<(), Fail> {
+    let mut bytes: Vec<u8> = Vec::new(rt.alloc());
+    for segment in object.segments() {
+        bytes.extend_from_slice(segment.bytes.as_slice())?;
+    }
+    assert_eq!(rt; bytes.as_slice(), pattern(rt.alloc(), 0, 2048)?.as_slice());
+    Ok(())
+}
+
 // Seals the upload of both halves, asks for what was filed, and forgets it.
 fn sealed_and_asked<B: Ledger, C: Ledger, R: Wait + AllocGlobal + Abort>(
     rt: &R,
@@ -138,7 +148,7 @@ fn sealed_and_asked<B: Ledger, C: Ledger, R: Wait + AllocGlobal + Abort>(
         Err(_) => panic!(rt; "not sealed"),
     }
     match locked.store().fetch(tenant, address) {
-        Ok(object) => assert_eq!(rt; object.len(), 2048),
+        Ok(object) => assert_pattern(rt, &object)?,
         Err(_) => panic!(rt; "not held"),
     }
     let listed = locked.store().list(tenant).expect(rt, "a list");

@@ -72,6 +72,103 @@ fn texts_that_are_refused_or_empty(rt: HostRuntime) -> Result<(), Fail> {
     Ok(())
 }
 
+// What `audit` writes of entries, each in a line.
+fn audited_lines<R: AllocGlobal + Abort>(rt: &R, lines: &[&str]) -> Result<Vec<u8>, Fail> {
+    let mut input = String::new(rt.alloc());
+    for line in lines {
+        input.push_str(line)?;
+        input.push_str("\n")?;
+    }
+    let (text, _) = audited(rt, input.as_bytes())?;
+    Ok(text)
+}
+
+#[test]
+fn entries_that_are_not_legal(rt: HostRuntime) -> Result<(), Fail> {
+    let new = format!(in rt.alloc(); "seal 0 {ZERO} new")?;
+    let known = format!(in rt.alloc(); "seal 0 {EMPTY} known")?;
+    let forget = format!(in rt.alloc(); "forget 0 {ZERO}")?;
+    let filed = ["tenant 0 4096", "begin 0 0 1", "put 0 0 1", new.as_str()];
+    assert_eq!(rt;
+        audited_lines(&rt, &filed)?.as_slice(),
+        b"objects 1 bytes 1 uploads 0 held 0 parts 0\naccepted 1 1\n".as_slice()
+    );
+    let twice = [
+        "tenant 0 4096",
+        "begin 0 0 1",
+        "put 0 0 1",
+        new.as_str(),
+        forget.as_str(),
+        forget.as_str(),
+    ];
+    assert_eq!(rt;
+        audited_lines(&rt, &twice)?.as_slice(),
+        b"refused J1 6\n".as_slice()
+    );
+    let again = [
+        "tenant 0 4096",
+        "begin 0 0 1024",
+        "put 0 0 1024",
+        "put 0 0 1024",
+    ];
+    assert_eq!(rt;
+        audited_lines(&rt, &again)?.as_slice(),
+        b"refused J1 4\n".as_slice()
+    );
+    let unknown = ["tenant 0 0", "begin 0 0 0", known.as_str()];
+    assert_eq!(rt;
+        audited_lines(&rt, &unknown)?.as_slice(),
+        b"refused J1 3\n".as_slice()
+    );
+    Ok(())
+}
+
+#[test]
+fn a_known_object_and_its_room(rt: HostRuntime) -> Result<(), Fail> {
+    let first = format!(in rt.alloc(); "seal 0 {EMPTY} new")?;
+    let second = format!(in rt.alloc(); "seal 1 {EMPTY} known")?;
+    let short = [
+        "tenant 0 1024",
+        "begin 0 0 1024",
+        "put 0 0 1024",
+        first.as_str(),
+        "tenant 1 5",
+        "begin 1 1 5",
+        "put 1 0 5",
+        second.as_str(),
+    ];
+    assert_eq!(rt;
+        audited_lines(&rt, &short)?.as_slice(),
+        b"refused J1 8\n".as_slice()
+    );
+    let wide = [
+        "tenant 0 1024",
+        "begin 0 0 1024",
+        "put 0 0 1024",
+        first.as_str(),
+        "tenant 1 1024",
+        "begin 1 1 5",
+        "put 1 0 5",
+        second.as_str(),
+    ];
+    assert_eq!(rt;
+        audited_lines(&rt, &wide)?.as_slice(),
+        b"objects 1 bytes 1024 uploads 0 held 0 parts 0\naccepted 1029 2\n".as_slice()
+    );
+    Ok(())
+}
+
+#[test]
+fn every_beginning_is_read(rt: HostRuntime) -> Result<(), Fail> {
+    let whole = journal(&rt)?;
+    let bytes = whole.as_bytes();
+    for end in 0..bytes.len() {
+        let (text, verdict) = audited(&rt, &bytes[..end])?;
+        assert_eq!(rt; text.starts_with(b"refused J"), verdict == Verdict::Refused);
+    }
+    Ok(())
+}
+
 #[test]
 fn a_failed_read_or_write(rt: HostRuntime) -> Result<(), Fail> {
     let mut reader = FailingReader {
