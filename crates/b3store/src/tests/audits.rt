@@ -123,6 +123,27 @@ fn entries_that_are_not_legal(rt: HostRuntime) -> Result<(), Fail> {
     Ok(())
 }
 
+// The journal of ten entries, with its seventh left out or twice.
+#[test]
+fn a_forgotten_object_is_filed_again(rt: HostRuntime) -> Result<(), Fail> {
+    let first = format!(in rt.alloc();
+        "tenant 0 4096\nbegin 0 0 1\nput 0 0 1\nseal 0 {ZERO} new\nbegin 1 0 0\nseal 1 {EMPTY} new\n"
+    )?;
+    let forget = format!(in rt.alloc(); "forget 0 {ZERO}\n")?;
+    let last = format!(in rt.alloc(); "begin 2 0 1\nput 2 0 1\nseal 2 {ZERO} new\n")?;
+    let without = format!(in rt.alloc(); "{first}{last}")?;
+    let (text, _) = audited(&rt, without.as_bytes())?;
+    assert_eq!(rt; text.as_slice(), b"refused J1 9\n".as_slice());
+    let twice = format!(in rt.alloc(); "{first}{forget}{forget}{last}")?;
+    let (text, _) = audited(&rt, twice.as_bytes())?;
+    assert_eq!(rt; text.as_slice(), b"refused J1 8\n".as_slice());
+    let wide = audited_lines(&rt, &["tenant  0 5"])?;
+    assert_eq!(rt; wide.as_slice(), b"refused J2 1\n".as_slice());
+    let long = audited_lines(&rt, &["tenant 0 18446744073709551616"])?;
+    assert_eq!(rt; long.as_slice(), b"refused J2 1\n".as_slice());
+    Ok(())
+}
+
 #[test]
 fn a_known_object_and_its_room(rt: HostRuntime) -> Result<(), Fail> {
     let first = format!(in rt.alloc(); "seal 0 {EMPTY} new")?;
