@@ -139,6 +139,12 @@ fn a_forgotten_object_is_filed_again(rt: HostRuntime) -> Result<(), Fail> {
     assert_eq!(rt; text.as_slice(), b"refused J1 8\n".as_slice());
     let wide = audited_lines(&rt, &["tenant  0 5"])?;
     assert_eq!(rt; wide.as_slice(), b"refused J2 1\n".as_slice());
+    let zeros = "seal 0 0000000000000000000000000000000000000000000000000000000000000000 new";
+    let any = audited_lines(&rt, &["tenant 0 9", "begin 0 0 1", "put 0 0 1", zeros])?;
+    assert_eq!(rt;
+        any.as_slice(),
+        b"objects 1 bytes 1 uploads 0 held 0 parts 0\naccepted 1 1\n".as_slice()
+    );
     let long = audited_lines(&rt, &["tenant 0 18446744073709551616"])?;
     assert_eq!(rt; long.as_slice(), b"refused J2 1\n".as_slice());
     Ok(())
