@@ -1,5 +1,5 @@
 mod StandardFacts
-pub mod EightChunks
-pub mod EightLanes
+pub mod FourLanes
 pub mod Nodes
 pub mod OutputBytes
+pub mod Quarters

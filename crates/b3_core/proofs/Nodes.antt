@@ -61,6 +61,11 @@ pub parent_is : (l r : Inputs) (p : Keying) (h m : List ℕ) (d : ℕ) → h ≡
 unfolding parent_top
 parent_is l r p h m d key words flags = rw (key, words, flags) refl
 
+-- its chaining value
+pub parent_value : (l r : Inputs) (p : Keying) (h m : List ℕ) (d : ℕ) → h ≡ p.key
+    → m ≡ chaining_value_of l ++ chaining_value_of r → d ≡ p.flag + 4 → take 8 (compress_of h m 0 64 d) ≡ chaining_value_of (parent_top l r p)
+parent_value l r p h m d key words flags = ap chaining_value_of (parent_is l r p h m d key words flags)
+
 -- ---- where a length is cut
 
 -- a power of two below k, with the next one not below k, is the greatest below k

@@ -1,6 +1,6 @@
--- Eight chunks side by side: each word is a vector, with one lane for each chunk.
+-- Four compressions side by side: each word is a vector, with one lane for each of them.
 use Rattle.std.specs.Prelude.{ℕ, ◌+◌, ◌*◌, List, [], ◌∷◌, take, drop, slice_index, slice_index_or}
-use Rattle.b3_core.specs.Tree.{Keying, Inputs, chunk_top}
+use Rattle.b3_core.specs.Tree.{Keying, Inputs, chunk_top, tree_top}
 
 -- lane j of vector k
 abbrev pub lane_at : List (List ℕ) → ℕ → ℕ → ℕ
@@ -33,3 +33,7 @@ abbrev pub eight_chunks : List ℕ → ℕ → Keying → List Inputs
 eight_chunks x c p =
     chunk_at x c p 0 ∷ chunk_at x c p 1 ∷ chunk_at x c p 2 ∷ chunk_at x c p 3
     ∷ chunk_at x c p 4 ∷ chunk_at x c p 5 ∷ chunk_at x c p 6 ∷ chunk_at x c p 7 ∷ []
+
+-- the top over quarter j of the bytes x, where a quarter is k whole chunks and the first chunk has the number c
+abbrev pub quarter_top : ℕ → List ℕ → ℕ → Keying → ℕ → Inputs
+quarter_top k x c p j = tree_top (take (1024 * k) (drop (1024 * k * j) x)) (c + k * j) p

@@ -1,10 +1,13 @@
 // The compression function (section 2.2) and the constants of the specification.
 
-ghost use Rattle.std.specs.Prelude.{◌≡◌, ◌/◌, ◌%◌, ◌^◌, take};
-ghost use Rattle.b3_core.specs.Compression.{mix, columns, diagonals, round, permute, rounds, start_state, compress_of};
+ghost use Rattle.std.specs.Prelude.{◌≡◌, ℕ, ◌/◌, ◌%◌, ◌^◌, List, take};
+ghost use Rattle.b3_core.specs.Compression.{columns, diagonals, round, permute, rounds, start_state, output_words, compress_of};
+ghost use Rattle.b3_core.specs.Rows.{state_of};
 ghost use Rattle.b3_core.specs.Work.{counted};
 
+use crate::vectors::{down_one, down_three, down_two, mix, xor};
 use crate::work::Work;
+use std::simd::u32x4;
 
 pub(crate) const BLOCK_LEN: usize = 64;
 
@@ -35,89 +38,46 @@ pub(crate) const IV: [u32; 8] = [
     0x5be0_cd19,
 ];
 
-// G (section 2.2): mixes two message words into four words of the state.
-#[inline(always)]
-fn mix(a: u32, b: u32, c: u32, d: u32, x: u32, y: u32) -> (u32, u32, u32, u32)
-    ensures { result ≡ mix a b c d x y }
-{
-    let a1 = a.wrapping_add(b).wrapping_add(x);
-    let d1 = (d ^ a1).rotate_right(16);
-    let c1 = c.wrapping_add(d1);
-    let b1 = (b ^ c1).rotate_right(12);
-    let a2 = a1.wrapping_add(b1).wrapping_add(y);
-    let d2 = (d1 ^ a2).rotate_right(8);
-    let c2 = c1.wrapping_add(d2);
-    let b2 = (b1 ^ c2).rotate_right(7);
-    (a2, b2, c2, d2)
+// The state as four rows of four words, so that one vector operation does a step for all columns or all diagonals.
+#[derive(Clone, Copy)]
+struct Rows {
+    a: u32x4,
+    b: u32x4,
+    c: u32x4,
+    d: u32x4,
 }
 
 // G on the columns of the state, the first half of a round.
 #[inline(always)]
-fn columns(v: [u32; 16], m: [u32; 16]) -> [u32; 16]
-    ensures { result ≡ columns v m }
+fn columns(v: Rows, m: [u32; 16]) -> Rows
+    ensures { state_of result ≡ columns (state_of v) m }
 {
-    let [
-        v0,
-        v1,
-        v2,
-        v3,
-        v4,
-        v5,
-        v6,
-        v7,
-        v8,
-        v9,
-        v10,
-        v11,
-        v12,
-        v13,
-        v14,
-        v15,
-    ] = v;
-    let (v0, v4, v8, v12) = mix(v0, v4, v8, v12, m[0], m[1]);
-    let (v1, v5, v9, v13) = mix(v1, v5, v9, v13, m[2], m[3]);
-    let (v2, v6, v10, v14) = mix(v2, v6, v10, v14, m[4], m[5]);
-    let (v3, v7, v11, v15) = mix(v3, v7, v11, v15, m[6], m[7]);
-    [
-        v0, v1, v2, v3, v4, v5, v6, v7, v8, v9, v10, v11, v12, v13, v14, v15,
-    ]
+    let even = u32x4::from_array([m[0], m[2], m[4], m[6]]);
+    let odd = u32x4::from_array([m[1], m[3], m[5], m[7]]);
+    let (a, b, c, d) = mix(v.a, v.b, v.c, v.d, even, odd);
+    Rows { a, b, c, d }
 }
 
 // G on the diagonals of the state, the second half of a round.
 #[inline(always)]
-fn diagonals(v: [u32; 16], m: [u32; 16]) -> [u32; 16]
-    ensures { result ≡ diagonals v m }
+fn diagonals(v: Rows, m: [u32; 16]) -> Rows
+    ensures { state_of result ≡ diagonals (state_of v) m }
 {
-    let [
-        v0,
-        v1,
-        v2,
-        v3,
-        v4,
-        v5,
-        v6,
-        v7,
-        v8,
-        v9,
-        v10,
-        v11,
-        v12,
-        v13,
-        v14,
-        v15,
-    ] = v;
-    let (v0, v5, v10, v15) = mix(v0, v5, v10, v15, m[8], m[9]);
-    let (v1, v6, v11, v12) = mix(v1, v6, v11, v12, m[10], m[11]);
-    let (v2, v7, v8, v13) = mix(v2, v7, v8, v13, m[12], m[13]);
-    let (v3, v4, v9, v14) = mix(v3, v4, v9, v14, m[14], m[15]);
-    [
-        v0, v1, v2, v3, v4, v5, v6, v7, v8, v9, v10, v11, v12, v13, v14, v15,
-    ]
+    let even = u32x4::from_array([m[8], m[10], m[12], m[14]]);
+    let odd = u32x4::from_array([m[9], m[11], m[13], m[15]]);
+    let b0 = down_one(v.b);
+    let c0 = down_two(v.c);
+    let d0 = down_three(v.d);
+    let (a, b1, c1, d1) = mix(v.a, b0, c0, d0, even, odd);
+    let b = down_three(b1);
+    let c = down_two(c1);
+    let d = down_one(d1);
+    Rows { a, b, c, d }
 }
 
 #[inline(always)]
-fn round(v: [u32; 16], m: [u32; 16]) -> [u32; 16]
-    ensures { result ≡ round v m }
+fn round(v: Rows, m: [u32; 16]) -> Rows
+    ensures { state_of result ≡ round (state_of v) m }
 {
     diagonals(columns(v, m), m)
 }
@@ -147,6 +107,20 @@ pub(crate) fn high(x: u64) -> u32
     (x >> 32) as u32
 }
 
+// The state before the rounds.
+#[inline(always)]
+fn start_rows(h: [u32; 8], counter: u64, block_len: u32, flags: u32) -> Rows
+    ensures { state_of result ≡ start_state h counter block_len flags }
+{
+    let last = [low(counter), high(counter), block_len, flags];
+    Rows {
+        a: u32x4::from_array([h[0], h[1], h[2], h[3]]),
+        b: u32x4::from_array([h[4], h[5], h[6], h[7]]),
+        c: u32x4::from_array([IV[0], IV[1], IV[2], IV[3]]),
+        d: u32x4::from_array(last),
+    }
+}
+
 // The state after the seven rounds, which count as one compression.
 #[inline(always)]
 fn seven_rounds(
@@ -156,29 +130,12 @@ fn seven_rounds(
     block_len: u32,
     flags: u32,
     work: &mut Work,
-) -> [u32; 16]
-    ensures state { result ≡ rounds 7 (start_state h counter block_len flags) m0 }
+) -> Rows
+    ensures state { state_of result ≡ rounds 7 (start_state h counter block_len flags) m0 }
     ensures count { work.new ≡ counted work.old 1 }
 {
     work.add(1);
-    let v0 = [
-        h[0],
-        h[1],
-        h[2],
-        h[3],
-        h[4],
-        h[5],
-        h[6],
-        h[7],
-        IV[0],
-        IV[1],
-        IV[2],
-        IV[3],
-        low(counter),
-        high(counter),
-        block_len,
-        flags,
-    ];
+    let v0 = start_rows(h, counter, block_len, flags);
     let v1 = round(v0, m0);
     let m1 = permute(m0);
     let v2 = round(v1, m1);
@@ -192,6 +149,45 @@ fn seven_rounds(
     let v6 = round(v5, m5);
     let m6 = permute(m5);
     round(v6, m6)
+}
+
+// The first half of the output words.
+#[inline(always)]
+fn low_words(v: Rows) -> [u32; 8]
+    ensures { (h : List ℕ) → result ≡ take 8 (output_words h (state_of v)) }
+{
+    let [w0, w1, w2, w3] = xor(v.a, v.c).to_array();
+    let [w4, w5, w6, w7] = xor(v.b, v.d).to_array();
+    [w0, w1, w2, w3, w4, w5, w6, w7]
+}
+
+// The output words.
+#[inline(always)]
+fn output_words(h: [u32; 8], v: Rows) -> [u32; 16]
+    ensures { result ≡ output_words h (state_of v) }
+{
+    let [w0, w1, w2, w3] = xor(v.a, v.c).to_array();
+    let [w4, w5, w6, w7] = xor(v.b, v.d).to_array();
+    let [c0, c1, c2, c3] = v.c.to_array();
+    let [d0, d1, d2, d3] = v.d.to_array();
+    [
+        w0,
+        w1,
+        w2,
+        w3,
+        w4,
+        w5,
+        w6,
+        w7,
+        c0 ^ h[0],
+        c1 ^ h[1],
+        c2 ^ h[2],
+        c3 ^ h[3],
+        d0 ^ h[4],
+        d1 ^ h[5],
+        d2 ^ h[6],
+        d3 ^ h[7],
+    ]
 }
 
 /// The compression function (section 2.2): the 16 words that a block compresses to. Their first 8 are the new
@@ -209,24 +205,7 @@ pub fn compress(
 {
     let h = *chaining_value;
     let v = seven_rounds(h, *block_words, counter, block_len, flags, work);
-    [
-        v[0] ^ v[8],
-        v[1] ^ v[9],
-        v[2] ^ v[10],
-        v[3] ^ v[11],
-        v[4] ^ v[12],
-        v[5] ^ v[13],
-        v[6] ^ v[14],
-        v[7] ^ v[15],
-        v[8] ^ h[0],
-        v[9] ^ h[1],
-        v[10] ^ h[2],
-        v[11] ^ h[3],
-        v[12] ^ h[4],
-        v[13] ^ h[5],
-        v[14] ^ h[6],
-        v[15] ^ h[7],
-    ]
+    output_words(h, v)
 }
 
 // The first 8 words that a block compresses to, the new chaining value.
@@ -249,14 +228,5 @@ pub(crate) fn compress_to_value(
         flags,
         work,
     );
-    [
-        v[0] ^ v[8],
-        v[1] ^ v[9],
-        v[2] ^ v[10],
-        v[3] ^ v[11],
-        v[4] ^ v[12],
-        v[5] ^ v[13],
-        v[6] ^ v[14],
-        v[7] ^ v[15],
-    ]
+    low_words(v)
 }

@@ -1,61 +1,20 @@
-// Eight chunks at a time, one lane a chunk.
+// Four compressions side by side, one lane each.
 
-ghost use Rattle.std.specs.Prelude.{◌≡◌, ℕ, ◌+◌, ◌-◌, ◌*◌, ◌/◌, ◌%◌, ◌^◌, ◌<◌, ◌≤◌, List, take, slice_index, bit_xor};
-ghost use Rattle.b3_core.specs.Compression.{add32, xor_turn, mix, columns, diagonals, round, permute, start_state, compress_of, output_words};
+ghost use Rattle.std.specs.Prelude.{◌≡◌, ℕ, ◌+◌, ◌-◌, ◌*◌, ◌/◌, ◌%◌, ◌^◌, ◌<◌, ◌≤◌, ◌++◌, List, length, take, slice_index};
+ghost use Rattle.b3_core.specs.Compression.{columns, diagonals, round, permute, start_state, compress_of, output_words};
 ghost use Rattle.b3_core.specs.Lanes.{lane, half_lane, chunk_bytes, chunk_at};
-ghost use Rattle.b3_core.specs.Tree.{chaining_value_of, word_at, block, block_words_of, chain};
+ghost use Rattle.b3_core.specs.Tree.{Inputs, chaining_value_of, parent_top, word_at, block, block_words_of, chain};
 
-use crate::compression::{CHUNK_END, IV, high, low};
+use crate::compression::{CHUNK_END, IV, PARENT, high, low};
 use crate::mode::Mode;
 use crate::top::start_flag;
+use crate::vectors::{mix, splat, xor};
 use crate::words::word;
-use std::simd::u32x8;
+use std::simd::u32x4;
 
 #[inline(always)]
-fn add(a: u32x8, b: u32x8) -> u32x8
-    ensures { (j : ℕ) → j < 8 → slice_index result j ≡ add32 (slice_index a j) (slice_index b j) }
-{
-    a + b
-}
-
-#[inline(always)]
-fn xor(a: u32x8, b: u32x8) -> u32x8
-    ensures { (j : ℕ) → j < 8 → slice_index result j ≡ bit_xor (slice_index a j) (slice_index b j) }
-{
-    a ^ b
-}
-
-#[inline(always)]
-fn xor_turn(a: u32x8, b: u32x8, k: u32) -> u32x8
-    requires { (0 < k) × (k < 32) }
-    ensures { (j : ℕ) → j < 8 → slice_index result j ≡ xor_turn (slice_index a j) (slice_index b j) k }
-{
-    let x = a ^ b;
-    (x >> u32x8::splat(k)) | (x << u32x8::splat(32 - k))
-}
-
-#[inline(always)]
-fn mix(a: u32x8, b: u32x8, c: u32x8, d: u32x8, x: u32x8, y: u32x8) -> (u32x8, u32x8, u32x8, u32x8)
-    ensures { (j : ℕ) → j < 8
-        → (slice_index result.0 j, slice_index result.1 j, slice_index result.2 j, slice_index result.3 j)
-        ≡ mix (slice_index a j) (slice_index b j) (slice_index c j) (slice_index d j) (slice_index x j) (slice_index y j) }
-{
-    let a0 = add(a, b);
-    let a1 = add(a0, x);
-    let d1 = xor_turn(d, a1, 16);
-    let c1 = add(c, d1);
-    let b1 = xor_turn(b, c1, 12);
-    let a3 = add(a1, b1);
-    let a2 = add(a3, y);
-    let d2 = xor_turn(d1, a2, 8);
-    let c2 = add(c1, d2);
-    let b2 = xor_turn(b1, c2, 7);
-    (a2, b2, c2, d2)
-}
-
-#[inline(always)]
-fn columns(v: [u32x8; 16], m: [u32x8; 16]) -> [u32x8; 16]
-    ensures { (j : ℕ) → j < 8 → lane j result ≡ columns (lane j v) (lane j m) }
+fn columns(v: [u32x4; 16], m: [u32x4; 16]) -> [u32x4; 16]
+    ensures { (j : ℕ) → j < 4 → lane j result ≡ columns (lane j v) (lane j m) }
 {
     let [
         v0,
@@ -85,8 +44,8 @@ fn columns(v: [u32x8; 16], m: [u32x8; 16]) -> [u32x8; 16]
 }
 
 #[inline(always)]
-fn diagonals(v: [u32x8; 16], m: [u32x8; 16]) -> [u32x8; 16]
-    ensures { (j : ℕ) → j < 8 → lane j result ≡ diagonals (lane j v) (lane j m) }
+fn diagonals(v: [u32x4; 16], m: [u32x4; 16]) -> [u32x4; 16]
+    ensures { (j : ℕ) → j < 4 → lane j result ≡ diagonals (lane j v) (lane j m) }
 {
     let [
         v0,
@@ -116,15 +75,15 @@ fn diagonals(v: [u32x8; 16], m: [u32x8; 16]) -> [u32x8; 16]
 }
 
 #[inline(always)]
-fn round(v: [u32x8; 16], m: [u32x8; 16]) -> [u32x8; 16]
-    ensures { (j : ℕ) → j < 8 → lane j result ≡ round (lane j v) (lane j m) }
+fn round(v: [u32x4; 16], m: [u32x4; 16]) -> [u32x4; 16]
+    ensures { (j : ℕ) → j < 4 → lane j result ≡ round (lane j v) (lane j m) }
 {
     diagonals(columns(v, m), m)
 }
 
 #[inline(always)]
-fn permute(m: [u32x8; 16]) -> [u32x8; 16]
-    ensures { (j : ℕ) → j < 8 → lane j result ≡ permute (lane j m) }
+fn permute(m: [u32x4; 16]) -> [u32x4; 16]
+    ensures { (j : ℕ) → j < 4 → lane j result ≡ permute (lane j m) }
 {
     [
         m[2], m[6], m[3], m[10], m[7], m[0], m[4], m[13], m[1], m[11], m[12], m[5], m[9], m[14],
@@ -132,17 +91,10 @@ fn permute(m: [u32x8; 16]) -> [u32x8; 16]
     ]
 }
 
-#[inline(always)]
-fn splat(x: u32) -> u32x8
-    ensures { (j : ℕ) → j < 8 → slice_index result j ≡ x }
-{
-    u32x8::splat(x)
-}
-
 // The state before the rounds, in each lane.
 #[inline(always)]
-fn start_states(h: [u32x8; 8], t_low: u32x8, t_high: u32x8, d: u32) -> [u32x8; 16]
-    ensures { (j t : ℕ) → j < 8 → slice_index t_low j ≡ t % 2 ^ 32 → slice_index t_high j ≡ t / 2 ^ 32
+fn start_states(h: [u32x4; 8], t_low: u32x4, t_high: u32x4, d: u32) -> [u32x4; 16]
+    ensures { (j t : ℕ) → j < 4 → slice_index t_low j ≡ t % 2 ^ 32 → slice_index t_high j ≡ t / 2 ^ 32
         → lane j result ≡ start_state (half_lane j h) t 64 d }
 {
     let i0 = splat(IV[0]);
@@ -157,8 +109,8 @@ fn start_states(h: [u32x8; 8], t_low: u32x8, t_high: u32x8, d: u32) -> [u32x8; 1
 }
 
 // The chaining value of a whole block, in each lane.
-fn compress(h: [u32x8; 8], m0: [u32x8; 16], t_low: u32x8, t_high: u32x8, d: u32) -> [u32x8; 8]
-    ensures { (j t : ℕ) → j < 8 → slice_index t_low j ≡ t % 2 ^ 32 → slice_index t_high j ≡ t / 2 ^ 32
+fn compress(h: [u32x4; 8], m0: [u32x4; 16], t_low: u32x4, t_high: u32x4, d: u32) -> [u32x4; 8]
+    ensures { (j t : ℕ) → j < 4 → slice_index t_low j ≡ t % 2 ^ 32 → slice_index t_high j ≡ t / 2 ^ 32
         → half_lane j result ≡ take 8 (compress_of (half_lane j h) (lane j m0) t 64 d) }
 {
     let v0 = start_states(h, t_low, t_high, d);
@@ -179,8 +131,8 @@ fn compress(h: [u32x8; 8], m0: [u32x8; 16], t_low: u32x8, t_high: u32x8, d: u32)
 }
 
 #[inline(always)]
-fn halves(v: [u32x8; 16]) -> [u32x8; 8]
-    ensures { (j : ℕ) (h : List ℕ) → j < 8 → half_lane j result ≡ take 8 (output_words h (lane j v)) }
+fn halves(v: [u32x4; 16]) -> [u32x4; 8]
+    ensures { (j : ℕ) (h : List ℕ) → j < 4 → half_lane j result ≡ take 8 (output_words h (lane j v)) }
 {
     let w0 = xor(v[0], v[8]);
     let w1 = xor(v[1], v[9]);
@@ -195,27 +147,25 @@ fn halves(v: [u32x8; 16]) -> [u32x8; 8]
 
 // The word at one place of each chunk.
 #[inline(always)]
-fn words_at(bytes: &[u8; 8192], at: usize) -> u32x8
-    requires { at + 4 ≤ 1024 }
-    ensures { (j : ℕ) → j < 8 → slice_index result j ≡ word_at bytes.now (1024 * j + at) }
+fn words_at(bytes: &[u8], at: usize) -> u32x4
+    requires four { length bytes.now ≡ 4096 }
+    requires within { at + 4 ≤ 1024 }
+    ensures { (j : ℕ) → j < 4 → slice_index result j ≡ word_at bytes.now (1024 * j + at) }
 {
-    u32x8::from_array([
+    u32x4::from_array([
         word(bytes, at),
         word(bytes, 1024 + at),
         word(bytes, 2048 + at),
         word(bytes, 3072 + at),
-        word(bytes, 4096 + at),
-        word(bytes, 5120 + at),
-        word(bytes, 6144 + at),
-        word(bytes, 7168 + at),
     ])
 }
 
 // Block `k` of each chunk.
 #[inline(always)]
-fn blocks_at(bytes: &[u8; 8192], k: usize) -> [u32x8; 16]
-    requires { k < 16 }
-    ensures { (j : ℕ) → j < 8 → lane j result ≡ block_words_of (block (chunk_bytes bytes.now j) k) }
+fn blocks_at(bytes: &[u8], k: usize) -> [u32x4; 16]
+    requires four { length bytes.now ≡ 4096 }
+    requires block { k < 16 }
+    ensures { (j : ℕ) → j < 4 → lane j result ≡ block_words_of (block (chunk_bytes bytes.now j) k) }
 {
     let at = 64 * k;
     let w0 = words_at(bytes, at);
@@ -240,42 +190,34 @@ fn blocks_at(bytes: &[u8; 8192], k: usize) -> [u32x8; 16]
 }
 
 // The low word of each chunk's number.
-fn low_words(number: u64) -> u32x8
-    requires { number ≤ 2 ^ 64 - 8 }
-    ensures { (j : ℕ) → j < 8 → slice_index result j ≡ (number + j) % 2 ^ 32 }
+fn low_words(number: u64) -> u32x4
+    requires { number ≤ 2 ^ 64 - 4 }
+    ensures { (j : ℕ) → j < 4 → slice_index result j ≡ (number + j) % 2 ^ 32 }
 {
-    u32x8::from_array([
+    u32x4::from_array([
         low(number),
         low(number + 1),
         low(number + 2),
         low(number + 3),
-        low(number + 4),
-        low(number + 5),
-        low(number + 6),
-        low(number + 7),
     ])
 }
 
 // The high word of each chunk's number.
-fn high_words(number: u64) -> u32x8
-    requires { number ≤ 2 ^ 64 - 8 }
-    ensures { (j : ℕ) → j < 8 → slice_index result j ≡ (number + j) / 2 ^ 32 }
+fn high_words(number: u64) -> u32x4
+    requires { number ≤ 2 ^ 64 - 4 }
+    ensures { (j : ℕ) → j < 4 → slice_index result j ≡ (number + j) / 2 ^ 32 }
 {
-    u32x8::from_array([
+    u32x4::from_array([
         high(number),
         high(number + 1),
         high(number + 2),
         high(number + 3),
-        high(number + 4),
-        high(number + 5),
-        high(number + 6),
-        high(number + 7),
     ])
 }
 
 // The key words, in each lane.
-fn keys(key: [u32; 8]) -> [u32x8; 8]
-    ensures { (j : ℕ) → j < 8 → half_lane j result ≡ key }
+fn keys(key: [u32; 8]) -> [u32x4; 8]
+    ensures { (j : ℕ) → j < 4 → half_lane j result ≡ key }
 {
     let k0 = splat(key[0]);
     let k1 = splat(key[1]);
@@ -288,10 +230,11 @@ fn keys(key: [u32; 8]) -> [u32x8; 8]
     [k0, k1, k2, k3, k4, k5, k6, k7]
 }
 
-// The chaining value of each of eight chunks after all of its blocks but the last.
-pub(crate) fn chains(mode: &Mode, bytes: &[u8; 8192], number: u64) -> [u32x8; 8]
-    requires { number ≤ 2 ^ 64 - 8 }
-    ensures { (j : ℕ) → j < 8 → half_lane j result ≡ chain (chunk_bytes bytes.now j) (number + j) mode.now 15 }
+// The chaining value of each of four chunks after all of its blocks but the last.
+pub(crate) fn chains(mode: &Mode, bytes: &[u8], number: u64) -> [u32x4; 8]
+    requires four { length bytes.now ≡ 4096 }
+    requires number { number ≤ 2 ^ 64 - 4 }
+    ensures { (j : ℕ) → j < 4 → half_lane j result ≡ chain (chunk_bytes bytes.now j) (number + j) mode.now 15 }
 {
     let t_low = low_words(number);
     let t_high = high_words(number);
@@ -304,10 +247,11 @@ pub(crate) fn chains(mode: &Mode, bytes: &[u8; 8192], number: u64) -> [u32x8; 8]
     h
 }
 
-// The chaining value of each of eight chunks.
-pub(crate) fn chunk_values(mode: &Mode, bytes: &[u8; 8192], number: u64) -> [u32x8; 8]
-    requires { number ≤ 2 ^ 64 - 8 }
-    ensures { (j : ℕ) → j < 8 → half_lane j result ≡ chaining_value_of (chunk_at bytes.now number mode.now j) }
+// The chaining value of each of four chunks.
+pub(crate) fn chunk_values(mode: &Mode, bytes: &[u8], number: u64) -> [u32x4; 8]
+    requires four { length bytes.now ≡ 4096 }
+    requires number { number ≤ 2 ^ 64 - 4 }
+    ensures { (j : ℕ) → j < 4 → half_lane j result ≡ chaining_value_of (chunk_at bytes.now number mode.now j) }
 {
     let before_last = chains(mode, bytes, number);
     let last_block = blocks_at(bytes, 15);
@@ -322,9 +266,49 @@ pub(crate) fn chunk_values(mode: &Mode, bytes: &[u8; 8192], number: u64) -> [u32
     )
 }
 
+// The chaining values of the parents of eight nodes: two of the first four lanes, then two of the other four.
+pub(crate) fn parent_values(mode: &Mode, left: [u32x4; 8], right: [u32x4; 8]) -> [u32x4; 8]
+    ensures front { (j : ℕ) (a b : Inputs) → j < 2 → half_lane (2 * j) left ≡ chaining_value_of a → half_lane (2 * j + 1) left ≡ chaining_value_of b
+        → half_lane j result ≡ chaining_value_of (parent_top a b mode.now) }
+    ensures back { (j : ℕ) (a b : Inputs) → j < 2 → half_lane (2 * j) right ≡ chaining_value_of a → half_lane (2 * j + 1) right ≡ chaining_value_of b
+        → half_lane (j + 2) result ≡ chaining_value_of (parent_top a b mode.now) }
+{
+    let block = pairs(left, right);
+    let none = splat(0);
+    compress(keys(mode.key()), block, none, none, mode.flag() + PARENT)
+}
+
+// The lanes of even numbers, and those of odd numbers, of eight.
+#[inline(always)]
+fn parted(left: u32x4, right: u32x4) -> (u32x4, u32x4)
+    ensures front { (j : ℕ) → j < 2 → (slice_index result.0 j ≡ slice_index left (2 * j)) × (slice_index result.1 j ≡ slice_index left (2 * j + 1)) }
+    ensures back { (j : ℕ) → j < 2 → (slice_index result.0 (j + 2) ≡ slice_index right (2 * j)) × (slice_index result.1 (j + 2) ≡ slice_index right (2 * j + 1)) }
+{
+    left.deinterleave(right)
+}
+
+// The blocks of four parents: the words of two neighbouring lanes each.
+#[inline(always)]
+fn pairs(left: [u32x4; 8], right: [u32x4; 8]) -> [u32x4; 16]
+    ensures front { (j : ℕ) → j < 2 → lane j result ≡ half_lane (2 * j) left ++ half_lane (2 * j + 1) left }
+    ensures back { (j : ℕ) → j < 2 → lane (j + 2) result ≡ half_lane (2 * j) right ++ half_lane (2 * j + 1) right }
+{
+    let (l0, r0) = parted(left[0], right[0]);
+    let (l1, r1) = parted(left[1], right[1]);
+    let (l2, r2) = parted(left[2], right[2]);
+    let (l3, r3) = parted(left[3], right[3]);
+    let (l4, r4) = parted(left[4], right[4]);
+    let (l5, r5) = parted(left[5], right[5]);
+    let (l6, r6) = parted(left[6], right[6]);
+    let (l7, r7) = parted(left[7], right[7]);
+    [
+        l0, l1, l2, l3, l4, l5, l6, l7, r0, r1, r2, r3, r4, r5, r6, r7,
+    ]
+}
+
 // The words of one lane.
-pub(crate) fn lane_words(h: &[u32x8; 8], i: usize) -> [u32; 8]
-    requires { i < 8 }
+pub(crate) fn lane_words(h: &[u32x4; 8], i: usize) -> [u32; 8]
+    requires { i < 4 }
     ensures { result ≡ half_lane i h.now }
 {
     [

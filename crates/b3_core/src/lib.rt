@@ -21,6 +21,7 @@ mod mode;
 mod output;
 mod top;
 mod tree;
+mod vectors;
 mod wide;
 mod words;
 mod work;

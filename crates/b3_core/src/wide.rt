@@ -1,16 +1,18 @@
-// The hash by eight chunks at a time.
+// The hash by four compressions at a time, of chunks and of parents.
 
-ghost use Rattle.std.specs.Prelude.{◌≡◌, ℕ, ◌+◌, ◌-◌, ◌/◌, ◌^◌, ◌<◌, ◌≤◌, length};
+ghost use Rattle.std.specs.Prelude.{◌≡◌, ℕ, ◌+◌, ◌-◌, ◌*◌, ◌/◌, ◌^◌, ◌<◌, ◌≤◌, IfSome, length};
+ghost use Rattle.b3_core.specs.Lanes.{half_lane, quarter_top};
 ghost use Rattle.b3_core.specs.Modes.{digest_of};
 ghost use Rattle.b3_core.specs.Tree.{Inputs, chaining_value_of, parent_top, tree_top};
 ghost use Rattle.b3_core.specs.Work.{counted, hash_work};
 
 use crate::compression::CHUNK_LEN;
-use crate::lanes::{chunk_values, lane_words};
+use crate::lanes::{chunk_values, lane_words, parent_values};
 use crate::mode::Mode;
 use crate::top::Top;
 use crate::tree::left_len;
 use crate::work::Work;
+use std::simd::u32x4;
 
 // The chaining value of the parent of two nodes with these chaining values.
 fn parent_value(mode: &Mode, left: [u32; 8], right: [u32; 8], work: &mut Work) -> [u32; 8]
@@ -21,21 +23,50 @@ fn parent_value(mode: &Mode, left: [u32; 8], right: [u32; 8], work: &mut Work) -
     Top::of_children(mode, left, right).cv(work)
 }
 
-// The top of the tree over eight chunks, the first with the given number.
-fn eight_top(mode: &Mode, bytes: &[u8; 8192], number: u64, work: &mut Work) -> Top
-    requires { number ≤ 2 ^ 64 - 8 }
-    ensures node { result ≡ tree_top bytes.now number mode.now }
-    ensures count { work.new ≡ counted work.old 134 }
+// The level at which so many bytes are four times 2^level whole chunks.
+fn quarter_level(len: usize) -> Option<u32>
+    ensures { IfSome result (λ level. len ≡ 4096 * 2 ^ level) }
 {
-    work.add(128);
-    let values = chunk_values(mode, bytes, number);
-    let p0 = parent_value(mode, lane_words(&values, 0), lane_words(&values, 1), work);
-    let p1 = parent_value(mode, lane_words(&values, 2), lane_words(&values, 3), work);
-    let p2 = parent_value(mode, lane_words(&values, 4), lane_words(&values, 5), work);
-    let p3 = parent_value(mode, lane_words(&values, 6), lane_words(&values, 7), work);
-    let q0 = parent_value(mode, p0, p1, work);
-    let q1 = parent_value(mode, p2, p3, work);
-    Top::of_children(mode, q0, q1)
+    let mut level = 0;
+    let mut whole = 4 * CHUNK_LEN;
+    while whole <= len / 2 {
+        whole *= 2;
+        level += 1;
+    }
+    if whole == len { Some(level) } else { None }
+}
+
+// The chaining values of the four quarters of bytes, of 2^level whole chunks each; the first chunk has the given number.
+fn quarter_values(mode: &Mode, bytes: &[u8], level: u32, number: u64, work: &mut Work) -> [u32x4; 8]
+    requires len { length bytes.now ≡ 4096 * 2 ^ level }
+    requires number { number + length bytes.now / 1024 < 2 ^ 64 }
+    ensures values { (j : ℕ) → j < 4 → half_lane j result ≡ chaining_value_of (quarter_top (2 ^ level) bytes.now number mode.now j) }
+    ensures count { work.new ≡ counted work.old (68 * 2 ^ level - 4) }
+{
+    if level == 0 {
+        work.add(64);
+        return chunk_values(mode, bytes, number);
+    }
+    let middle = bytes.len() / 2;
+    let (left, right) = bytes.split_at(middle);
+    let left_values = quarter_values(mode, left, level - 1, number, work);
+    let right_number = number + (middle / CHUNK_LEN) as u64;
+    let right_values = quarter_values(mode, right, level - 1, right_number, work);
+    work.add(4);
+    parent_values(mode, left_values, right_values)
+}
+
+// The top of the tree over four times 2^level whole chunks, the first with the given number.
+fn whole_top(mode: &Mode, bytes: &[u8], level: u32, number: u64, work: &mut Work) -> Top
+    requires len { length bytes.now ≡ 4096 * 2 ^ level }
+    requires number { number + length bytes.now / 1024 < 2 ^ 64 }
+    ensures node { result ≡ tree_top bytes.now number mode.now }
+    ensures count { work.new ≡ counted work.old (hash_work (length bytes.now) - 1) }
+{
+    let values = quarter_values(mode, bytes, level, number, work);
+    let left = parent_value(mode, lane_words(&values, 0), lane_words(&values, 1), work);
+    let right = parent_value(mode, lane_words(&values, 2), lane_words(&values, 3), work);
+    Top::of_children(mode, left, right)
 }
 
 // The top of the tree over bytes whose first chunk has the given number.
@@ -47,8 +78,8 @@ fn wide_top(mode: &Mode, bytes: &[u8], number: u64, work: &mut Work) -> Top
     if bytes.len() <= CHUNK_LEN {
         return Top::of_chunk(mode, bytes, number, work);
     }
-    if let Ok(eight) = <&[u8; 8192]>::try_from(bytes) {
-        return eight_top(mode, eight, number, work);
+    if let Some(level) = quarter_level(bytes.len()) {
+        return whole_top(mode, bytes, level, number, work);
     }
     let middle = left_len(bytes.len());
     let (left, right) = bytes.split_at(middle);
@@ -58,9 +89,9 @@ fn wide_top(mode: &Mode, bytes: &[u8], number: u64, work: &mut Work) -> Top
 }
 
 impl Top {
-    /// The top of the tree over a whole input, by eight chunks side by side: the node whose `root32` is the input's
-    /// hash, and from which an `OutputReader` reads its extended output. It makes the compressions of the hash but
-    /// the last one.
+    /// The top of the tree over a whole input, by four compressions side by side: the node whose `root32` is the
+    /// input's hash, and from which an `OutputReader` reads its extended output. It makes the compressions of the
+    /// hash but the last one.
     pub fn of_input(mode: &Mode, bytes: &[u8], work: &mut Work) -> Top
         ensures node { result ≡ tree_top bytes.now 0 mode.now }
         ensures count { work.new ≡ counted work.old (hash_work (length bytes.now) - 1) }
@@ -78,8 +109,8 @@ impl Top {
     }
 }
 
-/// The hash of `bytes` in a mode, as [`hash`](crate::hash) gives it and with the same count of compressions, made
-/// by eight chunks side by side wherever eight whole chunks are a subtree.
+/// The hash of `bytes` in a mode, as [`hash`](crate::hash) gives it and with the same count of compressions: chunks
+/// and parents are compressed four at a time, side by side, wherever 2^k whole chunks are a subtree, k at least 2.
 #[tactic(auto, unfolding(crate::specs::Modes::digest_of))]
 pub fn hash_wide(mode: &Mode, bytes: &[u8], work: &mut Work) -> [u8; 32]
     ensures bytes { result ≡ digest_of bytes.now mode.now }

@@ -19,6 +19,5 @@ returns-clause-state c =
       c.permute-m3.ensures,
       c.permute-m2.ensures,
       c.permute-m1.ensures,
-      c.low.ensures,
-      c.high.ensures,
+      c.start_rows-v0.ensures,
     ) refl

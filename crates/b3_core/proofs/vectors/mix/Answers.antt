@@ -1,6 +1,6 @@
 use Rattle.std.proofs.Common.{refl}
 use Rattle.b3_core.specs.Compression.{mix}
-use Rattle.b3_core.proofs.lanes.mix.Goals as goal
+use Rattle.b3_core.proofs.vectors.mix.Goals as goal
 
 pub returns : goal.returns
 unfolding mix

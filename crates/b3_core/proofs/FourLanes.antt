@@ -1,53 +1,69 @@
--- Facts of each of eight lanes.
-use Rattle.std.proofs.Common.{◌≡◌, ℕ, zero, suc, ◌<◌, ◌≤◌, ◌+◌, ◌-◌, ◌*◌, ◌/◌, ◌%◌, ◌^◌, List, [], ◌∷◌, ◌++◌, length, take, drop, replicate, slice_index, bit_or, bit_xor, arith, refl, ap, ◌∙◌}
+-- Facts of each of four lanes.
+use Rattle.std.proofs.Common.{◌≡◌, ℕ, zero, suc, ◌<◌, ◌≤◌, ◌+◌, ◌-◌, ◌*◌, ◌/◌, ◌%◌, ◌^◌, List, [], ◌∷◌, ◌++◌, length, take, drop, replicate, slice_index, slice_index_or, bit_or, bit_xor, arith, refl, ap, ◌∙◌}
 use Rattle.std.proofs.lemmas.List.{append-nil, length-drop, length-take-le, get_or-take, get_or-drop}
 use Rattle.b3_core.specs.Lanes.{chunk_bytes}
 use Rattle.std.specs.Simd.Lanes.{zip2}
 use Rattle.b3_core.specs.Compression.{xor_turn}
 use Rattle.b3_core.specs.Tree.{word_at, block, block_words_of}
 
--- what holds of each of the eight lanes
-pub below_eight : (P : ℕ → Type 0) → P 0 → P 1 → P 2 → P 3 → P 4 → P 5 → P 6 → P 7 → (j : ℕ) → j < 8 → P j
-below_eight P p0 p1 p2 p3 p4 p5 p6 p7 zero h = p0
-below_eight P p0 p1 p2 p3 p4 p5 p6 p7 (suc zero) h = p1
-below_eight P p0 p1 p2 p3 p4 p5 p6 p7 (suc (suc zero)) h = p2
-below_eight P p0 p1 p2 p3 p4 p5 p6 p7 (suc (suc (suc zero))) h = p3
-below_eight P p0 p1 p2 p3 p4 p5 p6 p7 (suc (suc (suc (suc zero)))) h = p4
-below_eight P p0 p1 p2 p3 p4 p5 p6 p7 (suc (suc (suc (suc (suc zero))))) h = p5
-below_eight P p0 p1 p2 p3 p4 p5 p6 p7 (suc (suc (suc (suc (suc (suc zero)))))) h = p6
-below_eight P p0 p1 p2 p3 p4 p5 p6 p7 (suc (suc (suc (suc (suc (suc (suc zero))))))) h = p7
-below_eight P p0 p1 p2 p3 p4 p5 p6 p7 (suc (suc (suc (suc (suc (suc (suc (suc n)))))))) h = absurd (omega arith)
+-- what holds of each of the four lanes
+pub below_four : (P : ℕ → Type 0) → P 0 → P 1 → P 2 → P 3 → (j : ℕ) → j < 4 → P j
+below_four P p0 p1 p2 p3 zero h = p0
+below_four P p0 p1 p2 p3 (suc zero) h = p1
+below_four P p0 p1 p2 p3 (suc (suc zero)) h = p2
+below_four P p0 p1 p2 p3 (suc (suc (suc zero))) h = p3
+below_four P p0 p1 p2 p3 (suc (suc (suc (suc n)))) h = absurd (omega arith)
 
--- what holds of each list of eight elements
-pub eight_lanes : (P : List ℕ → Type 0) → ((a b c d e f g h : ℕ) → P (a ∷ b ∷ c ∷ d ∷ e ∷ f ∷ g ∷ h ∷ []))
-    → (xs : List ℕ) → length xs ≡ 8 → P xs
-eight_lanes P p (a ∷ b ∷ c ∷ d ∷ e ∷ f ∷ g ∷ h ∷ []) len = p a b c d e f g h
-eight_lanes P p [] len = absurd (omega arith)
-eight_lanes P p (a ∷ []) len = absurd (omega arith)
-eight_lanes P p (a ∷ b ∷ []) len = absurd (omega arith)
-eight_lanes P p (a ∷ b ∷ c ∷ []) len = absurd (omega arith)
-eight_lanes P p (a ∷ b ∷ c ∷ d ∷ []) len = absurd (omega arith)
-eight_lanes P p (a ∷ b ∷ c ∷ d ∷ e ∷ []) len = absurd (omega arith)
-eight_lanes P p (a ∷ b ∷ c ∷ d ∷ e ∷ f ∷ []) len = absurd (omega arith)
-eight_lanes P p (a ∷ b ∷ c ∷ d ∷ e ∷ f ∷ g ∷ []) len = absurd (omega arith)
-eight_lanes P p (a ∷ b ∷ c ∷ d ∷ e ∷ f ∷ g ∷ h ∷ i ∷ xs) len = absurd (omega arith)
+-- what holds of both of two numbers
+pub below_two : (P : ℕ → Type 0) → P 0 → P 1 → (j : ℕ) → j < 2 → P j
+below_two P p0 p1 zero h = p0
+below_two P p0 p1 (suc zero) h = p1
+below_two P p0 p1 (suc (suc n)) h = absurd (omega arith)
+
+-- what holds of each list of four elements
+pub four_lanes : (P : List ℕ → Type 0) → ((a b c d : ℕ) → P (a ∷ b ∷ c ∷ d ∷ [])) → (xs : List ℕ) → length xs ≡ 4 → P xs
+four_lanes P p (a ∷ b ∷ c ∷ d ∷ []) len = p a b c d
+four_lanes P p [] len = absurd (omega arith)
+four_lanes P p (a ∷ []) len = absurd (omega arith)
+four_lanes P p (a ∷ b ∷ []) len = absurd (omega arith)
+four_lanes P p (a ∷ b ∷ c ∷ []) len = absurd (omega arith)
+four_lanes P p (a ∷ b ∷ c ∷ d ∷ e ∷ xs) len = absurd (omega arith)
+
+-- the lanes of even and of odd numbers of two vectors
+abbrev evens : List ℕ → List ℕ → List ℕ
+evens a b = slice_index_or (a ++ b) 0 0 ∷ slice_index_or (a ++ b) 2 0 ∷ slice_index_or (a ++ b) 4 0 ∷ slice_index_or (a ++ b) 6 0 ∷ []
+
+abbrev odds : List ℕ → List ℕ → List ℕ
+odds a b = slice_index_or (a ++ b) 1 0 ∷ slice_index_or (a ++ b) 3 0 ∷ slice_index_or (a ++ b) 5 0 ∷ slice_index_or (a ++ b) 7 0 ∷ []
+
+abbrev Fronts : List ℕ → List ℕ → Type 0
+Fronts a b = (j : ℕ) → j < 2 → (slice_index (evens a b) j ≡ slice_index a (2 * j)) × (slice_index (odds a b) j ≡ slice_index a (2 * j + 1))
+
+abbrev Backs : List ℕ → List ℕ → Type 0
+Backs a b = (j : ℕ) → j < 2 → (slice_index (evens a b) (j + 2) ≡ slice_index b (2 * j)) × (slice_index (odds a b) (j + 2) ≡ slice_index b (2 * j + 1))
+
+-- the first two of them come from the first vector, the others from the second one
+pub parted_lanes : (a : List ℕ) → length a ≡ 4 → (b : List ℕ) → length b ≡ 4 → Fronts a b × Backs a b
+parted_lanes =
+    four_lanes (λ a. (b : List ℕ) → length b ≡ 4 → Fronts a b × Backs a b) (λ a0 a1 a2 a3.
+    four_lanes (λ b. Fronts (a0 ∷ a1 ∷ a2 ∷ a3 ∷ []) b × Backs (a0 ∷ a1 ∷ a2 ∷ a3 ∷ []) b) (λ b0 b1 b2 b3.
+    (below_two _ (refl, refl) (refl, refl), below_two _ (refl, refl) (refl, refl))))
 
 -- two shifts of each lane and an or are a turn
 abbrev Turns : ℕ → List ℕ → List ℕ → Type 0
-Turns k a b = (j : ℕ) → j < 8
+Turns k a b = (j : ℕ) → j < 4
     → slice_index (zip2 bit_or
-    (zip2 (λ x n. x / 2 ^ n) (zip2 bit_xor a b) (k ∷ k ∷ k ∷ k ∷ k ∷ k ∷ k ∷ k ∷ []))
-    (zip2 (λ x n. x * 2 ^ n % 2 ^ 32) (zip2 bit_xor a b) ((32 - k) ∷ (32 - k) ∷ (32 - k) ∷ (32 - k) ∷ (32 - k) ∷ (32 - k) ∷ (32 - k) ∷ (32 - k) ∷ []))) j
+    (zip2 (λ x n. x / 2 ^ n) (zip2 bit_xor a b) (k ∷ k ∷ k ∷ k ∷ []))
+    (zip2 (λ x n. x * 2 ^ n % 2 ^ 32) (zip2 bit_xor a b) ((32 - k) ∷ (32 - k) ∷ (32 - k) ∷ (32 - k) ∷ []))) j
     ≡ xor_turn (slice_index a j) (slice_index b j) k
 
-pub shifts_turn : (k : ℕ) → 0 < k → k < 32 → (a : List ℕ) → length a ≡ 8 → (b : List ℕ) → length b ≡ 8 → Turns k a b
+pub shifts_turn : (k : ℕ) → 0 < k → k < 32 → (a : List ℕ) → length a ≡ 4 → (b : List ℕ) → length b ≡ 4 → Turns k a b
 shifts_turn k low high =
     let right : k % 32 ≡ k = omega arith in
     let left : (32 - k) % 32 ≡ 32 - k = omega arith in
-    eight_lanes (λ a. (b : List ℕ) → length b ≡ 8 → Turns k a b) (λ a0 a1 a2 a3 a4 a5 a6 a7.
-    eight_lanes (Turns k (a0 ∷ a1 ∷ a2 ∷ a3 ∷ a4 ∷ a5 ∷ a6 ∷ a7 ∷ [])) (λ b0 b1 b2 b3 b4 b5 b6 b7.
-    below_eight _ (rw (right, left) refl) (rw (right, left) refl) (rw (right, left) refl) (rw (right, left) refl)
-    (rw (right, left) refl) (rw (right, left) refl) (rw (right, left) refl) (rw (right, left) refl)))
+    four_lanes (λ a. (b : List ℕ) → length b ≡ 4 → Turns k a b) (λ a0 a1 a2 a3.
+    four_lanes (Turns k (a0 ∷ a1 ∷ a2 ∷ a3 ∷ [])) (λ b0 b1 b2 b3.
+    below_four _ (rw (right, left) refl) (rw (right, left) refl) (rw (right, left) refl) (rw (right, left) refl)))
 
 -- ---- the words of a block that lies within other bytes
 
@@ -91,8 +107,8 @@ block_from x y s a len same =
       word 60 (s + (a + 60)) (omega arith) (omega arith),
     ) refl
 
--- the words of block k of chunk_top i
-pub block_words_in : (x : List ℕ) (i k : ℕ) → length x ≡ 8192 → i < 8 → k < 16
+-- the words of block k of chunk i
+pub block_words_in : (x : List ℕ) (i k : ℕ) → length x ≡ 4096 → i < 4 → k < 16
     → let s = 1024 * i in let a = 64 * k in block_words_of (block (chunk_bytes x i) k)
     ≡ word_at x (s + a) ∷ word_at x (s + (a + 4)) ∷ word_at x (s + (a + 8)) ∷ word_at x (s + (a + 12))
     ∷ word_at x (s + (a + 16)) ∷ word_at x (s + (a + 20)) ∷ word_at x (s + (a + 24)) ∷ word_at x (s + (a + 28))
