@@ -9,3 +9,4 @@ pub mod Lawful
 pub mod Held
 pub mod Index
 pub mod Replayed
+pub mod Runs

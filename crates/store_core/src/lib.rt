@@ -10,6 +10,7 @@
 //! - `write_entry` writes an entry's line. An entry has one line, and it is read back as that entry.
 //! - `read_entry` reads one line, and `read_journal` a whole text. Both take what the grammar says and nothing else;
 //!   the first line outside it is told by its number, as `BadText`.
+//! - `cut_at`, `number` and `two_numbers` read fields, for other grammars with fields of this form.
 //! - `replay` tells what a journal leaves, from its entries alone, or the first of them that isn't legal, by its number.
 //! - `journal_laws` states what holds of the definitions that these contracts name.
 //!
@@ -67,7 +68,7 @@ pub use limits::{BadLimits, Limits};
 pub use object::Object;
 pub use put_refused::PutRefused;
 pub use read_error::ReadError;
-pub use reading::{read_entry, read_journal};
+pub use reading::{cut_at, number, read_entry, read_journal, two_numbers};
 pub use refusal::Refusal;
 pub use replay_error::ReplayError;
 pub use replayed::Replayed;
