@@ -1,0 +1,245 @@
+-- How far a script has come.
+use Rattle.std.proofs.Common.{◌≡◌, ◌∙◌, ◌<◌, ◌-◌, ◌^◌, ℕ, Bool, true, false, List, [], ◌∷◌, ◌++◌, Some, None, Ok, Err, Result, refl, ap, sym, subst, arith, length, cond, take, append_assoc, suc}
+use Rattle.std.specs.Prelude.{Option, ◌==◌, IfSome, slice_index}
+use Rattle.std.specs.List.{flat_map}
+use Rattle.std.specs.Io.BufRead.{DropsThrough, drop_through, strip_last, take_through}
+use Rattle.std.specs.Io.KnownBytes.{Appends, IsAtEnd}
+use Rattle.std.proofs.lemmas.Bool.{lt-ltb}
+use Rattle.std.proofs.lemmas.List.{append-nil}
+use Rattle.std.proofs.lemmas.List.Concat.{flat_map-append}
+use Rattle.b3_forest.specs.Parts.{PlannedPart, planned}
+use Rattle.b3_forest.specs.PartRefusals.{part_refusal}
+use Rattle.b3_forest.specs.declared.refusal.PartFault.{PartFault}
+use Rattle.store_core.specs.declared.refusal.Refusal.{Refusal}
+use Rattle.store_core.specs.Commands.{plan_in}
+use Rattle.store_core.specs.declared.limits.Limits.{Limits}
+use Rattle.store_core.specs.Journal.{lines_of, onto_first}
+use Rattle.store_core.specs.Lawful.{start}
+use Rattle.store_core.specs.Model.{Shown}
+use Rattle.store_core.specs.Runs.{Command, Run, Step, plan}
+use Rattle.store_script.specs.Grammar.{ScriptCommand, asks, command_at, puts}
+use Rattle.store_script.specs.Script.{AllPlay, Answered, AreAnswered, Does, Makes, Plays, Puts, PutsBy, Ran, RanSome, Takes, Turn, bad, commands_of, ending_of, replies_of, skipped, took, turn_ending, turn_text, unmade, widest, worse}
+use Rattle.store_script.specs.declared.outcome.Ending.{Ending}
+use Rattle.store_script.specs.declared.outcome.Ending.TheVariants as endings
+use Rattle.store_script.proofs.Turns.{LineTurn}
+
+-- ---- a line more
+
+more_play : (old mid new : Shown) (front : List (List ℕ)) (turns : List Turn) (line : List ℕ) (turn : Turn) → AllPlay old front turns mid → Plays mid line turn new → AllPlay old (front ++ line ∷ []) (turns ++ turn ∷ []) new
+more_play old mid new [] [] line turn h p = (new, subst (λ (s : Shown). Plays s line turn new) h p, refl)
+more_play old mid new [] (t ∷ turns) line turn h p = absurd h
+more_play old mid new (l ∷ front) [] line turn h p = absurd h
+more_play old mid new (l ∷ front) (t ∷ turns) line turn h p = (h.0, h.1, more_play h.0 mid new front turns line turn h.2 p)
+
+worse_good : (e : Ending) → worse e endings.Good ≡ e
+worse_good endings.Good = refl
+worse_good endings.Refused = refl
+worse_good endings.OutOfMemory = refl
+
+worse_assoc : (a b c : Ending) → worse (worse a b) c ≡ worse a (worse b c)
+worse_assoc endings.Good b c = refl
+worse_assoc endings.OutOfMemory b c = refl
+worse_assoc endings.Refused endings.Good c = refl
+worse_assoc endings.Refused endings.OutOfMemory c = refl
+worse_assoc endings.Refused endings.Refused endings.Good = refl
+worse_assoc endings.Refused endings.Refused endings.Refused = refl
+worse_assoc endings.Refused endings.Refused endings.OutOfMemory = refl
+
+ending_more : (turns : List Turn) (turn : Turn) → ending_of (turns ++ turn ∷ []) ≡ worse (ending_of turns) (turn_ending turn)
+ending_more [] turn = worse_good (turn_ending turn)
+ending_more (t ∷ turns) turn = ap (worse (turn_ending t)) (ending_more turns turn) ∙ sym (worse_assoc (turn_ending t) (ending_of turns) (turn_ending turn))
+
+text_more : (turns : List Turn) (turn : Turn) → flat_map turn_text (turns ++ turn ∷ []) ≡ flat_map turn_text turns ++ turn_text turn
+text_more turns turn = flat_map-append turn_text turns (turn ∷ []) ∙ ap (λ xs. flat_map turn_text turns ++ xs) (append-nil (turn_text turn))
+
+-- ---- the steps are a run
+
+-- a step, or nothing
+abbrev pub Came : Shown → Turn → Shown → Type 0
+Came old skipped new = new ≡ old
+Came old bad new = new ≡ old
+Came old (unmade fault) new = new ≡ old
+Came old (took command reply) new = Step old command reply new
+
+came_takes : (old new : Shown) (command : Command) (turn : Turn) → Takes old command turn new → Came old turn new
+came_takes old new command skipped h = absurd h
+came_takes old new command bad h = absurd h
+came_takes old new command (unmade fault) h = absurd h
+came_takes old new command (took asked reply) h = subst (λ (c : Command). Step old c reply new) (sym h.0) h.1
+
+came_puts : (old new : Shown) (upload : ℕ) (part : PlannedPart) (turn : Turn) → Puts old upload part turn new → Came old turn new
+came_puts old new upload part skipped h = absurd h
+came_puts old new upload part bad h = absurd h
+came_puts old new upload part (unmade fault) h = h.1
+came_puts old new upload part (took asked reply) h = subst (λ (c : Command). Step old c reply new) (sym h.0) h.1
+
+came_makes : (old new : Shown) (upload : ℕ) (part : PlannedPart) (refused : Option PartFault) (turn : Turn) → Makes old upload part refused turn new → Came old turn new
+came_makes old new upload part (Some fault) turn h = subst (λ (t : Turn). Came old t new) (sym h.0) h.1
+came_makes old new upload part None turn h = came_puts old new upload part turn h
+
+came_put : (old new : Shown) (upload offset : ℕ) (bytes : List ℕ) (length_is : Result ℕ Refusal) (turn : Turn) → PutsBy old upload offset bytes length_is turn new → Came old turn new
+came_put old new upload offset bytes (Err refusal) turn h = came_takes old new (plan upload) turn h
+came_put old new upload offset bytes (Ok len) turn h = came_makes old new upload (planned len offset bytes) (part_refusal len offset (length bytes)) turn h
+
+came_does : (old new : Shown) (command : Option ScriptCommand) (turn : Turn) → Does old command turn new → Came old turn new
+came_does old new None turn h = subst (λ (t : Turn). Came old t new) (sym h.0) h.1
+came_does old new (Some (asks command)) turn h = came_takes old new command turn h
+came_does old new (Some (puts upload offset bytes)) turn h = came_put old new upload offset bytes (plan_in old.state upload) turn h
+
+came : (old new : Shown) (line : List ℕ) (turn : Turn) → Plays old line turn new → Came old turn new
+came old new [] turn h = subst (λ (t : Turn). Came old t new) (sym h.0) h.1
+came old new (b ∷ line) turn h = came_does old new (command_at (b ∷ line)) turn h
+
+run_on : (old mid new : Shown) (turn : Turn) (turns : List Turn) → Came old turn mid → Run mid (commands_of turns) (replies_of turns) new → Run old (commands_of (turn ∷ turns)) (replies_of (turn ∷ turns)) new
+run_on old mid new skipped turns h r = subst (λ (s : Shown). Run s (commands_of turns) (replies_of turns) new) h r
+run_on old mid new bad turns h r = subst (λ (s : Shown). Run s (commands_of turns) (replies_of turns) new) h r
+run_on old mid new (unmade fault) turns h r = subst (λ (s : Shown). Run s (commands_of turns) (replies_of turns) new) h r
+run_on old mid new (took command reply) turns h r = (mid, h, r)
+
+runs : (old new : Shown) (lines : List (List ℕ)) (turns : List Turn) → AllPlay old lines turns new → Run old (commands_of turns) (replies_of turns) new
+runs old new [] [] h = h
+runs old new [] (turn ∷ turns) h = absurd h
+runs old new (line ∷ lines) [] h = absurd h
+runs old new (line ∷ lines) (turn ∷ turns) h = run_on old h.0 new turn turns (came old h.0 line turn h.1) (runs h.0 new lines turns h.2)
+
+-- ---- the lines of what is left
+
+strip_more : (b t : ℕ) (ts : List ℕ) → strip_last 10 (b ∷ t ∷ ts) ≡ b ∷ strip_last 10 (t ∷ ts)
+strip_more b t ts =
+    let one : suc (suc (length ts)) - 1 ≡ suc (length ts) = omega arith in
+    let two : suc (length ts) - 1 ≡ length ts = omega arith in
+    rw (one, two, lt-ltb 0 (suc (suc (length ts))) (omega arith), lt-ltb 0 (suc (length ts)) (omega arith)) (go (slice_index (t ∷ ts) (length ts) == 10))
+  where
+    go : (x : Bool) → cond x (b ∷ take (length ts) (t ∷ ts)) (b ∷ t ∷ ts) ≡ b ∷ cond x (take (length ts) (t ∷ ts)) (t ∷ ts)
+    go true = refl
+    go false = refl
+
+onto : (b : ℕ) (l : List ℕ) (ls ms : List (List ℕ)) → ms ≡ l ∷ ls → onto_first b ms ≡ (b ∷ l) ∷ ls
+onto b l ls ms e = rw e refl
+
+first_is : (b c : ℕ) (cs : List ℕ) → strip_last 10 (b ∷ take_through 10 (c ∷ cs)) ≡ b ∷ strip_last 10 (take_through 10 (c ∷ cs))
+first_is b c cs = go (c == 10)
+  where
+    go : (t : Bool) → strip_last 10 (b ∷ cond t (c ∷ []) (c ∷ take_through 10 cs)) ≡ b ∷ strip_last 10 (cond t (c ∷ []) (c ∷ take_through 10 cs))
+    go true = strip_more b c []
+    go false = strip_more b c (take_through 10 cs)
+
+-- the first line, and the lines of what follows it
+lines_step : (b : ℕ) (bs : List ℕ) → lines_of (b ∷ bs) ≡ strip_last 10 (take_through 10 (b ∷ bs)) ∷ lines_of (drop_through 10 (b ∷ bs))
+unfolding lines_of
+lines_step b [] = go (b == 10) refl
+  where
+    go : (t : Bool) → (b == 10) ≡ t → cond t ([] ∷ []) ((b ∷ []) ∷ []) ≡ strip_last 10 (cond t (b ∷ []) (b ∷ [])) ∷ lines_of (cond t [] [])
+    go true e = rw e refl
+    go false e = rw e refl
+lines_step b (c ∷ cs) = go (b == 10) refl (lines_step c cs)
+  where
+    go : (t : Bool) → (b == 10) ≡ t → lines_of (c ∷ cs) ≡ strip_last 10 (take_through 10 (c ∷ cs)) ∷ lines_of (drop_through 10 (c ∷ cs))
+        → cond t ([] ∷ lines_of (c ∷ cs)) (onto_first b (lines_of (c ∷ cs))) ≡ strip_last 10 (cond t (b ∷ []) (b ∷ take_through 10 (c ∷ cs))) ∷ lines_of (cond t (c ∷ cs) (drop_through 10 (c ∷ cs)))
+    go true e h = rw e refl
+    go false e h = onto b _ _ _ h ∙ ap (λ l. l ∷ lines_of (drop_through 10 (c ∷ cs))) (sym (first_is b c cs))
+
+lines_next : (rest : List ℕ) → 0 < length (take_through 10 rest) → lines_of rest ≡ strip_last 10 (take_through 10 rest) ∷ lines_of (drop_through 10 rest)
+lines_next [] some = absurd (omega (arith, some))
+lines_next (b ∷ bs) some = lines_step b bs
+
+none_left : lines_of [] ≡ []
+unfolding lines_of
+none_left = refl
+
+-- ---- a run under way
+
+-- the lines before the rest were answered: what they came to, what was written, and the ending so far
+pub record IsUnder (now was is : Option (List ℕ)) (store : Shown) (ending : Ending) (input : List ℕ) : Type 0 where
+  pub rest : List ℕ
+  pub left : now ≡ Some rest
+  pub front : List (List ℕ)
+  pub lines : lines_of input ≡ front ++ lines_of rest
+  pub turns : List Turn
+  pub plays : AllPlay widest front turns store
+  pub wrote : Appends was is (flat_map turn_text turns)
+  pub ending_is : ending ≡ ending_of turns
+
+appends_none : (was : Option (List ℕ)) → Appends was was []
+appends_none None = tt
+appends_none (Some xs) = sym (append-nil xs)
+
+appends_more : (a b c : Option (List ℕ)) (xs ys : List ℕ) → Appends a b xs → Appends b c ys → Appends a c (xs ++ ys)
+appends_more None b c xs ys h k = tt
+appends_more (Some p) None c xs ys h k = absurd h
+appends_more (Some p) (Some q) None xs ys h k = absurd k
+appends_more (Some p) (Some q) (Some r) xs ys h k = k ∙ ap (λ w. w ++ ys) h ∙ append_assoc p xs ys
+
+pub begun : (old was : Option (List ℕ)) (store : Shown) → store ≡ widest → IfSome old (IsUnder old was was store endings.Good)
+begun None was store is = tt
+begun (Some input) was store is = record {
+  rest = input;
+  left = refl;
+  front = [];
+  lines = refl;
+  turns = [];
+  plays = is;
+  wrote = appends_none was;
+  ending_is = refl;
+}
+
+are_answered : (front : List (List ℕ)) (turns : List Turn) (store : Shown) (ending : Ending) → AllPlay widest front turns store → ending ≡ ending_of turns → AreAnswered front (flat_map turn_text turns) ending
+are_answered front turns store ending plays is = record {
+  turns = turns;
+  end = store;
+  plays = plays;
+  run = runs widest store front turns plays;
+  text_is = refl;
+  ending_is = is;
+}
+
+pub at_end : (old now was is : Option (List ℕ)) (store : Shown) (ending : Ending) → IfSome old (IsUnder now was is store ending) → IsAtEnd now → IfSome old (λ input. Ran input was is ending)
+at_end None now was is store ending h e = tt
+at_end (Some input) now was is store ending h e =
+    let none : IsAtEnd (Some h.rest) = subst IsAtEnd h.left e in
+    let all : lines_of input ≡ h.front = h.lines ∙ ap (λ (rest : List ℕ). h.front ++ lines_of rest) none ∙ ap (λ ls. h.front ++ ls) none_left ∙ append-nil h.front in
+    record {
+      output = flat_map turn_text h.turns;
+      script = subst (λ (ls : List (List ℕ)). AreAnswered ls (flat_map turn_text h.turns) ending) (sym all) (are_answered h.front h.turns store ending h.plays h.ending_is);
+      wrote = h.wrote;
+    }
+
+pub at_stop : (old now was is : Option (List ℕ)) (store : Shown) (ending : Ending) → IfSome old (IsUnder now was is store ending) → IfSome old (λ input. RanSome input was is)
+at_stop None now was is store ending h = tt
+at_stop (Some input) now was is store ending h = record {
+  front = h.front;
+  back = lines_of h.rest;
+  lines = h.lines;
+  output = flat_map turn_text h.turns;
+  ending = ending;
+  answered = are_answered h.front h.turns store ending h.plays h.ending_is;
+  wrote = h.wrote;
+}
+
+pub turned : (old now then was is after : Option (List ℕ)) (store next : Shown) (ending said : Ending) (buf text : List ℕ) → IfSome old (IsUnder now was is store ending) → IfSome now (λ xs. buf ≡ take_through 10 xs)
+    → DropsThrough now then 10 → 0 < length buf → Answered (LineTurn store (strip_last 10 buf) next) text said → Appends is after text → IfSome old (IsUnder then was after next (worse ending said))
+turned None now then was is after store next ending said buf text h bytes rest some answer wrote = tt
+turned (Some input) now then was is after store next ending said buf text h bytes rest some answer wrote =
+    let bytes2 : buf ≡ take_through 10 h.rest = subst (λ (o : Option (List ℕ)). IfSome o (λ xs. buf ≡ take_through 10 xs)) h.left bytes in
+    let rest2 : then ≡ Some (drop_through 10 h.rest) = subst (λ (o : Option (List ℕ)). DropsThrough o then 10) h.left rest in
+    let line = strip_last 10 (take_through 10 h.rest) in
+    let some2 : 0 < length (take_through 10 h.rest) = subst (λ (b : List ℕ). 0 < length b) bytes2 some in
+    let plays2 : Plays store line answer.turn next = subst (λ (b : List ℕ). Plays store (strip_last 10 b) answer.turn next) bytes2 answer.is in
+    record {
+      rest = drop_through 10 h.rest;
+      left = rest2;
+      front = h.front ++ line ∷ [];
+      lines = h.lines ∙ ap (λ ls. h.front ++ ls) (lines_next h.rest some2) ∙ sym (append_assoc h.front (line ∷ []) (lines_of (drop_through 10 h.rest)));
+      turns = h.turns ++ answer.turn ∷ [];
+      plays = more_play widest store next h.front h.turns line answer.turn h.plays plays2;
+      wrote = subst (λ (t : List ℕ). Appends was after t) (ap (λ t. flat_map turn_text h.turns ++ t) answer.text_is ∙ sym (text_more h.turns answer.turn)) (appends_more was is after (flat_map turn_text h.turns) text h.wrote wrote);
+      ending_is = ap (λ e. worse e said) h.ending_is ∙ ap (worse (ending_of h.turns)) answer.ending_is ∙ sym (ending_more h.turns answer.turn);
+    }
+
+-- ---- the empty store
+
+pub starts_widest : (l : Limits) → l.tenants ≡ 2 ^ 16 → l.entries ≡ 2 ^ 32 → l.workers ≡ 16 → start l ≡ widest
+starts_widest l tenants entries workers = λ j. record {
+  state = record { most_tenants = tenants j; most_entries = entries j; most_workers = workers j; limits = []; begun = 0; uploads = []; objects = []; accepted = 0 };
+  journal = [];
+}

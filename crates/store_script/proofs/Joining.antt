@@ -1,0 +1,51 @@
+-- Texts of the elements of a list, one after another.
+use Rattle.std.proofs.Common.{◌≡◌, ◌∙◌, ◌+◌, ◌<◌, ◌≤◌, ◌/◌, ◌%◌, ℕ, List, [], ◌∷◌, ◌++◌, refl, ap, sym, length, get_or, drop, append_assoc, map, arith, codes}
+use Rattle.std.specs.Arc.{arc_value}
+use Rattle.std.specs.Prelude.{slice_index}
+use Rattle.std.proofs.lemmas.List.{append-nil, at_drop_all, at_drop_more}
+use Rattle.b3_forest.specs.declared.segment.Segment.{Segment}
+use Rattle.b3_forest.specs.Uploads.{content_of, part_of}
+use Rattle.store_script.specs.Texts.{digits_text}
+use Rattle.hex.specs.Hex.{encode_lower, encode_with, lower_digits}
+
+-- what was joined and the text of the rest are the whole: so it is with one element more
+pub joined : {A : Type 0} (g : List A → List ℕ) (line : A → List ℕ) → ((x : A) (xs : List A) → g (x ∷ xs) ≡ line x ++ g xs) → (done all : List ℕ) (xs : List A) (i : ℕ) (x : A)
+    → i < length xs → x ≡ get_or xs i x → done ++ g (drop i xs) ≡ all → (done ++ line x) ++ g (drop (i + 1) xs) ≡ all
+joined g line step done all xs i x there is h =
+    append_assoc done (line x) _ ∙ ap (λ ys. done ++ ys) (sym (step x (drop (i + 1) xs)) ∙ ap (λ y. g (y ∷ drop (i + 1) xs)) is ∙ sym (at_drop_more g xs i x there)) ∙ h
+
+-- at the end nothing is left
+pub all_joined : {A : Type 0} (g : List A → List ℕ) → g [] ≡ [] → (done all : List ℕ) (xs : List A) (i : ℕ) → length xs ≤ i → done ++ g (drop i xs) ≡ all → done ≡ all
+all_joined g none done all xs i past h = sym (append-nil done) ∙ ap (λ ys. done ++ ys) (sym (at_drop_all g xs i past ∙ none)) ∙ h
+
+-- ---- digits of segments
+
+digits_append : (table a b : List ℕ) → encode_with table (a ++ b) ≡ encode_with table a ++ encode_with table b
+unfolding encode_with
+digits_append table [] b = refl
+digits_append table (x ∷ a) b = ap (λ ys. slice_index table (x / 16) ∷ slice_index table (x % 16) ∷ ys) (digits_append table a b)
+
+abbrev pub digits_of : List Segment → List ℕ
+digits_of segments = encode_lower (content_of (map part_of segments))
+
+abbrev pub segment_digits : Segment → List ℕ
+segment_digits s = encode_lower (arc_value s.bytes).items
+
+pub digits_more : (s : Segment) (segments : List Segment) → digits_of (s ∷ segments) ≡ segment_digits s ++ digits_of segments
+unfolding content_of
+digits_more s segments = digits_append lower_digits (arc_value s.bytes).items (content_of (map part_of segments))
+
+pub no_digits : digits_of [] ≡ []
+unfolding content_of encode_with
+no_digits = refl
+
+pub no_bytes : (bytes : List ℕ) → length bytes ≡ 0 → digits_text bytes ≡ codes "-"
+no_bytes [] none = refl
+no_bytes (b ∷ bytes) none = absurd (omega (arith, none))
+
+pub some_bytes : (bytes : List ℕ) → 0 < length bytes → digits_text bytes ≡ encode_lower bytes
+some_bytes [] some = absurd (omega (arith, some))
+some_bytes (b ∷ bytes) some = refl
+
+pub in_pieces : (len digits : List ℕ) → ((codes "object " ++ (len ++ codes " ")) ++ digits) ++ codes "\n" ≡ codes "object " ++ (len ++ (codes " " ++ (digits ++ codes "\n")))
+in_pieces len digits = simp append_assoc

@@ -1,0 +1,6 @@
+pub mod Going
+pub mod Joining
+pub mod Patterns
+pub mod Read
+pub mod Rows
+pub mod Turns

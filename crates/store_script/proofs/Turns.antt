@@ -1,0 +1,122 @@
+-- What a line comes to.
+use Rattle.std.proofs.Common.{◌≡◌, ◌<◌, ℕ, List, [], ◌∷◌, Some, None, Ok, Err, Result, refl, ap, sym, subst, arith, length}
+use Rattle.std.specs.Prelude.{Option, IfOk, unwrap_or, codes}
+use Rattle.b3_forest.specs.Parts.{PlannedPart, planned}
+use Rattle.b3_forest.specs.PartRefusals.{part_refusal}
+use Rattle.b3_forest.specs.declared.refusal.PartFault.{PartFault}
+use Rattle.b3_forest.specs.declared.refusal.PartFault.TheVariants as faults
+use Rattle.store_core.specs.declared.refusal.Refusal.{Refusal}
+use Rattle.store_core.specs.Commands.{plan_in}
+use Rattle.store_core.specs.Model.{Shown}
+use Rattle.store_core.specs.Runs.{Command, Reply, Step, plan, put, the_plan, told}
+use Rattle.store_script.specs.Grammar.{ScriptCommand, asks, command_at, puts}
+use Rattle.store_script.specs.Script.{Answered, Does, Makes, Plays, PutsBy, Turn, bad, fault_ending, reply_ending, skipped, took, unmade}
+use Rattle.store_script.specs.Texts.{answer_text, fault_text, refused_text}
+use Rattle.store_script.specs.declared.answer.Answer.{Answer}
+use Rattle.store_script.specs.declared.outcome.Ending.{Ending}
+use Rattle.store_script.specs.declared.outcome.Ending.TheVariants as endings
+
+-- ---- an answer
+
+-- what is said of a step, of a part that isn't made, and of a line that is no command
+abbrev pub Says : Result Reply Refusal → List ℕ → Ending → Type 0
+Says reply text ending = (text ≡ answer_text reply) × (ending ≡ reply_ending reply)
+
+abbrev pub SaysFault : PartFault → List ℕ → Ending → Type 0
+SaysFault fault text ending = (text ≡ refused_text (fault_text fault)) × (ending ≡ fault_ending fault)
+
+abbrev pub SaysBad : List ℕ → Ending → Type 0
+SaysBad text ending = (text ≡ codes "bad\n") × (ending ≡ endings.Refused)
+
+answered : {E : Type 0} (r : Result Answer E) (Said : List ℕ → Ending → Type 0) (Is : Turn → Type 0) → ((text : List ℕ) (ending : Ending) → Said text ending → Answered Is text ending) → IfOk r (λ a. Said a.text.items a.ending) → IfOk r (λ a. Answered Is a.text.items a.ending)
+answered (Ok a) Said Is f h = f a.text.items a.ending h
+answered (Err e) Said Is f h = h
+
+-- an answer to a step, to a part that isn't made, and to a line that is no command
+pub by_reply : {E : Type 0} (r : Result Answer E) (reply : Result Reply Refusal) (Is : Turn → Type 0) → ((text : List ℕ) (ending : Ending) → Says reply text ending → Answered Is text ending) → IfOk r (λ a. Says reply a.text.items a.ending) → IfOk r (λ a. Answered Is a.text.items a.ending)
+by_reply r reply Is f h = answered r (Says reply) Is f h
+
+pub by_fault : {E : Type 0} (r : Result Answer E) (fault : PartFault) (Is : Turn → Type 0) → ((text : List ℕ) (ending : Ending) → SaysFault fault text ending → Answered Is text ending) → IfOk r (λ a. SaysFault fault a.text.items a.ending) → IfOk r (λ a. Answered Is a.text.items a.ending)
+by_fault r fault Is f h = answered r (SaysFault fault) Is f h
+
+pub by_bad : {E : Type 0} (r : Result Answer E) (Is : Turn → Type 0) → ((text : List ℕ) (ending : Ending) → SaysBad text ending → Answered Is text ending) → IfOk r (λ a. SaysBad a.text.items a.ending) → IfOk r (λ a. Answered Is a.text.items a.ending)
+by_bad r Is f h = answered r SaysBad Is f h
+
+pub by_part : {E : Type 0} (r : Result Answer E) (Made Is : Turn → Type 0) → ((text : List ℕ) (ending : Ending) → Answered Made text ending → Answered Is text ending) → IfOk r (λ a. Answered Made a.text.items a.ending) → IfOk r (λ a. Answered Is a.text.items a.ending)
+by_part r Made Is f h = answered r (Answered Made) Is f h
+
+-- ---- a part
+
+-- a part's turn, whose upload and bytes are these
+abbrev pub PutTurn : Shown → ℕ → ℕ → List ℕ → Shown → Turn → Type 0
+PutTurn old upload offset bytes new turn = PutsBy old upload offset bytes (plan_in old.state upload) turn new
+
+by_plan : (old new : Shown) (upload offset : ℕ) (bytes : List ℕ) (turn : Turn) (planned : Result ℕ Refusal) → planned ≡ plan_in old.state upload → PutsBy old upload offset bytes planned turn new → PutTurn old upload offset bytes new turn
+by_plan old new upload offset bytes turn planned is h = subst (λ r. PutsBy old upload offset bytes r turn new) is h
+
+-- S7
+pub no_plan : (old : Shown) (upload offset : ℕ) (bytes : List ℕ) (refusal : Refusal) (text : List ℕ) (ending : Ending) → Err refusal ≡ plan_in old.state upload → Says (Err refusal) text ending → Answered (PutTurn old upload offset bytes old) text ending
+no_plan old upload offset bytes refusal text ending is says = record {
+  turn = took (plan upload) (Err refusal);
+  is = by_plan old old upload offset bytes (took (plan upload) (Err refusal)) (Err refusal) is (refl, (ap (told the_plan) is, refl));
+  text_is = says.0;
+  ending_is = says.1;
+}
+
+fault_is : (old : Shown) (upload : ℕ) (part : PlannedPart) (refused : Option PartFault) (fault : PartFault) → fault ≡ unwrap_or refused faults.NoMemory → Makes old upload part refused (unmade fault) old
+fault_is old upload part (Some first) fault is = (ap unmade is, refl)
+fault_is old upload part None fault is = (is, refl)
+
+-- F2 to F6, or want of memory
+pub no_part : (old : Shown) (upload offset len : ℕ) (bytes : List ℕ) (fault : PartFault) (text : List ℕ) (ending : Ending) → Ok len ≡ plan_in old.state upload → fault ≡ unwrap_or (part_refusal len offset (length bytes)) faults.NoMemory
+    → SaysFault fault text ending → Answered (PutTurn old upload offset bytes old) text ending
+no_part old upload offset len bytes fault text ending is refused says = record {
+  turn = unmade fault;
+  is = by_plan old old upload offset bytes (unmade fault) (Ok len) is (fault_is old upload (planned len offset bytes) (part_refusal len offset (length bytes)) fault refused);
+  text_is = says.0;
+  ending_is = says.1;
+}
+
+-- the step
+pub made : (old new : Shown) (upload offset len : ℕ) (bytes : List ℕ) (part : PlannedPart) (reply : Result Reply Refusal) (text : List ℕ) (ending : Ending) → Ok len ≡ plan_in old.state upload → part_refusal len offset (length bytes) ≡ None
+    → part ≡ planned len offset bytes → Step old (put upload part) reply new → Says reply text ending → Answered (PutTurn old upload offset bytes new) text ending
+made old new upload offset len bytes part reply text ending is fits part_is step says = record {
+  turn = took (put upload (planned len offset bytes)) reply;
+  is = by_plan old new upload offset bytes (took (put upload (planned len offset bytes)) reply) (Ok len) is
+      (subst (λ (o : Option PartFault). Makes old upload (planned len offset bytes) o (took (put upload (planned len offset bytes)) reply) new) (sym fits)
+      (refl, subst (λ (p : PlannedPart). Step old (put upload p) reply new) part_is step));
+  text_is = says.0;
+  ending_is = says.1;
+}
+
+-- ---- a line
+
+abbrev pub LineTurn : Shown → List ℕ → Shown → Turn → Type 0
+LineTurn old line new turn = Plays old line turn new
+
+plays : (old new : Shown) (line : List ℕ) (turn : Turn) (command : Option ScriptCommand) → 0 < length line → command ≡ command_at line → Does old command turn new → Plays old line turn new
+plays old new [] turn command some is h = absurd (omega (arith, some))
+plays old new (b ∷ line) turn command some is h = subst (λ o. Does old o turn new) is h
+
+pub nothing : (old : Shown) (line text : List ℕ) (ending : Ending) → length line ≡ 0 → text ≡ [] → ending ≡ endings.Good → Answered (LineTurn old line old) text ending
+nothing old [] text ending none text_is ending_is = record { turn = skipped; is = (refl, refl); text_is = text_is; ending_is = ending_is }
+nothing old (b ∷ line) text ending none text_is ending_is = absurd (omega (arith, none))
+
+pub no_command : (old : Shown) (line text : List ℕ) (ending : Ending) → 0 < length line → None ≡ command_at line → SaysBad text ending → Answered (LineTurn old line old) text ending
+no_command old line text ending some is says = record { turn = bad; is = plays old old line bad None some is (refl, refl); text_is = says.0; ending_is = says.1 }
+
+pub asked : (old new : Shown) (line text : List ℕ) (ending : Ending) (command : Command) (reply : Result Reply Refusal) → 0 < length line → Some (asks command) ≡ command_at line → Step old command reply new → Says reply text ending → Answered (LineTurn old line new) text ending
+asked old new line text ending command reply some is step says = record {
+  turn = took command reply;
+  is = plays old new line (took command reply) (Some (asks command)) some is (refl, step);
+  text_is = says.0;
+  ending_is = says.1;
+}
+
+pub put_asked : (old new : Shown) (line text : List ℕ) (ending : Ending) (upload offset : ℕ) (bytes : List ℕ) → 0 < length line → Some (puts upload offset bytes) ≡ command_at line → Answered (PutTurn old upload offset bytes new) text ending → Answered (LineTurn old line new) text ending
+put_asked old new line text ending upload offset bytes some is h = record {
+  turn = h.turn;
+  is = plays old new line h.turn (Some (puts upload offset bytes)) some is h.is;
+  text_is = h.text_is;
+  ending_is = h.ending_is;
+}

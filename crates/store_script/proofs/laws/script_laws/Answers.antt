@@ -1,0 +1,12 @@
+use Rattle.store_script.proofs.Patterns.{pattern_is}
+use Rattle.store_script.proofs.Read.{again, found}
+use Rattle.store_script.proofs.laws.script_laws.Goals as goal
+
+pub returns-clause-found : goal.returns-clause-found
+returns-clause-found c = found
+
+pub returns-clause-only : goal.returns-clause-only
+returns-clause-only c = again
+
+pub returns-clause-pattern : goal.returns-clause-pattern
+returns-clause-pattern c = pattern_is

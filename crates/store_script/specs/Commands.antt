@@ -1,0 +1,45 @@
+-- What the code's own types stand for.
+use Rattle.std.specs.Arc.{arc_value}
+use Rattle.store_core.specs.Lawful.{sealed_seen}
+use Rattle.store_core.specs.Model.{Shown}
+use Rattle.store_core.specs.Runs.{Command, Reply, abort, begin, begun_upload, done, fetch, forget, journal, list, now_held, now_sealed, open_tenant, opened_tenant, seal, seal_as, set_limit, the_bytes, the_journal, the_list, the_totals, the_usage, totals, usage}
+use Rattle.store_script.specs.declared.command.Command.{Command as CodeCommand}
+use Rattle.store_script.specs.declared.command.Command.TheVariants as code
+use Rattle.store_script.specs.declared.command.ScriptCommand.{ScriptCommand as CodeScriptCommand}
+use Rattle.store_script.specs.declared.command.ScriptCommand.TheVariants as script
+use Rattle.store_script.specs.declared.reply.Reply.{Reply as CodeReply}
+use Rattle.store_script.specs.declared.reply.Reply.TheVariants as replies
+use Rattle.store_script.specs.Grammar.{ScriptCommand, asks, puts}
+
+-- the command of the store
+abbrev pub command_seen : CodeCommand → Command
+command_seen (code.OpenTenant limit) = open_tenant limit
+command_seen (code.SetLimit tenant limit) = set_limit tenant limit
+command_seen (code.Begin tenant len) = begin tenant len
+command_seen (code.Seal upload) = seal upload
+command_seen (code.SealAs upload address) = seal_as upload address
+command_seen (code.Abort upload) = abort upload
+command_seen (code.Forget tenant address) = forget tenant address
+command_seen (code.Fetch tenant address) = fetch tenant address
+command_seen (code.Usage tenant) = usage tenant
+command_seen (code.List tenant) = list tenant
+command_seen code.Totals = totals
+command_seen code.Journal = journal
+
+-- what a line asks for
+abbrev pub script_seen : CodeScriptCommand → ScriptCommand
+script_seen (script.Asks command) = asks (command_seen command)
+script_seen (script.Puts upload offset bytes) = puts upload offset bytes.items
+
+-- the reply of a store; the journal stays in the store
+abbrev pub reply_of : Shown → CodeReply → Reply
+reply_of shown (replies.Tenant number) = opened_tenant number
+reply_of shown (replies.Upload number plan) = begun_upload number plan
+reply_of shown (replies.Held held) = now_held held
+reply_of shown (replies.Sealed sealed) = now_sealed (sealed_seen sealed)
+reply_of shown replies.Done = done
+reply_of shown (replies.Object object) = the_bytes (arc_value object)
+reply_of shown (replies.Usage use_told) = the_usage use_told
+reply_of shown (replies.List objects) = the_list objects.items
+reply_of shown (replies.Totals sums) = the_totals sums
+reply_of shown replies.Journal = the_journal shown.journal

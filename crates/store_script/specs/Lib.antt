@@ -1,0 +1,5 @@
+pub mod Grammar
+pub mod Texts
+pub mod Commands
+pub mod Script
+pub mod Spelling

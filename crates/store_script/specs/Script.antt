@@ -1,0 +1,161 @@
+-- A script and its output.
+use Rattle.std.specs.Prelude.{◌≡◌, ◌^◌, ℕ, List, [], ◌∷◌, ◌++◌, Option, Some, None, Result, Ok, Err, length, codes}
+use Rattle.std.specs.Io.KnownBytes.{Appends}
+use Rattle.std.specs.List.{flat_map}
+use Rattle.b3_forest.specs.Parts.{PlannedPart, planned}
+use Rattle.b3_forest.specs.PartRefusals.{part_refusal}
+use Rattle.b3_forest.specs.declared.refusal.PartFault.{PartFault}
+use Rattle.b3_forest.specs.declared.refusal.PartFault.TheVariants as faults
+use Rattle.store_core.specs.declared.refusal.Refusal.{Refusal}
+use Rattle.store_core.specs.declared.refusal.Refusal.TheVariants as refusals
+use Rattle.store_core.specs.Commands.{plan_in}
+use Rattle.store_core.specs.Journal.{lines_of}
+use Rattle.store_core.specs.Model.{Shown}
+use Rattle.store_core.specs.Runs.{Command, Reply, Run, Step, plan, put}
+use Rattle.store_script.specs.Grammar.{ScriptCommand, asks, command_at, puts}
+use Rattle.store_script.specs.Texts.{answer_text, fault_text, refused_text}
+use Rattle.store_script.specs.declared.outcome.Ending.{Ending}
+use Rattle.store_script.specs.declared.outcome.Ending.TheVariants as endings
+
+-- ---- one line
+
+-- What a line comes to: nothing for an empty line; a line that is no command; a part that can't be made; or else one step of
+-- the store, with its reply.
+pub data Turn : Type 0 where
+  skipped : Turn
+  bad : Turn
+  unmade : PartFault → Turn
+  took : Command → Result Reply Refusal → Turn
+
+-- its answer
+abbrev pub turn_text : Turn → List ℕ
+turn_text skipped = []
+turn_text bad = codes "bad\n"
+turn_text (unmade fault) = refused_text (fault_text fault)
+turn_text (took command reply) = answer_text reply
+
+-- how a run with this turn ends at best
+abbrev pub refusal_ending : Refusal → Ending
+refusal_ending refusals.NoMemory = endings.OutOfMemory
+refusal_ending _ = endings.Refused
+
+abbrev pub fault_ending : PartFault → Ending
+fault_ending faults.NoMemory = endings.OutOfMemory
+fault_ending _ = endings.Refused
+
+abbrev pub reply_ending : Result Reply Refusal → Ending
+reply_ending (Ok reply) = endings.Good
+reply_ending (Err refusal) = refusal_ending refusal
+
+abbrev pub turn_ending : Turn → Ending
+turn_ending skipped = endings.Good
+turn_ending bad = endings.Refused
+turn_ending (unmade fault) = fault_ending fault
+turn_ending (took command reply) = reply_ending reply
+
+-- this step alone
+abbrev pub Takes : Shown → Command → Turn → Shown → Type 0
+Takes old command (took asked reply) new = (asked ≡ command) × Step old command reply new
+Takes old command _ new = ⊥
+
+-- a part that nothing refuses is put, unless memory is refused where it is made
+abbrev pub Puts : Shown → ℕ → PlannedPart → Turn → Shown → Type 0
+Puts old upload part (unmade fault) new = (fault ≡ faults.NoMemory) × (new ≡ old)
+Puts old upload part (took asked reply) new = (asked ≡ put upload part) × Step old (put upload part) reply new
+Puts old upload part _ new = ⊥
+
+-- a part that is refused is not put
+abbrev pub Makes : Shown → ℕ → PlannedPart → Option PartFault → Turn → Shown → Type 0
+Makes old upload part (Some fault) turn new = (turn ≡ unmade fault) × (new ≡ old)
+Makes old upload part None turn new = Puts old upload part turn new
+
+-- first the upload's plan is asked for
+abbrev pub PutsBy : Shown → ℕ → ℕ → List ℕ → Result ℕ Refusal → Turn → Shown → Type 0
+PutsBy old upload offset bytes (Err refusal) turn new = Takes old (plan upload) turn new
+PutsBy old upload offset bytes (Ok len) turn new = Makes old upload (planned len offset bytes) (part_refusal len offset (length bytes)) turn new
+
+abbrev pub Does : Shown → Option ScriptCommand → Turn → Shown → Type 0
+Does old None turn new = (turn ≡ bad) × (new ≡ old)
+Does old (Some (asks command)) turn new = Takes old command turn new
+Does old (Some (puts upload offset bytes)) turn new = PutsBy old upload offset bytes (plan_in old.state upload) turn new
+
+-- what a line comes to in a store, and what it leaves
+abbrev pub Plays : Shown → List ℕ → Turn → Shown → Type 0
+Plays old [] turn new = (turn ≡ skipped) × (new ≡ old)
+Plays old (b ∷ line) turn new = Does old (command_at (b ∷ line)) turn new
+
+-- a turn of which this holds, with its answer and its ending
+pub record Answered (Is : Turn → Type 0) (text : List ℕ) (ending : Ending) : Type 0 where
+  pub turn : Turn
+  pub is : Is turn
+  pub text_is : text ≡ turn_text turn
+  pub ending_is : ending ≡ turn_ending turn
+
+-- ---- a script
+
+-- lines in order, each with its turn
+abbrev pub AllPlay : Shown → List (List ℕ) → List Turn → Shown → Type 0
+AllPlay old [] [] new = new ≡ old
+AllPlay old [] (turn ∷ turns) new = ⊥
+AllPlay old (line ∷ lines) [] new = ⊥
+AllPlay old (line ∷ lines) (turn ∷ turns) new = (then : Shown) × Plays old line turn then × AllPlay then lines turns new
+
+-- the steps among turns, and their replies
+abbrev pub commands_of : List Turn → List Command
+commands_of [] = []
+commands_of (took command reply ∷ turns) = command ∷ commands_of turns
+commands_of (_ ∷ turns) = commands_of turns
+
+abbrev pub replies_of : List Turn → List (Result Reply Refusal)
+replies_of [] = []
+replies_of (took command reply ∷ turns) = reply ∷ replies_of turns
+replies_of (_ ∷ turns) = replies_of turns
+
+-- the worse of two endings
+abbrev pub worse : Ending → Ending → Ending
+worse endings.Good other = other
+worse endings.Refused endings.OutOfMemory = endings.OutOfMemory
+worse endings.Refused _ = endings.Refused
+worse endings.OutOfMemory other = endings.OutOfMemory
+
+-- out of memory where some answer is `refused S14`, else refused where some answer is `refused` or `bad`
+abbrev pub ending_of : List Turn → Ending
+ending_of [] = endings.Good
+ending_of (turn ∷ turns) = worse (turn_ending turn) (ending_of turns)
+
+-- an empty store with the widest limits
+abbrev pub widest : Shown
+widest = record {
+  state = record { most_tenants = 2 ^ 16; most_entries = 2 ^ 32; most_workers = 16; limits = []; begun = 0; uploads = []; objects = []; accepted = 0 };
+  journal = [];
+}
+
+-- Lines were answered in order, from the empty store: what they came to, and the text of their answers. The steps among them
+-- are a run of the store.
+pub record AreAnswered (lines : List (List ℕ)) (output : List ℕ) (ending : Ending) : Type 0 where
+  pub turns : List Turn
+  pub end : Shown
+  pub plays : AllPlay widest lines turns end
+  pub run : Run widest (commands_of turns) (replies_of turns) end
+  pub text_is : output ≡ flat_map turn_text turns
+  pub ending_is : ending ≡ ending_of turns
+
+-- a script and its output: all its lines are answered
+abbrev pub IsScriptRun : List ℕ → List ℕ → Ending → Type 0
+IsScriptRun input output ending = AreAnswered (lines_of input) output ending
+
+-- the writer grew by the script's output
+pub record Ran (input : List ℕ) (old new : Option (List ℕ)) (ending : Ending) : Type 0 where
+  pub output : List ℕ
+  pub script : IsScriptRun input output ending
+  pub wrote : Appends old new output
+
+-- the writer grew by the answers to a beginning of the script's lines
+pub record RanSome (input : List ℕ) (old new : Option (List ℕ)) : Type 0 where
+  pub front : List (List ℕ)
+  pub back : List (List ℕ)
+  pub lines : lines_of input ≡ front ++ back
+  pub output : List ℕ
+  pub ending : Ending
+  pub answered : AreAnswered front output ending
+  pub wrote : Appends old new output

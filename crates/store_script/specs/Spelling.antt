@@ -1,0 +1,55 @@
+-- How a command is spelled, and that a line is read exactly where it is spelled so.
+use Rattle.std.specs.Prelude.{◌≡◌, ◌+◌, ◌%◌, ◌<◌, ◌≤◌, ◌^◌, ◌⊎◌, ℕ, List, ◌++◌, Some, Ok, codes, length, slice_index}
+use Rattle.std.specs.Fmt.{decimal}
+use Rattle.hex.specs.Hex.{decode_of, decode_sized}
+use Rattle.store_core.specs.Entries.{three_fields, two_fields}
+use Rattle.store_core.specs.Runs.{Command, abort, begin, fetch, forget, journal, list, open_tenant, plan, put, seal, seal_as, set_limit, totals, usage}
+use Rattle.store_script.specs.Grammar.{ScriptCommand, asks, command_at, most_pattern, pattern_of, puts}
+
+-- a word, a number, and an address in 64 digits of either case
+abbrev pub IsNumberAndAddress : List ℕ → List ℕ → ℕ → List ℕ → Type 0
+IsNumberAndAddress line word number address = (digits : List ℕ) × (line ≡ word ++ two_fields (decimal number) digits) × (number < 2 ^ 64) × (decode_sized digits 32 ≡ Ok address)
+
+-- the line spells the command; a plan is not asked for by a line of its own
+abbrev pub IsAsked : List ℕ → Command → Type 0
+IsAsked line (open_tenant limit) = (line ≡ codes "tenant " ++ decimal limit) × (limit < 2 ^ 64)
+IsAsked line (set_limit tenant limit) = (line ≡ codes "limit " ++ two_fields (decimal tenant) (decimal limit)) × (tenant < 2 ^ 64) × (limit < 2 ^ 64)
+IsAsked line (begin tenant len) = (line ≡ codes "begin " ++ two_fields (decimal tenant) (decimal len)) × (tenant < 2 ^ 64) × (len < 2 ^ 64)
+IsAsked line (put upload part) = ⊥
+IsAsked line (seal upload) = (line ≡ codes "seal " ++ decimal upload) × (upload < 2 ^ 64)
+IsAsked line (seal_as upload address) = IsNumberAndAddress line (codes "sealas ") upload address
+IsAsked line (abort upload) = (line ≡ codes "abort " ++ decimal upload) × (upload < 2 ^ 64)
+IsAsked line (forget tenant address) = IsNumberAndAddress line (codes "forget ") tenant address
+IsAsked line (fetch tenant address) = IsNumberAndAddress line (codes "fetch ") tenant address
+IsAsked line (usage tenant) = (line ≡ codes "usage " ++ decimal tenant) × (tenant < 2 ^ 64)
+IsAsked line (plan upload) = ⊥
+IsAsked line (list tenant) = (line ≡ codes "list " ++ decimal tenant) × (tenant < 2 ^ 64)
+IsAsked line totals = line ≡ codes "stat"
+IsAsked line journal = line ≡ codes "journal"
+
+-- the field spells a part's bytes: by their digits, or as so many of the pattern from the offset on
+abbrev pub IsDigits : List ℕ → List ℕ → Type 0
+IsDigits field bytes = (digits : List ℕ) × (field ≡ codes "x:" ++ digits) × (decode_of digits ≡ Ok bytes)
+
+abbrev pub IsPattern : ℕ → List ℕ → List ℕ → Type 0
+IsPattern offset field bytes = (len : ℕ) × (field ≡ codes "p:" ++ decimal len) × (len ≤ most_pattern) × (bytes ≡ pattern_of offset len)
+
+abbrev pub IsPart : ℕ → List ℕ → List ℕ → Type 0
+IsPart offset field bytes = IsDigits field bytes ⊎ IsPattern offset field bytes
+
+-- the line spells what it asks for
+abbrev pub IsSpelled : List ℕ → ScriptCommand → Type 0
+IsSpelled line (asks command) = IsAsked line command
+IsSpelled line (puts upload offset bytes) = (field : List ℕ) × (line ≡ codes "put " ++ three_fields (decimal upload) (decimal offset) field) × (upload < 2 ^ 64) × (offset < 2 ^ 64) × IsPart offset field bytes
+
+-- what is read is spelled so
+abbrev pub ReadIsSpelled : Type 0
+ReadIsSpelled = (line : List ℕ) (command : ScriptCommand) → command_at line ≡ Some command → IsSpelled line command
+
+-- what is spelled so is read
+abbrev pub SpelledIsRead : Type 0
+SpelledIsRead = (line : List ℕ) (command : ScriptCommand) → IsSpelled line command → command_at line ≡ Some command
+
+-- the pattern has as many bytes as are asked for, each of them its place in the upload mod 251
+abbrev pub PatternIs : Type 0
+PatternIs = (offset len : ℕ) → (length (pattern_of offset len) ≡ len) × ((i : ℕ) → i < len → slice_index (pattern_of offset len) i ≡ (offset + i) % 251)

@@ -1,0 +1,107 @@
+-- The answers' texts.
+use Rattle.std.specs.Prelude.{ℕ, List, [], ◌∷◌, ◌++◌, Option, Some, None, Result, Ok, Err, length, codes}
+use Rattle.std.specs.Fmt.{decimal}
+use Rattle.std.specs.List.{flat_map}
+use Rattle.b3_forest.specs.declared.refusal.PartFault.{PartFault}
+use Rattle.b3_forest.specs.declared.refusal.PartFault.TheVariants as faults
+use Rattle.hex.specs.Hex.{encode_lower}
+use Rattle.store_core.specs.declared.entry.Entry.{Entry}
+use Rattle.store_core.specs.declared.refusal.Refusal.{Refusal}
+use Rattle.store_core.specs.declared.refusal.Refusal.TheVariants as refusals
+use Rattle.store_core.specs.declared.totals.Totals.{Totals}
+use Rattle.store_core.specs.declared.usage.Usage.{Usage}
+use Rattle.store_core.specs.Commands.{ModelSealed}
+use Rattle.store_core.specs.Entries.{filing_word}
+use Rattle.store_core.specs.Journal.{journal_text}
+use Rattle.store_core.specs.Runs.{Reply, begun_upload, done, now_held, now_sealed, opened_tenant, the_bytes, the_journal, the_list, the_plan, the_totals, the_usage}
+
+-- ---- replies: each line with its line feed
+
+-- how many bytes an upload holds, and its least offset that is not held
+abbrev pub held_text : ℕ → Option ℕ → List ℕ
+held_text held None = codes "held " ++ (decimal held ++ codes " all\n")
+held_text held (Some offset) = codes "held " ++ (decimal held ++ (codes " missing " ++ (decimal offset ++ codes "\n")))
+
+-- whether the object is new, its address and its length
+abbrev pub sealed_text : ModelSealed → List ℕ
+sealed_text s = filing_word s.new ++ (codes " " ++ (encode_lower s.address ++ (codes " " ++ (decimal (length s.bytes) ++ codes "\n"))))
+
+-- the digits of bytes, or one dash where there are none
+abbrev pub digits_text : List ℕ → List ℕ
+digits_text [] = codes "-"
+digits_text (b ∷ bytes) = encode_lower (b ∷ bytes)
+
+-- how many bytes there are, and their digits
+abbrev pub object_text : List ℕ → List ℕ
+object_text bytes = codes "object " ++ (decimal (length bytes) ++ (codes " " ++ (digits_text bytes ++ codes "\n")))
+
+abbrev pub usage_text : Usage → List ℕ
+usage_text u = codes "used " ++ (decimal u.used ++ (codes " reserved " ++ (decimal u.reserved ++ (codes " limit " ++ (decimal u.limit ++ codes "\n")))))
+
+-- an object's address and its length, in a line
+abbrev pub listed_line : List ℕ × ℕ → List ℕ
+listed_line object = encode_lower object.0 ++ (codes " " ++ (decimal object.1 ++ codes "\n"))
+
+-- how many objects there are, and the line of each
+abbrev pub list_text : List (List ℕ × ℕ) → List ℕ
+list_text objects = codes "list " ++ (decimal (length objects) ++ (codes "\n" ++ flat_map listed_line objects))
+
+-- a store's totals, without a line feed
+abbrev pub totals_line : Totals → List ℕ
+totals_line t = codes "objects " ++ (decimal t.objects ++ (codes " bytes " ++ (decimal t.object_bytes ++ (codes " uploads " ++ (decimal t.uploads ++
+    (codes " held " ++ (decimal t.held_bytes ++ (codes " parts " ++ decimal t.parts))))))))
+
+abbrev pub totals_text : Totals → List ℕ
+totals_text t = totals_line t ++ codes "\n"
+
+-- how many entries there are, and the line of each
+abbrev pub entries_text : List Entry → List ℕ
+entries_text entries = codes "journal " ++ (decimal (length entries) ++ (codes "\n" ++ journal_text entries))
+
+abbrev pub reply_text : Reply → List ℕ
+reply_text (opened_tenant number) = codes "tenant " ++ (decimal number ++ codes "\n")
+reply_text (begun_upload number plan) = codes "upload " ++ (decimal number ++ codes "\n")
+reply_text (now_held h) = held_text h.held h.missing
+reply_text (now_sealed s) = sealed_text s
+reply_text done = codes "ok\n"
+reply_text (the_bytes bytes) = object_text bytes
+reply_text (the_usage u) = usage_text u
+reply_text (the_plan len) = codes "ok\n"
+reply_text (the_list objects) = list_text objects
+reply_text (the_totals t) = totals_text t
+reply_text (the_journal entries) = entries_text entries
+
+-- ---- refusals
+
+-- the number of a refusal, and what it carries
+abbrev pub refusal_text : Refusal → List ℕ
+refusal_text refusals.NoTenant = codes "S1"
+refusal_text refusals.TenantsFull = codes "S2"
+refusal_text refusals.LimitTooLarge = codes "S3"
+refusal_text (refusals.BelowUse bytes) = codes "S4 use " ++ decimal bytes
+refusal_text refusals.TooLong = codes "S5"
+refusal_text (refusals.OverQuota free) = codes "S6 free " ++ decimal free
+refusal_text refusals.NoUpload = codes "S7"
+refusal_text refusals.WrongPlan = codes "S8"
+refusal_text (refusals.Overlap offset) = codes "S9 at " ++ decimal offset
+refusal_text (refusals.Incomplete missing) = codes "S10 missing " ++ decimal missing
+refusal_text (refusals.WrongAddress found) = codes "S11 found " ++ encode_lower found
+refusal_text refusals.NotHeld = codes "S12"
+refusal_text refusals.JournalFull = codes "S13"
+refusal_text refusals.NoMemory = codes "S14"
+
+-- the number of what is wrong with a part; want of memory is told as the store tells it
+abbrev pub fault_text : PartFault → List ℕ
+fault_text faults.EmptyPart = codes "F2"
+fault_text faults.OffAlign = codes "F3"
+fault_text faults.PastEnd = codes "F4"
+fault_text faults.Ragged = codes "F5"
+fault_text faults.PartTooLong = codes "F6"
+fault_text faults.NoMemory = codes "S14"
+
+abbrev pub refused_text : List ℕ → List ℕ
+refused_text name = codes "refused " ++ (name ++ codes "\n")
+
+abbrev pub answer_text : Result Reply Refusal → List ℕ
+answer_text (Ok reply) = reply_text reply
+answer_text (Err refusal) = refused_text (refusal_text refusal)

@@ -1,0 +1,105 @@
+//! The engine.
+ghost use Rattle.std.specs.Prelude.{◌≡◌, ◌<◌, IfErr, IfOk, IfSome, OnOk, Err, Ok, false, length, true};
+ghost use Rattle.std.specs.Io.BufRead.{DropsThrough, strip_last, take_through};
+ghost use Rattle.std.specs.Io.KnownBytes.{Appends, IsAtEnd};
+ghost use Rattle.store_script.specs.Script.{Ran, RanSome, widest, worse};
+ghost use Rattle.store_script.specs.declared.outcome.Stop.TheVariants as stops;
+
+use crate::answer::answer_line;
+use crate::outcome::{Ending, Stop};
+use b3_core::Work;
+use std::alloc::Global;
+use std::io::{BufRead, ErrorKind, Write};
+use store_core::{Limits, Store};
+
+/// Runs a script on an empty store with the widest limits: reads it line by line, and writes the answer to each line when its
+/// line feed was read. The writer is flushed behind each answer.
+///
+/// It stops at the first read or write that fails, or where memory is refused for a line, a part's bytes or an answer's
+/// text; nothing more is written. What a failed read leaves of a line is not run. Compressions are counted in `work`.
+pub fn run<R: BufRead, W: Write>(
+    alloc: Global,
+    reader: &mut R,
+    writer: &mut W,
+    work: &mut Work,
+) -> Result<Ending, Stop>
+    // The writer grew by the script's output, and the ending is that of its answers.
+    ensures written { IfOk result (λ ending. IfSome (R.Read.remaining reader.old) (λ input. Ran input (W.contents writer.old) (W.contents writer.new) ending)) }
+    ensures end { OnOk result (IfSome (R.Read.remaining reader.old) (λ _. IsAtEnd (R.Read.remaining reader.new))) }
+    // After a failed read it grew by the answers to a beginning of the lines.
+    ensures read { result ≡ Err stops.CannotRead → IfSome (R.Read.remaining reader.old) (λ input. RanSome input (W.contents writer.old) (W.contents writer.new)) }
+{
+    let mut store = Store::new(alloc, Limits::full());
+    answer_lines(alloc, &mut store, reader, writer, work)
+}
+
+// Answers the lines of a script, from an empty store on.
+fn answer_lines<R: BufRead, W: Write>(
+    alloc: Global,
+    store: &mut Store,
+    reader: &mut R,
+    writer: &mut W,
+    work: &mut Work,
+) -> Result<Ending, Stop>
+    requires { store.old ≡ widest }
+    ensures written { IfOk result (λ ending. IfSome (R.Read.remaining reader.old) (λ input. Ran input (W.contents writer.old) (W.contents writer.new) ending)) }
+    ensures end { OnOk result (IfSome (R.Read.remaining reader.old) (λ _. IsAtEnd (R.Read.remaining reader.new))) }
+    ensures read { result ≡ Err stops.CannotRead → IfSome (R.Read.remaining reader.old) (λ input. RanSome input (W.contents writer.old) (W.contents writer.new)) }
+{
+    let mut ending = Ending::Good;
+    let mut line: Vec<u8> = Vec::new(alloc);
+    for _ in 0..u64::MAX {
+        if !read_line(reader, &mut line)? {
+            return Ok(ending);
+        }
+        let answer = answer_line(alloc, store, without_end(line.as_slice()), work)?;
+        tell(writer, answer.text.as_slice())?;
+        ending = worse(ending, answer.ending);
+    }
+    Err(Stop::CannotRead)
+}
+
+// Reads the next line with its line feed, which the last line may lack. False at the end of the input.
+fn read_line<R: BufRead>(reader: &mut R, line: &mut Vec<u8>) -> Result<bool, Stop>
+    ensures bytes { OnOk result (IfSome (R.Read.remaining reader.old) (λ left. line.new.items ≡ take_through 10 left)) }
+    ensures rest { OnOk result (DropsThrough (R.Read.remaining reader.old) (R.Read.remaining reader.new) 10) }
+    ensures end { result ≡ Ok false → IsAtEnd (R.Read.remaining reader.old) }
+    ensures some { result ≡ Ok true → 0 < length line.new.items }
+{
+    line.clear();
+    match reader.read_until(b'\n', line) {
+        Ok(count) => Ok(count != 0),
+        Err(error) if error.kind() == ErrorKind::OutOfMemory => Err(Stop::OutOfMemory),
+        Err(_) => Err(Stop::CannotRead),
+    }
+}
+
+// A line without its line feed, which the last line may lack.
+fn without_end(line: &[u8]) -> &[u8]
+    ensures { result.now ≡ strip_last 10 line.now }
+{
+    match line {
+        [front @ .., b'\n'] => front,
+        _ => line,
+    }
+}
+
+// Writes an answer, and flushes.
+fn tell<W: Write>(writer: &mut W, text: &[u8]) -> Result<(), Stop>
+    ensures wrote { OnOk result (Appends (W.contents writer.old) (W.contents writer.new) text.now) }
+    ensures stop { IfErr result (λ stop. stop ≡ stops.CannotWrite) }
+{
+    writer.write_all(text).map_err(|_| Stop::CannotWrite)?;
+    writer.flush().map_err(|_| Stop::CannotWrite)
+}
+
+// The worse of two endings.
+fn worse(first: Ending, second: Ending) -> Ending
+    ensures { result ≡ worse first second }
+{
+    match (first, second) {
+        (Ending::OutOfMemory, _) | (_, Ending::OutOfMemory) => Ending::OutOfMemory,
+        (Ending::Refused, _) | (_, Ending::Refused) => Ending::Refused,
+        (Ending::Good, Ending::Good) => Ending::Good,
+    }
+}

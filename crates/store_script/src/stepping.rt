@@ -1,0 +1,142 @@
+//! The steps of the store.
+ghost use Rattle.std.specs.Prelude.{◌≡◌};
+ghost use Rattle.b3_forest.specs.Parts.{planned};
+ghost use Rattle.store_core.specs.Commands.{reply_seen};
+ghost use Rattle.store_core.specs.Runs.{Step, abort, begin, fetch, forget, list, open_tenant, put, seal, seal_as, set_limit, usage};
+ghost use Rattle.store_script.specs.Commands.{command_seen, reply_of};
+
+use crate::command::Command;
+use crate::reply::Reply;
+use b3_core::Work;
+use b3_forest::Prepared;
+use store_core::{Address, Refusal, Store, TenantId, UploadId};
+
+/// Does a command, or asks a question.
+pub(crate) fn step(store: &mut Store, command: Command, work: &mut Work) -> Result<Reply, Refusal>
+    ensures { Step store.old (command_seen command) (reply_seen (reply_of store.new) result) store.new }
+{
+    match command {
+        Command::OpenTenant { limit } => open_tenant(store, limit),
+        Command::SetLimit { tenant, limit } => set_limit(store, tenant, limit),
+        Command::Begin { tenant, len } => begin(store, tenant, len),
+        Command::Seal { upload } => seal(store, upload, work),
+        Command::SealAs { upload, address } => seal_as(store, upload, address, work),
+        Command::Abort { upload } => abort(store, upload),
+        Command::Forget { tenant, address } => forget(store, tenant, address),
+        Command::Fetch { tenant, address } => fetch(store, tenant, address),
+        Command::Usage { tenant } => usage(store, tenant),
+        Command::List { tenant } => list(store, tenant),
+        Command::Totals => Ok(Reply::Totals(store.totals())),
+        Command::Journal => Ok(Reply::Journal),
+    }
+}
+
+fn open_tenant(store: &mut Store, limit: u64) -> Result<Reply, Refusal>
+    ensures { Step store.old (open_tenant limit) (reply_seen (reply_of store.new) result) store.new }
+{
+    match store.open_tenant(limit) {
+        Ok(tenant) => Ok(Reply::Tenant(tenant)),
+        Err(refusal) => Err(refusal),
+    }
+}
+
+fn set_limit(store: &mut Store, tenant: TenantId, limit: u64) -> Result<Reply, Refusal>
+    ensures { Step store.old (set_limit tenant limit) (reply_seen (reply_of store.new) result) store.new }
+{
+    match store.set_limit(tenant, limit) {
+        Ok(()) => Ok(Reply::Done),
+        Err(refusal) => Err(refusal),
+    }
+}
+
+fn begin(store: &mut Store, tenant: TenantId, len: u64) -> Result<Reply, Refusal>
+    ensures { Step store.old (begin tenant len) (reply_seen (reply_of store.new) result) store.new }
+{
+    match store.begin(tenant, len) {
+        Ok((upload, plan)) => Ok(Reply::Upload(upload, plan)),
+        Err(refusal) => Err(refusal),
+    }
+}
+
+/// Puts a part.
+pub(crate) fn put(
+    store: &mut Store,
+    upload: UploadId,
+    part: Prepared,
+    work: &mut Work,
+) -> Result<Reply, Refusal>
+    ensures { Step store.old (put upload part) (reply_seen (reply_of store.new) result) store.new }
+{
+    match store.put(upload, part, work) {
+        Ok(held) => Ok(Reply::Held(held)),
+        Err(refused) => Err(refused.refusal),
+    }
+}
+
+fn seal(store: &mut Store, upload: UploadId, work: &mut Work) -> Result<Reply, Refusal>
+    ensures { Step store.old (seal upload) (reply_seen (reply_of store.new) result) store.new }
+{
+    match store.seal(upload, work) {
+        Ok(sealed) => Ok(Reply::Sealed(sealed)),
+        Err(refusal) => Err(refusal),
+    }
+}
+
+fn seal_as(
+    store: &mut Store,
+    upload: UploadId,
+    address: Address,
+    work: &mut Work,
+) -> Result<Reply, Refusal>
+    ensures { Step store.old (seal_as upload address) (reply_seen (reply_of store.new) result) store.new }
+{
+    match store.seal_as(upload, address, work) {
+        Ok(sealed) => Ok(Reply::Sealed(sealed)),
+        Err(refusal) => Err(refusal),
+    }
+}
+
+fn abort(store: &mut Store, upload: UploadId) -> Result<Reply, Refusal>
+    ensures { Step store.old (abort upload) (reply_seen (reply_of store.new) result) store.new }
+{
+    match store.abort(upload) {
+        Ok(()) => Ok(Reply::Done),
+        Err(refusal) => Err(refusal),
+    }
+}
+
+fn forget(store: &mut Store, tenant: TenantId, address: Address) -> Result<Reply, Refusal>
+    ensures { Step store.old (forget tenant address) (reply_seen (reply_of store.new) result) store.new }
+{
+    match store.forget(tenant, address) {
+        Ok(()) => Ok(Reply::Done),
+        Err(refusal) => Err(refusal),
+    }
+}
+
+fn fetch(store: &Store, tenant: TenantId, address: Address) -> Result<Reply, Refusal>
+    ensures { Step store.now (fetch tenant address) (reply_seen (reply_of store.now) result) store.now }
+{
+    match store.fetch(tenant, address) {
+        Ok(object) => Ok(Reply::Object(object)),
+        Err(refusal) => Err(refusal),
+    }
+}
+
+fn usage(store: &Store, tenant: TenantId) -> Result<Reply, Refusal>
+    ensures { Step store.now (usage tenant) (reply_seen (reply_of store.now) result) store.now }
+{
+    match store.usage(tenant) {
+        Ok(usage) => Ok(Reply::Usage(usage)),
+        Err(refusal) => Err(refusal),
+    }
+}
+
+fn list(store: &Store, tenant: TenantId) -> Result<Reply, Refusal>
+    ensures { Step store.now (list tenant) (reply_seen (reply_of store.now) result) store.now }
+{
+    match store.list(tenant) {
+        Ok(objects) => Ok(Reply::List(objects)),
+        Err(refusal) => Err(refusal),
+    }
+}

@@ -1,0 +1,4 @@
+//! Whole scripts over memory.
+mod fakes;
+mod memory;
+mod rows;
