@@ -1,1 +1,4 @@
 pub mod Accounts
+pub mod Cuts
+pub mod Gates
+pub mod Uploading

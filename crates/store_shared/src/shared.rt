@@ -1,18 +1,30 @@
 //! A store that threads share.
-ghost use Rattle.std.specs.Prelude.{◌≡◌, ◌^◌};
+ghost use Rattle.std.specs.Prelude.{◌≡◌, ◌^◌, ◌≤◌};
 
 use crate::locked::Locked;
 use std::alloc::Global;
+use std::marker::Model;
 use std::sync::ledger::{Blank, Ledger};
 use std::sync::{Mutex, MutexGuard, Wait};
 use store_core::{Limits, Store};
 use store_ledger::{Book, Share};
 
 /// A store under one lock, with the limit on workers beside it.
+/// Contracts see that limit, which is at most 16.
 #[derive(Drop)]
 pub struct Shared<B: Ledger, C: Ledger> {
     lock: Mutex<Locked<B, C>>,
     workers: u64,
+}
+
+impl<B: Ledger, C: Ledger> Model for Shared<B, C> {
+    ghost use Rattle.std.specs.Prelude.{◌<◌, ◌≤◌, ℕ};
+
+    ghost Value = { ℕ };
+
+    ghost view = { λ s. s.workers };
+
+    ghost invariant = { λ s. (0 < s.workers) × (s.workers ≤ 16) };
 }
 
 impl<B: Ledger, C: Ledger> Shared<B, C> {
@@ -25,6 +37,7 @@ impl<B: Ledger, C: Ledger> Shared<B, C> {
     ) -> (Shared<B, C>, Share<B, C>)
         requires bytes { (bytes.name ≡ B.name) × (bytes.parts ≡ B.parts) × (bytes.parts ≡ 2 ^ 32) }
         requires calls { (calls.name ≡ C.name) × (calls.parts ≡ C.parts) × (calls.parts ≡ 2 ^ 32) }
+        ensures workers { result.0 ≡ limits.workers }
         ensures share { result.1 ≡ record { parts = 2 ^ 32; bytes = 0; calls = 0 } }
     {
         let (book, share) = Book::open(bytes, calls);
@@ -32,6 +45,14 @@ impl<B: Ledger, C: Ledger> Shared<B, C> {
         let store = Store::new(alloc, limits);
         let lock = Mutex::new(Locked { store, book });
         (Shared { lock, workers }, share)
+    }
+
+    /// The most workers that an upload may have.
+    pub fn workers(&self) -> u64
+        ensures value { result ≡ self.now }
+        ensures most { result ≤ 16 }
+    {
+        self.workers
     }
 
     /// Takes the lock. What the guard lends is lawful, and its book agrees with its journal; what an earlier guard saw may

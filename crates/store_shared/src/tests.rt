@@ -15,13 +15,13 @@ use store_core::{Address, Limits, Object, Refusal, TenantId, UploadId};
 use store_ledger::{Accepted, NotWhole, Share};
 
 // The hash of the pattern of 2048 bytes, from the standard's vectors.
-const PATTERN_2048: [u8; 32] = [
+pub(crate) const PATTERN_2048: [u8; 32] = [
     0xe7, 0x76, 0xb6, 0x02, 0x8c, 0x7c, 0xd2, 0x2a, 0x4d, 0x0b, 0xa1, 0x82, 0xa8, 0xbf, 0x62, 0x20,
     0x5d, 0x2e, 0xf5, 0x76, 0x46, 0x7e, 0x83, 0x8e, 0xd6, 0xf2, 0x52, 0x9b, 0x85, 0xfb, 0xa2, 0x4a,
 ];
 
 // The pattern bytes `i mod 251`, from `first` on.
-fn pattern(alloc: Global, first: u64, len: u64) -> Result<Vec<u8>, AllocError> {
+pub(crate) fn pattern(alloc: Global, first: u64, len: u64) -> Result<Vec<u8>, AllocError> {
     let mut bytes = Vec::new(alloc);
     let mut next = (first % 251) as u8;
     for _ in 0..len {

@@ -1,0 +1,249 @@
+//! The collector of an upload: it notes the parts that workers hand over, and puts them.
+ghost use Rattle.std.specs.Prelude.{◌≡◌, [], ◌∷◌, ◌⊎◌, IfErr, IfOk, IfSome, None, OnErr, OnOk, Some, map};
+ghost use Rattle.b3_core.specs.Modes.{hash_of};
+ghost use Rattle.b3_forest.specs.Followed.{AllNoted};
+ghost use Rattle.store_board.specs.Passes.{IsTakerOf};
+ghost use Rattle.store_ledger.specs.declared.holding.Holding.{Holding};
+ghost use Rattle.store_shared.specs.Cuts.{RoseBySome, holding_with};
+ghost use Rattle.store_shared.specs.Gates.{IsOwnFault};
+ghost use Rattle.store_shared.specs.Uploading.{IsCollecting, NotesMore, RoseByBeginning};
+ghost use Rattle.store_shared.specs.declared.fault.UploadFaultKind.TheVariants.{StrangePart};
+
+use crate::cut::Cut;
+use crate::fault::UploadFaultKind;
+use crate::gate::Gate;
+use crate::job::Job;
+use crate::lent::lent_put;
+use crate::shared::Shared;
+use b3_core::Work;
+use b3_forest::{Follow, NoteFault, Prepared};
+use std::alloc::Global;
+use std::sync::Wait;
+use std::sync::ledger::Ledger;
+use std::thread;
+use store_board::{HandOver, TakePass, Taken};
+use store_core::{Address, UploadId};
+use store_ledger::Share;
+
+// The most parts that are put at one taking of the lock.
+const MOST_IN_HAND: usize = 16;
+
+// What was noted of the upload's bytes, the share that rises by what is put, the collector's own fault, and the
+// compressions that it makes.
+#[derive(Drop)]
+pub(crate) struct Collector<'a, B: Ledger, C: Ledger> {
+    pub(crate) upload: UploadId,
+    pub(crate) share: Share<B, C>,
+    pub(crate) follow: Follow<'a>,
+    pub(crate) fault: Option<UploadFaultKind>,
+    pub(crate) work: Work,
+}
+
+// Notes a part, which has to be one of the cut.
+fn note(
+    cut: &Cut<'_>,
+    follow: &mut Follow<'_>,
+    part: &Prepared,
+    work: &mut Work,
+) -> Result<(), UploadFaultKind>
+    requires { follow.old.bytes ≡ cut.now.bytes }
+    ensures bytes { follow.new.bytes ≡ cut.now.bytes }
+    ensures noted { OnOk result (NotesMore cut.now follow.old follow.new (part.now.part ∷ [])) }
+    ensures fault { IfErr result IsOwnFault }
+{
+    let Some(_number) = cut.number_of(part) else {
+        return Err(UploadFaultKind::StrangePart);
+    };
+    match follow.note(part, work) {
+        Ok(_) => Ok(()),
+        Err(NoteFault::NoMemory) => Err(UploadFaultKind::NoMemory),
+        Err(_) => Err(UploadFaultKind::StrangePart),
+    }
+}
+
+// Notes parts one after another.
+fn note_all(
+    cut: &Cut<'_>,
+    follow: &mut Follow<'_>,
+    parts: &[Prepared],
+    work: &mut Work,
+) -> Result<(), UploadFaultKind>
+    requires { follow.old.bytes ≡ cut.now.bytes }
+    ensures bytes { follow.new.bytes ≡ cut.now.bytes }
+    ensures noted { OnOk result (NotesMore cut.now follow.old follow.new (map (λ p. p.part) parts.now)) }
+    ensures fault { IfErr result IsOwnFault }
+{
+    for part in parts {
+        if let Err(kind) = note(cut, follow, part, work) {
+            return Err(kind);
+        }
+    }
+    Ok(())
+}
+
+// Puts parts one after another, at one taking of the lock.
+fn put_all<B: Ledger, C: Ledger, R: Wait>(
+    rt: &R,
+    shared: &Shared<B, C>,
+    upload: UploadId,
+    parts: Vec<Prepared>,
+    share: &mut Share<B, C>,
+    work: &mut Work,
+) -> Result<(), UploadFaultKind>
+    ensures ok { OnOk result (share.new ≡ holding_with share.old (map (λ p. p.part) parts.items)) }
+    ensures err { OnErr result (RoseByBeginning (map (λ p. p.part) parts.items) share.old share.new) }
+    ensures fault { IfErr result IsOwnFault }
+{
+    let mut locked = shared.lock(rt);
+    for part in parts {
+        if let Err(refused) = lent_put(&mut *locked, share, upload, part, work) {
+            return Err(UploadFaultKind::Refused(refused.refusal));
+        }
+    }
+    Ok(())
+}
+
+// Takes parts until there is none, or as many as are put at once are in hand.
+fn take_some<R: Wait>(
+    rt: &R,
+    alloc: Global,
+    line: &HandOver,
+    pass: &mut TakePass,
+) -> Result<Vec<Prepared>, UploadFaultKind>
+    requires { IsTakerOf line.now pass.old }
+    ensures same { IsTakerOf line.now pass.new }
+    ensures fault { IfErr result IsOwnFault }
+{
+    let mut parts = Vec::new(alloc);
+    for _ in 0..MOST_IN_HAND {
+        let Some(Taken { giver: _, part }) = line.take(rt, pass) else {
+            break;
+        };
+        if parts.push(part).is_err() {
+            return Err(UploadFaultKind::NoMemory);
+        }
+    }
+    Ok(parts)
+}
+
+impl<'a, B: Ledger, C: Ledger> Collector<'a, B, C> {
+    // Notes parts, and puts them.
+    fn file<R: Wait>(
+        &mut self,
+        rt: &R,
+        cut: &Cut<'_>,
+        shared: &Shared<B, C>,
+        parts: Vec<Prepared>,
+    ) -> Result<(), UploadFaultKind>
+        requires { self.old.follow.bytes ≡ cut.now.bytes }
+        ensures bytes { self.new.follow.bytes ≡ cut.now.bytes }
+        ensures same { self.new.fault ≡ self.old.fault }
+        ensures ok { OnOk result ((start : Holding) → IsCollecting cut.now start self.old.follow self.old.share None → IsCollecting cut.now start self.new.follow self.new.share None) }
+        ensures err { OnErr result ((start : Holding) → IsCollecting cut.now start self.old.follow self.old.share None → RoseBySome cut.now.bytes cut.now.part_chunks start self.new.share) }
+        ensures fault { IfErr result IsOwnFault }
+    {
+        if let Err(kind) = note_all(cut, &mut self.follow, parts.as_slice(), &mut self.work) {
+            return Err(kind);
+        }
+        let (share, work) = (&mut self.share, &mut self.work);
+        if let Err(kind) = put_all(rt, shared, self.upload, parts, share, work) {
+            return Err(kind);
+        }
+        Ok(())
+    }
+
+    // Takes what there is, and files it; once something failed, drops it. Answers whether there was something.
+    fn collect_some<G: Gate, R: Wait>(
+        &mut self,
+        rt: &R,
+        alloc: Global,
+        job: &Job<'_, G>,
+        shared: &Shared<B, C>,
+        pass: &mut TakePass,
+    ) -> bool
+        requires taker { IsTakerOf job.now.line pass.old }
+        requires bytes { self.old.follow.bytes ≡ job.now.cut.bytes }
+        requires own { IfSome self.old.fault IsOwnFault }
+        ensures taker { IsTakerOf job.now.line pass.new }
+        ensures bytes { self.new.follow.bytes ≡ job.now.cut.bytes }
+        ensures own { IfSome self.new.fault IsOwnFault }
+        ensures kept { (start : Holding) → IsCollecting job.now.cut start self.old.follow self.old.share self.old.fault → IsCollecting job.now.cut start self.new.follow self.new.share self.new.fault }
+    {
+        if self.fault.is_some() {
+            return job.line.take(rt, pass).is_some();
+        }
+        let parts = match take_some(rt, alloc, &job.line, pass) {
+            Ok(parts) => parts,
+            Err(kind) => {
+                self.fault = Some(kind);
+                return true;
+            }
+        };
+        if parts.is_empty() {
+            return false;
+        }
+        if let Err(kind) = self.file(rt, &job.cut, shared, parts) {
+            self.fault = Some(kind);
+        }
+        true
+    }
+
+    // Collects until so many workers have ended and nothing is left.
+    pub(crate) fn collect<G: Gate, R: Wait>(
+        &mut self,
+        rt: &R,
+        alloc: Global,
+        job: &Job<'_, G>,
+        shared: &Shared<B, C>,
+        started: u64,
+        pass: TakePass,
+    )
+        requires taker { IsTakerOf job.now.line pass }
+        requires bytes { self.old.follow.bytes ≡ job.now.cut.bytes }
+        requires own { IfSome self.old.fault IsOwnFault }
+        ensures bytes { self.new.follow.bytes ≡ job.now.cut.bytes }
+        ensures own { IfSome self.new.fault IsOwnFault }
+        ensures kept { (start : Holding) → IsCollecting job.now.cut start self.old.follow self.old.share self.old.fault → IsCollecting job.now.cut start self.new.follow self.new.share self.new.fault }
+    {
+        let mut pass = pass;
+        for _ in rt.forever() {
+            let all_ended = *job.ended.lock(rt) >= started;
+            if !self.collect_some(rt, alloc, job, shared, &mut pass) {
+                if all_ended {
+                    break;
+                }
+                thread::yield_now();
+            }
+        }
+    }
+
+    // The address of all bytes, where nothing failed; else the collector's own fault, or that of a worker.
+    pub(crate) fn address(
+        self,
+        workers_fault: Option<UploadFaultKind>,
+    ) -> (Share<B, C>, Result<Address, UploadFaultKind>)
+        ensures share { result.0 ≡ self.entry.share }
+        ensures address { IfOk result.1 (λ a. (self.entry.fault ≡ None) × (a ≡ hash_of self.entry.follow.bytes) × AllNoted self.entry.follow) }
+        ensures fault { IfErr result.1 (λ kind. (self.entry.fault ≡ Some kind) ⊎ (workers_fault ≡ Some kind) ⊎ (kind ≡ StrangePart)) }
+    {
+        let Collector {
+            upload: _,
+            share,
+            follow,
+            fault,
+            work,
+        } = self;
+        let mut work = work;
+        match fault {
+            Some(kind) => return (share, Err(kind)),
+            None => {}
+        }
+        if let Some(kind) = workers_fault {
+            return (share, Err(kind));
+        }
+        match follow.finish(&mut work) {
+            Ok(top) => (share, Ok(Address::new(top.root32(&mut work)))),
+            Err(_) => (share, Err(UploadFaultKind::StrangePart)),
+        }
+    }
+}

@@ -1,0 +1,268 @@
+//! Uploads by several workers.
+ghost use Rattle.std.specs.Prelude.{◌≡◌, ◌+◌, ◌<◌, ◌≤◌, ◌^◌, ℕ, [], All, Err, IfErr, IfOk, IfSome, None, OnErr, OnOk, length};
+ghost use Rattle.std.specs.Arc.{arc_value};
+ghost use Rattle.b3_core.specs.Modes.{hash_of};
+ghost use Rattle.store_board.specs.Passes.{IsGiverOf, IsTakerOf};
+ghost use Rattle.store_board.specs.Seats.{IsSeatOf};
+ghost use Rattle.store_shared.specs.Cuts.{IsBadCut, RoseBySome, cut_of};
+ghost use Rattle.store_shared.specs.Gates.{IsOwnFault, MayStop};
+ghost use Rattle.store_shared.specs.Uploading.{AreNoted, Cutting, IsCollected, IsUploaded};
+ghost use Rattle.store_shared.specs.declared.fault.UploadFaultKind.TheVariants.{BadCut, GateFault, Stopped};
+
+use crate::collector::Collector;
+use crate::crew::{join_all, start_all, workers_of};
+use crate::cut::{Cut, MOST_PART_CHUNKS};
+use crate::fault::{UploadFault, UploadFaultKind};
+use crate::gate::Gate;
+use crate::job::Job;
+use crate::lent::{lent_abort, lent_begin, lent_seal_as};
+use crate::shared::Shared;
+use crate::worker::{FaultOf, Worker};
+use b3_core::Work;
+use b3_forest::Follow;
+use std::alloc::Global;
+use std::sync::ledger::Ledger;
+use std::sync::{Mutex, Wait};
+use std::thread;
+use std::thread::{PromisedHandle, Threads};
+use store_board::{Board, HandOver, TakePass};
+use store_core::{Address, Refusal, Sealed, TenantId, UploadId};
+use store_ledger::Share;
+
+/// Uploads bytes for a tenant, and files them under their hash.
+///
+/// The bytes are cut into parts of `part_chunks` chunks. Each of the workers runs in a thread of its own: it draws the
+/// number of a part, copies and hashes it, asks the gate, and hands it over. The calling thread notes what is handed over
+/// and puts it, several parts at one taking of the lock, with the caller's share. Where nothing fails, it seals the upload
+/// under the address that it has computed itself.
+///
+/// U2 comes first, and nothing was begun. U1 is a refusal of the store, U3 and U4 are a gate's answers, U5 is want of
+/// memory outside the store's commands, and U6 a part that is not one of the cut. The collector's own fault is told
+/// before those of the workers, and of these that of the worker with the least number. After a fault past the beginning
+/// all workers are joined and the upload is aborted; `left` names it only where that was refused, and it is still open.
+/// The share has risen by the parts that were accepted. It may wait, and keeps its promise if it returns.
+pub fn upload<B: Ledger, C: Ledger, G: Gate + Sync, R: Threads + Wait + Sync + Alloc>(
+    rt: &R,
+    alloc: Global,
+    shared: &Shared<B, C>,
+    share: Share<B, C>,
+    gate: &G,
+    tenant: TenantId,
+    bytes: &[u8],
+    part_chunks: u64,
+    workers: u64,
+) -> (Share<B, C>, Result<Sealed, UploadFault>)
+    ensures parts { result.0.parts ≡ share.parts }
+    ensures ok { IfOk result.1 (λ sealed. (sealed.address ≡ hash_of bytes.now) × (hash_of (arc_value sealed.object) ≡ hash_of bytes.now)) }
+    ensures share { OnOk result.1 (result.0 ≡ record { parts = share.parts; bytes = share.bytes + length bytes.now; calls = share.calls + length (cut_of bytes.now part_chunks) }) }
+    ensures fault { OnErr result.1 (RoseBySome bytes.now part_chunks share result.0) }
+    ensures bad_cut { IsBadCut part_chunks workers shared.now → (result.1 ≡ Err (record { kind = BadCut; left = None })) × (result.0 ≡ share) }
+    ensures good_cut { IfErr result.1 (λ f. f.kind ≡ BadCut → IsBadCut part_chunks workers shared.now) }
+    ensures stopped { IfErr result.1 (λ f. f.kind ≡ Stopped → MayStop (G.may_stop gate.now) (length (cut_of bytes.now part_chunks))) }
+    ensures gate_fault { IfErr result.1 (λ f. (part code : ℕ) → f.kind ≡ GateFault part code → (part < length (cut_of bytes.now part_chunks)) × G.may_fault gate.now part code) }
+{
+    if part_chunks == 0 || part_chunks > MOST_PART_CHUNKS {
+        let fault = UploadFault::unbegun(UploadFaultKind::BadCut);
+        return (share, Err(fault));
+    }
+    if workers == 0 || workers > shared.workers() {
+        let fault = UploadFault::unbegun(UploadFaultKind::BadCut);
+        return (share, Err(fault));
+    }
+    upload_parts(
+        rt,
+        alloc,
+        shared,
+        share,
+        gate,
+        tenant,
+        bytes,
+        part_chunks,
+        workers,
+    )
+}
+
+// Uploads bytes of a good cut.
+fn upload_parts<B: Ledger, C: Ledger, G: Gate + Sync, R: Threads + Wait + Sync + Alloc>(
+    rt: &R,
+    alloc: Global,
+    shared: &Shared<B, C>,
+    share: Share<B, C>,
+    gate: &G,
+    tenant: TenantId,
+    bytes: &[u8],
+    part_chunks: u64,
+    workers: u64,
+) -> (Share<B, C>, Result<Sealed, UploadFault>)
+    requires some { 0 < part_chunks }
+    requires most { part_chunks ≤ 16384 }
+    requires workers { workers ≤ 16 }
+    ensures { IsUploaded (G.may_stop gate.now) (G.may_fault gate.now) (record { bytes = bytes.now; part_chunks = part_chunks }) share result.0 result.1 }
+{
+    let upload = match begin(rt, shared, tenant, bytes.len() as u64) {
+        Ok(upload) => upload,
+        Err(kind) => return (share, Err(UploadFault::unbegun(kind))),
+    };
+    let cut = Cut::new(bytes, part_chunks);
+    let (share, hashed) = put_parts(rt, alloc, shared, share, gate, cut, upload, workers);
+    let kind = match hashed {
+        Ok(address) => match seal(rt, shared, upload, address) {
+            Ok(sealed) => return (share, Ok(sealed)),
+            Err(kind) => kind,
+        },
+        Err(kind) => kind,
+    };
+    let left = abort(rt, shared, upload);
+    (share, Err(UploadFault { kind, left }))
+}
+
+// Begins an upload.
+fn begin<B: Ledger, C: Ledger, R: Wait>(
+    rt: &R,
+    shared: &Shared<B, C>,
+    tenant: TenantId,
+    len: u64,
+) -> Result<UploadId, UploadFaultKind>
+    ensures most { OnOk result (len ≤ 2 ^ 40) }
+    ensures fault { IfErr result IsOwnFault }
+{
+    match lent_begin(&mut *shared.lock(rt), tenant, len) {
+        Ok(begun) => {
+            let (upload, plan) = begun;
+            let _most = plan.length();
+            Ok(upload)
+        }
+        Err(refusal) => Err(UploadFaultKind::Refused(refusal)),
+    }
+}
+
+// Seals a complete upload under its address.
+fn seal<B: Ledger, C: Ledger, R: Wait + Alloc>(
+    rt: &R,
+    shared: &Shared<B, C>,
+    upload: UploadId,
+    address: Address,
+) -> Result<Sealed, UploadFaultKind>
+    ensures ok { IfOk result (λ sealed. (sealed.address ≡ address) × (hash_of (arc_value sealed.object) ≡ address)) }
+    ensures fault { IfErr result IsOwnFault }
+{
+    let mut work = Work::new(rt);
+    match lent_seal_as(&mut *shared.lock(rt), upload, address, &mut work) {
+        Ok(sealed) => Ok(sealed),
+        Err(refusal) => Err(UploadFaultKind::Refused(refusal)),
+    }
+}
+
+// Tries to abort an upload, and names it where it is left open.
+fn abort<B: Ledger, C: Ledger, R: Wait>(
+    rt: &R,
+    shared: &Shared<B, C>,
+    upload: UploadId,
+) -> Option<UploadId> {
+    match lent_abort(&mut *shared.lock(rt), upload) {
+        Ok(()) | Err(Refusal::NoUpload) => None,
+        Err(_) => Some(upload),
+    }
+}
+
+// Puts all parts of an upload that was begun, and answers its address.
+fn put_parts<B: Ledger, C: Ledger, G: Gate + Sync, R: Threads + Wait + Sync + Alloc>(
+    rt: &R,
+    alloc: Global,
+    shared: &Shared<B, C>,
+    share: Share<B, C>,
+    gate: &G,
+    cut: Cut<'_>,
+    upload: UploadId,
+    workers: u64,
+) -> (Share<B, C>, Result<Address, UploadFaultKind>)
+    requires { workers ≤ 16 }
+    ensures { IsCollected (G.may_stop gate.now) (G.may_fault gate.now) cut.entry share result.0 result.1 }
+{
+    let no_memory = Err(UploadFaultKind::NoMemory);
+    let Ok((board, seats)) = Board::new(alloc, cut.parts(), workers) else {
+        return (share, no_memory);
+    };
+    let Ok((line, passes, take_pass)) = HandOver::new(alloc, 2 * workers as usize, workers) else {
+        return (share, no_memory);
+    };
+    let Ok(follow) = Follow::new(alloc, cut.bytes()) else {
+        return (share, no_memory);
+    };
+    let ended = Mutex::new(0);
+    let job = Job {
+        cut,
+        board,
+        line,
+        gate,
+        ended,
+    };
+    let Ok(workers) = workers_of(rt, alloc, &job, seats, passes) else {
+        return (share, no_memory);
+    };
+    let collector = Collector {
+        upload,
+        share,
+        follow,
+        fault: None,
+        work: Work::new(rt),
+    };
+    work_together(rt, alloc, &job, shared, workers, take_pass, collector)
+}
+
+// Runs all workers, and the collector beside them.
+fn work_together<B: Ledger, C: Ledger, G: Gate + Sync, R: Threads + Wait + Sync>(
+    rt: &R,
+    alloc: Global,
+    job: &Job<'_, G>,
+    shared: &Shared<B, C>,
+    workers: Vec<Worker>,
+    take_pass: TakePass,
+    collector: Collector<'_, B, C>,
+) -> (Share<B, C>, Result<Address, UploadFaultKind>)
+    requires some { 0 < job.now.cut.part_chunks }
+    requires workers { All (λ w. IsSeatOf job.now.board w.seat × IsGiverOf job.now.line w.pass) workers.items }
+    requires taker { IsTakerOf job.now.line take_pass }
+    requires fresh { AreNoted job.now.cut collector.follow [] }
+    ensures { IsCollected (G.may_stop job.now.gate.now) (G.may_fault job.now.gate.now) job.now.cut collector.entry.share result.0 result.1 }
+{
+    thread::scope(
+        thread::scope_env(),
+        rt,
+        move |scope| -> (Share<B, C>, Result<Address, UploadFaultKind>)
+            requires { (0 < job.now.cut.part_chunks) × All (λ w. IsSeatOf job.now.board w.seat × IsGiverOf job.now.line w.pass) workers.items × IsTakerOf job.now.line take_pass × AreNoted job.now.cut collector.follow [] }
+            ensures { IsCollected (G.may_stop job.entry.now.gate.now) (G.may_fault job.entry.now.gate.now) job.entry.now.cut collector.entry.share result.0 result.1 }
+        {
+            let (handles, unstarted) = start_all(scope, rt, alloc, job, workers);
+            gather(
+                rt, alloc, job, shared, handles, unstarted, take_pass, collector,
+            )
+        },
+    )
+}
+
+// Collects while the workers work, joins them all, and answers the address of all bytes, or what failed.
+fn gather<'s, B: Ledger, C: Ledger, G: Gate, R: Threads + Wait>(
+    rt: &R,
+    alloc: Global,
+    job: &'s Job<'s, G>,
+    shared: &Shared<B, C>,
+    handles: Vec<PromisedHandle<Option<UploadFaultKind>, FaultOf<'s, G>>>,
+    unstarted: Option<UploadFaultKind>,
+    take_pass: TakePass,
+    collector: Collector<'_, B, C>,
+) -> (Share<B, C>, Result<Address, UploadFaultKind>)
+    requires some { 0 < job.now.cut.part_chunks }
+    requires handles { All (λ h. (h.promise.bytes.now ≡ job.now.cut.bytes) × (h.promise.part_chunks ≡ job.now.cut.part_chunks) × (h.promise.gate.now ≡ job.now.gate.now)) handles.items }
+    requires own { IfSome unstarted IsOwnFault }
+    requires taker { IsTakerOf job.now.line take_pass }
+    requires fresh { AreNoted job.now.cut collector.follow [] }
+    ensures { IsCollected (G.may_stop job.now.gate.now) (G.may_fault job.now.gate.now) job.now.cut collector.entry.share result.0 result.1 }
+{
+    let started = handles.len() as u64;
+    let mut collector = collector;
+    collector.fault = unstarted;
+    collector.collect(rt, alloc, job, shared, started, take_pass);
+    let fault = join_all(rt, job, handles);
+    collector.address(fault)
+}
