@@ -1,9 +1,9 @@
 -- The subcommand that a parse entered, from what the getters say.
-use Rattle.std.proofs.Common.{◌≡◌, ◌∙◌, List, Option, Some, None, refl, rules}
+use Rattle.std.proofs.Common.{◌≡◌, ◌∙◌, Bool, true, false, List, Option, Some, None, ap, codes, refl, rules}
 use Rattle.std.specs.Prelude.{option_map, Result, Ok, ℕ}
 use Rattle.clap.specs.Words.{TriesOne}
 use Rattle.std.specs.Str.Parse.{digits_value, without_leading_plus}
-use Rattle.b3store.specs.Stated.{Spells}
+use Rattle.b3store.specs.Stated.{SaysFlag, Spells}
 use Rattle.clap.specs.Words.{Row, Text, subcommand_rows_of, subcommand_name_of}
 use Rattle.clap.specs.declared.parser.matches.ArgMatches.{ArgMatches}
 
@@ -24,3 +24,8 @@ spells gives exact None None none value = tt
 spells gives exact None (Some x) none value = let e = none refl in cc
 spells gives exact (Some t) None none value = value t refl
 spells gives exact (Some t) (Some x) none value = exact t x (value t refl)
+
+-- what a flag's getter says is what clap keeps of it
+pub says_flag : (o : Option Text) (b : Bool) → (o ≡ None → b ≡ false) → (o ≡ Some (codes "true") → b ≡ true) → (o ≡ Some (codes "false") → b ≡ false) → SaysFlag o b
+says_flag None b none on off = none refl
+says_flag (Some t) b none on off = (λ e. on (ap Some e), λ e. off (ap Some e))

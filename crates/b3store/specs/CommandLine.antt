@@ -1,6 +1,7 @@
 -- The command line, as the program states it to clap.
 use Rattle.std.specs.Prelude.{ℕ, Some, pos, codes}
 use Rattle.clap.specs.Words.{App, Rule, Text, new_app, new_rule, with_rule, with_subcommand}
+use Rattle.clap.specs.declared.builder.action.ArgAction.TheVariants.{SetTrue}
 use Rattle.clap.specs.declared.builder.value_parser.ValueParser.TheVariants as vp
 
 -- an option `--ID VALUE`
@@ -11,11 +12,25 @@ value_rule id = record (new_rule id) { long = Some id; value_names = 1 }
 abbrev pub number_rule : Text → ℕ → Rule
 number_rule id most = record (value_rule id) { parser = Some (vp.Signed (pos 1) (pos most)) }
 
+-- an option `--ID` without a value
+abbrev pub flag_rule : Text → Rule
+flag_rule id = record (new_rule id) { long = Some id; action = Some SetTrue }
+
 -- `sum [--name NAME] [--key HEX64] [--context TEXT] [--length N]`
 abbrev pub sum_line : App
 sum_line =
     with_rule (with_rule (with_rule (with_rule (new_app (codes "sum")) (value_rule (codes "name"))) (value_rule (codes "key")))
     (value_rule (codes "context"))) (number_rule (codes "length") 65536)
+
+-- `run`
+abbrev pub run_line : App
+run_line = new_app (codes "run")
+
+-- `upload [--workers W] [--part-chunks P] [--journal]`
+abbrev pub upload_line : App
+upload_line =
+    with_rule (with_rule (with_rule (new_app (codes "upload")) (number_rule (codes "workers") 16)) (number_rule (codes "part-chunks") 16384))
+    (flag_rule (codes "journal"))
 
 -- `check`
 abbrev pub check_line : App
@@ -25,5 +40,10 @@ check_line = new_app (codes "check")
 abbrev pub audit_line : App
 audit_line = new_app (codes "audit")
 
+-- the program's line with the subcommands that hash and store
+abbrev pub storing_line : App
+storing_line = with_subcommand (with_subcommand (with_subcommand (new_app (codes "b3store")) sum_line.top) run_line.top) upload_line.top
+
+-- and with those that read reports
 abbrev pub command_line : App
-command_line = with_subcommand (with_subcommand (with_subcommand (new_app (codes "b3store")) sum_line.top) check_line.top) audit_line.top
+command_line = with_subcommand (with_subcommand storing_line check_line.top) audit_line.top

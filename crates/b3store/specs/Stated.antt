@@ -1,14 +1,15 @@
 -- What the words of a command line say to the program.
-use Rattle.std.specs.Prelude.{◌≡◌, ◌≤◌, ℕ, Option, Some, None, Ok, IfSome, IsSomeAnd, List, codes}
+use Rattle.std.specs.Prelude.{◌≡◌, ◌≤◌, ℕ, Bool, true, false, Option, Some, None, Ok, IfSome, IsSomeAnd, List, codes}
 use Rattle.std.specs.Str.Parse.{digits_value, without_leading_plus}
 use Rattle.clap.specs.Words.{Row, Text, first_of, one_of}
 use Rattle.hex.specs.Hex.{decode_sized}
 use Rattle.b3_check.specs.Names.{IsName}
 use Rattle.b3store.specs.declared.said.Options.{Options}
-use Rattle.b3store.specs.declared.said.Options.TheVariants.{Sum, Check, Audit}
+use Rattle.b3store.specs.declared.said.Options.TheVariants.{Sum, Run, Upload, Check, Audit}
 use Rattle.b3store.specs.declared.said.SumMode.{SumMode}
 use Rattle.b3store.specs.declared.said.SumMode.TheVariants.{Hash, Keyed, Derive}
 use Rattle.b3store.specs.declared.said.SumOptions.{SumOptions}
+use Rattle.b3store.specs.declared.said.UploadOptions.{UploadOptions}
 
 -- the number that an argument's text spells, where the argument is given
 abbrev pub Spells : Option Text → Option ℕ → Type 0
@@ -16,6 +17,16 @@ Spells None None = Unit {0}
 Spells (Some t) (Some n) = digits_value 10 (without_leading_plus t) ≡ n
 Spells None (Some n) = ⊥
 Spells (Some t) None = ⊥
+
+-- the number that an argument's text spells, or another where the argument is not given
+abbrev pub SpellsOr : ℕ → Option Text → ℕ → Type 0
+SpellsOr other None n = n ≡ other
+SpellsOr other (Some t) n = digits_value 10 (without_leading_plus t) ≡ n
+
+-- whether a flag is given, from the text that clap keeps of it
+abbrev pub SaysFlag : Option Text → Bool → Type 0
+SaysFlag None given = given ≡ false
+SaysFlag (Some t) given = (t ≡ codes "true" → given ≡ true) × (t ≡ codes "false" → given ≡ false)
 
 -- the mode, from the texts of `--key` and of `--context`
 abbrev pub SaysMode : SumMode → Option Text → Option Text → Type 0
@@ -33,14 +44,27 @@ pub record SaysSum (o : SumOptions) (rows : List Row) : Type 0 where
   pub mode : SaysMode o.mode (first_of (codes "key") rows) (first_of (codes "context") rows)
   pub length : Spells (one_of (codes "length") rows) o.length
 
+pub record SaysUpload (o : UploadOptions) (rows : List Row) : Type 0 where
+  pub workers : SpellsOr 4 (one_of (codes "workers") rows) o.workers
+  pub part_chunks : SpellsOr 64 (one_of (codes "part-chunks") rows) o.part_chunks
+  pub journal : SaysFlag (one_of (codes "journal") rows) o.journal
+
 -- the subcommand that was entered, and its rows, say these options
 abbrev pub Says : Options → Option (Text × List Row) → Type 0
 Says (Sum o) found = (rows : List Row) × (found ≡ Some (codes "sum", rows)) × SaysSum o rows
+Says Run found = (rows : List Row) × (found ≡ Some (codes "run", rows))
+Says (Upload o) found = (rows : List Row) × (found ≡ Some (codes "upload", rows)) × SaysUpload o rows
 Says Check found = (rows : List Row) × (found ≡ Some (codes "check", rows))
 Says Audit found = (rows : List Row) × (found ≡ Some (codes "audit", rows))
+
+-- from 1 to 16 workers, and from 1 to 16384 chunks in a part
+abbrev pub AreWithin : UploadOptions → Type 0
+AreWithin o = ((1 ≤ o.workers) × (o.workers ≤ 16)) × ((1 ≤ o.part_chunks) × (o.part_chunks ≤ 16384))
 
 -- the name is one that a check line may have, and the numbers are within their ranges
 abbrev pub InRange : Options → Type 0
 InRange (Sum o) = IsName o.name.now × IfSome o.length (λ n. (1 ≤ n) × (n ≤ 65536))
+InRange Run = Unit {0}
+InRange (Upload o) = AreWithin o
 InRange Check = Unit {0}
 InRange Audit = Unit {0}

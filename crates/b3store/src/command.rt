@@ -3,9 +3,9 @@
 ghost use Rattle.std.specs.Prelude.{◌≡◌, IfOk, false};
 ghost use Rattle.clap.specs.Words.{app_of, rule_of};
 ghost use Rattle.clap.specs.declared.builder.command.Command.TheViews.{out-Command as fields_of};
-ghost use Rattle.b3store.specs.CommandLine.{value_rule, sum_line, check_line, audit_line, command_line};
+ghost use Rattle.b3store.specs.CommandLine.{value_rule, flag_rule, sum_line, run_line, upload_line, check_line, audit_line, storing_line, command_line};
 
-use clap::{Arg, Command, value_parser};
+use clap::{Arg, ArgAction, Command, value_parser};
 use std::alloc::{AllocError, Global};
 
 // An option `--ID VALUE`.
@@ -53,6 +53,54 @@ fn sum_command<'a>(alloc: Global) -> Result<Command<'a>, AllocError>
         .arg(length)
 }
 
+fn run_command<'a>(alloc: Global) -> Command<'a>
+    ensures shape { app_of result ≡ run_line }
+    ensures local { (fields_of result).has_globals ≡ false }
+{
+    Command::new(alloc, "run").about(
+        "Read a script of commands for a store, and write each one's answer when it was read",
+    )
+}
+
+// An option `--ID` without a value.
+fn flag_argument<'a>(alloc: Global, id: &'a str, help: &'a str) -> Arg<'a>
+    ensures rule { rule_of result ≡ flag_rule id.entry.now }
+    ensures local { result.global ≡ false }
+{
+    Arg::new(alloc, id)
+        .long(id)
+        .action(ArgAction::SetTrue)
+        .help(help)
+}
+
+fn upload_command<'a>(alloc: Global) -> Result<Command<'a>, AllocError>
+    ensures shape { IfOk result (λ c. app_of c ≡ upload_line) }
+    ensures local { IfOk result (λ c. (fields_of c).has_globals ≡ false) }
+{
+    let workers = value_argument(
+        alloc,
+        "workers",
+        "W",
+        "Hash parts by this many threads (1 to 16, 4 by default)",
+    )
+    .value_parser(value_parser!(u32).range(1..17));
+    let part_chunks = value_argument(
+        alloc,
+        "part-chunks",
+        "P",
+        "Cut the input into parts of this many chunks of 1024 bytes (1 to 16384, 64 by default)",
+    )
+    .value_parser(value_parser!(u32).range(1..16385));
+    let journal = flag_argument(alloc, "journal", "Write the journal's text too");
+    Command::new(alloc, "upload")
+        .about(
+            "Read standard input, upload it in parts into a store, and write its check line and what was accepted",
+        )
+        .arg(workers)?
+        .arg(part_chunks)?
+        .arg(journal)
+}
+
 fn check_command<'a>(alloc: Global) -> Command<'a>
     ensures shape { app_of result ≡ check_line }
     ensures local { (fields_of result).has_globals ≡ false }
@@ -71,15 +119,26 @@ fn audit_command<'a>(alloc: Global) -> Command<'a>
     )
 }
 
+// The program's command with the subcommands that hash and store.
+fn storing_program<'a>(alloc: Global) -> Result<Command<'a>, AllocError>
+    ensures shape { IfOk result (λ c. app_of c ≡ storing_line) }
+    ensures local { IfOk result (λ c. (fields_of c).has_globals ≡ false) }
+{
+    let sum = sum_command(alloc)?;
+    let upload = upload_command(alloc)?;
+    Command::new(alloc, "b3store")
+        .about("A content-addressed store: objects under their BLAKE3 hash")
+        .subcommand(sum)?
+        .subcommand(run_command(alloc))?
+        .subcommand(upload)
+}
+
 /// The command line of the program.
 pub fn program<'a>(alloc: Global) -> Result<Command<'a>, AllocError>
     ensures shape { IfOk result (λ c. app_of c ≡ command_line) }
     ensures local { IfOk result (λ c. (fields_of c).has_globals ≡ false) }
 {
-    let sum = sum_command(alloc)?;
-    Command::new(alloc, "b3store")
-        .about("A content-addressed store: objects under their BLAKE3 hash")
-        .subcommand(sum)?
+    storing_program(alloc)?
         .subcommand(check_command(alloc))?
         .subcommand(audit_command(alloc))
 }

@@ -8,11 +8,13 @@ mod check;
 mod command;
 mod files;
 mod outcome;
+mod run;
 mod said;
 mod streams;
 mod sum;
 #[cfg(test)]
 mod tests;
+mod upload;
 mod words;
 
 use audit::audit;
@@ -20,10 +22,17 @@ use b3_core::Work;
 use check::check;
 use files::SystemFiles;
 use outcome::{Cause, Verdict};
+use run::run;
 use said::{Fault, Options};
 use std::io;
+use std::io::BufReader;
+use std::marker::Brand;
 use std::process::ExitCode;
+use std::sync::Wait;
+use std::sync::ledger::Blank;
+use std::thread::Threads;
 use sum::sum;
+use upload::upload;
 use words::options;
 
 const GOOD: u8 = 0;
@@ -52,7 +61,11 @@ fn status_of(verdict: Verdict) -> u8 {
     }
 }
 
-fn run(rt: &HostRuntime, options: &Options<'_>) -> Result<u8, Cause>
+fn perform<T: Threads + Wait + Sync + Alloc>(
+    rt: &HostRuntime,
+    threads: &T,
+    options: &Options<'_>,
+) -> Result<u8, Cause>
     requires { InRange options.now }
 {
     let alloc = rt.alloc();
@@ -64,6 +77,22 @@ fn run(rt: &HostRuntime, options: &Options<'_>) -> Result<u8, Cause>
             sum(alloc, options, &mut reader, &mut writer, &mut work)?;
             Ok(GOOD)
         }
+        Options::Run => {
+            let Ok(mut lines) = BufReader::new(alloc, reader) else {
+                return Err(Cause::OutOfMemory);
+            };
+            let mut work = Work::new(rt);
+            Ok(status_of(run(alloc, &mut lines, &mut writer, &mut work)?))
+        }
+        Options::Upload(options) => Ok(status_of(upload::<Brand, Brand, _, _, _>(
+            threads,
+            alloc,
+            *options,
+            Blank::new(1 << 32),
+            Blank::new(1 << 32),
+            &mut reader,
+            &mut writer,
+        )?)),
         Options::Check => {
             let mut names = SystemFiles::new(rt);
             Ok(status_of(check(alloc, &mut names, &mut reader, &mut writer)?))
@@ -77,7 +106,7 @@ fn main(rt: HostRuntime) -> ExitCode {
         return ExitCode::from(stopped(&rt, Cause::OutOfMemory));
     };
     let status = match options(rt.alloc(), words.as_slice()) {
-        Ok(options) => match run(&rt, &options) {
+        Ok(options) => match perform(&rt, &rt, &options) {
             Ok(status) => status,
             Err(cause) => stopped(&rt, cause),
         },

@@ -22,10 +22,23 @@ pub struct SumOptions<'a> {
     pub length: Option<u32>,
 }
 
+/// The options of `upload`.
+#[derive(Clone, Copy, Debug)]
+pub struct UploadOptions {
+    /// How many workers hash parts.
+    pub workers: u32,
+    /// How many chunks of 1024 bytes a part has.
+    pub part_chunks: u32,
+    /// Whether the journal's text is written too.
+    pub journal: bool,
+}
+
 /// A subcommand with its options.
 #[derive(Clone, Copy, Debug)]
 pub enum Options<'a> {
     Sum(SumOptions<'a>),
+    Run,
+    Upload(UploadOptions),
     Check,
     Audit,
 }

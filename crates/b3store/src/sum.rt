@@ -29,6 +29,16 @@ fn mode_of(mode: SumMode<'_>, work: &mut Work) -> Mode
     }
 }
 
+// The check line of a digest.
+pub(crate) fn line_of(alloc: Global, digest: [u8; 32], name: &str) -> Result<Vec<u8>, AllocError>
+    requires { IsName name.now }
+    ensures { IfOk result (λ line. line.items ≡ written_line (record { digest = digest; name = name.now })) }
+{
+    let name = Vec::from_slice(alloc, name.as_bytes())?;
+    let line = Line::new(digest, name).unwrap();
+    line.text(alloc)
+}
+
 // The check line of an input.
 fn check_line(
     alloc: Global,
@@ -40,10 +50,8 @@ fn check_line(
     requires { IsName name.now }
     ensures { IfOk result (λ line. line.items ≡ written_line (record { digest = digest_of input.now mode.now; name = name.now })) }
 {
-    let name = Vec::from_slice(alloc, name.as_bytes())?;
     let digest = hash_wide(mode, input, work);
-    let line = Line::new(digest, name).unwrap();
-    line.text(alloc)
+    line_of(alloc, digest, name)
 }
 
 // The digits of the first `len` bytes of an input's extended output, and a line feed.

@@ -5,5 +5,7 @@ mod checks;
 mod command_line;
 mod fakes;
 mod files;
+mod runs;
 mod sums;
+mod uploads;
 mod vectors;

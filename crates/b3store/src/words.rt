@@ -4,10 +4,10 @@ ghost use Rattle.std.specs.Prelude.{◌≡◌, ◌≤◌, IfOk, IfSome, codes, m
 ghost use Rattle.clap.specs.Words.{found_of, first_of, one_of, rows_of, subcommand_of};
 ghost use Rattle.b3_check.specs.Names.{IsName};
 ghost use Rattle.b3store.specs.CommandLine.{command_line};
-ghost use Rattle.b3store.specs.Stated.{InRange, Says, SaysMode, SaysName, SaysSum, Spells};
+ghost use Rattle.b3store.specs.Stated.{AreWithin, InRange, Says, SaysFlag, SaysMode, SaysName, SaysSum, SaysUpload, Spells, SpellsOr};
 
 use crate::command::program;
-use crate::said::{Fault, Options, SumMode, SumOptions};
+use crate::said::{Fault, Options, SumMode, SumOptions, UploadOptions};
 use clap::error::ErrorKind;
 use clap::{ArgMatches, Error};
 use hex::FromHex;
@@ -105,6 +105,44 @@ fn sum_options<'a>(alloc: Global, found: &ArgMatches<'a>) -> Result<SumOptions<'
     Ok(SumOptions { name, mode, length })
 }
 
+// A number from 1 to `most`, or another where none is given.
+fn number_or(
+    alloc: Global,
+    found: &ArgMatches<'_>,
+    id: &str,
+    most: u32,
+    other: u32,
+) -> Result<u32, Fault>
+    requires { (1 ≤ other) × (other ≤ most) }
+    ensures spells { IfOk result (λ n. SpellsOr other (one_of id.now (rows_of (found_of found.now))) n) }
+    ensures range { IfOk result (λ n. (1 ≤ n) × (n ≤ most)) }
+{
+    match number_within(alloc, found, id, most)? {
+        Some(n) => Ok(n),
+        None => Ok(other),
+    }
+}
+
+fn flag(found: &ArgMatches<'_>, id: &str) -> bool
+    ensures { SaysFlag (one_of id.now (rows_of (found_of found.now))) result }
+{
+    found.get_flag(id)
+}
+
+fn upload_options(alloc: Global, found: &ArgMatches<'_>) -> Result<UploadOptions, Fault>
+    ensures says { IfOk result (λ o. SaysUpload o (rows_of (found_of found.now))) }
+    ensures range { IfOk result AreWithin }
+{
+    let workers = number_or(alloc, found, "workers", 16, 4)?;
+    let part_chunks = number_or(alloc, found, "part-chunks", 16384, 64)?;
+    let journal = flag(found, "journal");
+    Ok(UploadOptions {
+        workers,
+        part_chunks,
+        journal,
+    })
+}
+
 /// What the words say, the first of them being the program's name: `Ok` only with the subcommand and the values
 /// that clap states of the words, each number within its range, a name that is not empty and has no byte 0, never
 /// a key and a context together. All other words are `Usage`, a request for help too.
@@ -118,6 +156,8 @@ pub fn options<'a, S: AsStr>(alloc: Global, words: &'a [S]) -> Result<Options<'a
     };
     match matches.subcommand() {
         Some(("sum", found)) => Ok(Options::Sum(sum_options(alloc, found)?)),
+        Some(("run", _)) => Ok(Options::Run),
+        Some(("upload", found)) => Ok(Options::Upload(upload_options(alloc, found)?)),
         Some(("check", _)) => Ok(Options::Check),
         Some(("audit", _)) => Ok(Options::Audit),
         _ => Err(usage(

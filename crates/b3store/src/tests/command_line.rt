@@ -90,6 +90,56 @@ fn check_alone(rt: HostRuntime) {
 }
 
 #[test]
+fn run_alone(rt: HostRuntime) {
+    match options(rt.alloc(), &["b3store", "run"]) {
+        Ok(Options::Run) => {}
+        _ => panic!(rt; "no options"),
+    }
+}
+
+#[test]
+fn upload_alone(rt: HostRuntime) {
+    match options(rt.alloc(), &["b3store", "upload"]) {
+        Ok(Options::Upload(said)) => {
+            assert_eq!(rt; said.workers, 4);
+            assert_eq!(rt; said.part_chunks, 64);
+            assert!(rt; !said.journal);
+        }
+        _ => panic!(rt; "no options"),
+    }
+}
+
+#[test]
+fn upload_with_all_options(rt: HostRuntime) {
+    let words = [
+        "b3store",
+        "upload",
+        "--journal",
+        "--workers",
+        "16",
+        "--part-chunks",
+        "16384",
+    ];
+    match options(rt.alloc(), &words) {
+        Ok(Options::Upload(said)) => {
+            assert_eq!(rt; said.workers, 16);
+            assert_eq!(rt; said.part_chunks, 16384);
+            assert!(rt; said.journal);
+        }
+        _ => panic!(rt; "no options"),
+    }
+}
+
+#[test]
+fn numbers_of_upload_out_of_range_are_usage(rt: HostRuntime) {
+    is_usage(&rt, &["b3store", "upload", "--workers", "0"]);
+    is_usage(&rt, &["b3store", "upload", "--workers", "17"]);
+    is_usage(&rt, &["b3store", "upload", "--part-chunks", "0"]);
+    is_usage(&rt, &["b3store", "upload", "--part-chunks", "16385"]);
+    is_usage(&rt, &["b3store", "run", "frob"]);
+}
+
+#[test]
 fn wrong_words_are_usage(rt: HostRuntime) {
     is_usage(&rt, &["b3store"]);
     is_usage(&rt, &["b3store", "frob"]);

@@ -3,6 +3,17 @@ use Rattle.clap.specs.Words.{App, Text, found_of, rows_of, is_simple, subcommand
 use Rattle.b3store.proofs.Found.{entered}
 use Rattle.b3store.proofs.words.options.Goals as goal
 
+pub returns-in-Some-run-default-clause-says : goal.returns-in-Some-run-default-clause-says
+returns-in-Some-run-default-clause-says g c =
+    let shape = c.in_ok-program.ensures.shape in
+    let words = map g.S.AsStr.text c.args.words.now in
+    let is = c.in-Some-run-default in
+    let rows = rows_of (found_of is.field-0-1.now) in (
+      rows,
+      ap (λ (a : App). subcommand_of a words) (sym shape) ∙ sym (c.in-Ok.ensures.matches (ap is_simple shape)).1
+          ∙ entered c.in-Ok.matches is.field-0-0.now rows is.ensures.name is.ensures.rows ∙ ap (λ (n : Text). Some (n, rows)) is.is-run,
+    )
+
 pub returns-in-Some-check-default-clause-says : goal.returns-in-Some-check-default-clause-says
 returns-in-Some-check-default-clause-says g c =
     let shape = c.in_ok-program.ensures.shape in
