@@ -71,3 +71,55 @@ pub fn time_add(rt: &(impl Print + Eprint + Clock + AllocGlobal), log2: u16) -> 
     println!(rt; "{}", forest.parts())?;
     eprintln!(rt; "{behind} {among}")
 }
+
+// How many parts are held once all are added.
+const ALL: u64 = 1 << 16;
+
+// The number of the `i`th chunk to be added: each number below 2^16 once, in an order that jumps about.
+fn jumping(i: u64) -> u64 {
+    i.wrapping_mul(40_503) & (ALL - 1)
+}
+
+// The nanoseconds that one part takes on average, of the `TIMED` parts that lead to so many held ones.
+fn time_until<R: Clock + AllocGlobal>(
+    rt: &R,
+    forest: &mut Forest,
+    held: u64,
+    work: &mut Work,
+) -> io::Result<u128> {
+    let plan = forest.plan();
+    let from = held.saturating_sub(TIMED);
+    for i in forest.parts() as u64..from {
+        let part = chunk(rt.alloc(), &plan, jumping(i), work)?;
+        if forest.add(part, work).is_err() {
+            return Err(failed());
+        }
+    }
+    let mut parts: Vec<Prepared> = Vec::new(rt.alloc());
+    for i in from..held {
+        parts.push(chunk(rt.alloc(), &plan, jumping(i), work)?)?;
+    }
+    let start = Instant::now(rt)?;
+    for part in parts {
+        if forest.add(part, work).is_err() {
+            return Err(failed());
+        }
+    }
+    let time = start.elapsed(rt)?;
+    Ok(time.as_nanos() / 512)
+}
+
+/// Times `Forest::add` of 2^16 parts of one chunk in an order that jumps about: the nanoseconds of a part near 2^10,
+/// 2^13 and 2^16 held parts.
+pub fn time_jumping(rt: &(impl Print + Eprint + Clock + AllocGlobal)) -> io::Result<()> {
+    let mut work = Work::new(rt);
+    let Ok(plan) = Plan::new(1 << 26) else {
+        return Err(failed());
+    };
+    let mut forest = Forest::new(rt.alloc(), plan);
+    let few = time_until(rt, &mut forest, 1 << 10, &mut work)?;
+    let more = time_until(rt, &mut forest, 1 << 13, &mut work)?;
+    let all = time_until(rt, &mut forest, ALL, &mut work)?;
+    println!(rt; "{}", forest.parts())?;
+    eprintln!(rt; "{few} {more} {all}")
+}

@@ -1,12 +1,14 @@
 //! Times the crates' calls over bytes in memory. It writes what was computed to standard output, and the
 //! microseconds that it took to standard error. `bench/run` calls it and prints ratios.
 //!
-//! Words: `hash MIB`, `hash_wide MIB`, `make PARTS`, or `add LOG2`, whose two numbers are nanoseconds.
+//! Words: `hash MIB`, `hash_wide MIB`, `make PARTS`; or `add LOG2`, `add_jumping` and `store LOG2`, whose
+//! numbers are nanoseconds.
 #![tactic(auto)]
 
 mod adding;
 mod hashing;
 mod parts;
+mod storing;
 mod words;
 
 use std::io;
@@ -19,6 +21,10 @@ fn main(rt: HostRuntime) -> io::Result<()> {
         Some(Job::HashWide { mib }) => hashing::time_hash_wide(&rt, mib),
         Some(Job::Make { parts }) => parts::time_make(&rt, parts),
         Some(Job::Add { log2 }) => adding::time_add(&rt, log2),
-        None => eprintln!(rt; "benchmarks: hash MIB | hash_wide MIB | make PARTS | add LOG2"),
+        Some(Job::Store { log2 }) => storing::time_store(&rt, log2),
+        Some(Job::AddJumping) => adding::time_jumping(&rt),
+        None => eprintln!(rt;
+            "benchmarks: hash MIB | hash_wide MIB | make PARTS | add LOG2 | add_jumping | store LOG2"
+        ),
     }
 }

@@ -11,10 +11,17 @@ pub enum Job {
     Make { parts: u16 },
     /// Parts added to a forest of 2^log2 pieces.
     Add { log2: u16 },
+    /// Commands of a store of 2^log2 objects.
+    Store { log2: u16 },
+    /// 2^16 parts of one chunk added to a forest in an order that jumps about.
+    AddJumping,
 }
 
 /// The measurement that the words name, the first of them being the program's name.
 pub fn job_of(words: &[String]) -> Option<Job> {
+    if words.len() == 2 && words[1].as_str() == "add_jumping" {
+        return Some(Job::AddJumping);
+    }
     if words.len() < 3 {
         return None;
     }
@@ -23,6 +30,7 @@ pub fn job_of(words: &[String]) -> Option<Job> {
         "hash" => Some(Job::Hash { mib: count }),
         "hash_wide" => Some(Job::HashWide { mib: count }),
         "add" => Some(Job::Add { log2: count }),
+        "store" => Some(Job::Store { log2: count }),
         "make" => Some(Job::Make { parts: count }),
         _ => None,
     }

@@ -1,0 +1,103 @@
+//! The crates as a library: a small backup tool. It reads standard input, puts it into a store in parts, the last part
+//! first, seals it, and writes its address, what the store says of itself, and the bytes that the store gives back.
+#![tactic(auto)]
+
+mod failure;
+
+use b3_core::Work;
+use b3_forest::{Plan, Prepared};
+use failure::Failure;
+use std::alloc::Global;
+use std::io;
+use std::io::{Read, Write};
+use store_core::{Address, Limits, Sealed, Store, TenantId, UploadId};
+
+// The bytes of a part. All parts but the last are whole chunks of 1024 bytes.
+const PART_LEN: usize = 1024;
+
+// Hashes one part, which needs no store, and puts it to its upload.
+fn put(
+    alloc: Global,
+    store: &mut Store,
+    upload: UploadId,
+    plan: &Plan,
+    offset: usize,
+    bytes: &[u8],
+    work: &mut Work,
+) -> Result<(), Failure> {
+    let mut own = Vec::with_capacity(alloc, bytes.len())?;
+    own.extend_from_slice(bytes)?;
+    let part = Prepared::make(alloc, plan, offset as u64, own, work)?;
+    let _held = store.put(upload, part, work)?;
+    Ok(())
+}
+
+// Files bytes for a tenant, and answers their address.
+fn back_up(
+    alloc: Global,
+    store: &mut Store,
+    tenant: TenantId,
+    bytes: &[u8],
+    work: &mut Work,
+) -> Result<Sealed, Failure> {
+    let (upload, plan) = store.begin(tenant, bytes.len() as u64)?;
+    let mut rest = bytes;
+    while !rest.is_empty() {
+        let last = (rest.len() - 1) % PART_LEN + 1;
+        let offset = rest.len() - last;
+        let (front, part) = rest.split_at(offset);
+        put(alloc, store, upload, &plan, offset, part, work)?;
+        rest = front;
+    }
+    Ok(store.seal(upload, work)?)
+}
+
+// Writes the bytes of an object that a tenant holds.
+fn give_back<W: Write>(
+    store: &Store,
+    tenant: TenantId,
+    address: Address,
+    writer: &mut W,
+) -> Result<(), Failure> {
+    let object = store.fetch(tenant, address)?;
+    for segment in object.segments() {
+        writer.write_all(segment.bytes.as_slice())?;
+    }
+    Ok(())
+}
+
+fn run(rt: &HostRuntime) -> Result<(), Failure> {
+    let alloc = rt.alloc();
+    let mut work = Work::new(rt);
+    let mut input = Vec::new(alloc);
+    rt.stdin().read_to_end(&mut input)?;
+
+    let mut store = Store::new(alloc, Limits::full());
+    let tenant = store.open_tenant(1 << 40)?;
+    let sealed = back_up(alloc, &mut store, tenant, input.as_slice(), &mut work)?;
+    let totals = store.totals();
+    println!(rt; "{}", sealed.address)?;
+    println!(rt;
+        "{} object of {} bytes",
+        totals.objects, totals.object_bytes
+    )?;
+    println!(rt;
+        "{} journal entries, {} compressions",
+        store.journal().len(),
+        work.count()
+    )?;
+    let mut writer = io::writer(rt);
+    give_back(&store, tenant, sealed.address, &mut writer)?;
+    writer.flush()?;
+    Ok(())
+}
+
+fn main(rt: HostRuntime) -> io::Result<()> {
+    match run(&rt) {
+        Ok(()) => Ok(()),
+        Err(failure) => {
+            eprintln!(rt; "refused: {failure:?}")?;
+            Err(io::Error::from(io::ErrorKind::Other))
+        }
+    }
+}
