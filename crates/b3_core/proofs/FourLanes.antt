@@ -1,9 +1,10 @@
 -- Facts of each of four lanes.
-use Rattle.std.proofs.Common.{◌≡◌, ℕ, zero, suc, ◌<◌, ◌≤◌, ◌+◌, ◌-◌, ◌*◌, ◌/◌, ◌%◌, ◌^◌, List, [], ◌∷◌, ◌++◌, length, take, drop, replicate, slice_index, slice_index_or, bit_or, bit_xor, arith, refl, ap, ◌∙◌}
+use Rattle.std.proofs.Common.{◌≡◌, ℕ, zero, suc, ◌<◌, ◌≤◌, ◌+◌, ◌-◌, ◌*◌, ◌/◌, ◌%◌, ◌^◌, List, [], ◌∷◌, ◌++◌, length, take, drop, replicate, slice_index, slice_index_or, bit_or, Fits, w32, arith, refl, ap, ◌∙◌}
 use Rattle.std.proofs.lemmas.List.{append-nil, length-drop, length-take-le, get_or-take, get_or-drop}
 use Rattle.b3_core.specs.Lanes.{chunk_bytes}
-use Rattle.std.specs.Simd.Lanes.{zip2}
-use Rattle.b3_core.specs.Compression.{xor_turn}
+use Rattle.std.specs.Simd.Lanes.{Each1, zip2}
+use Rattle.std.proofs.lemmas.Simd.{below_from_Fits}
+use Rattle.b3_core.specs.Compression.{turned}
 use Rattle.b3_core.specs.Tree.{word_at, block, block_words_of}
 
 -- what holds of each of the four lanes
@@ -29,6 +30,15 @@ four_lanes P p (a ∷ b ∷ []) len = absurd (omega arith)
 four_lanes P p (a ∷ b ∷ c ∷ []) len = absurd (omega arith)
 four_lanes P p (a ∷ b ∷ c ∷ d ∷ e ∷ xs) len = absurd (omega arith)
 
+-- each lane is a word
+words_below : (xs : List ℕ) → length xs ≡ 4 → Each1 (λ x. x < 2 ^ 32) xs → (j : ℕ) → j < 4 → slice_index xs j < 2 ^ 32
+words_below =
+    four_lanes (λ xs. Each1 (λ x. x < 2 ^ 32) xs → (j : ℕ) → j < 4 → slice_index xs j < 2 ^ 32)
+    (λ a b c d below. below_four (λ j. slice_index (a ∷ b ∷ c ∷ d ∷ []) j < 2 ^ 32) below.0 below.1.0 below.1.1.0 below.1.1.1.0)
+
+pub lane_below : (xs : List ℕ) → (length xs ≡ 4) × Each1 (Fits w32) xs → (j : ℕ) → j < 4 → slice_index xs j < 2 ^ 32
+lane_below xs fits = words_below xs fits.0 (below_from_Fits w32 xs fits.1)
+
 -- the lanes of even and of odd numbers of two vectors
 abbrev evens : List ℕ → List ℕ → List ℕ
 evens a b = slice_index_or (a ++ b) 0 0 ∷ slice_index_or (a ++ b) 2 0 ∷ slice_index_or (a ++ b) 4 0 ∷ slice_index_or (a ++ b) 6 0 ∷ []
@@ -50,20 +60,19 @@ parted_lanes =
     (below_two _ (refl, refl) (refl, refl), below_two _ (refl, refl) (refl, refl))))
 
 -- two shifts of each lane and an or are a turn
-abbrev Turns : ℕ → List ℕ → List ℕ → Type 0
-Turns k a b = (j : ℕ) → j < 4
+abbrev Turns : ℕ → List ℕ → Type 0
+Turns k a = (j : ℕ) → j < 4
     → slice_index (zip2 bit_or
-    (zip2 (λ x n. x / 2 ^ n) (zip2 bit_xor a b) (k ∷ k ∷ k ∷ k ∷ []))
-    (zip2 (λ x n. x * 2 ^ n % 2 ^ 32) (zip2 bit_xor a b) ((32 - k) ∷ (32 - k) ∷ (32 - k) ∷ (32 - k) ∷ []))) j
-    ≡ xor_turn (slice_index a j) (slice_index b j) k
+    (zip2 (λ x n. x / 2 ^ n) a (k ∷ k ∷ k ∷ k ∷ []))
+    (zip2 (λ x n. x * 2 ^ n % 2 ^ 32) a ((32 - k) ∷ (32 - k) ∷ (32 - k) ∷ (32 - k) ∷ []))) j
+    ≡ turned k (slice_index a j)
 
-pub shifts_turn : (k : ℕ) → 0 < k → k < 32 → (a : List ℕ) → length a ≡ 4 → (b : List ℕ) → length b ≡ 4 → Turns k a b
+pub shifts_turn : (k : ℕ) → 0 < k → k < 32 → (a : List ℕ) → length a ≡ 4 → Turns k a
 shifts_turn k low high =
     let right : k % 32 ≡ k = omega arith in
     let left : (32 - k) % 32 ≡ 32 - k = omega arith in
-    four_lanes (λ a. (b : List ℕ) → length b ≡ 4 → Turns k a b) (λ a0 a1 a2 a3.
-    four_lanes (Turns k (a0 ∷ a1 ∷ a2 ∷ a3 ∷ [])) (λ b0 b1 b2 b3.
-    below_four _ (rw (right, left) refl) (rw (right, left) refl) (rw (right, left) refl) (rw (right, left) refl)))
+    four_lanes (Turns k) (λ a0 a1 a2 a3.
+    below_four _ (rw (right, left) refl) (rw (right, left) refl) (rw (right, left) refl) (rw (right, left) refl))
 
 -- ---- the words of a block that lies within other bytes
 
@@ -80,9 +89,9 @@ word_from x y n same o m within at =
 -- the words of a whole block y, which is in x from s + a on
 block_from : (x y : List ℕ) (s a : ℕ) → length y ≡ 64 → ((o : ℕ) → o < 64 → slice_index y o ≡ slice_index x (s + a + o))
     → block_words_of y ≡ word_at x (s + a) ∷ word_at x (s + (a + 4)) ∷ word_at x (s + (a + 8)) ∷ word_at x (s + (a + 12))
-    ∷ word_at x (s + (a + 16)) ∷ word_at x (s + (a + 20)) ∷ word_at x (s + (a + 24)) ∷ word_at x (s + (a + 28))
-    ∷ word_at x (s + (a + 32)) ∷ word_at x (s + (a + 36)) ∷ word_at x (s + (a + 40)) ∷ word_at x (s + (a + 44))
-    ∷ word_at x (s + (a + 48)) ∷ word_at x (s + (a + 52)) ∷ word_at x (s + (a + 56)) ∷ word_at x (s + (a + 60)) ∷ []
+    ∷ word_at x (s + (a + 16)) ∷ word_at x (s + (a + 16 + 4)) ∷ word_at x (s + (a + 16 + 8)) ∷ word_at x (s + (a + 16 + 12))
+    ∷ word_at x (s + (a + 32)) ∷ word_at x (s + (a + 32 + 4)) ∷ word_at x (s + (a + 32 + 8)) ∷ word_at x (s + (a + 32 + 12))
+    ∷ word_at x (s + (a + 48)) ∷ word_at x (s + (a + 48 + 4)) ∷ word_at x (s + (a + 48 + 8)) ∷ word_at x (s + (a + 48 + 12)) ∷ []
 block_from x y s a len same =
     let none : 64 - length y ≡ 0 = omega arith in
     let whole : y ++ replicate (64 - length y) 0 ≡ y = rw none (append-nil y) in
@@ -94,26 +103,26 @@ block_from x y s a len same =
       word 8 (s + (a + 8)) (omega arith) (omega arith),
       word 12 (s + (a + 12)) (omega arith) (omega arith),
       word 16 (s + (a + 16)) (omega arith) (omega arith),
-      word 20 (s + (a + 20)) (omega arith) (omega arith),
-      word 24 (s + (a + 24)) (omega arith) (omega arith),
-      word 28 (s + (a + 28)) (omega arith) (omega arith),
+      word 20 (s + (a + 16 + 4)) (omega arith) (omega arith),
+      word 24 (s + (a + 16 + 8)) (omega arith) (omega arith),
+      word 28 (s + (a + 16 + 12)) (omega arith) (omega arith),
       word 32 (s + (a + 32)) (omega arith) (omega arith),
-      word 36 (s + (a + 36)) (omega arith) (omega arith),
-      word 40 (s + (a + 40)) (omega arith) (omega arith),
-      word 44 (s + (a + 44)) (omega arith) (omega arith),
+      word 36 (s + (a + 32 + 4)) (omega arith) (omega arith),
+      word 40 (s + (a + 32 + 8)) (omega arith) (omega arith),
+      word 44 (s + (a + 32 + 12)) (omega arith) (omega arith),
       word 48 (s + (a + 48)) (omega arith) (omega arith),
-      word 52 (s + (a + 52)) (omega arith) (omega arith),
-      word 56 (s + (a + 56)) (omega arith) (omega arith),
-      word 60 (s + (a + 60)) (omega arith) (omega arith),
+      word 52 (s + (a + 48 + 4)) (omega arith) (omega arith),
+      word 56 (s + (a + 48 + 8)) (omega arith) (omega arith),
+      word 60 (s + (a + 48 + 12)) (omega arith) (omega arith),
     ) refl
 
 -- the words of block k of chunk i
 pub block_words_in : (x : List ℕ) (i k : ℕ) → length x ≡ 4096 → i < 4 → k < 16
     → let s = 1024 * i in let a = 64 * k in block_words_of (block (chunk_bytes x i) k)
     ≡ word_at x (s + a) ∷ word_at x (s + (a + 4)) ∷ word_at x (s + (a + 8)) ∷ word_at x (s + (a + 12))
-    ∷ word_at x (s + (a + 16)) ∷ word_at x (s + (a + 20)) ∷ word_at x (s + (a + 24)) ∷ word_at x (s + (a + 28))
-    ∷ word_at x (s + (a + 32)) ∷ word_at x (s + (a + 36)) ∷ word_at x (s + (a + 40)) ∷ word_at x (s + (a + 44))
-    ∷ word_at x (s + (a + 48)) ∷ word_at x (s + (a + 52)) ∷ word_at x (s + (a + 56)) ∷ word_at x (s + (a + 60)) ∷ []
+    ∷ word_at x (s + (a + 16)) ∷ word_at x (s + (a + 16 + 4)) ∷ word_at x (s + (a + 16 + 8)) ∷ word_at x (s + (a + 16 + 12))
+    ∷ word_at x (s + (a + 32)) ∷ word_at x (s + (a + 32 + 4)) ∷ word_at x (s + (a + 32 + 8)) ∷ word_at x (s + (a + 32 + 12))
+    ∷ word_at x (s + (a + 48)) ∷ word_at x (s + (a + 48 + 4)) ∷ word_at x (s + (a + 48 + 8)) ∷ word_at x (s + (a + 48 + 12)) ∷ []
 block_words_in x i k len chunk_top block =
     let rest = drop (1024 * i) x in
     let c = chunk_bytes x i in

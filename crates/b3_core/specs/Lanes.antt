@@ -1,5 +1,6 @@
 -- Four compressions side by side: each word is a vector, with one lane for each of them.
 use Rattle.std.specs.Prelude.{ℕ, ◌+◌, ◌*◌, List, [], ◌∷◌, take, drop, slice_index, slice_index_or}
+use Rattle.b3_core.specs.Compression.{turned}
 use Rattle.b3_core.specs.Tree.{Keying, Inputs, chunk_top, tree_top}
 
 -- lane j of vector k
@@ -19,6 +20,14 @@ lane j x =
     ∷ lane_at x 4 j ∷ lane_at x 5 j ∷ lane_at x 6 j ∷ lane_at x 7 j
     ∷ lane_at x 8 j ∷ lane_at x 9 j ∷ lane_at x 10 j ∷ lane_at x 11 j
     ∷ lane_at x 12 j ∷ lane_at x 13 j ∷ lane_at x 14 j ∷ lane_at x 15 j ∷ []
+
+-- the state of lane j, whose last row is kept as it was before G's turn by 8 bits
+abbrev pub state_lane : ℕ → List (List ℕ) → List ℕ
+state_lane j x =
+    lane_at x 0 j ∷ lane_at x 1 j ∷ lane_at x 2 j ∷ lane_at x 3 j
+    ∷ lane_at x 4 j ∷ lane_at x 5 j ∷ lane_at x 6 j ∷ lane_at x 7 j
+    ∷ lane_at x 8 j ∷ lane_at x 9 j ∷ lane_at x 10 j ∷ lane_at x 11 j
+    ∷ turned 8 (lane_at x 12 j) ∷ turned 8 (lane_at x 13 j) ∷ turned 8 (lane_at x 14 j) ∷ turned 8 (lane_at x 15 j) ∷ []
 
 -- the bytes of chunk i, of 1024 bytes each
 abbrev pub chunk_bytes : List ℕ → ℕ → List ℕ

@@ -5,7 +5,7 @@ ghost use Rattle.b3_core.specs.Compression.{columns, diagonals, round, permute, 
 ghost use Rattle.b3_core.specs.Rows.{state_of};
 ghost use Rattle.b3_core.specs.Work.{counted};
 
-use crate::vectors::{down_one, down_three, down_two, mix, xor};
+use crate::vectors::{down_one, down_three, down_two, mix, turn, xor};
 use crate::work::Work;
 use std::simd::u32x4;
 
@@ -38,7 +38,8 @@ pub(crate) const IV: [u32; 8] = [
     0x5be0_cd19,
 ];
 
-// The state as four rows of four words, so that one vector operation does a step for all columns or all diagonals.
+// The state as four rows of four words, so that one vector operation does a step for all columns or all diagonals. The last
+// row is as it was before its turn by 8 bits, as `mix` has it.
 #[derive(Clone, Copy)]
 struct Rows {
     a: u32x4,
@@ -117,7 +118,7 @@ fn start_rows(h: [u32; 8], counter: u64, block_len: u32, flags: u32) -> Rows
         a: u32x4::from_array([h[0], h[1], h[2], h[3]]),
         b: u32x4::from_array([h[4], h[5], h[6], h[7]]),
         c: u32x4::from_array([IV[0], IV[1], IV[2], IV[3]]),
-        d: u32x4::from_array(last),
+        d: turn(u32x4::from_array(last), 24),
     }
 }
 
@@ -156,8 +157,9 @@ fn seven_rounds(
 fn low_words(v: Rows) -> [u32; 8]
     ensures { (h : List ℕ) → result ≡ take 8 (output_words h (state_of v)) }
 {
+    let d = turn(v.d, 8);
     let [w0, w1, w2, w3] = xor(v.a, v.c).to_array();
-    let [w4, w5, w6, w7] = xor(v.b, v.d).to_array();
+    let [w4, w5, w6, w7] = xor(v.b, d).to_array();
     [w0, w1, w2, w3, w4, w5, w6, w7]
 }
 
@@ -166,10 +168,9 @@ fn low_words(v: Rows) -> [u32; 8]
 fn output_words(h: [u32; 8], v: Rows) -> [u32; 16]
     ensures { result ≡ output_words h (state_of v) }
 {
-    let [w0, w1, w2, w3] = xor(v.a, v.c).to_array();
-    let [w4, w5, w6, w7] = xor(v.b, v.d).to_array();
+    let [w0, w1, w2, w3, w4, w5, w6, w7] = low_words(v);
     let [c0, c1, c2, c3] = v.c.to_array();
-    let [d0, d1, d2, d3] = v.d.to_array();
+    let [d0, d1, d2, d3] = turn(v.d, 8).to_array();
     [
         w0,
         w1,

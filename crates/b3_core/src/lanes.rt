@@ -1,20 +1,20 @@
-// Four compressions side by side, one lane each.
+// Four compressions side by side, one lane each. The last row of a state is as it was before its turn by 8 bits, as `mix` has it.
 
-ghost use Rattle.std.specs.Prelude.{◌≡◌, ℕ, ◌+◌, ◌-◌, ◌*◌, ◌/◌, ◌%◌, ◌^◌, ◌<◌, ◌≤◌, ◌++◌, List, length, take, slice_index};
+ghost use Rattle.std.specs.Prelude.{◌≡◌, ℕ, ◌+◌, ◌-◌, ◌*◌, ◌/◌, ◌%◌, ◌^◌, ◌<◌, ◌≤◌, ◌++◌, List, [], ◌∷◌, length, take, slice_index};
 ghost use Rattle.b3_core.specs.Compression.{columns, diagonals, round, permute, start_state, compress_of, output_words};
-ghost use Rattle.b3_core.specs.Lanes.{lane, half_lane, chunk_bytes, chunk_at};
+ghost use Rattle.b3_core.specs.Lanes.{lane, half_lane, state_lane, chunk_bytes, chunk_at};
 ghost use Rattle.b3_core.specs.Tree.{Inputs, chaining_value_of, parent_top, word_at, block, block_words_of, chain};
 
 use crate::compression::{CHUNK_END, IV, PARENT, high, low};
 use crate::mode::Mode;
 use crate::top::start_flag;
-use crate::vectors::{mix, splat, xor};
+use crate::vectors::{mix, splat, turn, xor};
 use crate::words::word;
 use std::simd::u32x4;
 
 #[inline(always)]
 fn columns(v: [u32x4; 16], m: [u32x4; 16]) -> [u32x4; 16]
-    ensures { (j : ℕ) → j < 4 → lane j result ≡ columns (lane j v) (lane j m) }
+    ensures { (j : ℕ) → j < 4 → state_lane j result ≡ columns (state_lane j v) (lane j m) }
 {
     let [
         v0,
@@ -45,7 +45,7 @@ fn columns(v: [u32x4; 16], m: [u32x4; 16]) -> [u32x4; 16]
 
 #[inline(always)]
 fn diagonals(v: [u32x4; 16], m: [u32x4; 16]) -> [u32x4; 16]
-    ensures { (j : ℕ) → j < 4 → lane j result ≡ diagonals (lane j v) (lane j m) }
+    ensures { (j : ℕ) → j < 4 → state_lane j result ≡ diagonals (state_lane j v) (lane j m) }
 {
     let [
         v0,
@@ -76,7 +76,7 @@ fn diagonals(v: [u32x4; 16], m: [u32x4; 16]) -> [u32x4; 16]
 
 #[inline(always)]
 fn round(v: [u32x4; 16], m: [u32x4; 16]) -> [u32x4; 16]
-    ensures { (j : ℕ) → j < 4 → lane j result ≡ round (lane j v) (lane j m) }
+    ensures { (j : ℕ) → j < 4 → state_lane j result ≡ round (state_lane j v) (lane j m) }
 {
     diagonals(columns(v, m), m)
 }
@@ -95,16 +95,18 @@ fn permute(m: [u32x4; 16]) -> [u32x4; 16]
 #[inline(always)]
 fn start_states(h: [u32x4; 8], t_low: u32x4, t_high: u32x4, d: u32) -> [u32x4; 16]
     ensures { (j t : ℕ) → j < 4 → slice_index t_low j ≡ t % 2 ^ 32 → slice_index t_high j ≡ t / 2 ^ 32
-        → lane j result ≡ start_state (half_lane j h) t 64 d }
+        → state_lane j result ≡ start_state (half_lane j h) t 64 d }
 {
     let i0 = splat(IV[0]);
     let i1 = splat(IV[1]);
     let i2 = splat(IV[2]);
     let i3 = splat(IV[3]);
-    let b = splat(64);
-    let f = splat(d);
+    let t0 = turn(t_low, 24);
+    let t1 = turn(t_high, 24);
+    let b = turn(splat(64), 24);
+    let f = turn(splat(d), 24);
     [
-        h[0], h[1], h[2], h[3], h[4], h[5], h[6], h[7], i0, i1, i2, i3, t_low, t_high, b, f,
+        h[0], h[1], h[2], h[3], h[4], h[5], h[6], h[7], i0, i1, i2, i3, t0, t1, b, f,
     ]
 }
 
@@ -132,32 +134,63 @@ fn compress(h: [u32x4; 8], m0: [u32x4; 16], t_low: u32x4, t_high: u32x4, d: u32)
 
 #[inline(always)]
 fn halves(v: [u32x4; 16]) -> [u32x4; 8]
-    ensures { (j : ℕ) (h : List ℕ) → j < 4 → half_lane j result ≡ take 8 (output_words h (lane j v)) }
+    ensures { (j : ℕ) (h : List ℕ) → j < 4 → half_lane j result ≡ take 8 (output_words h (state_lane j v)) }
 {
     let w0 = xor(v[0], v[8]);
     let w1 = xor(v[1], v[9]);
     let w2 = xor(v[2], v[10]);
     let w3 = xor(v[3], v[11]);
-    let w4 = xor(v[4], v[12]);
-    let w5 = xor(v[5], v[13]);
-    let w6 = xor(v[6], v[14]);
-    let w7 = xor(v[7], v[15]);
+    let w4 = xor(v[4], turn(v[12], 8));
+    let w5 = xor(v[5], turn(v[13], 8));
+    let w6 = xor(v[6], turn(v[14], 8));
+    let w7 = xor(v[7], turn(v[15], 8));
     [w0, w1, w2, w3, w4, w5, w6, w7]
 }
 
-// The word at one place of each chunk.
+// Four words in a row.
 #[inline(always)]
-fn words_at(bytes: &[u8], at: usize) -> u32x4
-    requires four { length bytes.now ≡ 4096 }
-    requires within { at + 4 ≤ 1024 }
-    ensures { (j : ℕ) → j < 4 → slice_index result j ≡ word_at bytes.now (1024 * j + at) }
+fn row(bytes: &[u8], at: usize) -> u32x4
+    requires { at + 16 ≤ length bytes.now }
+    ensures { (i : ℕ) → i < 4 → slice_index result i ≡ word_at bytes.now (at + 4 * i) }
 {
     u32x4::from_array([
         word(bytes, at),
-        word(bytes, 1024 + at),
-        word(bytes, 2048 + at),
-        word(bytes, 3072 + at),
+        word(bytes, at + 4),
+        word(bytes, at + 8),
+        word(bytes, at + 12),
     ])
+}
+
+// Four vectors as the lanes of four others.
+#[inline(always)]
+fn transposed(a: u32x4, b: u32x4, c: u32x4, d: u32x4) -> (u32x4, u32x4, u32x4, u32x4)
+    ensures first { result.0 ≡ slice_index a 0 ∷ slice_index b 0 ∷ slice_index c 0 ∷ slice_index d 0 ∷ [] }
+    ensures second { result.1 ≡ slice_index a 1 ∷ slice_index b 1 ∷ slice_index c 1 ∷ slice_index d 1 ∷ [] }
+    ensures third { result.2 ≡ slice_index a 2 ∷ slice_index b 2 ∷ slice_index c 2 ∷ slice_index d 2 ∷ [] }
+    ensures fourth { result.3 ≡ slice_index a 3 ∷ slice_index b 3 ∷ slice_index c 3 ∷ slice_index d 3 ∷ [] }
+{
+    let (ac_front, ac_back) = a.interleave(c);
+    let (bd_front, bd_back) = b.interleave(d);
+    let (first, second) = ac_front.interleave(bd_front);
+    let (third, fourth) = ac_back.interleave(bd_back);
+    (first, second, third, fourth)
+}
+
+// Four words in a row of each chunk, a lane for each chunk.
+#[inline(always)]
+fn words_at(bytes: &[u8], at: usize) -> (u32x4, u32x4, u32x4, u32x4)
+    requires four { length bytes.now ≡ 4096 }
+    requires within { at + 16 ≤ 1024 }
+    ensures first { (j : ℕ) → j < 4 → slice_index result.0 j ≡ word_at bytes.now (1024 * j + at) }
+    ensures second { (j : ℕ) → j < 4 → slice_index result.1 j ≡ word_at bytes.now (1024 * j + (at + 4)) }
+    ensures third { (j : ℕ) → j < 4 → slice_index result.2 j ≡ word_at bytes.now (1024 * j + (at + 8)) }
+    ensures fourth { (j : ℕ) → j < 4 → slice_index result.3 j ≡ word_at bytes.now (1024 * j + (at + 12)) }
+{
+    let a = row(bytes, at);
+    let b = row(bytes, 1024 + at);
+    let c = row(bytes, 2048 + at);
+    let d = row(bytes, 3072 + at);
+    transposed(a, b, c, d)
 }
 
 // Block `k` of each chunk.
@@ -168,22 +201,10 @@ fn blocks_at(bytes: &[u8], k: usize) -> [u32x4; 16]
     ensures { (j : ℕ) → j < 4 → lane j result ≡ block_words_of (block (chunk_bytes bytes.now j) k) }
 {
     let at = 64 * k;
-    let w0 = words_at(bytes, at);
-    let w1 = words_at(bytes, at + 4);
-    let w2 = words_at(bytes, at + 8);
-    let w3 = words_at(bytes, at + 12);
-    let w4 = words_at(bytes, at + 16);
-    let w5 = words_at(bytes, at + 20);
-    let w6 = words_at(bytes, at + 24);
-    let w7 = words_at(bytes, at + 28);
-    let w8 = words_at(bytes, at + 32);
-    let w9 = words_at(bytes, at + 36);
-    let w10 = words_at(bytes, at + 40);
-    let w11 = words_at(bytes, at + 44);
-    let w12 = words_at(bytes, at + 48);
-    let w13 = words_at(bytes, at + 52);
-    let w14 = words_at(bytes, at + 56);
-    let w15 = words_at(bytes, at + 60);
+    let (w0, w1, w2, w3) = words_at(bytes, at);
+    let (w4, w5, w6, w7) = words_at(bytes, at + 16);
+    let (w8, w9, w10, w11) = words_at(bytes, at + 32);
+    let (w12, w13, w14, w15) = words_at(bytes, at + 48);
     [
         w0, w1, w2, w3, w4, w5, w6, w7, w8, w9, w10, w11, w12, w13, w14, w15,
     ]

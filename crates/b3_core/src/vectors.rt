@@ -1,7 +1,7 @@
 // Vectors of four words: the steps of the compression function, in each lane.
 
 ghost use Rattle.std.specs.Prelude.{◌≡◌, ℕ, ◌<◌, [], ◌∷◌, slice_index, bit_xor};
-ghost use Rattle.b3_core.specs.Compression.{add32, xor_turn, mix};
+ghost use Rattle.b3_core.specs.Compression.{add32, turned, xor_turn, mix};
 
 use std::simd::u32x4;
 
@@ -21,17 +21,26 @@ pub(crate) fn xor(a: u32x4, b: u32x4) -> u32x4
     a ^ b
 }
 
+// The words turned right.
+#[inline(always)]
+pub(crate) fn turn(x: u32x4, k: u32) -> u32x4
+    requires { (0 < k) × (k < 32) }
+    ensures { (j : ℕ) → j < 4 → slice_index result j ≡ turned k (slice_index x j) }
+{
+    (x >> u32x4::splat(k)) | (x << u32x4::splat(32 - k))
+}
+
 // The exclusive or, turned right.
 #[inline(always)]
 fn xor_turn(a: u32x4, b: u32x4, k: u32) -> u32x4
     requires { (0 < k) × (k < 32) }
     ensures { (j : ℕ) → j < 4 → slice_index result j ≡ xor_turn (slice_index a j) (slice_index b j) k }
 {
-    let x = a ^ b;
-    (x >> u32x4::splat(k)) | (x << u32x4::splat(32 - k))
+    turn(xor(a, b), k)
 }
 
-// G (section 2.2): mixes two message words into four words of the state.
+// G (section 2.2): mixes two message words into four words of the state. The last of the four comes and goes as it was
+// before its turn by 8 bits: that turn and the next one by 16 are then one by 24.
 #[inline(always)]
 pub(crate) fn mix(
     a: u32x4,
@@ -42,18 +51,18 @@ pub(crate) fn mix(
     y: u32x4,
 ) -> (u32x4, u32x4, u32x4, u32x4)
     ensures { (j : ℕ) → j < 4
-        → (slice_index result.0 j, slice_index result.1 j, slice_index result.2 j, slice_index result.3 j)
-        ≡ mix (slice_index a j) (slice_index b j) (slice_index c j) (slice_index d j) (slice_index x j) (slice_index y j) }
+        → (slice_index result.0 j, slice_index result.1 j, slice_index result.2 j, turned 8 (slice_index result.3 j))
+        ≡ mix (slice_index a j) (slice_index b j) (slice_index c j) (turned 8 (slice_index d j)) (slice_index x j) (slice_index y j) }
 {
     let a0 = add(a, b);
     let a1 = add(a0, x);
-    let d1 = xor_turn(d, a1, 16);
+    let d1 = xor(turn(d, 24), turn(a1, 16));
     let c1 = add(c, d1);
     let b1 = xor_turn(b, c1, 12);
     let a3 = add(a1, b1);
     let a2 = add(a3, y);
-    let d2 = xor_turn(d1, a2, 8);
-    let c2 = add(c1, d2);
+    let d2 = xor(d1, a2);
+    let c2 = add(c1, turn(d2, 8));
     let b2 = xor_turn(b1, c2, 7);
     (a2, b2, c2, d2)
 }
