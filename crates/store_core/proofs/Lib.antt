@@ -2,13 +2,12 @@ pub mod Counted
 pub mod Accepting
 pub mod Carrying
 pub mod Fields
-pub mod FiledObjects
+pub mod Catalogs
 pub mod Filings
 pub mod Journals
 pub mod Keeping
 pub mod Leaving
 pub mod Lines
-pub mod Listing
 pub mod Listed
 pub mod ModelRows
 pub mod Numbers
@@ -24,6 +23,7 @@ pub mod Filing
 pub mod Going
 pub mod HeldParts
 pub mod HolderKeys
+pub mod HolderSearch
 pub mod Maps
 pub mod Options
 pub mod InUse

@@ -1,14 +1,13 @@
 -- What a store keeps, as the model sees it, and what is true of it.
 use Rattle.std.specs.Prelude.{◌≡◌, ◌+◌, ◌-◌, ◌<◌, ◌≤◌, ◌^◌, ℕ, List, [], ◌∷◌, ◌++◌, Some, Ok, length, map, if◌then◌else◌, nat_le, slice_set}
 use Rattle.std.specs.Arc.{arc_value}
-use Rattle.std.specs.List.{AllByRecursion, slice_index_or}
+use Rattle.std.specs.List.{slice_index_or}
 use Rattle.std.specs.Map.{remove_entry}
 use Rattle.b3_core.specs.Modes.{hash_of}
 use Rattle.b3_forest.specs.Uploads.{held_bytes}
 use Rattle.store_core.specs.declared.closing.Closing.{Closing}
 use Rattle.store_core.specs.declared.contents.Contents.{Contents}
 use Rattle.store_core.specs.declared.entry.Entry.{Entry}
-use Rattle.store_core.specs.declared.filed.Filed.{Filed}
 use Rattle.store_core.specs.declared.known.Known.{Known}
 use Rattle.store_core.specs.declared.limits.Limits.{Limits}
 use Rattle.store_core.specs.declared.open_upload.OpenUpload.{OpenUpload}
@@ -28,17 +27,11 @@ sealed_seen s = record { address = s.address; new = s.new; bytes = arc_value s.o
 abbrev pub model_upload : OpenUpload → ModelUpload
 model_upload u = record { tenant = u.tenant; upload = u.forest }
 
-abbrev pub model_object : Filed → ModelObject
-model_object f = record { bytes = arc_value f.object; holders = f.holders.items }
-
 abbrev pub model_limits : List Tenant → List ℕ
 model_limits tenants = map (λ t. t.limit) tenants
 
 abbrev pub model_uploads : List (ℕ × OpenUpload) → List (ℕ × ModelUpload)
 model_uploads uploads = map (λ e. (e.0, model_upload e.1)) uploads
-
-abbrev pub model_objects : List (List ℕ × Filed) → List ModelObject
-model_objects objects = map (λ e. model_object e.1) objects
 
 abbrev pub shown_of : Contents → Shown
 shown_of c = record {
@@ -49,7 +42,7 @@ shown_of c = record {
     limits = model_limits c.tenants.items;
     begun = c.begun;
     uploads = model_uploads c.uploads.entries;
-    objects = model_objects c.objects.entries;
+    objects = c.catalog.objects;
     accepted = length c.journal.items;
   };
   journal = c.journal.items;
@@ -82,13 +75,10 @@ pub record IsTenant (s : ModelStore) (n : ℕ) (t : Tenant) : Type 0 where
   pub within : t.used + t.reserved ≤ t.limit
   pub most : t.limit ≤ 2 ^ 46
 
--- each object stands under the hash of its bytes
-abbrev pub AreAddressed : List (List ℕ × Filed) → Type 0
-AreAddressed objects = AllByRecursion (λ e. e.0 ≡ hash_of (arc_value e.1.object)) objects
-
 pub record IsLawful (c : Contents) : Type 0 where
   pub carried : IsCarried (shown_of c)
-  pub addressed : AreAddressed c.objects.entries
+  -- each filing was a seal
+  pub filings : c.catalog.filings ≤ length c.journal.items
   pub tenants : AreSummed (shown_of c).state c.tenants.items
   pub object_bytes : c.object_bytes ≡ object_bytes_of (shown_of c).state
   pub held_bytes : c.held_bytes ≡ held_bytes_of (shown_of c).state
@@ -135,7 +125,7 @@ pub record IsClosed (old : Contents) (number : ℕ) (c : Closing) (used : ℕ) (
   pub model_limits : model_limits new.tenants.items ≡ model_limits old.tenants.items
   pub begun : new.begun ≡ old.begun
   pub uploads : model_uploads new.uploads.entries ≡ remove_entry (is_number number) (model_uploads old.uploads.entries)
-  pub objects : new.objects.entries ≡ old.objects.entries
+  pub catalog : new.catalog ≡ old.catalog
   pub journal : new.journal.items ≡ old.journal.items ++ entry ∷ []
   pub object_bytes : new.object_bytes ≡ old.object_bytes
   pub held_bytes : new.held_bytes ≡ old.held_bytes - c.held

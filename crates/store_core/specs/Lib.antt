@@ -3,6 +3,7 @@ pub mod Journal
 pub mod Replay
 pub mod Laws
 pub mod Model
+pub mod Catalog
 pub mod Commands
 pub mod Sound
 pub mod Lawful

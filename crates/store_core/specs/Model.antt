@@ -19,6 +19,11 @@ pub record ModelObject : Type 0 where
   pub bytes : List ℕ
   pub holders : List ℕ
 
+-- objects in filing order, and how many filings there were
+pub record ModelCatalog : Type 0 where
+  pub objects : List ModelObject
+  pub filings : ℕ
+
 pub record ModelStore : Type 0 where
   -- how many tenants, journal entries, and workers of an upload there may be
   pub most_tenants : ℕ

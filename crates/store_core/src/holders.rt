@@ -7,9 +7,10 @@ ghost use Rattle.store_core.specs.Sound.{IsRisingFrom};
 use std::alloc::AllocError;
 
 pub(crate) fn has(holders: &[u64], tenant: u64) -> bool
+    requires { IsRisingFrom 0 holders.now }
     ensures { result ≡ list_any (λ h. h == tenant) holders.now }
 {
-    holders.iter().any(|h| *h == tenant)
+    holders.binary_search(&tenant).is_ok()
 }
 
 // Where a tenant belongs, if it isn't there.

@@ -21,6 +21,7 @@
 mod accepted;
 mod address;
 mod bad_text;
+mod catalog;
 mod closing;
 mod contents;
 mod entry;

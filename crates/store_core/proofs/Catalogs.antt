@@ -1,0 +1,142 @@
+-- Filed objects by the numbers of their filings, as the list of objects that a catalog shows.
+use Rattle.std.proofs.Common.{◌≡◌, ◌∙◌, ◌+◌, ◌<◌, ℕ, List, [], ◌∷◌, ◌++◌, Option, Some, None, cond, refl, ap, sym, subst, arith, length}
+use Rattle.std.specs.Prelude.{IsSome}
+use Rattle.std.specs.BTreeMap.{BTreeMap, IsOrdered, WritesThrough, get, insert_entry, is_at}
+use Rattle.std.specs.List.{AllByRecursion}
+use Rattle.std.specs.List.Sorted.{IsStrictlySortedBy}
+use Rattle.std.specs.Map.{keys_of, lookup, remove_entry, set_value, values_of}
+use Rattle.std.specs.Option.{option_map}
+use Rattle.std.specs.Ordering.{nat_cmp}
+use Rattle.std.specs.Str.{bytes_eq}
+use Rattle.b3_core.specs.Modes.{hash_of}
+use Rattle.store_core.specs.Catalog.{AreCatalogued, IsAddressed}
+use Rattle.store_core.specs.Commands.{with_holders}
+use Rattle.store_core.specs.Model.{ModelCatalog, ModelObject, addressed, object_among}
+use Rattle.store_core.proofs.Filing.{agrees, filed_after, filed_less, filed_more, object_missing, object_there, placed, removed, replaced, unplaced, values-push}
+use Rattle.store_core.proofs.Filings.{readdressed}
+use Rattle.store_core.proofs.Listed.{all_push, all_removed, all_set}
+use Rattle.store_core.proofs.Maps.{all_below, inserted_last, is_there}
+
+abbrev Entries : Type 0
+Entries = List (ℕ × (List ℕ × ModelObject))
+
+abbrev pub Objects : Type 0
+Objects = BTreeMap ℕ (List ℕ × ModelObject)
+
+abbrev pub Numbers : Type 0
+Numbers = List ℕ → Option ℕ
+
+-- the objects in filing order
+abbrev pub shown : Entries → List ModelObject
+shown es = values_of (values_of es)
+
+-- ---- look-ups
+
+among : (a : List ℕ) (es : Entries) → AllByRecursion IsAddressed (values_of es) → object_among (shown es) a ≡ lookup (bytes_eq a) (values_of es)
+among a es h = ap (lookup (bytes_eq a)) (readdressed (values_of es) h)
+
+pub numbered : (k : ℕ) (m : Objects) (p : Numbers) → AreCatalogued k m p → (a : List ℕ) (n : ℕ) → p a ≡ Some n → object_among (shown m.entries) a ≡ option_map (λ o. o.1) (get nat_cmp m n)
+numbered k m p are a n at = among a m.entries are.addressed ∙ object_there k m p are.filed a n at
+
+pub unnumbered : (k : ℕ) (m : Objects) (p : Numbers) → AreCatalogued k m p → (a : List ℕ) → p a ≡ None → object_among (shown m.entries) a ≡ None
+unnumbered k m p are a none = among a m.entries are.addressed ∙ object_missing k m p are.filed a none
+
+-- the catalog of these
+abbrev pub catalog_of : ℕ → Objects → ModelCatalog
+catalog_of k m = record { objects = shown m.entries; filings = k }
+
+-- an object that is shown has a number
+pub is_numbered : (k : ℕ) (m : Objects) (p : Numbers) (x : ModelCatalog) → AreCatalogued k m p → catalog_of k m ≡ x → (a : List ℕ) → IsSome (object_among x.objects a) → p a ≡ None → ⊥
+is_numbered k m p x are is a found none =
+    let absent = sym (ap (λ (y : ModelCatalog). object_among y.objects a) is) ∙ unnumbered k m p are a none in
+    let never = rw absent at found in
+    absurd (cc)
+
+-- ---- an object more
+
+shown_more : (k : ℕ) (m : Objects) (p : Numbers) → AreCatalogued k m p → (a : List ℕ) (o : ModelObject) → shown (insert_entry nat_cmp m.entries k (a, o)) ≡ shown m.entries ++ o ∷ []
+shown_more k m p are a o =
+    ap shown (inserted_last k (a, o) m.entries (all_below m k are.filed.ordered are.filed.before)) ∙ ap values_of (values-push m.entries k (a, o)) ∙ values-push (values_of m.entries) a o
+
+pub catalog_more : (k : ℕ) (m n : Objects) (p : Numbers) (x : ModelCatalog) → AreCatalogued k m p → catalog_of k m ≡ x → (a : List ℕ) (o : ModelObject) → n.entries ≡ insert_entry nat_cmp m.entries k (a, o)
+    → catalog_of (k + 1) n ≡ record { objects = x.objects ++ o ∷ []; filings = x.filings + 1 }
+catalog_more k m n p x are is a o entries =
+    ap (λ (os : List ModelObject). record { objects = os; filings = k + 1 }) (ap shown entries ∙ shown_more k m p are a o) ∙ ap (λ (y : ModelCatalog). record { objects = y.objects ++ o ∷ []; filings = y.filings + 1 }) is
+
+pub catalogued_more : (k : ℕ) (m n : Objects) (p r : Numbers) (a : List ℕ) (o : ModelObject) → object_among (shown m.entries) a ≡ None → a ≡ hash_of o.bytes → n.entries ≡ insert_entry nat_cmp m.entries k (a, o) → IsOrdered nat_cmp n
+    → ((q : ℕ) → get nat_cmp n q ≡ cond (is_at (nat_cmp k) q) (Some (a, o)) (get nat_cmp m q)) → ((b : List ℕ) → r b ≡ cond (bytes_eq a b) (Some k) (p b)) → AreCatalogued k m p → AreCatalogued (k + 1) n r
+catalogued_more k m n p r a o absent hash entries ordered objects numbers are = record {
+  filed = filed_more k m n p r (a, o) (unplaced k m p are.filed a (sym (among a m.entries are.addressed) ∙ absent)) ordered objects numbers are.filed;
+  addressed =
+      subst (AllByRecursion IsAddressed) (sym (ap values_of (entries ∙ inserted_last k (a, o) m.entries (all_below m k are.filed.ordered are.filed.before)) ∙ values-push m.entries k (a, o)))
+      (all_push IsAddressed (values_of m.entries) (a, o) are.addressed hash);
+}
+
+-- ---- an object's holders change
+
+nonempty_with : (os : List ModelObject) (a : List ℕ) (o : ModelObject) (hs : List ℕ) → 0 < length hs → with_holders os a o hs ≡ values_of (set_value (bytes_eq a) (addressed os) (record o { holders = hs }))
+nonempty_with os a o [] some = absurd (omega arith)
+nonempty_with os a o (h ∷ hs) some = refl
+
+shown_changed : (k : ℕ) (m : Objects) (p : Numbers) → AreCatalogued k m p → (a : List ℕ) (n : ℕ) → p a ≡ Some n → (o : ModelObject) (hs : List ℕ) → 0 < length hs
+    → shown (set_value (is_at (nat_cmp n)) m.entries (a, record o { holders = hs })) ≡ with_holders (shown m.entries) a o hs
+shown_changed k m p are a n at o hs some =
+    ap values_of (replaced (is_at (nat_cmp n)) a (record o { holders = hs }) m.entries (agrees k m p are.filed a n at))
+    ∙ ap (λ (es : List (List ℕ × ModelObject)). values_of (set_value (bytes_eq a) es (record o { holders = hs }))) (sym (readdressed (values_of m.entries) are.addressed)) ∙ sym (nonempty_with (shown m.entries) a o hs some)
+
+pub catalog_after : (k : ℕ) (m n : Objects) (p : Numbers) (x : ModelCatalog) → AreCatalogued k m p → catalog_of k m ≡ x → (a : List ℕ) (q : ℕ) → p a ≡ Some q → (o : ModelObject) (hs : List ℕ) → 0 < length hs → object_among x.objects a ≡ Some o
+    → (get nat_cmp m q ≡ Some (a, o) → WritesThrough nat_cmp (nat_cmp q) m (a, record o { holders = hs }) n) → catalog_of k n ≡ record x { objects = with_holders x.objects a o hs }
+catalog_after k m n p x are is a q number o hs some found writes =
+    let at = placed k m p are.filed a q number o (sym (among a m.entries are.addressed) ∙ ap (λ (y : ModelCatalog). object_among y.objects a) is ∙ found) in
+    ap (λ (os : List ModelObject). record { objects = os; filings = k }) (ap shown (writes at).0 ∙ shown_changed k m p are a q number o hs some)
+    ∙ ap (λ (y : ModelCatalog). record y { objects = with_holders y.objects a o hs }) is
+
+pub catalogued_after : (k : ℕ) (m n : Objects) (p : Numbers) (a : List ℕ) (q : ℕ) (o : ModelObject) (hs : List ℕ) → p a ≡ Some q → get nat_cmp m q ≡ Some (a, o)
+    → WritesThrough nat_cmp (nat_cmp q) m (a, record o { holders = hs }) n → AreCatalogued k m p → AreCatalogued k n p
+catalogued_after k m n p a q o hs number at writes are =
+    let w : ModelObject = record o { holders = hs } in
+    let found : lookup (bytes_eq a) (values_of m.entries) ≡ Some o = object_there k m p are.filed a q number ∙ ap (option_map (λ x. x.1)) at in
+    record {
+      filed = filed_after k q m n p (a, o) (a, w) at refl writes.4 (writes.3 (is_there at)).0 are.filed;
+      addressed =
+          subst (AllByRecursion IsAddressed) (sym (ap values_of writes.0 ∙ replaced (is_at (nat_cmp q)) a w m.entries (agrees k m p are.filed a q number)))
+          (all_set IsAddressed (bytes_eq a) (values_of m.entries) o w (λ b is. is) found are.addressed);
+    }
+
+-- ---- an object less
+
+shown_less : (k : ℕ) (m : Objects) (p : Numbers) → AreCatalogued k m p → (a : List ℕ) (n : ℕ) → p a ≡ Some n → (o : ModelObject) → shown (remove_entry (is_at (nat_cmp n)) m.entries) ≡ with_holders (shown m.entries) a o []
+shown_less k m p are a n at o =
+    ap values_of (removed (is_at (nat_cmp n)) a m.entries (agrees k m p are.filed a n at)) ∙ ap (λ (es : List (List ℕ × ModelObject)). values_of (remove_entry (bytes_eq a) es)) (sym (readdressed (values_of m.entries) are.addressed))
+
+pub catalog_less : (k : ℕ) (m n : Objects) (p : Numbers) (x : ModelCatalog) → AreCatalogued k m p → catalog_of k m ≡ x → (a : List ℕ) (q : ℕ) → p a ≡ Some q → n.entries ≡ remove_entry (is_at (nat_cmp q)) m.entries
+    → (o : ModelObject) → catalog_of k n ≡ record x { objects = with_holders x.objects a o [] }
+catalog_less k m n p x are is a q number entries o =
+    ap (λ (os : List ModelObject). record { objects = os; filings = k }) (ap shown entries ∙ shown_less k m p are a q number o) ∙ ap (λ (y : ModelCatalog). record y { objects = with_holders y.objects a o [] }) is
+
+pub catalogued_less : (k : ℕ) (m n : Objects) (p r : Numbers) (a : List ℕ) (q : ℕ) → p a ≡ Some q → n.entries ≡ remove_entry (is_at (nat_cmp q)) m.entries → IsOrdered nat_cmp n
+    → ((j : ℕ) → get nat_cmp n j ≡ cond (is_at (nat_cmp q) j) None (get nat_cmp m j)) → ((b : List ℕ) → r b ≡ cond (bytes_eq a b) None (p b)) → AreCatalogued k m p → AreCatalogued k n r
+catalogued_less k m n p r a q number entries ordered objects numbers are =
+    let there = are.filed.there a q number in
+    record {
+      filed = filed_less k q m n p r (a, there.0) there.1 ordered objects numbers are.filed;
+      addressed =
+          subst (AllByRecursion IsAddressed) (sym (ap values_of entries ∙ removed (is_at (nat_cmp q)) a m.entries (agrees k m p are.filed a q number)))
+          (all_removed IsAddressed (bytes_eq a) (values_of m.entries) are.addressed);
+    }
+
+-- ---- nothing changes
+
+same_look_up : (n : ℕ) (x : Option (List ℕ × ModelObject)) (m r : Objects) → r.entries ≡ m.entries → get nat_cmp r n ≡ x → get nat_cmp m n ≡ x
+same_look_up n x m r same is = ap (lookup (is_at (nat_cmp n))) (sym same) ∙ is
+
+pub catalogued_still : (k : ℕ) (m n : Objects) (p r : Numbers) → n.entries ≡ m.entries → ((b : List ℕ) → r b ≡ p b) → AreCatalogued k m p → AreCatalogued k n r
+catalogued_still k m n p r same numbers are = record {
+  filed = record {
+    ordered = subst (λ (es : Entries). IsStrictlySortedBy nat_cmp (keys_of es)) (sym same) are.filed.ordered;
+    before = λ q x is. are.filed.before q x (same_look_up q (Some x) m n same is);
+    there = λ a q is. let there = are.filed.there a q (sym (numbers a) ∙ is) in (there.0, same_look_up q (Some (a, there.0)) n m (sym same) there.1);
+    found = λ q x is. numbers x.0 ∙ are.filed.found q x (same_look_up q (Some x) m n same is);
+  };
+  addressed = subst (λ (es : Entries). AllByRecursion IsAddressed (values_of es)) (sym same) are.addressed;
+}
