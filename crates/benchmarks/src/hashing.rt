@@ -17,7 +17,8 @@ pub fn pattern(alloc: Global, mib: u16) -> Result<Vec<u8>, AllocError> {
     Ok(bytes)
 }
 
-fn report(
+/// Writes a hash, and the microseconds.
+pub fn report(
     rt: &(impl Print + Eprint + AllocGlobal),
     digest: &[u8; 32],
     micros: u128,

@@ -1,5 +1,7 @@
 //! What is to be timed.
 
+use crate::uploading::Load;
+
 /// One measurement.
 #[derive(Clone, Copy, Debug)]
 pub enum Job {
@@ -15,6 +17,12 @@ pub enum Job {
     Store { log2: u16 },
     /// 2^16 parts of one chunk added to a forest in an order that jumps about.
     AddJumping,
+    /// One upload by several workers.
+    Upload(Load),
+}
+
+fn number(word: &String) -> Option<u16> {
+    word.parse::<u16>().ok()
 }
 
 /// The measurement that the words name, the first of them being the program's name.
@@ -22,10 +30,17 @@ pub fn job_of(words: &[String]) -> Option<Job> {
     if words.len() == 2 && words[1].as_str() == "add_jumping" {
         return Some(Job::AddJumping);
     }
+    if words.len() == 5 && words[1].as_str() == "upload" {
+        return Some(Job::Upload(Load {
+            mib: number(&words[2])?,
+            workers: number(&words[3])?,
+            part_chunks: number(&words[4])?,
+        }));
+    }
     if words.len() < 3 {
         return None;
     }
-    let count = words[2].parse::<u16>().ok()?;
+    let count = number(&words[2])?;
     match words[1].as_str() {
         "hash" => Some(Job::Hash { mib: count }),
         "hash_wide" => Some(Job::HashWide { mib: count }),

@@ -1,5 +1,5 @@
 //! How an upload's bytes are cut into parts.
-ghost use Rattle.std.specs.Prelude.{◌≡◌, ◌*◌, ◌<◌, ◌≤◌, ◌^◌, IfErr, IfOk, IfSome, length};
+ghost use Rattle.std.specs.Prelude.{◌≡◌, ◌*◌, ◌-◌, ◌<◌, ◌≤◌, ◌^◌, IfErr, IfOk, IfSome, length, min, true};
 ghost use Rattle.store_shared.specs.Cuts.{part_at};
 ghost use Rattle.store_shared.specs.Uploading.{IsPlaceOf, count_of};
 ghost use Rattle.store_shared.specs.declared.fault.UploadFaultKind.TheVariants.{NoMemory};
@@ -122,9 +122,18 @@ impl<'a> Cut<'a> {
         if offset >= len || offset % part_len != 0 {
             return None;
         }
-        if part.bytes().len() as u64 != part_len.min(len - offset) {
+        if !self.has_length_of(part) {
             return None;
         }
         Some(offset / part_len)
+    }
+
+    // Whether a part is as long as the part of the cut that begins where it does.
+    fn has_length_of(&self, part: &Prepared) -> bool
+        requires { part.now.part.offset < length self.now.bytes }
+        ensures { result ≡ true → length part.now.part.bytes ≡ min (1024 * self.now.part_chunks) (length self.now.bytes - part.now.part.offset) }
+    {
+        let left = self.bytes().len() as u64 - part.offset();
+        part.bytes().len() as u64 == self.part_len().min(left)
     }
 }
