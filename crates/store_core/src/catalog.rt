@@ -46,6 +46,7 @@ impl Model for Catalog {
 }
 
 impl Catalog {
+    /// A catalog of no objects.
     pub(crate) fn new(alloc: Global) -> Catalog
         ensures { result ≡ record { objects = []; filings = 0 } }
     {
@@ -56,6 +57,7 @@ impl Catalog {
         }
     }
 
+    /// How many objects are filed.
     pub(crate) fn len(&self) -> u64
         ensures { result ≡ length self.now.objects }
     {
@@ -72,7 +74,7 @@ impl Catalog {
         }
     }
 
-    // What is filed under the address.
+    /// What is filed under the address.
     pub(crate) fn known(&self, address: Address, tenant: u64) -> Option<Known>
         ensures found { IfSome result (IsKnown self.now.objects address tenant) }
         ensures absent { IfNone result (object_among self.now.objects address ≡ None) }
@@ -87,7 +89,7 @@ impl Catalog {
         })
     }
 
-    // The object of the address, shared.
+    /// The object of the address, shared.
     pub(crate) fn share(&self, address: Address) -> Result<Arc<Object>, AllocError>
         requires { IsSome (object_among self.now.objects address) }
         ensures { IfOk result (λ object. (o : Item) → object_among self.now.objects address ≡ Some o → arc_value object ≡ o.bytes) }
@@ -98,7 +100,7 @@ impl Catalog {
         }
     }
 
-    // The address and length of each object that a tenant holds.
+    /// The address and length of each object that a tenant holds.
     pub(crate) fn list(&self, alloc: Global, tenant: u64) -> Result<Vec<(Address, u64)>, AllocError>
         ensures { IfOk result (λ list. list.items ≡ listed tenant self.now.objects) }
     {
@@ -111,7 +113,7 @@ impl Catalog {
         Ok(list)
     }
 
-    // Files an object of one tenant last. Room for its address is made first, so that a refusal leaves all as it was.
+    /// Files an object of one tenant last. Room for its address is made first, so that a refusal leaves all as it was.
     pub(crate) fn file_last(
         &mut self,
         alloc: Global,
@@ -137,7 +139,7 @@ impl Catalog {
         Ok(())
     }
 
-    // Adds a holder to the object of the address.
+    /// Adds a holder to the object of the address.
     pub(crate) fn add_holder(&mut self, address: Address, tenant: u64) -> Result<(), AllocError>
         requires { IsSome (object_among self.old.objects address) }
         ensures objects { OnOk result ((o : Item) → object_among self.old.objects address ≡ Some o
@@ -150,7 +152,7 @@ impl Catalog {
         add_at(&mut self.filed, number, tenant)
     }
 
-    // Takes a holder from the object of the address, and the object away where it has no other.
+    /// Takes a holder from the object of the address, and the object away where it has no other.
     pub(crate) fn drop_holder(&mut self, address: Address, tenant: u64, is_alone: bool)
         requires found { IsSome (object_among self.old.objects address) }
         requires held { (o : Item) → object_among self.old.objects address ≡ Some o → (is_held_by tenant o ≡ true) × (is_alone ≡ nat_le (length o.holders) 1) }

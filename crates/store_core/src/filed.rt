@@ -35,7 +35,7 @@ impl Model for Filed {
 }
 
 impl Filed {
-    // The object of one holder.
+    /// The object of one holder.
     pub(crate) fn new(alloc: Global, object: Arc<Object>, tenant: u64) -> Result<Filed, AllocError>
         ensures { IfOk result (λ f. f ≡ (hash_of (arc_value object), record { bytes = arc_value object; holders = tenant ∷ [] })) }
     {
@@ -44,38 +44,42 @@ impl Filed {
         Ok(Filed { object, holders })
     }
 
+    /// The object's address.
     pub(crate) fn address(&self) -> Address
         ensures { result ≡ hash_of self.now.1.bytes }
     {
         self.object.address()
     }
 
+    /// The object's length in bytes.
     pub(crate) fn length(&self) -> u64
         ensures { result ≡ length self.now.1.bytes }
     {
         self.object.len()
     }
 
+    /// One more handle to the object.
     pub(crate) fn share(&self) -> Result<Arc<Object>, AllocError>
         ensures { IfOk result (λ object. arc_value object ≡ self.now.1.bytes) }
     {
         Arc::try_clone(&self.object)
     }
 
+    /// Whether the tenant is a holder.
     pub(crate) fn is_held_by(&self, tenant: u64) -> bool
         ensures { result ≡ is_held_by_in tenant self.now.1 }
     {
         holders::has(self.holders.as_slice(), tenant)
     }
 
-    // Whether it has one holder alone.
+    /// Whether it has one holder alone.
     pub(crate) fn is_alone(&self) -> bool
         ensures { result ≡ nat_le (length self.now.1.holders) 1 }
     {
         self.holders.len() <= 1
     }
 
-    // The tenant is among the holders from here on.
+    /// The tenant is among the holders from here on.
     pub(crate) fn add(&mut self, tenant: u64) -> Result<(), AllocError>
         ensures holders { OnOk result (self.new ≡ (self.old.0, record self.old.1 { holders = with_holder tenant self.old.1.holders })) }
         ensures unchanged { OnErr result (self.new ≡ self.old) }
@@ -83,7 +87,7 @@ impl Filed {
         holders::add(&mut self.holders, tenant)
     }
 
-    // The tenant is no holder from here on.
+    /// The tenant is no holder from here on.
     pub(crate) fn leave(&mut self, tenant: u64)
         ensures { self.new ≡ (self.old.0, record self.old.1 { holders = without_holder tenant self.old.1.holders }) }
     {

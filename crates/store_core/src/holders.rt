@@ -6,6 +6,7 @@ ghost use Rattle.store_core.specs.Sound.{IsRisingFrom};
 
 use std::alloc::AllocError;
 
+/// Whether the tenant is among the holders, which are in rising order.
 pub(crate) fn has(holders: &[u64], tenant: u64) -> bool
     requires { IsRisingFrom 0 holders.now }
     ensures { result ≡ list_any (λ h. h == tenant) holders.now }
@@ -29,7 +30,7 @@ fn place(holders: &[u64], tenant: u64) -> Option<usize>
     Some(holders.len())
 }
 
-// Adds a tenant in its place, where it isn't there.
+/// Adds a tenant in its place, where it isn't there.
 pub(crate) fn add(holders: &mut Vec<u64>, tenant: u64) -> Result<(), AllocError>
     ensures added { OnOk result (holders.new.items ≡ with_holder tenant holders.old.items) }
     ensures unchanged { OnErr result (holders.new.items ≡ holders.old.items) }
@@ -43,7 +44,7 @@ pub(crate) fn add(holders: &mut Vec<u64>, tenant: u64) -> Result<(), AllocError>
     Ok(())
 }
 
-// Takes a tenant away.
+/// Takes a tenant away.
 pub(crate) fn leave(holders: &mut Vec<u64>, tenant: u64)
     requires { IsRisingFrom 0 holders.old.items }
     ensures { holders.new.items ≡ without_holder tenant holders.old.items }

@@ -10,7 +10,7 @@ pub(crate) struct Known {
 }
 
 impl Known {
-    // Whether the tenant doesn't hold the object yet, and it is longer than this.
+    /// Whether the tenant doesn't hold the object yet, and it is longer than this.
     pub(crate) fn is_over(&self, most: u64) -> bool
         ensures { result ≡ (not self.now.is_holder && nat_lt most self.now.size) }
     {
@@ -20,14 +20,14 @@ impl Known {
         self.size > most
     }
 
-    // What the tenant uses more where it holds the object.
+    /// What the tenant uses more where it holds the object.
     pub(crate) fn more_used(&self) -> u64
         ensures { result ≡ (if not self.now.is_holder then self.now.size else 0) }
     {
         if self.is_holder { 0 } else { self.size }
     }
 
-    // The bytes that go where the tenant holds the object no longer.
+    /// The bytes that go where the tenant holds the object no longer.
     pub(crate) fn gone(&self) -> u64
         ensures { result ≡ (if self.now.is_alone then self.now.size else 0) }
     {

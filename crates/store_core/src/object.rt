@@ -28,7 +28,7 @@ impl Model for Object {
 }
 
 impl Object {
-    // The object of these segments.
+    /// The object of these segments.
     pub(crate) fn new(address: Address, len: u64, segments: Vec<Segment>) -> Object
         requires address { address ≡ hash_of (content_of (map part_of segments.items)) }
         requires len { len ≡ length (content_of (map part_of segments.items)) }

@@ -46,7 +46,7 @@ impl OpenUpload {
     }
 }
 
-// Adds a part that fits to the open upload of the number. Where memory is refused, the part is handed back.
+/// Adds a part that fits to the open upload of the number. Where memory is refused, the part is handed back.
 pub(crate) fn add_part(
     uploads: &mut BTreeMap<u64, OpenUpload>,
     number: u64,

@@ -155,15 +155,20 @@ fn a_known_object_needs_room(rt: HostRuntime) -> Result<(), Fail> {
     Ok(())
 }
 
-// What is left has the whole state, not its sums alone.
-#[test]
-fn what_is_left_is_listed(rt: HostRuntime) -> Result<(), Fail> {
-    let alloc = rt.alloc();
+// What a journal leaves that has every kind of entry but a forget entry.
+fn left(alloc: Global) -> Result<Replayed, Fail> {
     let text = format!(in alloc;
         "tenant 0 50\ntenant 1 6000\nbegin 0 1 5\nput 0 0 5\nseal 0 {ZEROS} new\nbegin 1 0 5\nput 1 0 5\nseal 1 {ZEROS} known\nbegin 2 1 2049\nput 2 2048 1\nput 2 0 1024\nlimit 0 5\nbegin 3 0 0\nabort 3\n"
     )?;
     let entries = read_journal(alloc, text.as_bytes())?;
     let replayed = replay(alloc, entries.as_slice())?;
+    Ok(replayed)
+}
+
+// What is left has the whole state, not its sums alone.
+#[test]
+fn limits_and_objects_are_listed(rt: HostRuntime) -> Result<(), Fail> {
+    let replayed = left(rt.alloc())?;
     assert_eq!(rt; replayed.limits(), [5, 6000].as_slice());
     let [object] = replayed.objects() else {
         panic!(rt; "one object");
@@ -174,6 +179,12 @@ fn what_is_left_is_listed(rt: HostRuntime) -> Result<(), Fail> {
         object.holders(),
         [TenantId::new(0), TenantId::new(1)].as_slice()
     );
+    Ok(())
+}
+
+#[test]
+fn open_uploads_are_listed(rt: HostRuntime) -> Result<(), Fail> {
+    let replayed = left(rt.alloc())?;
     let [upload] = replayed.uploads() else {
         panic!(rt; "one upload");
     };
@@ -189,6 +200,12 @@ fn what_is_left_is_listed(rt: HostRuntime) -> Result<(), Fail> {
         len: 1,
     };
     assert_eq!(rt; upload.parts(), [first, last].as_slice());
+    Ok(())
+}
+
+#[test]
+fn sums_are_told(rt: HostRuntime) -> Result<(), Fail> {
+    let replayed = left(rt.alloc())?;
     let totals = Totals {
         objects: 1,
         object_bytes: 5,
@@ -218,13 +235,11 @@ fn every_beginning_of_a_journal_is_audited(rt: HostRuntime) -> Result<(), Fail> 
     Ok(())
 }
 
-// Where one growth is refused, replay says so, and works when it is called again.
-#[test]
-fn want_of_memory_is_told(rt: HostRuntime) -> Result<(), Fail> {
-    let alloc = rt.alloc();
+// An object is filed, and an upload is left open.
+fn filed_and_open() -> [Entry; 6] {
     let tenant = TenantId::new(0);
     let upload = UploadId::new(0);
-    let entries = [
+    [
         Entry::Tenant {
             tenant,
             limit: 4096,
@@ -254,7 +269,14 @@ fn want_of_memory_is_told(rt: HostRuntime) -> Result<(), Fail> {
             offset: 0,
             len: 2,
         },
-    ];
+    ]
+}
+
+// Where one growth is refused, replay says so, and works when it is called again.
+#[test]
+fn want_of_memory_is_told(rt: HostRuntime) -> Result<(), Fail> {
+    let alloc = rt.alloc();
+    let entries = filed_and_open();
     let replayed = match replay(alloc, &entries) {
         Err(ReplayError::NoMemory) => replay(alloc, &entries)?,
         answer => answer?,

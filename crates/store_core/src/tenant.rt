@@ -11,7 +11,7 @@ pub(crate) struct Tenant {
     pub(crate) reserved: u64,
 }
 
-// Gives a tenant other sums.
+/// Gives a tenant other sums.
 pub(crate) fn set_sums(tenants: &mut Vec<Tenant>, number: u64, used: u64, reserved: u64)
     requires { number < length tenants.old.items }
     ensures sums { tenants.new.items ≡ slice_set tenants.old.items number (record { limit = (slice_index_or tenants.old.items number no_tenant).limit; used = used; reserved = reserved }) }
@@ -22,7 +22,7 @@ pub(crate) fn set_sums(tenants: &mut Vec<Tenant>, number: u64, used: u64, reserv
     tenant.reserved = reserved;
 }
 
-// Gives a tenant another limit.
+/// Gives a tenant another limit.
 pub(crate) fn change_limit(tenants: &mut Vec<Tenant>, number: u64, limit: u64)
     requires { number < length tenants.old.items }
     ensures limit { tenants.new.items ≡ slice_set tenants.old.items number (record { limit = limit; used = (slice_index_or tenants.old.items number no_tenant).used; reserved = (slice_index_or tenants.old.items number no_tenant).reserved }) }

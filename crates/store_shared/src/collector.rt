@@ -188,7 +188,7 @@ impl<'a, B: Ledger, C: Ledger> Collector<'a, B, C> {
         true
     }
 
-    // Collects until so many workers have ended and nothing is left.
+    /// Collects until so many workers have ended and nothing is left.
     pub(crate) fn collect<G: Gate, R: Wait>(
         &mut self,
         rt: &R,
@@ -217,7 +217,7 @@ impl<'a, B: Ledger, C: Ledger> Collector<'a, B, C> {
         }
     }
 
-    // The address of all bytes, where nothing failed; else the collector's own fault, or that of a worker.
+    /// The address of all bytes, where nothing failed; else the collector's own fault, or that of a worker.
     pub(crate) fn address(
         self,
         workers_fault: Option<UploadFaultKind>,

@@ -16,7 +16,7 @@ use std::sync::Wait;
 use std::thread::{PromisedHandle, Scope, Threads};
 use store_board::{BoardSeat, GivePass};
 
-// A worker for each seat and pass, the first of them last.
+/// A worker for each seat and pass, the first of them last.
 pub(crate) fn workers_of<G: Gate, R: Alloc>(
     rt: &R,
     alloc: Global,
@@ -44,8 +44,8 @@ pub(crate) fn workers_of<G: Gate, R: Alloc>(
     Ok(workers)
 }
 
-// Starts a thread for each worker, the last first. Where one can't be started, the others are not, and the answer has a
-// fault.
+/// Starts a thread for each worker, the last first. Where one can't be started, the others are not, and the answer has a
+/// fault.
 pub(crate) fn start_all<'s, E, G: Gate + Sync, R: Wait + Sync>(
     scope: &Scope<'s, E>,
     rt: &'s R,
@@ -113,7 +113,7 @@ fn join_one<'s, G: Gate, R: Threads>(
     handle.join(rt)
 }
 
-// Joins all threads, and answers the fault of the first that had one.
+/// Joins all threads, and answers the fault of the first that had one.
 pub(crate) fn join_all<'s, G: Gate, R: Threads>(
     rt: &R,
     job: &'s Job<'s, G>,

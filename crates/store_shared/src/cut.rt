@@ -36,7 +36,7 @@ impl<'a> Model for Cut<'a> {
 }
 
 impl<'a> Cut<'a> {
-    // The cut of these bytes into parts of so many chunks.
+    /// The cut of these bytes into parts of so many chunks.
     pub(crate) fn new(bytes: &'a [u8], part_chunks: u64) -> Cut<'a>
         requires bytes { length bytes.now ≤ 2 ^ 40 }
         requires some { 0 < part_chunks }
@@ -53,7 +53,7 @@ impl<'a> Cut<'a> {
         }
     }
 
-    // The bytes.
+    /// The bytes.
     pub(crate) fn bytes(&self) -> &'a [u8]
         ensures value { result.now ≡ self.now.bytes }
         ensures most { length result.now ≤ 2 ^ 40 }
@@ -61,7 +61,7 @@ impl<'a> Cut<'a> {
         self.bytes
     }
 
-    // How many chunks a part has that is not the last.
+    /// How many chunks a part has that is not the last.
     pub(crate) fn part_chunks(&self) -> u64
         ensures value { result ≡ self.now.part_chunks }
         ensures some { 0 < result }
@@ -77,7 +77,7 @@ impl<'a> Cut<'a> {
         CHUNK_LEN * self.part_chunks
     }
 
-    // How many parts there are.
+    /// How many parts there are.
     pub(crate) fn parts(&self) -> u64
         ensures count { result ≡ count_of self.now }
         ensures some { 0 < self.now.part_chunks }
@@ -85,7 +85,7 @@ impl<'a> Cut<'a> {
         (self.bytes.len() as u64).div_ceil(self.part_len())
     }
 
-    // Copies and hashes a part. It fits its plan, so it is refused only where memory is.
+    /// Copies and hashes a part. It fits its plan, so it is refused only where memory is.
     pub(crate) fn prepare(
         &self,
         alloc: Global,
@@ -110,7 +110,7 @@ impl<'a> Cut<'a> {
         }
     }
 
-    // The number of the part of the cut that has the offset and the length of this one.
+    /// The number of the part of the cut that has the offset and the length of this one.
     pub(crate) fn number_of(&self, part: &Prepared) -> Option<u64>
         ensures number { IfSome result (λ k. IsPlaceOf self.now k part.now.part) }
         ensures some { 0 < self.now.part_chunks }

@@ -29,7 +29,7 @@ pub struct UploadFault {
 }
 
 impl UploadFault {
-    // Of an upload that was not begun.
+    /// Of an upload that was not begun.
     pub(crate) fn unbegun(kind: UploadFaultKind) -> UploadFault
         ensures { result ≡ record { kind = kind; left = None } }
     {

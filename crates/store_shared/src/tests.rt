@@ -20,7 +20,7 @@ pub(crate) const PATTERN_2048: [u8; 32] = [
     0x5d, 0x2e, 0xf5, 0x76, 0x46, 0x7e, 0x83, 0x8e, 0xd6, 0xf2, 0x52, 0x9b, 0x85, 0xfb, 0xa2, 0x4a,
 ];
 
-// The pattern bytes `i mod 251`, from `first` on.
+/// The pattern bytes `i mod 251`, from `first` on.
 pub(crate) fn pattern(alloc: Global, first: u64, len: u64) -> Result<Vec<u8>, AllocError> {
     let mut bytes = Vec::new(alloc);
     let mut next = (first % 251) as u8;
@@ -62,6 +62,13 @@ fn put_one<B: Ledger, C: Ledger, R: Wait>(
     (share, done)
 }
 
+// Opens a tenant, and begins an upload of two chunks.
+fn begin_two_chunks<B: Ledger, C: Ledger, R: Wait + Abort>(rt: &R, shared: &Shared<B, C>) {
+    let mut locked = shared.lock(rt);
+    assert!(rt; lent_open_tenant(&mut *locked, 2048).is_ok());
+    assert!(rt; lent_begin(&mut *locked, TenantId::new(0), 2048).is_ok());
+}
+
 // Two threads put a half each, with a share each, the one at `first` in the first thread.
 fn two_halves<
     B: Ledger + Send + Sync,
@@ -74,11 +81,7 @@ fn two_halves<
 {
     let (shared, mut share) = Shared::<B, C>::new(rt.alloc(), Limits::full(), bytes, calls);
     let other = share.split(1);
-    {
-        let mut locked = shared.lock(rt);
-        assert!(rt; lent_open_tenant(&mut *locked, 2048).is_ok());
-        assert!(rt; lent_begin(&mut *locked, TenantId::new(0), 2048).is_ok());
-    }
+    begin_two_chunks(rt, &shared);
     let one = half(rt, first)?;
     let two = half(rt, 1024 - first)?;
     let work_one = Work::new(rt);

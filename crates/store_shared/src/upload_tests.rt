@@ -11,7 +11,7 @@ use std::sync::ledger::{Blank, Ledger};
 use std::test::Fail;
 use std::thread;
 use std::thread::Threads;
-use store_core::{Address, Limits, Object, Refusal, TenantId, UploadId};
+use store_core::{Address, Limits, Refusal, Store, TenantId, UploadId};
 use store_ledger::{Accepted, NotWhole, Share};
 
 // The hashes of no bytes and of the pattern of 2049 bytes, from the standard's vectors.
@@ -123,7 +123,14 @@ fn is_set(flag: &AtomicBool) -> bool {
 
 // ---- uploads that are sealed
 
-// Uploads a pattern in parts of one chunk, with the whole share. It settles, and the object is in the store.
+// Opens the tenants 0 and 1.
+fn open_two_tenants<B: Ledger, C: Ledger, R: Wait + Abort>(rt: &R, shared: &Shared<B, C>) {
+    let mut locked = shared.lock(rt);
+    assert!(rt; lent_open_tenant(&mut *locked, 4098).is_ok());
+    assert!(rt; lent_open_tenant(&mut *locked, 4098).is_ok());
+}
+
+// Uploads a pattern for tenant 1 in parts of one chunk, with the whole share. It settles, and tenant 1 alone holds the object.
 fn sealed<B: Ledger, C: Ledger, G: Gate + Sync, R: Threads + Wait + Sync + AllocGlobal + Abort>(
     rt: &R,
     bytes: Blank,
@@ -137,12 +144,12 @@ fn sealed<B: Ledger, C: Ledger, G: Gate + Sync, R: Threads + Wait + Sync + Alloc
     requires calls { (calls.name ≡ C.name) × (calls.parts ≡ C.parts) × (calls.parts ≡ 2 ^ 32) }
 {
     let alloc = rt.alloc();
-    let tenant = TenantId::new(0);
+    let tenant = TenantId::new(1);
     let address = Address::new(address);
     let input = pattern(alloc, 0, len)?;
     let (shared, share) = Shared::<B, C>::new(alloc, Limits::full(), bytes, calls);
     assert_eq!(rt; shared.workers(), 16);
-    assert!(rt; lent_open_tenant(&mut *shared.lock(rt), 4098).is_ok());
+    open_two_tenants(rt, &shared);
     let (share, answer) = upload(
         rt,
         alloc,
@@ -171,91 +178,59 @@ fn sealed<B: Ledger, C: Ledger, G: Gate + Sync, R: Threads + Wait + Sync + Alloc
             calls: parts
         })
     );
-    assert_eq!(rt; locked.store().journal().len() as u64, parts + 3);
-    match locked.store().fetch(tenant, address) {
-        Ok(object) => assert_bytes(rt, &object, input.as_slice())?,
-        Err(refusal) => panic!(rt; "{refusal:?}"),
-    }
+    assert_eq!(rt; locked.store().journal().len() as u64, parts + 4);
+    assert_held(rt, locked.store(), tenant, address, input.as_slice())?;
+    assert!(rt;
+        matches!(
+            locked.store().fetch(TenantId::new(0), address),
+            Err(Refusal::NotHeld)
+        )
+    );
     Ok(())
 }
 
-// The object has these bytes.
-fn assert_bytes<R: AllocGlobal + Abort>(
+// The tenant holds an object of these bytes under the address, and uses as many.
+fn assert_held<R: AllocGlobal + Abort>(
     rt: &R,
-    object: &Object,
+    store: &Store,
+    tenant: TenantId,
+    address: Address,
     wanted: &[u8],
 ) -> Result<(), Fail> {
+    let object = match store.fetch(tenant, address) {
+        Ok(object) => object,
+        Err(refusal) => panic!(rt; "{refusal:?}"),
+    };
     let mut bytes: Vec<u8> = Vec::new(rt.alloc());
     for segment in object.segments() {
         bytes.extend_from_slice(segment.bytes.as_slice())?;
     }
     assert_eq!(rt; bytes.as_slice(), wanted);
+    let usage = store.usage(tenant).expect(rt, "a tenant");
+    assert_eq!(rt; usage.used, wanted.len() as u64);
     Ok(())
 }
 
 #[test]
-fn one_worker_uploads(rt: HostRuntime) -> Result<(), Fail> {
-    sealed::<Brand, Brand, _, _>(
-        &rt,
-        Blank::new(1 << 32),
-        Blank::new(1 << 32),
-        &PassAll,
-        1,
-        2049,
-        PATTERN_2049,
-    )
-}
-
-#[test]
-fn two_workers_upload(rt: HostRuntime) -> Result<(), Fail> {
-    sealed::<Brand, Brand, _, _>(
-        &rt,
-        Blank::new(1 << 32),
-        Blank::new(1 << 32),
-        &PassAll,
-        2,
-        2049,
-        PATTERN_2049,
-    )
-}
-
-#[test]
-fn three_workers_upload(rt: HostRuntime) -> Result<(), Fail> {
-    sealed::<Brand, Brand, _, _>(
-        &rt,
-        Blank::new(1 << 32),
-        Blank::new(1 << 32),
-        &PassAll,
-        3,
-        2049,
-        PATTERN_2049,
-    )
-}
-
-#[test]
-fn sixteen_workers_upload(rt: HostRuntime) -> Result<(), Fail> {
-    sealed::<Brand, Brand, _, _>(
-        &rt,
-        Blank::new(1 << 32),
-        Blank::new(1 << 32),
-        &PassAll,
-        16,
-        2049,
-        PATTERN_2049,
-    )
-}
-
-#[test]
-fn no_bytes_are_uploaded(rt: HostRuntime) -> Result<(), Fail> {
-    sealed::<Brand, Brand, _, _>(
-        &rt,
-        Blank::new(1 << 32),
-        Blank::new(1 << 32),
-        &PassAll,
-        2,
-        0,
-        NO_BYTES,
-    )
+fn any_number_of_workers_uploads(rt: HostRuntime) -> Result<(), Fail> {
+    for (workers, len, address) in [
+        (1, 2049, PATTERN_2049),
+        (2, 2049, PATTERN_2049),
+        (3, 2049, PATTERN_2049),
+        (16, 2049, PATTERN_2049),
+        (2, 0, NO_BYTES),
+    ] {
+        sealed::<Brand, Brand, _, _>(
+            &rt,
+            Blank::new(1 << 32),
+            Blank::new(1 << 32),
+            &PassAll,
+            workers,
+            len,
+            address,
+        )?;
+    }
+    Ok(())
 }
 
 // A part waits for the next, so that two workers have to be at work at one time.
@@ -496,9 +471,9 @@ fn upload_pattern<B: Ledger, C: Ledger, G: Gate + Sync, R: Threads + Wait + Sync
     shared: &Shared<B, C>,
     share: Share<B, C>,
     gate: &G,
+    tenant: TenantId,
     input: &[u8],
 ) -> (Share<B, C>, Result<bool, UploadFault>) {
-    let tenant = TenantId::new(0);
     let (share, answer) = upload(rt, alloc, shared, share, gate, tenant, input, 1, 1);
     match answer {
         Ok(sealed) => (share, Ok(sealed.new)),
@@ -538,7 +513,7 @@ fn aborted_meanwhile<
     let ((share, answer), done) = thread::join(
         rt,
         move || -> (Share<B, C>, Result<bool, UploadFault>) {
-            upload_pattern(rt, alloc, both, share, held, row)
+            upload_pattern(rt, alloc, both, share, held, TenantId::new(0), row)
         },
         move || -> bool { abort_when_reached(rt, both, held) },
     );
@@ -565,6 +540,7 @@ fn an_upload_that_was_aborted_is_refused(rt: HostRuntime) -> Result<(), Fail> {
     aborted_meanwhile::<Brand, Brand, _>(&rt, Blank::new(1 << 32), Blank::new(1 << 32))
 }
 
+// Two tenants upload the same bytes at one time: one object is filed, and both hold it.
 fn uploaded_twice<
     B: Ledger + Send + Sync,
     C: Ledger + Send + Sync,
@@ -577,28 +553,21 @@ fn uploaded_twice<
     let input = pattern(alloc, 0, 2049)?;
     let (shared, mut one) = Shared::<B, C>::new(alloc, Limits::full(), bytes, calls);
     let two = one.split(1);
-    assert!(rt; lent_open_tenant(&mut *shared.lock(rt), 4098).is_ok());
+    open_two_tenants(rt, &shared);
     let (both, gate, row) = (&shared, &PassAll, input.as_slice());
     let ((one, first), (two, second)) = thread::join(
         rt,
         move || -> (Share<B, C>, Result<bool, UploadFault>) {
-            upload_pattern(rt, alloc, both, one, gate, row)
+            upload_pattern(rt, alloc, both, one, gate, TenantId::new(0), row)
         },
         move || -> (Share<B, C>, Result<bool, UploadFault>) {
-            upload_pattern(rt, alloc, both, two, gate, row)
+            upload_pattern(rt, alloc, both, two, gate, TenantId::new(1), row)
         },
     );
-    let new_and_known = match (first, second) {
-        (Ok(first), Ok(second)) => first != second,
-        _ => false,
-    };
-    assert!(rt; new_and_known);
+    assert!(rt; are_new_and_known(first, second));
     let mut share = one;
-    let fits = share.bytes() == 2049
-        && two.bytes() == 2049
-        && share.calls() == 3
-        && two.calls() == 3;
-    assert!(rt; fits);
+    assert_eq!(rt; (share.bytes(), share.calls()), (2049, 3));
+    assert_eq!(rt; (two.bytes(), two.calls()), (2049, 3));
     share.join(two);
     let mut locked = shared.close();
     assert_eq!(rt;
@@ -609,21 +578,20 @@ fn uploaded_twice<
         })
     );
     assert_eq!(rt; locked.store().totals().objects, 1);
-    let usage = locked
-        .store()
-        .usage(TenantId::new(0))
-        .expect(rt, "a tenant");
-    assert_eq!(rt; usage.used, 2049);
-    assert!(rt;
-        locked
-            .store()
-            .fetch(TenantId::new(0), Address::new(PATTERN_2049))
-            .is_ok()
-    );
-    Ok(())
+    let address = Address::new(PATTERN_2049);
+    assert_held(rt, locked.store(), TenantId::new(0), address, row)?;
+    assert_held(rt, locked.store(), TenantId::new(1), address, row)
+}
+
+// One of two uploads was new, and the other known.
+fn are_new_and_known(first: Result<bool, UploadFault>, second: Result<bool, UploadFault>) -> bool {
+    match (first, second) {
+        (Ok(first), Ok(second)) => first != second,
+        _ => false,
+    }
 }
 
 #[test]
-fn two_uploads_of_the_same_bytes(rt: HostRuntime) -> Result<(), Fail> {
+fn two_tenants_upload_the_same_bytes(rt: HostRuntime) -> Result<(), Fail> {
     uploaded_twice::<Brand, Brand, _>(&rt, Blank::new(1 << 32), Blank::new(1 << 32))
 }

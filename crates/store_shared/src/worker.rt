@@ -105,7 +105,7 @@ fn make_parts<G: Gate, R: Wait>(
     unreachable!()
 }
 
-// What a worker's thread runs. A worker that fails stops the board. All that end are counted.
+/// What a worker's thread runs. A worker that fails stops the board. All that end are counted.
 pub(crate) fn run<G: Gate, R: Wait>(
     rt: &R,
     alloc: Global,

@@ -13,6 +13,7 @@ use crate::usage::Usage;
 use std::sync::Arc;
 
 impl Contents {
+    /// The step of `Store::usage`.
     pub(crate) fn usage(&self, tenant: TenantId) -> Result<Usage, Refusal>
         requires { IsLawful self.now }
         ensures { result ≡ usage_in (shown_of self.now).state tenant }
@@ -25,6 +26,7 @@ impl Contents {
         })
     }
 
+    /// The step of `Store::fetch`.
     pub(crate) fn fetch(&self, tenant: TenantId, address: Address) -> Result<Arc<Object>, Refusal>
         requires { IsLawful self.now }
         ensures { Tells (λ object. arc_value object) (fetch_in (shown_of self.now).state tenant address) result }
@@ -43,6 +45,7 @@ impl Contents {
         }
     }
 
+    /// The step of `Store::list`.
     pub(crate) fn list(&self, tenant: TenantId) -> Result<Vec<(Address, u64)>, Refusal>
         requires { IsLawful self.now }
         ensures { Tells (λ list. list.items) (list_in (shown_of self.now).state tenant) result }

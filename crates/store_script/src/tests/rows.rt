@@ -34,12 +34,6 @@ fn parts_in_any_order(rt: HostRuntime) -> Result<(), Fail> {
     check(
         &rt,
         &[
-            // An object of no bytes.
-            (
-                b"tenant 4096\nbegin 0 0\nseal 0\nstat\n",
-                b"tenant 0\nupload 0\nnew af1349b9f5f9a1a6a0404dea36dcc9499bcb25c9adc112b7cc9a93cae41f3262 0\nobjects 1 bytes 0 uploads 0 held 0 parts 0\n",
-                Ending::Good,
-            ),
             // One byte fetched.
             (
                 b"tenant 4096\nbegin 0 1\nput 0 0 x:00\nseal 0\nfetch 0 2d3adedff11b61f14c886e35afa036736dcd87a74d27b5c1510225d0f592e213\n",
@@ -68,6 +62,21 @@ fn parts_in_any_order(rt: HostRuntime) -> Result<(), Fail> {
             (
                 b"tenant 4096\nbegin 0 2049\nput 0 2048 p:1\nput 0 0 p:1024\nput 0 1024 p:1024\nseal 0\n",
                 b"tenant 0\nupload 0\nheld 1 missing 0\nheld 1025 missing 1024\nheld 2049 all\nnew 5f4d72f40d7a5f82b15ca2b2e44b1de3c2ef86c426c95c1af0b6879522563030 2049\n",
+                Ending::Good,
+            ),
+        ],
+    )
+}
+
+#[test]
+fn objects_of_no_bytes(rt: HostRuntime) -> Result<(), Fail> {
+    check(
+        &rt,
+        &[
+            // An object of no bytes.
+            (
+                b"tenant 4096\nbegin 0 0\nseal 0\nstat\n",
+                b"tenant 0\nupload 0\nnew af1349b9f5f9a1a6a0404dea36dcc9499bcb25c9adc112b7cc9a93cae41f3262 0\nobjects 1 bytes 0 uploads 0 held 0 parts 0\n",
                 Ending::Good,
             ),
             // No bytes fetched.
@@ -142,16 +151,25 @@ fn tenants_and_objects(rt: HostRuntime) -> Result<(), Fail> {
                 b"tenant 0\nupload 0\nheld 1 all\nnew 2d3adedff11b61f14c886e35afa036736dcd87a74d27b5c1510225d0f592e213 1\nupload 1\nnew af1349b9f5f9a1a6a0404dea36dcc9499bcb25c9adc112b7cc9a93cae41f3262 0\nok\nupload 2\nheld 1 all\nnew 2d3adedff11b61f14c886e35afa036736dcd87a74d27b5c1510225d0f592e213 1\nlist 2\naf1349b9f5f9a1a6a0404dea36dcc9499bcb25c9adc112b7cc9a93cae41f3262 0\n2d3adedff11b61f14c886e35afa036736dcd87a74d27b5c1510225d0f592e213 1\n",
                 Ending::Good,
             ),
-            // A wrong address.
-            (
-                b"tenant 4096\nbegin 0 1\nput 0 0 x:00\nsealas 0 2c3adedff11b61f14c886e35afa036736dcd87a74d27b5c1510225d0f592e213\nsealas 0 2d3adedff11b61f14c886e35afa036736dcd87a74d27b5c1510225d0f592e213\n",
-                b"tenant 0\nupload 0\nheld 1 all\nrefused S11 found 2d3adedff11b61f14c886e35afa036736dcd87a74d27b5c1510225d0f592e213\nnew 2d3adedff11b61f14c886e35afa036736dcd87a74d27b5c1510225d0f592e213 1\n",
-                Ending::Refused,
-            ),
             // An early path.
             (
                 b"tenant 2048\nbegin 0 1024\nseal 0\nput 0 0 p:1024\nput 0 0 p:1024\nseal 0\nbegin 0 1024\nput 1 0 p:1024\nseal 1\nstat\n",
                 b"tenant 0\nupload 0\nrefused S10 missing 0\nheld 1024 all\nrefused S9 at 0\nnew 42214739f095a406f3fc83deb889744ac00df831c10daa55189b5d121c855af7 1024\nupload 1\nheld 1024 all\nknown 42214739f095a406f3fc83deb889744ac00df831c10daa55189b5d121c855af7 1024\nobjects 1 bytes 1024 uploads 0 held 0 parts 0\n",
+                Ending::Refused,
+            ),
+        ],
+    )
+}
+
+#[test]
+fn addresses_and_entries(rt: HostRuntime) -> Result<(), Fail> {
+    check(
+        &rt,
+        &[
+            // A wrong address.
+            (
+                b"tenant 4096\nbegin 0 1\nput 0 0 x:00\nsealas 0 2c3adedff11b61f14c886e35afa036736dcd87a74d27b5c1510225d0f592e213\nsealas 0 2d3adedff11b61f14c886e35afa036736dcd87a74d27b5c1510225d0f592e213\n",
+                b"tenant 0\nupload 0\nheld 1 all\nrefused S11 found 2d3adedff11b61f14c886e35afa036736dcd87a74d27b5c1510225d0f592e213\nnew 2d3adedff11b61f14c886e35afa036736dcd87a74d27b5c1510225d0f592e213 1\n",
                 Ending::Refused,
             ),
             // Digits of either case.

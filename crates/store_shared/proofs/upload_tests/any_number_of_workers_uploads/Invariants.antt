@@ -1,4 +1,4 @@
-use Rattle.store_shared.proofs.upload_tests.one_worker_uploads.Given as goal
+use Rattle.store_shared.proofs.upload_tests.any_number_of_workers_uploads.Given as goal
 
 abbrev pub ghosts-sealed-B-Ledger : goal.ghosts-sealed-B-Ledger
 ghosts-sealed-B-Ledger g a = record { name = a.bytes.name; parts = a.bytes.parts }

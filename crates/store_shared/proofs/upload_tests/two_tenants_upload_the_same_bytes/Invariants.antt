@@ -1,4 +1,4 @@
-use Rattle.store_shared.proofs.upload_tests.two_uploads_of_the_same_bytes.Given as goal
+use Rattle.store_shared.proofs.upload_tests.two_tenants_upload_the_same_bytes.Given as goal
 
 abbrev pub ghosts-uploaded_twice-B-Ledger : goal.ghosts-uploaded_twice-B-Ledger
 ghosts-uploaded_twice-B-Ledger g a = record { name = a.bytes.name; parts = a.bytes.parts }
