@@ -209,7 +209,7 @@ pub fn compress(
     output_words(h, v)
 }
 
-// The first 8 words that a block compresses to, the new chaining value.
+/// The first 8 words that a block compresses to, the new chaining value.
 pub(crate) fn compress_to_value(
     chaining_value: &[u32; 8],
     block_words: &[u32; 16],

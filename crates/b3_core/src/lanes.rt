@@ -251,7 +251,7 @@ fn keys(key: [u32; 8]) -> [u32x4; 8]
     [k0, k1, k2, k3, k4, k5, k6, k7]
 }
 
-// The chaining value of each of four chunks after all of its blocks but the last.
+/// The chaining value of each of four chunks after all of its blocks but the last.
 pub(crate) fn chains(mode: &Mode, bytes: &[u8], number: u64) -> [u32x4; 8]
     requires four { length bytes.now ≡ 4096 }
     requires number { number ≤ 2 ^ 64 - 4 }
@@ -268,7 +268,7 @@ pub(crate) fn chains(mode: &Mode, bytes: &[u8], number: u64) -> [u32x4; 8]
     h
 }
 
-// The chaining value of each of four chunks.
+/// The chaining value of each of four chunks.
 pub(crate) fn chunk_values(mode: &Mode, bytes: &[u8], number: u64) -> [u32x4; 8]
     requires four { length bytes.now ≡ 4096 }
     requires number { number ≤ 2 ^ 64 - 4 }
@@ -287,7 +287,7 @@ pub(crate) fn chunk_values(mode: &Mode, bytes: &[u8], number: u64) -> [u32x4; 8]
     )
 }
 
-// The chaining values of the parents of eight nodes: two of the first four lanes, then two of the other four.
+/// The chaining values of the parents of eight nodes: two of the first four lanes, then two of the other four.
 pub(crate) fn parent_values(mode: &Mode, left: [u32x4; 8], right: [u32x4; 8]) -> [u32x4; 8]
     ensures front { (j : ℕ) (a b : Inputs) → j < 2 → half_lane (2 * j) left ≡ chaining_value_of a → half_lane (2 * j + 1) left ≡ chaining_value_of b
         → half_lane j result ≡ chaining_value_of (parent_top a b mode.now) }
@@ -327,7 +327,7 @@ fn pairs(left: [u32x4; 8], right: [u32x4; 8]) -> [u32x4; 16]
     ]
 }
 
-// The words of one lane.
+/// The words of one lane.
 pub(crate) fn lane_words(h: &[u32x4; 8], i: usize) -> [u32; 8]
     requires { i < 4 }
     ensures { result ≡ half_lane i h.now }

@@ -62,12 +62,14 @@ impl Mode {
         }
     }
 
+    /// The mode's eight key words.
     pub(crate) fn key(&self) -> [u32; 8]
         ensures { result ≡ self.now.key }
     {
         self.key
     }
 
+    /// The flag that each compression of the mode has; 0 is none.
     pub(crate) fn flag(&self) -> u32
         ensures value { result ≡ self.now.flag }
         ensures below { result ≤ 64 }

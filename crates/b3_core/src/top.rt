@@ -126,7 +126,7 @@ impl Top {
         Top::of_children(mode, left_value, right_value)
     }
 
-    // The parent of two nodes with these chaining values.
+    /// The parent of two nodes with these chaining values.
     pub(crate) fn of_children(mode: &Mode, left: [u32; 8], right: [u32; 8]) -> Top
         ensures { (l r : Inputs) → left ≡ chaining_value_of l → right ≡ chaining_value_of r
             → result ≡ parent_top l r mode.now }
@@ -155,7 +155,7 @@ impl Top {
         )
     }
 
-    // The 64 bytes of block `i` of the extended output of this node as the root (section 2.6).
+    /// The 64 bytes of block `i` of the extended output of this node as the root (section 2.6).
     pub(crate) fn output_block(&self, i: u64, work: &mut Work) -> [u8; 64]
         ensures bytes { result ≡ output_of self.now (64 * i) 64 }
         ensures count { work.new ≡ counted work.old 1 }

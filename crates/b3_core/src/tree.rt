@@ -10,7 +10,7 @@ use crate::mode::Mode;
 use crate::top::Top;
 use crate::work::Work;
 
-// Where an input of more than one chunk is split.
+/// Where an input of more than one chunk is split.
 pub(crate) fn left_len(len: usize) -> usize
     requires { 1024 < len }
     ensures value { result ≡ left_length len }

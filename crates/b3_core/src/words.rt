@@ -52,7 +52,7 @@ fn padded(bytes: &[u8]) -> [u8; 64]
     block
 }
 
-// The words of a block that may be short.
+/// The words of a block that may be short.
 pub(crate) fn words_of_short_block(bytes: &[u8]) -> [u32; 16]
     requires { length bytes.now ≤ 64 }
     ensures { result ≡ block_words_of bytes.now }
@@ -61,7 +61,7 @@ pub(crate) fn words_of_short_block(bytes: &[u8]) -> [u32; 16]
     words_of_block(&block)
 }
 
-// The key words of 32 bytes.
+/// The key words of 32 bytes.
 pub(crate) fn words_of_key(bytes: &[u8; 32]) -> [u32; 8]
     ensures { result ≡ key_words_of bytes.now }
 {
@@ -87,7 +87,7 @@ pub(crate) fn joined(left: [u32; 8], right: [u32; 8]) -> [u32; 16]
     ]
 }
 
-// The bytes of sixteen words.
+/// The bytes of sixteen words.
 pub(crate) fn bytes_of(words: [u32; 16]) -> [u8; 64]
     ensures { result ≡ map (byte_of words) (range_with_len 0 64) }
 {

@@ -32,6 +32,7 @@ impl Work {
         self.count
     }
 
+    /// Counts that many more compressions.
     pub(crate) fn add(&mut self, more: u64)
         ensures { self.new ≡ counted self.old more }
     {

@@ -26,7 +26,7 @@ fn piece_of(start: u64, bytes: &[u8], level: u32, width: u64, first: u64, work: 
     Piece { first, level, top }
 }
 
-// Adds the pieces among 2^level chunks from the chunk `first` on, of a part that begins at the chunk `start`.
+/// Adds the pieces among 2^level chunks from the chunk `first` on, of a part that begins at the chunk `start`.
 pub(crate) fn push_pieces(
     start: u64,
     bytes: &[u8],

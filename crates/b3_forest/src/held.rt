@@ -18,7 +18,7 @@ use std::collections::BTreeMap;
 
 const CHUNK_LEN: u64 = 1024;
 
-// The least offset of a part that is held already.
+/// The least offset of a part that is held already.
 pub(crate) fn overlap(nodes: &BTreeMap<u64, Node>, part: &Prepared) -> Option<u64>
     ensures at { (ps : List Part) → Keeps part.now.plan ps nodes.now.entries → result ≡ overlap_at part.now.part ps }
     ensures fits { Fits part.now.plan part.now.part.offset (length part.now.part.bytes) }
@@ -32,7 +32,7 @@ pub(crate) fn overlap(nodes: &BTreeMap<u64, Node>, part: &Prepared) -> Option<u6
     }
 }
 
-// The least offset of an upload of `len` bytes that is not held.
+/// The least offset of an upload of `len` bytes that is not held.
 pub(crate) fn first_missing(nodes: &BTreeMap<u64, Node>, len: u64) -> Option<u64>
     ensures { (ps : List Part) → Keeps len ps nodes.now.entries → result ≡ first_missing_of (record { len = len; parts = ps }) }
 {
@@ -40,7 +40,7 @@ pub(crate) fn first_missing(nodes: &BTreeMap<u64, Node>, len: u64) -> Option<u64
     if offset < len { Some(offset) } else { None }
 }
 
-// Adds a part's pieces, and answers the merges. Where memory is refused, the pieces are as before.
+/// Adds a part's pieces, and answers the merges. Where memory is refused, the pieces are as before.
 pub(crate) fn add(
     nodes: &mut BTreeMap<u64, Node>,
     part: &Prepared,
@@ -62,7 +62,7 @@ pub(crate) fn add(
     Ok(merges as u64)
 }
 
-// The top over an upload of `len` bytes, or the least offset that is not held.
+/// The top over an upload of `len` bytes, or the least offset that is not held.
 pub(crate) fn finish(
     nodes: &BTreeMap<u64, Node>,
     len: u64,

@@ -13,6 +13,7 @@ pub(crate) struct Node {
 }
 
 impl Node {
+    /// The node of a piece, without the chunk that it begins with.
     pub(crate) fn of(piece: &Piece) -> Node
         ensures { result ≡ record { level = piece.now.level; top = piece.now.top } }
     {
@@ -22,7 +23,7 @@ impl Node {
         }
     }
 
-    // How many chunks the piece has.
+    /// How many chunks the piece has.
     pub(crate) fn width(&self) -> u64
         ensures width { self.now.level ≤ 30 → result ≡ 2 ^ self.now.level }
         ensures some { 0 < result }

@@ -16,7 +16,7 @@ use std::collections::BTreeMap;
 // The number of all chunks that an upload may have.
 const ROOT_WIDTH: u64 = 1 << 30;
 
-// Puts pieces in. Where memory is refused, the map is as before.
+/// Puts pieces in. Where memory is refused, the map is as before.
 pub(crate) fn put_in(nodes: &mut BTreeMap<u64, Node>, pieces: &[Piece]) -> Result<(), AllocError>
     ensures put { OnOk result (nodes.new.entries ≡ with_nodes pieces.now nodes.old.entries) }
     ensures back { AreFresh pieces.now nodes.old.entries → OnErr result (nodes.new.entries ≡ nodes.old.entries) }
@@ -105,7 +105,7 @@ fn settle(nodes: &mut BTreeMap<u64, Node>, first: u64, work: &mut Work)
     settle(nodes, halves.left, work);
 }
 
-// Merges what these pieces meet.
+/// Merges what these pieces meet.
 pub(crate) fn settle_all(nodes: &mut BTreeMap<u64, Node>, pieces: &[Piece], work: &mut Work)
     ensures forest { (n : ℕ) (x : ℕ → List ℕ) → AreChunks n x → AreForest x (firsts pieces.now) nodes.old.entries → AreForest x [] nodes.new.entries }
     ensures fewer { length nodes.new.entries ≤ length nodes.old.entries }
@@ -141,7 +141,7 @@ fn next_from(nodes: &BTreeMap<u64, Node>, start: u64, end: u64) -> Option<u64>
     Some(*first)
 }
 
-// The least chunk from `start` to below `end` that is in a piece.
+/// The least chunk from `start` to below `end` that is in a piece.
 pub(crate) fn first_held(nodes: &BTreeMap<u64, Node>, start: u64, end: u64) -> Option<u64>
     requires order { start < end }
     ensures least { (x : ℕ → List ℕ) → AreForest x [] nodes.now.entries → IfSome result (IsLeastHeld x start end) }
@@ -153,7 +153,7 @@ pub(crate) fn first_held(nodes: &BTreeMap<u64, Node>, start: u64, end: u64) -> O
     }
 }
 
-// The least chunk from a bound on that is in no piece.
+/// The least chunk from a bound on that is in no piece.
 pub(crate) fn first_gap(nodes: &BTreeMap<u64, Node>, next: u64) -> u64
     ensures gap { (x : ℕ → List ℕ) → AreForest x [] nodes.now.entries → next ≤ 2 ^ 30 → IsBound nodes.now.entries next
         → ((i : ℕ) → i < next → is_held x i ≡ true) → ((i : ℕ) → 2 ^ 30 ≤ i → is_held x i ≡ false) → IsFirstGap x result }
@@ -165,7 +165,7 @@ pub(crate) fn first_gap(nodes: &BTreeMap<u64, Node>, next: u64) -> u64
     }
 }
 
-// The node over all pieces, each a left side of those to its right.
+/// The node over all pieces, each a left side of those to its right.
 pub(crate) fn top_of(nodes: &BTreeMap<u64, Node>, work: &mut Work) -> Option<Top>
     ensures top { result ≡ top_over (values_of nodes.now.entries) }
     ensures count { work.new ≡ counted work.old (2 * (length nodes.now.entries - 1)) }

@@ -116,7 +116,7 @@ impl Prepared {
         *plan
     }
 
-    // The part's bytes, which fit its plan.
+    /// The part's bytes, which fit its plan.
     pub(crate) fn fitting(&self) -> &[u8]
         ensures bytes { result.now ≡ self.now.part.bytes }
         ensures fits { Fits self.now.plan self.now.part.offset (length self.now.part.bytes) }
@@ -126,7 +126,7 @@ impl Prepared {
         self.bytes()
     }
 
-    // The pieces.
+    /// The pieces.
     pub(crate) fn piece_list(&self) -> &[Piece]
         ensures pieces { result.now ≡ pieces_of (chunks_of self.now.part) root_level 0 }
         ensures fits { Fits self.now.plan self.now.part.offset (length self.now.part.bytes) }
@@ -134,7 +134,7 @@ impl Prepared {
         self.pieces.as_slice()
     }
 
-    // The part's bytes and where they begin, without its pieces.
+    /// The part's bytes and where they begin, without its pieces.
     pub(crate) fn into_segment(self) -> Segment
         ensures { part_of result ≡ self.part }
     {

@@ -15,7 +15,7 @@ pub struct Segment {
     pub bytes: Arc<Vec<u8>>,
 }
 
-// Puts a segment among others, by offset.
+/// Puts a segment among others, by offset.
 pub(crate) fn put_segment(segments: &mut Vec<Segment>, segment: Segment)
     requires room { vec_len segments.old < vec_capacity segments.old }
     ensures { (n : ℕ) → ArePlaced n 0 (map part_of segments.old.items)

@@ -4,7 +4,7 @@ use std::alloc::{AllocError, Global};
 use std::process::Abort;
 use std::test::Fail;
 
-// The pattern bytes `i mod 251` of an object, from `first` on.
+/// The pattern bytes `i mod 251` of an object, from `first` on.
 pub(crate) fn pattern(alloc: Global, first: u64, len: u64) -> Result<Vec<u8>, AllocError> {
     let mut bytes = Vec::new(alloc);
     let mut next = (first % 251) as u8;
@@ -15,7 +15,7 @@ pub(crate) fn pattern(alloc: Global, first: u64, len: u64) -> Result<Vec<u8>, Al
     Ok(bytes)
 }
 
-// A part of a pattern for an upload of `len` bytes.
+/// A part of a pattern for an upload of `len` bytes.
 pub(crate) fn part_of_pattern<R: AllocGlobal + Abort>(
     rt: &R,
     len: u64,

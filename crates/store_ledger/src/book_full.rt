@@ -1,3 +1,6 @@
+ghost use Rattle.std.specs.Prelude.{Some};
+ghost use Rattle.store_ledger.specs.Shares.{full_text};
+
 use std::error::Error;
 use std::fmt;
 
@@ -6,6 +9,8 @@ use std::fmt;
 pub struct BookFull;
 
 impl fmt::Display for BookFull {
+    ghost output = { λ _. Some full_text };
+
     fn fmt<W: fmt::Write>(&self, f: &mut fmt::Formatter<W>) -> fmt::Result {
         f.write_str("the book is full")
     }

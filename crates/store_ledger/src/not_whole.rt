@@ -1,3 +1,6 @@
+ghost use Rattle.std.specs.Prelude.{Some};
+ghost use Rattle.store_ledger.specs.Shares.{missing_text};
+
 use std::error::Error;
 use std::fmt;
 
@@ -9,6 +12,8 @@ pub struct NotWhole {
 }
 
 impl fmt::Display for NotWhole {
+    ghost output = { λ missing. Some (missing_text missing) };
+
     fn fmt<W: fmt::Write>(&self, f: &mut fmt::Formatter<W>) -> fmt::Result {
         let bytes = self.bytes;
         let calls = self.calls;

@@ -1,3 +1,6 @@
+ghost use Rattle.std.specs.Prelude.{Some};
+ghost use Rattle.store_board.specs.Refusals.{board_refusal_text};
+
 use std::error::Error;
 use std::fmt;
 
@@ -13,6 +16,8 @@ pub enum BoardRefusal {
 }
 
 impl fmt::Display for BoardRefusal {
+    ghost output = { λ refusal. Some (board_refusal_text refusal) };
+
     fn fmt<W: fmt::Write>(&self, f: &mut fmt::Formatter<W>) -> fmt::Result {
         f.write_str(match self {
             BoardRefusal::TooManyParts => "too many parts",

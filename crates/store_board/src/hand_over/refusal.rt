@@ -1,3 +1,6 @@
+ghost use Rattle.std.specs.Prelude.{Some};
+ghost use Rattle.store_board.specs.Refusals.{hand_over_refusal_text};
+
 use std::error::Error;
 use std::fmt;
 
@@ -11,6 +14,8 @@ pub enum HandOverRefusal {
 }
 
 impl fmt::Display for HandOverRefusal {
+    ghost output = { λ refusal. Some (hand_over_refusal_text refusal) };
+
     fn fmt<W: fmt::Write>(&self, f: &mut fmt::Formatter<W>) -> fmt::Result {
         f.write_str(match self {
             HandOverRefusal::BadCapacity => "no capacity or no giver",

@@ -208,9 +208,7 @@ fn take_all<R: Wait>(
         let all_ended = *ended.lock(rt) >= givers;
         match taken(rt, hand_over, &mut taker) {
             Some((giver, offset)) => {
-                if is_next(&mut next, giver, offset) {
-                    in_order = in_order.wrapping_add(1);
-                }
+                in_order = in_order.wrapping_add(one_if_next(&mut next, giver, offset));
             }
             None if all_ended => break,
             None => thread::yield_now(),
@@ -219,14 +217,14 @@ fn take_all<R: Wait>(
     (taker, in_order)
 }
 
-// Whether a part is the next of its giver, which then waits for the one behind it.
-fn is_next(next: &mut [u64; 4], giver: u64, offset: u64) -> bool {
+// 1 where a part is the next of its giver, which then waits for the one behind it, and 0 where it is not.
+fn one_if_next(next: &mut [u64; 4], giver: u64, offset: u64) -> u64 {
     let Some(number) = next.get_mut(giver as usize) else {
-        return false;
+        return 0;
     };
-    let expected = number.wrapping_mul(1024) == offset;
+    let is_next = number.wrapping_mul(1024) == offset;
     *number = number.wrapping_add(1);
-    expected
+    if is_next { 1 } else { 0 }
 }
 
 fn hand_over_in_threads<R: Threads + Wait + Sync>(
