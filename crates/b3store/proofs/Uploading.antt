@@ -11,7 +11,7 @@ use Rattle.b3store.specs.Uploads.{IsTold, SomeRefusal, WroteRefusal, WroteUpload
 use Rattle.b3store.specs.declared.outcome.Cause.{Cause}
 use Rattle.b3store.specs.declared.outcome.Verdict.{Verdict}
 use Rattle.b3store.specs.declared.outcome.Verdict.TheVariants.{Refused}
-use Rattle.b3store.specs.declared.said.UploadOptions.{UploadOptions}
+use Rattle.store_command_line.specs.declared.said.UploadOptions.{UploadOptions}
 
 -- a refusal that was told is some refusal
 pub told : (r : Result Verdict Cause) (kind : UploadFaultKind) (old new : Option (List ℕ)) → OnOk r (WroteRefusal kind old new) → r ≡ Ok Refused → SomeRefusal old new

@@ -5,9 +5,9 @@ use Rattle.b3_core.specs.Tree.{Keying, tree_top}
 use Rattle.b3_core.specs.ExtendedOutput.{output_of}
 use Rattle.b3_core.specs.Modes.{digest_of, hash_mode, keyed_mode, derive_mode}
 use Rattle.b3_check.specs.Lines.{written_line}
-use Rattle.b3store.specs.declared.said.SumMode.{SumMode}
-use Rattle.b3store.specs.declared.said.SumMode.TheVariants.{Hash, Keyed, Derive}
-use Rattle.b3store.specs.declared.said.SumOptions.{SumOptions}
+use Rattle.store_command_line.specs.declared.said.SumMode.{SumMode}
+use Rattle.store_command_line.specs.declared.said.SumMode.TheVariants.{Hash, Keyed, Derive}
+use Rattle.store_command_line.specs.declared.said.SumOptions.{SumOptions}
 
 -- the mode that the options say
 abbrev pub mode_of : SumMode → Keying

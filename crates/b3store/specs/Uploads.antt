@@ -14,7 +14,7 @@ use Rattle.store_shared.specs.Cuts.{cut_of}
 use Rattle.store_shared.specs.declared.fault.UploadFaultKind.{UploadFaultKind}
 use Rattle.store_shared.specs.declared.fault.UploadFaultKind.TheVariants.{BadCut, GateFault, NoMemory, Refused, Stopped, StrangePart}
 use Rattle.b3store.specs.Audits.{accepted_text}
-use Rattle.b3store.specs.declared.said.UploadOptions.{UploadOptions}
+use Rattle.store_command_line.specs.declared.said.UploadOptions.{UploadOptions}
 
 -- the journal's text, where it is asked for
 abbrev pub journal_part : Bool → List Entry → List ℕ

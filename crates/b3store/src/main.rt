@@ -1,21 +1,18 @@
 //! The program `b3store`: each subcommand is an engine over a reader and a writer.
 #![tactic(auto)]
 
-ghost use Rattle.b3store.specs.Stated.{InRange};
+ghost use Rattle.store_command_line.specs.Ranges.{InRange};
 
 mod audit;
 mod check;
-mod command;
 mod files;
 mod outcome;
 mod run;
-mod said;
 mod streams;
 mod sum;
 #[cfg(test)]
 mod tests;
 mod upload;
-mod words;
 
 use audit::audit;
 use b3_core::Work;
@@ -23,7 +20,6 @@ use check::check;
 use files::SystemFiles;
 use outcome::{Cause, Verdict};
 use run::run;
-use said::{Fault, Options};
 use std::io;
 use std::io::BufReader;
 use std::marker::Brand;
@@ -31,9 +27,9 @@ use std::process::ExitCode;
 use std::sync::Wait;
 use std::sync::ledger::Blank;
 use std::thread::Threads;
+use store_command_line::{Fault, Options, options};
 use sum::sum;
 use upload::upload;
-use words::options;
 
 const GOOD: u8 = 0;
 

@@ -11,12 +11,12 @@ ghost use Rattle.b3_core.specs.Tree.{tree_top};
 ghost use Rattle.b3store.specs.Sums.{mode_of, text_in, sum_text};
 
 use crate::outcome::Cause;
-use crate::said::{SumMode, SumOptions};
 use crate::streams::{read_all, write_all};
 use b3_check::Line;
 use b3_core::{Mode, OutputReader, Top, Work, hash_wide};
 use std::alloc::{AllocError, Global};
 use std::io::{Read, Write};
+use store_command_line::{SumMode, SumOptions};
 
 // The mode that the options say.
 fn mode_of(mode: SumMode<'_>, work: &mut Work) -> Mode
@@ -89,8 +89,10 @@ fn text_of(
     }
 }
 
-/// Reads all its input, and then writes its check line with the options' name, or the digits of so many bytes of its extended output as
-/// the options ask for.
+/// Writes the hash of all its input, as the options ask for it.
+///
+/// Without a length that is the check line with the options' name; with a length it is the digits of so many bytes of the
+/// extended output, and a line feed.
 ///
 /// It stops at the first read or write that fails, or where memory is refused. It writes nothing before it has
 /// read everything.

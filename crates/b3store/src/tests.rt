@@ -1,8 +1,7 @@
-//! The engines over memory, and the command line.
+//! The engines over memory.
 
 mod audits;
 mod checks;
-mod command_line;
 mod fakes;
 mod files;
 mod runs;

@@ -7,7 +7,6 @@ ghost use Rattle.b3store.specs.Uploads.{IsTold, SomeRefusal, WroteRefusal, Wrote
 
 use crate::audit::accepted_line;
 use crate::outcome::{Cause, Verdict};
-use crate::said::UploadOptions;
 use crate::streams::{read_all, write_all};
 use crate::sum::line_of;
 use std::alloc::{AllocError, Global};
@@ -15,6 +14,7 @@ use std::io::{Read, Write};
 use std::sync::Wait;
 use std::sync::ledger::{Blank, Ledger};
 use std::thread::Threads;
+use store_command_line::UploadOptions;
 use store_core::{Address, Entry, Limits, Refusal};
 use store_ledger::Share;
 use store_script::{journal_text, refusal_name};

@@ -3,13 +3,13 @@
 ghost use Rattle.b3_check.specs.Names.{IsName};
 
 use crate::outcome::Cause;
-use crate::said::{SumMode, SumOptions};
 use crate::sum::sum;
 use crate::tests::fakes::{FailingReader, FailingWriter};
 use crate::tests::vectors::{ABC, CONTEXT, DERIVED, KEYED};
 use b3_core::Work;
 use std::process::Abort;
 use std::test::Fail;
+use store_command_line::{SumMode, SumOptions};
 
 const PLAIN: SumOptions<'static> = SumOptions {
     name: "-",

@@ -4,7 +4,6 @@ ghost use Rattle.std.specs.Prelude.{◌≡◌, ◌^◌};
 
 use crate::audit::audit;
 use crate::outcome::{Cause, Verdict};
-use crate::said::UploadOptions;
 use crate::tests::fakes::FailingReader;
 use crate::tests::vectors::EMPTY;
 use crate::upload::upload;
@@ -15,6 +14,7 @@ use std::sync::Wait;
 use std::sync::ledger::{Blank, Ledger};
 use std::test::Fail;
 use std::thread::Threads;
+use store_command_line::UploadOptions;
 
 // The hash of the pattern of 2049 bytes.
 const PATTERN_2049: &str = "5f4d72f40d7a5f82b15ca2b2e44b1de3c2ef86c426c95c1af0b6879522563030";

@@ -6,10 +6,8 @@ pub const EMPTY: &str = "af1349b9f5f9a1a6a0404dea36dcc9499bcb25c9adc112b7cc9a93c
 /// The hash of `abc`.
 pub const ABC: &str = "6437b3ac38465133ffb63b75273a8db548c558465d79db03fd359c6cd5bd9d85";
 
-/// The keyed hash of no bytes, with the key whose digits are `KEY_DIGITS`.
+/// The keyed hash of no bytes, with the key `whats the Elvish word for friend`.
 pub const KEYED: &str = "92b2b75604ed3c761f9d6f62392c8a9227ad0ea3f09573e783f1498a4ed60d26";
-
-pub const KEY_DIGITS: &str = "77686174732074686520456c7669736820776f726420666f7220667269656e64";
 
 /// The key derived in `CONTEXT` from no bytes.
 pub const DERIVED: &str = "2cc39783c223154fea8dfb7c1b1660f2ac2dcbd1c1de8277b0b0dd39b7e50d7d";

@@ -1,10 +1,14 @@
 //! What the words say.
 
 use crate::said::{Fault, Options, SumMode};
-use crate::tests::vectors::{CONTEXT, KEY_DIGITS};
 use crate::words::options;
 use std::process::Abort;
 use std::test::Fail;
+
+// The digits of the key `whats the Elvish word for friend`.
+const KEY_DIGITS: &str = "77686174732074686520456c7669736820776f726420666f7220667269656e64";
+
+const CONTEXT: &str = "BLAKE3 2019-12-27 16:29:52 test vectors context";
 
 fn is_usage<R: AllocGlobal + Abort>(rt: &R, words: &[&str]) {
     match options(rt.alloc(), words) {

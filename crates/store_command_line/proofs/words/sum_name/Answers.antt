@@ -2,8 +2,8 @@ use Rattle.std.proofs.Common.{◌∙◌, Option, ap, refl, sym, subst, codes}
 use Rattle.std.specs.Prelude.{option_map}
 use Rattle.clap.specs.Words.{Text, found_of}
 use Rattle.clap.proofs.WalkLemmas.{first_value-rows}
-use Rattle.b3store.specs.Stated.{SaysName}
-use Rattle.b3store.proofs.words.sum_name.Goals as goal
+use Rattle.store_command_line.specs.Stated.{SaysName}
+use Rattle.store_command_line.proofs.words.sum_name.Goals as goal
 
 pub returns-in_default-clause-says : goal.returns-in_default-clause-says
 returns-in_default-clause-says c =

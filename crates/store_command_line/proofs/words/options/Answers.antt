@@ -1,7 +1,7 @@
 use Rattle.std.proofs.Common.{◌∙◌, sym, ap, map, Some}
 use Rattle.clap.specs.Words.{App, Text, found_of, rows_of, is_simple, subcommand_of}
-use Rattle.b3store.proofs.Found.{entered}
-use Rattle.b3store.proofs.words.options.Goals as goal
+use Rattle.store_command_line.proofs.Found.{entered}
+use Rattle.store_command_line.proofs.words.options.Goals as goal
 
 pub returns-in-Some-run-default-clause-says : goal.returns-in-Some-run-default-clause-says
 returns-in-Some-run-default-clause-says g c =

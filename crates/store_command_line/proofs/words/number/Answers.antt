@@ -2,9 +2,9 @@ use Rattle.std.proofs.Common.{Option, sym, subst}
 use Rattle.std.specs.Str.Parse.{ParsesUnsigned, ExplainsUnsignedError, HasUnsignedDigitsIfOk}
 use Rattle.clap.specs.Words.{Text, found_of}
 use Rattle.clap.proofs.WalkLemmas.{one_text-rows}
-use Rattle.b3store.proofs.Found.{spells}
-use Rattle.b3store.specs.Stated.{Spells}
-use Rattle.b3store.proofs.words.number.Goals as goal
+use Rattle.store_command_line.proofs.Found.{spells}
+use Rattle.store_command_line.specs.Stated.{Spells}
+use Rattle.store_command_line.proofs.words.number.Goals as goal
 
 pub returns-in-Ok : goal.returns-in-Ok
 returns-in-Ok c = subst (λ (o : Option Text). Spells o c.in-Ok.n) (one_text-rows (found_of c.args.found.now) c.args.id.now)

@@ -1,9 +1,9 @@
 use Rattle.std.proofs.Common.{Option, subst}
 use Rattle.clap.specs.Words.{Text, found_of}
 use Rattle.clap.proofs.WalkLemmas.{one_text-rows}
-use Rattle.b3store.specs.Stated.{SaysFlag}
-use Rattle.b3store.proofs.Found.{says_flag}
-use Rattle.b3store.proofs.words.flag.Goals as goal
+use Rattle.store_command_line.specs.Stated.{SaysFlag}
+use Rattle.store_command_line.proofs.Found.{says_flag}
+use Rattle.store_command_line.proofs.words.flag.Goals as goal
 
 pub returns : goal.returns
 returns c = subst (λ (o : Option Text). SaysFlag o c.get_flag.result) (one_text-rows (found_of c.args.found.now) c.args.id.now)

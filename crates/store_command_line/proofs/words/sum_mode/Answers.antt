@@ -3,7 +3,7 @@ use Rattle.std.specs.Prelude.{IsSomeAnd, Ok, option_map}
 use Rattle.clap.specs.Words.{Text, found_of}
 use Rattle.clap.proofs.WalkLemmas.{first_value-rows}
 use Rattle.hex.specs.Hex.{decode_sized}
-use Rattle.b3store.proofs.words.sum_mode.Goals as goal
+use Rattle.store_command_line.proofs.words.sum_mode.Goals as goal
 
 pub returns-in-None-None : goal.returns-in-None-None
 returns-in-None-None c =

@@ -3,8 +3,9 @@
 ghost use Rattle.std.specs.Prelude.{◌≡◌, ◌≤◌, IfOk, IfSome, codes, map};
 ghost use Rattle.clap.specs.Words.{found_of, first_of, one_of, rows_of, subcommand_of};
 ghost use Rattle.b3_check.specs.Names.{IsName};
-ghost use Rattle.b3store.specs.CommandLine.{command_line};
-ghost use Rattle.b3store.specs.Stated.{AreWithin, InRange, Says, SaysFlag, SaysMode, SaysName, SaysSum, SaysUpload, Spells, SpellsOr};
+ghost use Rattle.store_command_line.specs.CommandLine.{command_line};
+ghost use Rattle.store_command_line.specs.Ranges.{AreWithin, InRange};
+ghost use Rattle.store_command_line.specs.Stated.{Says, SaysFlag, SaysMode, SaysName, SaysSum, SaysUpload, Spells, SpellsOr};
 
 use crate::command::program;
 use crate::said::{Fault, Options, SumMode, SumOptions, UploadOptions};
@@ -143,9 +144,11 @@ fn upload_options(alloc: Global, found: &ArgMatches<'_>) -> Result<UploadOptions
     })
 }
 
-/// What the words say, the first of them being the program's name: `Ok` only with the subcommand and the values
-/// that clap states of the words, each number within its range, a name that is not empty and has no byte 0, never
-/// a key and a context together. All other words are `Usage`, a request for help too.
+/// What the words say, the first of them being the program's name.
+///
+/// `Ok` only with the subcommand and the values that clap states of the words, each number within its range, a name that
+/// is not empty and has no byte 0, never a key and a context together. All other words are `Usage`, a request for help
+/// too. `NoMemory` where memory is refused.
 pub fn options<'a, S: AsStr>(alloc: Global, words: &'a [S]) -> Result<Options<'a>, Fault>
     ensures says { IfOk result (λ o. Says o (subcommand_of command_line (map S.text words.entry.now))) }
     ensures range { IfOk result InRange }

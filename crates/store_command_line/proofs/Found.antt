@@ -3,7 +3,7 @@ use Rattle.std.proofs.Common.{◌≡◌, ◌∙◌, Bool, true, false, List, Opt
 use Rattle.std.specs.Prelude.{option_map, Result, Ok, ℕ}
 use Rattle.clap.specs.Words.{TriesOne}
 use Rattle.std.specs.Str.Parse.{digits_value, without_leading_plus}
-use Rattle.b3store.specs.Stated.{SaysFlag, Spells}
+use Rattle.store_command_line.specs.Stated.{SaysFlag, Spells}
 use Rattle.clap.specs.Words.{Row, Text, subcommand_rows_of, subcommand_name_of}
 use Rattle.clap.specs.declared.parser.matches.ArgMatches.{ArgMatches}
 

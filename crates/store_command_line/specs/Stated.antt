@@ -1,15 +1,14 @@
 -- What the words of a command line say to the program.
-use Rattle.std.specs.Prelude.{◌≡◌, ◌≤◌, ℕ, Bool, true, false, Option, Some, None, Ok, IfSome, IsSomeAnd, List, codes}
+use Rattle.std.specs.Prelude.{◌≡◌, ℕ, Bool, true, false, Option, Some, None, Ok, IsSomeAnd, List, codes}
 use Rattle.std.specs.Str.Parse.{digits_value, without_leading_plus}
 use Rattle.clap.specs.Words.{Row, Text, first_of, one_of}
 use Rattle.hex.specs.Hex.{decode_sized}
-use Rattle.b3_check.specs.Names.{IsName}
-use Rattle.b3store.specs.declared.said.Options.{Options}
-use Rattle.b3store.specs.declared.said.Options.TheVariants.{Sum, Run, Upload, Check, Audit}
-use Rattle.b3store.specs.declared.said.SumMode.{SumMode}
-use Rattle.b3store.specs.declared.said.SumMode.TheVariants.{Hash, Keyed, Derive}
-use Rattle.b3store.specs.declared.said.SumOptions.{SumOptions}
-use Rattle.b3store.specs.declared.said.UploadOptions.{UploadOptions}
+use Rattle.store_command_line.specs.declared.said.Options.{Options}
+use Rattle.store_command_line.specs.declared.said.Options.TheVariants.{Sum, Run, Upload, Check, Audit}
+use Rattle.store_command_line.specs.declared.said.SumMode.{SumMode}
+use Rattle.store_command_line.specs.declared.said.SumMode.TheVariants.{Hash, Keyed, Derive}
+use Rattle.store_command_line.specs.declared.said.SumOptions.{SumOptions}
+use Rattle.store_command_line.specs.declared.said.UploadOptions.{UploadOptions}
 
 -- the number that an argument's text spells, where the argument is given
 abbrev pub Spells : Option Text → Option ℕ → Type 0
@@ -56,15 +55,3 @@ Says Run found = (rows : List Row) × (found ≡ Some (codes "run", rows))
 Says (Upload o) found = (rows : List Row) × (found ≡ Some (codes "upload", rows)) × SaysUpload o rows
 Says Check found = (rows : List Row) × (found ≡ Some (codes "check", rows))
 Says Audit found = (rows : List Row) × (found ≡ Some (codes "audit", rows))
-
--- from 1 to 16 workers, and from 1 to 16384 chunks in a part
-abbrev pub AreWithin : UploadOptions → Type 0
-AreWithin o = ((1 ≤ o.workers) × (o.workers ≤ 16)) × ((1 ≤ o.part_chunks) × (o.part_chunks ≤ 16384))
-
--- the name is one that a check line may have, and the numbers are within their ranges
-abbrev pub InRange : Options → Type 0
-InRange (Sum o) = IsName o.name.now × IfSome o.length (λ n. (1 ≤ n) × (n ≤ 65536))
-InRange Run = Unit {0}
-InRange (Upload o) = AreWithin o
-InRange Check = Unit {0}
-InRange Audit = Unit {0}

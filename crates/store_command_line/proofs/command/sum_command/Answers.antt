@@ -2,8 +2,8 @@ use Rattle.std.proofs.Common.{rules, ◌≡◌, ◌∙◌, ◌||◌, Bool, false
 use Rattle.std.proofs.lemmas.Result.{IfOk-weaker}
 use Rattle.clap.specs.Words.{app_of, rule_of, new_app, with_rule}
 use Rattle.clap.specs.declared.builder.command.Command.TheViews.{out-Command as fields_of}
-use Rattle.b3store.specs.CommandLine.{number_rule}
-use Rattle.b3store.proofs.command.sum_command.Goals as goal
+use Rattle.store_command_line.specs.CommandLine.{number_rule}
+use Rattle.store_command_line.proofs.command.sum_command.Goals as goal
 
 pub returns-clause-shape : goal.returns-clause-shape
 returns-clause-shape c =

@@ -5,6 +5,7 @@ use std::alloc::AllocError;
 /// The mode that `sum` hashes in.
 #[derive(Clone, Copy, Debug)]
 pub enum SumMode<'a> {
+    /// Without a key.
     Hash,
     /// With the key of `--key`.
     Keyed([u8; 32]),
@@ -17,6 +18,7 @@ pub enum SumMode<'a> {
 pub struct SumOptions<'a> {
     /// The name that stands in the check line.
     pub name: &'a str,
+    /// The mode that the input is hashed in.
     pub mode: SumMode<'a>,
     /// How many bytes of the extended output are asked for, in place of the check line.
     pub length: Option<u32>,
@@ -36,10 +38,15 @@ pub struct UploadOptions {
 /// A subcommand with its options.
 #[derive(Clone, Copy, Debug)]
 pub enum Options<'a> {
+    /// `sum`.
     Sum(SumOptions<'a>),
+    /// `run`.
     Run,
+    /// `upload`.
     Upload(UploadOptions),
+    /// `check`.
     Check,
+    /// `audit`.
     Audit,
 }
 
@@ -48,6 +55,7 @@ pub enum Options<'a> {
 pub enum Fault {
     /// The words are wrong, or ask for help: the text that tells so.
     Usage(String),
+    /// Memory was refused.
     NoMemory,
 }
 
