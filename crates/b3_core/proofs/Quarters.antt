@@ -8,7 +8,7 @@ use Rattle.std.proofs.Math.Pow.{pow_mono}
 use Rattle.std.proofs.Math.Seq.{take-add}
 use Rattle.b3_core.proofs.FourLanes.{below_two}
 use Rattle.b3_core.specs.Lanes.{chunk_at, quarter_top}
-use Rattle.b3_core.specs.Tree.{Keying, Inputs, chunk_top, parent_top, tree_top}
+use Rattle.b3_core.specs.Tree.{Keying, chunk_top, parent_top, tree_top}
 use Rattle.b3_core.proofs.Nodes.{top_short, top_join}
 
 -- two halves of some bytes, each 2 ^ k whole chunks

@@ -1,5 +1,5 @@
 -- Turns of words of 32 bits, to the right.
-use Rattle.std.proofs.Common.{◌≡◌, ℕ, ◌+◌, ◌-◌, ◌*◌, ◌/◌, ◌%◌, ◌^◌, ◌<◌, bit_or, bit_xor, refl, sym, ap, ◌∙◌, arith, add-zero, mod-lt, pow_pos}
+use Rattle.std.proofs.Common.{◌≡◌, ℕ, ◌+◌, ◌*◌, ◌/◌, ◌%◌, ◌^◌, ◌<◌, bit_or, bit_xor, sym, ap, ◌∙◌, arith, add-zero, pow_pos}
 use Rattle.std.proofs.lemmas.Nat.{mod-pow-add, mod_low, or_comm, or_shifted, shl-shr, shr_below, xor_block, xor_lt, xor_mod, xor_shr}
 use Rattle.b3_core.specs.Compression.{turned, xor_turn}
 

@@ -1,4 +1,4 @@
-use Rattle.std.proofs.Common.{◌+◌, arith, ◌≡◌, ◌∙◌, ap, ap₂, ◌++◌}
+use Rattle.std.proofs.Common.{◌+◌, arith, ◌∙◌, ap, ap₂, ◌++◌}
 use Rattle.b3_core.proofs.Nodes.{parent_value}
 use Rattle.b3_core.proofs.lanes.parent_values.Goals as goal
 

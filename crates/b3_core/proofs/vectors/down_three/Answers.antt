@@ -1,4 +1,4 @@
-use Rattle.std.proofs.Common.{◌≡◌, List, [], ◌∷◌, ◌++◌, slice_index, slice_index_or, refl}
+use Rattle.std.proofs.Common.{◌≡◌, [], ◌∷◌, ◌++◌, slice_index, slice_index_or, refl}
 use Rattle.b3_core.proofs.FourLanes.{four_lanes}
 use Rattle.b3_core.proofs.vectors.down_three.Goals as goal
 

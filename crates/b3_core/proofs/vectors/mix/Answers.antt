@@ -1,4 +1,4 @@
-use Rattle.std.proofs.Common.{◌≡◌, ◌<◌, ◌∙◌, ◌^◌, refl, ap, ap₂, bit_xor, mod-lt, pow_pos, slice_index, sym, subst, ℕ}
+use Rattle.std.proofs.Common.{◌≡◌, ◌<◌, ◌∙◌, ◌^◌, refl, ap₂, bit_xor, mod-lt, pow_pos, slice_index, sym, subst, ℕ}
 use Rattle.b3_core.specs.Compression.{mix, turned, xor_turn}
 use Rattle.b3_core.proofs.FourLanes.{lane_below}
 use Rattle.b3_core.proofs.Turns.{turned_late}

@@ -1,8 +1,8 @@
-use Rattle.std.proofs.Common.{◌≡◌, ℕ, zero, ◌+◌, ◌-◌, ◌*◌, ◌/◌, ◌^◌, ◌<◌, List, length, take, drop, arith, ap, ap₂, sym, subst, ◌∙◌}
+use Rattle.std.proofs.Common.{◌≡◌, ℕ, ◌+◌, ◌-◌, ◌*◌, ◌/◌, ◌^◌, ◌<◌, List, length, take, drop, arith, ap, ap₂, sym, subst, ◌∙◌}
 use Rattle.std.proofs.lemmas.List.{length-drop, length-take-le}
 use Rattle.std.proofs.lemmas.Nat.{pow_pos}
 use Rattle.b3_core.specs.Lanes.{half_lane, quarter_top}
-use Rattle.b3_core.specs.Tree.{Inputs, chaining_value_of, parent_top}
+use Rattle.b3_core.specs.Tree.{chaining_value_of}
 use Rattle.b3_core.proofs.FourLanes.{below_four}
 use Rattle.b3_core.proofs.Quarters.{quarter_one, front_pair, back_pair, level_up}
 use Rattle.b3_core.proofs.wide.+quarter_values.Goals as goal

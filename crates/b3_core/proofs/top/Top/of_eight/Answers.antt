@@ -1,4 +1,4 @@
-use Rattle.std.proofs.Common.{◌≡◌, ℕ, ◌<◌, ◌+◌, List, ap, refl, arith, ◌∙◌}
+use Rattle.std.proofs.Common.{ℕ, ◌<◌, ◌+◌, List, ap, refl, arith, ◌∙◌}
 use Rattle.b3_core.specs.Lanes.{chunk_at}
 use Rattle.b3_core.proofs.Quarters.{front_chunk, back_chunk}
 use Rattle.b3_core.proofs.top.Top.of_eight.Goals as goal
