@@ -1,12 +1,12 @@
 -- What is noted of lent bytes.
-use Rattle.std.proofs.Common.{◌≡◌, ℕ, zero, suc, ◌+◌, ◌-◌, ◌*◌, ◌/◌, ◌%◌, ◌^◌, ◌<◌, ◌≤◌, ◌⊎◌, ◌++◌, List, [], ◌∷◌, length, map, take, drop, Option, Some, None, nat_lt, true, false, arith, refl, ap, ap₂, subst, sym, ◌∙◌, inl, inr}
-use Rattle.std.specs.Prelude.{◌≢◌, ◌↔◌, Bool, IfErr, IfNone, IfOk, IfSome, OnOk, Result, Ok, Err}
+use Rattle.std.proofs.Common.{◌≡◌, ℕ, ◌+◌, ◌-◌, ◌*◌, ◌/◌, ◌%◌, ◌^◌, ◌<◌, ◌≤◌, ◌⊎◌, ◌++◌, List, [], ◌∷◌, length, take, drop, Option, Some, None, true, arith, refl, ap, ap₂, subst, sym, ◌∙◌, inl, inr}
+use Rattle.std.specs.Prelude.{IfErr, IfNone, IfOk, IfSome, OnOk, Result, Ok, Err}
 use Rattle.std.specs.List.Sorted.{IsStrictlySortedBy}
 use Rattle.std.proofs.lemmas.Bool.{cases_lt}
 use Rattle.std.proofs.lemmas.List.{drop-drop, drop_all, length-map, take-append-drop}
-use Rattle.b3_forest.specs.Followed.{AllNoted, ArePartsOf, Followed, Follows, InRanges, IsFirstNoted, IsFirstUnnoted, IsIn, IsNoted, IsNotedWith, NothingNoted, bytes_at, followed, noting_merges, range_of}
+use Rattle.b3_forest.specs.Followed.{AllNoted, ArePartsOf, Follows, InRanges, IsFirstNoted, IsFirstUnnoted, IsIn, IsNoted, IsNotedWith, NothingNoted, bytes_at, followed, noting_merges, range_of}
 use Rattle.b3_forest.specs.Nodes.{HasChunk, Keeps, Nodes, is_held, node_at}
-use Rattle.b3_forest.specs.Parts.{Part, Fits, chunk_in, chunks_of, end_of}
+use Rattle.b3_forest.specs.Parts.{Part, chunk_in, chunks_of, end_of}
 use Rattle.b3_forest.specs.Pieces.{piece_count}
 use Rattle.b3_forest.specs.Uploads.{ArePlaced, IsFirstMissing, IsFirstOverlap, IsHeldAt, Upload, content_of, first_gap, first_missing, merges_of, overlap_at, with_part}
 use Rattle.b3_forest.specs.declared.node.Node.{Node}
@@ -14,7 +14,7 @@ use Rattle.b3_forest.proofs.Canonical.{AreSorted, forest_count, head_at, in_tail
 use Rattle.b3_forest.proofs.Contents.{gap_follows, gap_here}
 use Rattle.b3_forest.proofs.Finishing.{nothing_missing}
 use Rattle.b3_forest.proofs.HeldOffsets.{least_missing, least_overlap, offset_after}
-use Rattle.b3_forest.proofs.HeldParts.{in_or_out, held_here, held_there, held_after, none_held_in_nothing, with_part_first, with_part_later}
+use Rattle.b3_forest.proofs.HeldParts.{in_or_out, held_here, held_there, none_held_in_nothing, with_part_first, with_part_later}
 use Rattle.b3_forest.proofs.Maps.{same_or}
 use Rattle.b3_forest.proofs.Merging.{some_same}
 use Rattle.b3_forest.proofs.Places.{held_in}

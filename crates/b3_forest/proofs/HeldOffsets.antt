@@ -1,9 +1,9 @@
 -- Which offsets parts hold.
-use Rattle.std.proofs.Common.{◌≡◌, ℕ, zero, suc, ◌+◌, ◌-◌, ◌*◌, ◌<◌, ◌≤◌, ◌⊎◌, List, [], ◌∷◌, length, Option, Some, None, nat_lt, true, false, arith, refl, ap, subst, sym, ◌∙◌, inl, inr}
-use Rattle.std.specs.Prelude.{◌≢◌, Bool, IfNone, IfSome, max, ◌==◌, if◌then◌else◌}
+use Rattle.std.proofs.Common.{◌≡◌, ℕ, ◌<◌, ◌≤◌, List, [], ◌∷◌, length, Option, Some, None, nat_lt, true, false, arith, refl, subst, sym, inl, inr}
+use Rattle.std.specs.Prelude.{IfNone, IfSome, max}
 use Rattle.std.proofs.lemmas.Bool.Decides.{nat_tests}
 use Rattle.std.proofs.lemmas.Bool.{cases_lt}
-use Rattle.b3_forest.specs.Parts.{Part, Fits, end_of}
+use Rattle.b3_forest.specs.Parts.{Part, end_of}
 use Rattle.b3_forest.specs.Uploads.{ArePlaced, IsFirstMissing, IsFirstOverlap, IsHeldAt, IsUpload, TellsMissing, TellsOverlap, Upload, first_gap, first_missing, overlap_at, overlaps}
 use Rattle.b3_forest.proofs.Contents.{gap_follows, gap_here}
 use Rattle.b3_forest.proofs.HeldPlaces.{meets, overlap_here, overlap_later, meet}

@@ -1,7 +1,7 @@
 use Rattle.std.proofs.Common.{◌≡◌, ◌*◌, ◌-◌, ℕ, List, None, Some, length, ap, subst, ◌∙◌}
 use Rattle.std.specs.Prelude.{IfErr, IfOk, OnOk}
 use Rattle.b3_core.specs.Modes.{hash_mode}
-use Rattle.b3_core.specs.Tree.{Inputs, tree_top}
+use Rattle.b3_core.specs.Tree.{tree_top}
 use Rattle.b3_core.specs.Work.{counted}
 use Rattle.b3_forest.specs.Followed.{AllNoted, Followed, IsFirstUnnoted, followed}
 use Rattle.b3_forest.specs.Uploads.{first_missing, content_of, finish_work}

@@ -1,4 +1,4 @@
-use Rattle.std.proofs.Common.{◌≡◌, subst}
+use Rattle.std.proofs.Common.{subst}
 use Rattle.std.specs.Prelude.{IfNone, IfSome}
 use Rattle.b3_forest.specs.Followed.{AllNoted, Followed, IsFirstUnnoted}
 use Rattle.b3_forest.proofs.Following.{told_none, told_some}

@@ -1,5 +1,4 @@
-use Rattle.std.proofs.Common.{◌≡◌, ◌≤◌, [], arith, refl, length}
-use Rattle.b3_forest.specs.Followed.{Follows}
+use Rattle.std.proofs.Common.{[], arith, refl, length}
 use Rattle.b3_forest.proofs.Holding.{keeps_nothing}
 use Rattle.b3_forest.proofs.follow.Follow.new.Goals as goal
 

@@ -1,4 +1,4 @@
-use Rattle.std.proofs.Common.{◌≡◌, ◌*◌, ◌-◌, ◌≤◌, ◌<◌, ◌+◌, ℕ, List, None, Some, length, arith, ap, ap₂, refl, sym, subst, ◌∙◌}
+use Rattle.std.proofs.Common.{◌≡◌, length, ap, refl, sym, subst, ◌∙◌}
 use Rattle.b3_forest.specs.Followed.{Followed, IsFirstNoted, IsNotedWith, MayNote, NothingNoted, bytes_at, followed, noting_merges}
 use Rattle.std.specs.Prelude.{◌≢◌}
 use Rattle.b3_forest.specs.Nodes.{Keeps}
