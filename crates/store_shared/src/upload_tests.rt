@@ -179,14 +179,23 @@ fn sealed<B: Ledger, C: Ledger, G: Gate + Sync, R: Threads + Wait + Sync + Alloc
         })
     );
     assert_eq!(rt; locked.store().journal().len() as u64, parts + 4);
-    assert_held(rt, locked.store(), tenant, address, input.as_slice())?;
+    assert_held_by_tenant_1(rt, locked.store(), address, input.as_slice())
+}
+
+// Tenant 1 alone holds an object of these bytes under the address.
+fn assert_held_by_tenant_1<R: AllocGlobal + Abort>(
+    rt: &R,
+    store: &Store,
+    address: Address,
+    wanted: &[u8],
+) -> Result<(), Fail> {
     assert!(rt;
         matches!(
-            locked.store().fetch(TenantId::new(0), address),
+            store.fetch(TenantId::new(0), address),
             Err(Refusal::NotHeld)
         )
     );
-    Ok(())
+    assert_held(rt, store, TenantId::new(1), address, wanted)
 }
 
 // The tenant holds an object of these bytes under the address, and uses as many.
