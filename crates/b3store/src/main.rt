@@ -1,25 +1,9 @@
-//! The program `b3store`: each subcommand is an engine over a reader and a writer.
+//! The program `b3store`: it reads the command line, calls the engine of the subcommand, and makes its answer the exit status.
 #![tactic(auto)]
 
 ghost use Rattle.store_command_line.specs.Ranges.{InRange};
 
-mod audit;
-mod check;
-mod files;
-mod outcome;
-mod run;
-mod streams;
-mod sum;
-#[cfg(test)]
-mod tests;
-mod upload;
-
-use audit::audit;
 use b3_core::Work;
-use check::check;
-use files::SystemFiles;
-use outcome::{Cause, Verdict};
-use run::run;
 use std::io;
 use std::io::BufReader;
 use std::marker::Brand;
@@ -28,8 +12,7 @@ use std::sync::Wait;
 use std::sync::ledger::Blank;
 use std::thread::Threads;
 use store_command_line::{Fault, Options, options};
-use sum::sum;
-use upload::upload;
+use store_engines::{Cause, SystemFiles, Verdict, audit, check, run, sum, upload};
 
 const GOOD: u8 = 0;
 

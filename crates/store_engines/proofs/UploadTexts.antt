@@ -1,0 +1,36 @@
+-- What an upload writes.
+use Rattle.std.proofs.Common.{◌≡◌, ◌+◌, ◌++◌, codes, refl, ℕ, List, Option, Some, None, Result, Ok, Err, ap, ap₂, subst, sym, length, rules, ◌∙◌}
+use Rattle.std.specs.Prelude.{IfSome, OnOk}
+use Rattle.std.specs.Io.KnownBytes.{Appends}
+use Rattle.b3_core.specs.Modes.{hash_of}
+use Rattle.store_core.specs.Model.{Shown}
+use Rattle.store_ledger.specs.declared.holding.Holding.{Holding}
+use Rattle.store_shared.specs.Cuts.{cut_of}
+use Rattle.store_shared.specs.declared.fault.UploadFaultKind.{UploadFaultKind}
+use Rattle.store_engines.specs.Uploads.{IsTold, SomeRefusal, WroteRefusal, WroteUpload, uploaded_text}
+use Rattle.store_engines.specs.declared.outcome.Cause.{Cause}
+use Rattle.store_engines.specs.declared.outcome.Verdict.{Verdict}
+use Rattle.store_engines.specs.declared.outcome.Verdict.TheVariants.{Refused}
+use Rattle.store_command_line.specs.declared.said.UploadOptions.{UploadOptions}
+
+-- a refusal that was told is some refusal
+pub told : (r : Result Verdict Cause) (kind : UploadFaultKind) (old new : Option (List ℕ)) → OnOk r (WroteRefusal kind old new) → r ≡ Ok Refused → SomeRefusal old new
+told (Ok verdict) kind old new wrote is = (kind, wrote)
+told (Err cause) kind old new wrote is = absurd (cc)
+
+-- what was written of an input that is known
+pub wrote : (o : UploadOptions) (known : Option (List ℕ)) (input text address : List ℕ) (share : Holding) (shown : Shown) (old new : Option (List ℕ))
+    → IfSome known (λ left. input ≡ left) → address ≡ hash_of input → share.bytes ≡ length input → share.calls ≡ length (cut_of input o.part_chunks)
+    → IsTold o.journal address share shown text → Appends old new text → IfSome known (λ left. WroteUpload o left old new)
+wrote o None input text address share shown old new same hash bytes calls told appends = tt
+wrote o (Some left) input text address share shown old new same hash bytes calls told appends =
+    subst (λ (x : List ℕ). WroteUpload o x old new) same (record {
+      entries = shown.journal;
+      journal = record { kept = told.kept; legal = told.legal; bytes = told.bytes ∙ bytes; calls = told.calls ∙ calls };
+      wrote = subst (Appends old new) (told.text_is ∙ ap (λ (a : List ℕ). uploaded_text o.journal a share.bytes share.calls shown.journal) hash
+          ∙ ap₂ (λ (n m : ℕ). uploaded_text o.journal (hash_of input) n m shown.journal) bytes calls) appends;
+    })
+
+-- three texts in a row
+pub in_a_row : (a b c x y z : List ℕ) → a ≡ x → b ≡ y → c ≡ z → a ++ (b ++ (codes "\n" ++ c)) ≡ x ++ (y ++ (codes "\n" ++ z))
+in_a_row a b c x y z first second third = rw (first, second, third) refl

@@ -1,0 +1,66 @@
+-- What `upload` writes.
+use Rattle.std.specs.Prelude.{◌≡◌, ◌^◌, ℕ, Bool, true, false, List, ◌++◌, Option, Ok, [], codes, length}
+use Rattle.std.specs.Fmt.{decimal}
+use Rattle.std.specs.Io.KnownBytes.{Appends}
+use Rattle.b3_check.specs.Lines.{written_line}
+use Rattle.b3_core.specs.Modes.{hash_of}
+use Rattle.store_core.specs.Journal.{journal_text}
+use Rattle.store_core.specs.Model.{Shown}
+use Rattle.store_core.specs.Replay.{Kept, accepted_of, replay_of}
+use Rattle.store_core.specs.declared.entry.Entry.{Entry}
+use Rattle.store_ledger.specs.declared.holding.Holding.{Holding}
+use Rattle.store_script.specs.Texts.{refusal_text}
+use Rattle.store_shared.specs.Cuts.{cut_of}
+use Rattle.store_shared.specs.declared.fault.UploadFaultKind.{UploadFaultKind}
+use Rattle.store_shared.specs.declared.fault.UploadFaultKind.TheVariants.{BadCut, GateFault, NoMemory, Refused, Stopped, StrangePart}
+use Rattle.store_engines.specs.Audits.{accepted_text}
+use Rattle.store_command_line.specs.declared.said.UploadOptions.{UploadOptions}
+
+-- the journal's text, where it is asked for
+abbrev pub journal_part : Bool → List Entry → List ℕ
+journal_part true entries = journal_text entries
+journal_part false entries = []
+
+-- the check line of an address, what was accepted, and the journal's text where it is asked for
+abbrev pub uploaded_text : Bool → List ℕ → ℕ → ℕ → List Entry → List ℕ
+uploaded_text journal address bytes calls entries =
+    written_line (record { digest = address; name = codes "-" }) ++ (accepted_text bytes calls ++ (codes "\n" ++ journal_part journal entries))
+
+-- What is written of a store whose upload was filed: its journal is legal, and what it accepted is what the share says.
+pub record IsTold (journal : Bool) (address : List ℕ) (share : Holding) (shown : Shown) (text : List ℕ) : Type 0 where
+  pub kept : Kept
+  pub legal : replay_of shown.journal ≡ Ok kept
+  pub bytes : (accepted_of shown.journal).bytes ≡ share.bytes
+  pub calls : (accepted_of shown.journal).calls ≡ share.calls
+  pub text_is : text ≡ uploaded_text journal address share.bytes share.calls shown.journal
+
+-- a legal journal, whose put entries are as many as the cut's parts and have as many bytes as the input
+pub record IsJournal (part_chunks : ℕ) (input : List ℕ) (entries : List Entry) : Type 0 where
+  pub kept : Kept
+  pub legal : replay_of entries ≡ Ok kept
+  pub bytes : (accepted_of entries).bytes ≡ length input
+  pub calls : (accepted_of entries).calls ≡ length (cut_of input part_chunks)
+
+-- the writer grew by what is written of an input that was filed
+pub record WroteUpload (o : UploadOptions) (input : List ℕ) (old new : Option (List ℕ)) : Type 0 where
+  pub entries : List Entry
+  pub journal : IsJournal o.part_chunks input entries
+  pub wrote : Appends old new (uploaded_text o.journal (hash_of input) (length input) (length (cut_of input o.part_chunks)) entries)
+
+-- ---- failed uploads
+
+-- the name of what failed
+abbrev pub fault_text : UploadFaultKind → List ℕ
+fault_text (Refused refusal) = codes "U1 " ++ refusal_text refusal
+fault_text BadCut = codes "U2"
+fault_text Stopped = codes "U3"
+fault_text (GateFault part code) = codes "U4 part " ++ (decimal part ++ (codes " code " ++ decimal code))
+fault_text NoMemory = codes "U5"
+fault_text StrangePart = codes "U6"
+
+-- the writer grew by the line of a failed upload
+abbrev pub WroteRefusal : UploadFaultKind → Option (List ℕ) → Option (List ℕ) → Type 0
+WroteRefusal kind old new = Appends old new (codes "refused " ++ (fault_text kind ++ codes "\n"))
+
+abbrev pub SomeRefusal : Option (List ℕ) → Option (List ℕ) → Type 0
+SomeRefusal old new = (kind : UploadFaultKind) × WroteRefusal kind old new

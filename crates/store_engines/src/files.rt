@@ -1,0 +1,50 @@
+//! The system's files, by their names.
+
+ghost use Rattle.std.specs.Prelude.{◌≡◌};
+
+use b3_check::{NameFault, Names};
+use b3_core::{Mode, Work, hash_wide};
+use std::fs;
+use std::io::ErrorKind;
+use std::rt::Files;
+
+/// The files of the system. A name is a path, `-` too.
+#[derive(Drop)]
+pub struct SystemFiles<'a, R> {
+    rt: &'a R,
+    work: Work,
+}
+
+impl<'a, R: Files + AllocGlobal> SystemFiles<'a, R> {
+    /// The files that `rt` reaches, nothing being hashed yet.
+    pub fn new(rt: &'a R) -> SystemFiles<'a, R>
+        ensures { result.work ≡ 0 }
+    {
+        SystemFiles {
+            rt,
+            work: Work::new(rt),
+        }
+    }
+}
+
+impl<R: Files + AllocGlobal> Names for SystemFiles<'_, R> {
+    ghost use Rattle.store_engines.specs.Checks.{IsAnswerOfFiles};
+
+    ghost gives = { λ old name answer new. IsAnswerOfFiles name answer };
+
+    /// The hash of all bytes of the file. No file has the name where the system says so, as of a link to nothing;
+    /// any other failure, as of a directory, is `Unreadable`.
+    fn digest_of(&mut self, name: &[u8]) -> Result<Option<[u8; 32]>, NameFault> {
+        let Ok(path) = str::from_utf8(name) else {
+            return Err(NameFault::Unreadable);
+        };
+        match fs::read(self.rt, path) {
+            Ok(bytes) => Ok(Some(hash_wide(&Mode::hash(), &bytes, &mut self.work))),
+            Err(error) => match error.kind() {
+                ErrorKind::NotFound => Ok(None),
+                ErrorKind::OutOfMemory => Err(NameFault::NoMemory),
+                _ => Err(NameFault::Unreadable),
+            },
+        }
+    }
+}

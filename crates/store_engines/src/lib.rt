@@ -1,0 +1,35 @@
+//! The engines of the program's subcommands, each over a reader and a writer.
+//!
+//! | Engine | Reads | Writes |
+//! |---|---|---|
+//! | `sum` | bytes | their check line, or the first bytes of their extended output |
+//! | `check` | check lines | of each whether the content of its name has its hash |
+//! | `run` | a script | its answers, from a store of its own |
+//! | `upload` | bytes | their check line and the accounts of an upload by several workers |
+//! | `audit` | a journal's text | the totals that it leaves and what it says was accepted |
+//!
+//! An engine ends by its `Verdict`, or by the `Cause` that stopped it. `SystemFiles` are the names that `check` asks in the
+//! program.
+//!
+//! Contracts know what a reader gives and what a writer took where their types tell it, as those of slices and of vectors do. The
+//! texts and verdicts are defined in `specs/`: `Sums`, `Checks`, `Scripts`, `Uploads` and `Audits`.
+#![tactic(auto)]
+
+mod auditing;
+mod checking;
+mod files;
+mod outcome;
+mod running;
+mod streams;
+mod summing;
+#[cfg(test)]
+mod tests;
+mod uploading;
+
+pub use auditing::audit;
+pub use checking::check;
+pub use files::SystemFiles;
+pub use outcome::{Cause, Verdict};
+pub use running::run;
+pub use summing::sum;
+pub use uploading::upload;

@@ -1,0 +1,115 @@
+//! The engine of `sum`.
+
+ghost use Rattle.std.specs.Prelude.{◌≡◌, ◌≢◌, ◌++◌, IfErr, IfOk, IfSome, OnOk, codes};
+ghost use Rattle.std.specs.Io.KnownBytes.{Appends, IsAtEnd};
+ghost use Rattle.hex.specs.Hex.{encode_lower};
+ghost use Rattle.b3_check.specs.Lines.{written_line};
+ghost use Rattle.b3_check.specs.Names.{IsName};
+ghost use Rattle.b3_core.specs.ExtendedOutput.{output_of};
+ghost use Rattle.b3_core.specs.Modes.{digest_of};
+ghost use Rattle.b3_core.specs.Tree.{tree_top};
+ghost use Rattle.store_engines.specs.Sums.{mode_of, text_in, sum_text};
+
+use crate::outcome::Cause;
+use crate::streams::{read_all, write_all};
+use b3_check::Line;
+use b3_core::{Mode, OutputReader, Top, Work, hash_wide};
+use std::alloc::{AllocError, Global};
+use std::io::{Read, Write};
+use store_command_line::{SumMode, SumOptions};
+
+// The mode that the options say.
+fn mode_of(mode: SumMode<'_>, work: &mut Work) -> Mode
+    ensures { result ≡ mode_of mode.entry }
+{
+    match mode {
+        SumMode::Hash => Mode::hash(),
+        SumMode::Keyed(key) => Mode::keyed(&key),
+        SumMode::Derive(context) => Mode::derive(context.as_bytes(), work),
+    }
+}
+
+/// The check line of a digest.
+pub(crate) fn line_of(alloc: Global, digest: [u8; 32], name: &str) -> Result<Vec<u8>, AllocError>
+    requires { IsName name.now }
+    ensures { IfOk result (λ line. line.items ≡ written_line (record { digest = digest; name = name.now })) }
+{
+    let name = Vec::from_slice(alloc, name.as_bytes())?;
+    let line = Line::new(digest, name).unwrap();
+    line.text(alloc)
+}
+
+// The check line of an input.
+fn check_line(
+    alloc: Global,
+    mode: &Mode,
+    name: &str,
+    input: &[u8],
+    work: &mut Work,
+) -> Result<Vec<u8>, AllocError>
+    requires { IsName name.now }
+    ensures { IfOk result (λ line. line.items ≡ written_line (record { digest = digest_of input.now mode.now; name = name.now })) }
+{
+    let digest = hash_wide(mode, input, work);
+    line_of(alloc, digest, name)
+}
+
+// The digits of the first `len` bytes of an input's extended output, and a line feed.
+fn output_line(
+    alloc: Global,
+    mode: &Mode,
+    input: &[u8],
+    len: u32,
+    work: &mut Work,
+) -> Result<Vec<u8>, AllocError>
+    ensures { IfOk result (λ line. line.items ≡ encode_lower (output_of (tree_top input.now 0 mode.now) 0 len) ++ codes "\n") }
+{
+    let mut output = vec![in alloc; 0u8; len as usize]?;
+    let mut reader = OutputReader::new(Top::of_input(mode, input, work));
+    reader.fill(&mut output, work).unwrap();
+    let mut line = hex::encode(alloc, &output[..])?;
+    line.push_str("\n")?;
+    Ok(line.into_bytes())
+}
+
+// What `sum` writes of an input.
+fn text_of(
+    alloc: Global,
+    options: &SumOptions<'_>,
+    input: &[u8],
+    work: &mut Work,
+) -> Result<Vec<u8>, AllocError>
+    requires { IsName options.now.name.now }
+    ensures { IfOk result (λ text. text.items ≡ sum_text options.now input.now) }
+{
+    let mode = mode_of(options.mode, work);
+    match options.length {
+        None => check_line(alloc, &mode, options.name, input, work),
+        Some(len) => output_line(alloc, &mode, input, len, work),
+    }
+}
+
+/// Writes the hash of all its input, as the options ask for it.
+///
+/// Without a length that is the check line with the options' name; with a length it is the digits of so many bytes of the
+/// extended output, and a line feed.
+///
+/// It stops at the first read or write that fails, or where memory is refused. It writes nothing before it has
+/// read everything.
+pub fn sum<R: Read, W: Write>(
+    alloc: Global,
+    options: &SumOptions<'_>,
+    reader: &mut R,
+    writer: &mut W,
+    work: &mut Work,
+) -> Result<(), Cause>
+    requires { IsName options.now.name.now }
+    ensures written { OnOk result (IfSome (R.remaining reader.old) (λ input.
+        Appends (W.contents writer.old) (W.contents writer.new) (sum_text options.now input))) }
+    ensures end { OnOk result (IsAtEnd (R.remaining reader.new)) }
+    ensures silent { IfErr result (λ cause. cause ≢ Cause.CannotWrite → W.contents writer.new ≡ W.contents writer.old) }
+{
+    let input = read_all(alloc, reader)?;
+    let text = text_of(alloc, options, &input, work)?;
+    write_all(writer, &text)
+}

@@ -1,0 +1,171 @@
+//! The engine of `upload`.
+
+ghost use Rattle.std.specs.Prelude.{◌≡◌, ◌≢◌, ◌^◌, ◌++◌, codes, IfErr, IfOk, IfSome, OnOk, Err, Ok};
+ghost use Rattle.std.specs.Io.KnownBytes.{Appends, IsAtEnd};
+ghost use Rattle.std.specs.String.{string_bytes};
+ghost use Rattle.store_engines.specs.Uploads.{IsTold, SomeRefusal, WroteRefusal, WroteUpload, fault_text, journal_part};
+
+use crate::auditing::accepted_line;
+use crate::outcome::{Cause, Verdict};
+use crate::streams::{read_all, write_all};
+use crate::summing::line_of;
+use std::alloc::{AllocError, Global};
+use std::io::{Read, Write};
+use std::sync::Wait;
+use std::sync::ledger::{Blank, Ledger};
+use std::thread::Threads;
+use store_command_line::UploadOptions;
+use store_core::{Address, Entry, Limits, Refusal};
+use store_ledger::Share;
+use store_script::{journal_text, refusal_name};
+use store_shared::{Locked, PassAll, Shared, UploadFaultKind, lent_open_tenant};
+
+// The tenant's limit, in bytes.
+const LIMIT: u64 = 1 << 40;
+
+// What is told of a failed upload.
+fn fault_name(alloc: Global, kind: UploadFaultKind) -> Result<String, AllocError>
+    ensures { IfOk result (λ name. string_bytes name ≡ fault_text kind) }
+{
+    match kind {
+        UploadFaultKind::Refused(refusal) => {
+            let name = refusal_name(alloc, refusal)?;
+            format!(in alloc; "U1 {name}")
+        }
+        UploadFaultKind::BadCut => format!(in alloc; "U2"),
+        UploadFaultKind::Stopped => format!(in alloc; "U3"),
+        UploadFaultKind::GateFault { part, code } => {
+            format!(in alloc; "U4 part {part} code {code}")
+        }
+        UploadFaultKind::NoMemory => format!(in alloc; "U5"),
+        UploadFaultKind::StrangePart => format!(in alloc; "U6"),
+    }
+}
+
+// Whether memory was refused.
+fn is_memory(kind: &UploadFaultKind) -> bool {
+    *kind == UploadFaultKind::NoMemory || *kind == UploadFaultKind::Refused(Refusal::NoMemory)
+}
+
+// Tells a failed upload. Want of memory is the engine's cause, and all else a refusal.
+fn refuse<W: Write>(alloc: Global, kind: UploadFaultKind, writer: &mut W) -> Result<Verdict, Cause>
+    ensures told { OnOk result (WroteRefusal kind (W.contents writer.old) (W.contents writer.new)) }
+    ensures verdict { IfOk result (λ verdict. verdict ≡ Verdict.Refused) }
+    ensures cause { IfErr result (λ cause. cause ≢ Cause.CannotRead) }
+{
+    let memory = is_memory(&kind);
+    let name = fault_name(alloc, kind)?;
+    let text = format!(in alloc; "refused {name}\n")?;
+    write_all(writer, text.as_bytes())?;
+    if memory {
+        return Err(Cause::OutOfMemory);
+    }
+    Ok(Verdict::Refused)
+}
+
+// A journal's text, where it is asked for.
+fn journal_part(alloc: Global, wanted: bool, entries: &[Entry]) -> Result<Vec<u8>, AllocError>
+    ensures { IfOk result (λ text. text.items ≡ journal_part wanted entries.now) }
+{
+    if wanted {
+        journal_text(alloc, entries)
+    } else {
+        Ok(Vec::new(alloc))
+    }
+}
+
+// A line with its line feed, a line without, and more text.
+fn joined(line: Vec<u8>, second: &[u8], more: &[u8]) -> Result<Vec<u8>, AllocError>
+    ensures { IfOk result (λ text. text.items ≡ line.items ++ (second.now ++ (codes "\n" ++ more.now))) }
+{
+    let mut text = line;
+    text.extend_from_slice(second)?;
+    text.extend_from_slice(b"\n")?;
+    text.extend_from_slice(more)?;
+    Ok(text)
+}
+
+// What is written of an upload that was filed, from the store that is no longer shared.
+fn uploaded_text<B: Ledger, C: Ledger>(
+    alloc: Global,
+    journal: bool,
+    address: Address,
+    locked: Locked<B, C>,
+    share: Share<B, C>,
+) -> Result<Vec<u8>, AllocError>
+    requires whole { share.parts ≡ 2 ^ 32 }
+    ensures { IfOk result (λ text. IsTold journal address share locked text.items) }
+{
+    let mut locked = locked;
+    let mut share = share;
+    let Ok(accepted) = locked.settle(&mut share) else {
+        unreachable!()
+    };
+    let line = line_of(alloc, address.bytes(), "-")?;
+    let accepted = accepted_line(alloc, accepted.bytes, accepted.calls)?;
+    let entries = journal_part(alloc, journal, locked.store().journal())?;
+    joined(line, accepted.as_bytes(), entries.as_slice())
+}
+
+/// Uploads all its input into a store of one tenant.
+///
+/// So many workers as the options say take parts of so many chunks. Then it writes the input's check line, what was accepted,
+/// and the journal's text where it is asked for. A failed upload is told as `refused` and its name: U1 with the store's
+/// refusal, U2 to U6.
+///
+/// It stops at the first read or write that fails, or where memory is refused; `refused U5` and `refused U1 S14` are written
+/// first. It writes nothing before it has read everything. The two blanks are for the store's book.
+pub fn upload<B: Ledger, C: Ledger, T: Threads + Wait + Sync + Alloc, R: Read, W: Write>(
+    rt: &T,
+    alloc: Global,
+    options: UploadOptions,
+    bytes: Blank,
+    calls: Blank,
+    reader: &mut R,
+    writer: &mut W,
+) -> Result<Verdict, Cause>
+    requires bytes { (bytes.name ≡ B.name) × (bytes.parts ≡ B.parts) × (bytes.parts ≡ 2 ^ 32) }
+    requires calls { (calls.name ≡ C.name) × (calls.parts ≡ C.parts) × (calls.parts ≡ 2 ^ 32) }
+    ensures written { result ≡ Ok Verdict.Good → IfSome (R.remaining reader.old) (λ input.
+        WroteUpload options input (W.contents writer.old) (W.contents writer.new)) }
+    ensures refused { result ≡ Ok Verdict.Refused → SomeRefusal (W.contents writer.old) (W.contents writer.new) }
+    ensures end { OnOk result (IsAtEnd (R.remaining reader.new)) }
+    ensures silent { result ≡ Err Cause.CannotRead → W.contents writer.new ≡ W.contents writer.old }
+{
+    let input = read_all(alloc, reader)?;
+    let (shared, share): (Shared<B, C>, Share<B, C>) = Shared::new(
+        alloc,
+        Limits::full(),
+        bytes,
+        calls,
+    );
+    let tenant = match lent_open_tenant(&mut *shared.lock(rt), LIMIT) {
+        Ok(tenant) => tenant,
+        Err(refusal) => return refuse(alloc, UploadFaultKind::Refused(refusal), writer),
+    };
+    let (share, uploaded) = store_shared::upload(
+        rt,
+        alloc,
+        &shared,
+        share,
+        &PassAll,
+        tenant,
+        input.as_slice(),
+        options.part_chunks as u64,
+        options.workers as u64,
+    );
+    match uploaded {
+        Ok(sealed) => {
+            let text = uploaded_text(
+                alloc,
+                options.journal,
+                sealed.address,
+                shared.close(),
+                share,
+            )?;
+            write_all(writer, text.as_slice())?;
+            Ok(Verdict::Good)
+        }
+        Err(fault) => refuse(alloc, fault.kind, writer),
+    }
+}
