@@ -47,7 +47,6 @@ mod replayed;
 mod replaying;
 mod sealed;
 mod store;
-mod store_tests;
 mod tenant;
 mod tenant_id;
 mod totals;
@@ -84,5 +83,7 @@ pub use writing::write_entry;
 
 #[cfg(test)]
 mod replay_tests;
+#[cfg(test)]
+mod store_tests;
 #[cfg(test)]
 mod tests;
