@@ -37,6 +37,3 @@ pub use reading::read_line;
 pub use report::{Counts, Report, Verdict};
 pub use verifying::verify;
 pub use writing::write;
-
-#[cfg(test)]
-mod tests;

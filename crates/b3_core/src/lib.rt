@@ -34,6 +34,3 @@ pub use top::Top;
 pub use tree::hash;
 pub use wide::hash_wide;
 pub use work::Work;
-
-#[cfg(test)]
-mod tests;

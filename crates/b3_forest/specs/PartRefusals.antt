@@ -1,7 +1,7 @@
--- Why a part is refused when it is made.
-use Rattle.std.specs.Prelude.{ℕ, ◌+◌, ◌%◌, ◌^◌, ◌==◌, ◌&&◌, not, nat_lt, if◌then◌else◌, Option, Some, None}
+-- Why a part is refused when it is made, and what is shown of it.
+use Rattle.std.specs.Prelude.{ℕ, ◌+◌, ◌%◌, ◌^◌, ◌==◌, ◌&&◌, not, nat_lt, if◌then◌else◌, List, Option, Some, None, codes}
 use Rattle.b3_forest.specs.declared.refusal.PartFault.{PartFault}
-use Rattle.b3_forest.specs.declared.refusal.PartFault.TheVariants.{EmptyPart, OffAlign, PastEnd, Ragged, PartTooLong}
+use Rattle.b3_forest.specs.declared.refusal.PartFault.TheVariants.{EmptyPart, NoMemory, OffAlign, PastEnd, Ragged, PartTooLong}
 
 -- the first refusal that applies to a part of len bytes at an offset, for an upload of n bytes
 abbrev pub part_refusal : ℕ → ℕ → ℕ → Option PartFault
@@ -12,3 +12,12 @@ part_refusal n offset len =
     else if not (len % 1024 == 0) && not (offset + len == n) then Some Ragged
     else if nat_lt (2 ^ 24) len then Some PartTooLong
     else None
+
+-- the number of a refusal
+abbrev pub part_fault_text : PartFault → List ℕ
+part_fault_text EmptyPart = codes "F2"
+part_fault_text OffAlign = codes "F3"
+part_fault_text PastEnd = codes "F4"
+part_fault_text Ragged = codes "F5"
+part_fault_text PartTooLong = codes "F6"
+part_fault_text NoMemory = codes "F9"

@@ -16,11 +16,7 @@
 mod add_refused;
 mod cutting;
 mod follow;
-#[cfg(test)]
-mod follow_tests;
 mod forest;
-#[cfg(test)]
-mod forest_tests;
 mod halves;
 mod held;
 mod incomplete;
@@ -44,6 +40,3 @@ pub use plan::{Plan, PlanTooLong};
 pub use prepared::Prepared;
 pub use refusal::{PartFault, PartRefused};
 pub use segment::Segment;
-
-#[cfg(test)]
-mod tests;

@@ -1,10 +1,11 @@
 // Why a part is refused when it is made.
 
-ghost use Rattle.std.specs.Prelude.{◌≡◌, ◌^◌, ◌≤◌, IfNone};
-ghost use Rattle.b3_forest.specs.PartRefusals.{part_refusal};
+ghost use Rattle.std.specs.Prelude.{◌≡◌, ◌^◌, ◌≤◌, IfNone, Some};
+ghost use Rattle.b3_forest.specs.PartRefusals.{part_fault_text, part_refusal};
 ghost use Rattle.b3_forest.specs.Parts.{Fits};
 
 use crate::plan::Plan;
+use std::fmt;
 
 const CHUNK_LEN: u64 = 1024;
 
@@ -26,6 +27,22 @@ pub enum PartFault {
     PartTooLong,
     /// F9: memory was refused.
     NoMemory,
+}
+
+/// The refusal's name.
+impl fmt::Display for PartFault {
+    ghost output = { λ fault. Some (part_fault_text fault) };
+
+    fn fmt<W: fmt::Write>(&self, f: &mut fmt::Formatter<W>) -> fmt::Result {
+        match self {
+            PartFault::EmptyPart => write!(f, "F2"),
+            PartFault::OffAlign => write!(f, "F3"),
+            PartFault::PastEnd => write!(f, "F4"),
+            PartFault::Ragged => write!(f, "F5"),
+            PartFault::PartTooLong => write!(f, "F6"),
+            PartFault::NoMemory => write!(f, "F9"),
+        }
+    }
 }
 
 /// A refused part: its bytes, handed back.

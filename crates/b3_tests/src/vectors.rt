@@ -1,27 +1,27 @@
 // Hashes from outside: of the pattern bytes `i mod 251` and of `abc`, as the reference implementation's command
 // gives them, with the key and the context of the official test vectors.
 
-pub const KEY: &[u8; 32] = b"whats the Elvish word for friend";
+pub(crate) const KEY: &[u8; 32] = b"whats the Elvish word for friend";
 
-pub const CONTEXT: &[u8] = b"BLAKE3 2019-12-27 16:29:52 test vectors context";
+pub(crate) const CONTEXT: &[u8] = b"BLAKE3 2019-12-27 16:29:52 test vectors context";
 
 /// The hash of `abc`.
-pub const ABC: &str = "6437b3ac38465133ffb63b75273a8db548c558465d79db03fd359c6cd5bd9d85";
+pub(crate) const ABC: &str = "6437b3ac38465133ffb63b75273a8db548c558465d79db03fd359c6cd5bd9d85";
 
 /// The bytes of the extended output of `abc` from byte 64 to byte 131.
-pub const ABC_FROM_64: &str =
+pub(crate) const ABC_FROM_64: &str =
     "c08a1fb0b38ed276181ccbd9f7b7edbddf9f86404ad7929605f6ffa3fb1ac87983105f013384f2f11d38879c985d47003804b905f0c38975e28d36804bb60d8c303653";
 
-pub struct Row {
+pub(crate) struct Row {
     /// The length of the pattern.
-    pub len: usize,
+    pub(crate) len: u64,
     /// Its hash in the three modes.
-    pub hash: &'static str,
-    pub keyed: &'static str,
-    pub derived: &'static str,
+    pub(crate) hash: &'static str,
+    pub(crate) keyed: &'static str,
+    pub(crate) derived: &'static str,
 }
 
-pub const ROWS: [Row; 7] = [
+pub(crate) const ROWS: [Row; 7] = [
     Row {
         len: 0,
         hash: "af1349b9f5f9a1a6a0404dea36dcc9499bcb25c9adc112b7cc9a93cae41f3262",
@@ -66,14 +66,14 @@ pub const ROWS: [Row; 7] = [
     },
 ];
 
-pub struct Count {
-    pub len: usize,
-    pub hash: &'static str,
+pub(crate) struct Count {
+    pub(crate) len: u64,
+    pub(crate) hash: &'static str,
     /// The compressions of the hash.
-    pub work: u64,
+    pub(crate) work: u64,
 }
 
-pub const COUNTS: [Count; 6] = [
+pub(crate) const COUNTS: [Count; 6] = [
     Count {
         len: 0,
         hash: "af1349b9f5f9a1a6a0404dea36dcc9499bcb25c9adc112b7cc9a93cae41f3262",

@@ -1,0 +1,234 @@
+use crate::digests::digest;
+use crate::patterns::{part_of_pattern, pattern};
+use crate::vectors::COUNTS;
+use b3_core::{Mode, Work, hash};
+use b3_forest::{AddFault, Forest, Incomplete, Plan};
+use std::process::Abort;
+use std::test::Fail;
+
+fn forest(rt: &impl AllocGlobal, len: u64) -> Result<Forest, Fail> {
+    let plan = Plan::new(len).ok().ok_or("no plan")?;
+    Ok(Forest::new(rt.alloc(), plan))
+}
+
+// Adds a part of a pattern, and answers the merges, and the compressions in the forest.
+fn added(
+    rt: &impl AllocGlobal,
+    forest: &mut Forest,
+    offset: u64,
+    size: u64,
+) -> Result<(u64, u64), Fail> {
+    let len = forest.plan().length();
+    let part = part_of_pattern(rt.alloc(), len, offset, size, &mut Work::new(rt))?;
+    let mut work = Work::new(rt);
+    let merges = forest.add(part, &mut work).ok().ok_or("refused")?;
+    Ok((merges, work.count()))
+}
+
+// The root's hash, and the compressions that it takes.
+fn root(rt: &impl AllocGlobal, forest: &Forest) -> Result<([u8; 32], u64), Fail> {
+    let mut work = Work::new(rt);
+    let top = forest.finish(&mut work).ok().ok_or("not whole")?;
+    Ok((top.root32(&mut work), work.count()))
+}
+
+// The hash of so many bytes of a pattern.
+fn hash_of_pattern(rt: &impl AllocGlobal, len: u64) -> Result<[u8; 32], Fail> {
+    let bytes = pattern(rt.alloc(), 0, len)?;
+    Ok(hash(&Mode::hash(), bytes.as_slice(), &mut Work::new(rt)))
+}
+
+// A forest of parts of a pattern, which come in this order, and the compressions of each.
+fn forest_of(
+    rt: &impl AllocGlobal,
+    len: u64,
+    parts: &[(u64, u64)],
+) -> Result<(Forest, Vec<u64>), Fail> {
+    let mut forest = forest(rt, len)?;
+    let mut counts = Vec::new(rt.alloc());
+    for (offset, size) in parts {
+        let (merges, count) = added(rt, &mut forest, *offset, *size)?;
+        counts.push(if count == merges.wrapping_mul(2) {
+            count
+        } else {
+            9
+        })?;
+    }
+    Ok((forest, counts))
+}
+
+#[test]
+fn four_chunks_from_the_middle(rt: HostRuntime) -> Result<(), Fail> {
+    let parts = [(1024, 2048), (0, 1024), (3072, 1024)];
+    let (forest, counts) = forest_of(&rt, 4096, &parts)?;
+    assert!(rt; counts.as_slice() == [0, 2, 4].as_slice());
+    assert_eq!(rt; root(&rt, &forest)?, (hash_of_pattern(&rt, 4096)?, 1));
+    Ok(())
+}
+
+// What is held: the first offset that is missing, the bytes and the parts.
+fn held(forest: &Forest) -> (Option<u64>, u64, usize) {
+    (forest.first_missing(), forest.held(), forest.parts())
+}
+
+#[test]
+fn what_is_missing_is_told(rt: HostRuntime) -> Result<(), Fail> {
+    let (forest, _) = forest_of(&rt, 4096, &[(1024, 2048), (0, 1024)])?;
+    assert_eq!(rt; held(&forest), (Some(3072), 3072, 2));
+    let incomplete = forest.finish(&mut Work::new(&rt)).err();
+    assert_eq!(rt; incomplete, Some(Incomplete { missing: 3072 }));
+    Ok(())
+}
+
+#[test]
+fn nothing_is_held_at_first(rt: HostRuntime) -> Result<(), Fail> {
+    let forest = forest(&rt, 4096)?;
+    assert_eq!(rt; held(&forest), (Some(0), 0, 0));
+    Ok(())
+}
+
+#[test]
+fn nothing_is_missing_where_all_is_held(rt: HostRuntime) -> Result<(), Fail> {
+    let (forest, _) = forest_of(&rt, 4096, &[(0, 4096)])?;
+    assert_eq!(rt; held(&forest), (None, 4096, 1));
+    Ok(())
+}
+
+// A forest of three parts of 2049 bytes, which come in this order.
+fn in_order(rt: &impl AllocGlobal, order: &[u64]) -> Result<Forest, Fail> {
+    let mut forest = forest(rt, 2049)?;
+    for number in order {
+        let size = if *number == 2 { 1 } else { 1024 };
+        let _ = added(rt, &mut forest, number.wrapping_mul(1024), size)?;
+    }
+    Ok(forest)
+}
+
+#[test]
+fn three_parts_in_any_order(rt: HostRuntime) -> Result<(), Fail> {
+    let wanted = digest(COUNTS[5].hash)?;
+    for order in [
+        [0, 1, 2],
+        [0, 2, 1],
+        [1, 0, 2],
+        [1, 2, 0],
+        [2, 0, 1],
+        [2, 1, 0],
+    ] {
+        let forest = in_order(&rt, &order)?;
+        assert_eq!(rt; root(&rt, &forest)?, (wanted, 3));
+    }
+    Ok(())
+}
+
+#[test]
+fn segments_stand_by_offset(rt: HostRuntime) -> Result<(), Fail> {
+    let forest = in_order(&rt, &[2, 0, 1])?;
+    assert_eq!(rt; forest.segments().len(), 3);
+    let mut next = 0u64;
+    for segment in forest.segments() {
+        assert_eq!(rt; segment.offset, next);
+        let bytes = pattern(rt.alloc(), next, segment.bytes.len() as u64)?;
+        assert!(rt; segment.bytes.as_slice() == bytes.as_slice());
+        next = next.wrapping_add(1024);
+    }
+    Ok(())
+}
+
+#[test]
+fn no_bytes_are_whole(rt: HostRuntime) -> Result<(), Fail> {
+    let forest = forest(&rt, 0)?;
+    assert_eq!(rt; root(&rt, &forest)?, (digest(COUNTS[0].hash)?, 1));
+    Ok(())
+}
+
+// The refusal of a part, which comes back.
+fn refused<R: AllocGlobal + Abort>(
+    rt: &R,
+    forest: &mut Forest,
+    len: u64,
+    offset: u64,
+    size: u64,
+) -> Result<AddFault, Fail> {
+    let mut work = Work::new(rt);
+    let part = part_of_pattern(rt.alloc(), len, offset, size, &mut work)?;
+    let told = forest.refusal_of(&part);
+    let refused = forest.add(part, &mut work).err().ok_or("added")?;
+    assert_eq!(rt;
+        (told, refused.part.offset()),
+        (Some(refused.fault), offset)
+    );
+    Ok(refused.fault)
+}
+
+#[test]
+fn overlaps_are_refused(rt: HostRuntime) -> Result<(), Fail> {
+    let (mut forest, _) = forest_of(&rt, 4096, &[(1024, 1024)])?;
+    let overlap = AddFault::Overlap { at: 1024 };
+    for offset in [0, 1024] {
+        assert_eq!(rt; refused(&rt, &mut forest, 4096, offset, 2048)?, overlap);
+    }
+    Ok(())
+}
+
+#[test]
+fn parts_of_another_plan_are_refused(rt: HostRuntime) -> Result<(), Fail> {
+    let mut forest = forest(&rt, 4096)?;
+    assert_eq!(rt;
+        refused(&rt, &mut forest, 8192, 1024, 1024)?,
+        AddFault::WrongPlan
+    );
+    Ok(())
+}
+
+#[test]
+fn even_chunks_first(rt: HostRuntime) -> Result<(), Fail> {
+    let mut parts = Vec::new(rt.alloc());
+    for chunk in [0u64, 2, 4, 6, 8, 10, 12, 14, 15, 13, 11, 9, 7, 5, 3, 1] {
+        parts.push((1024 * chunk, 1024u64))?;
+    }
+    let (forest, counts) = forest_of(&rt, 16_384, parts.as_slice())?;
+    let wanted = [0, 0, 0, 0, 0, 0, 0, 0, 2, 4, 2, 6, 2, 4, 2, 8];
+    assert!(rt; counts.as_slice() == wanted.as_slice());
+    assert_eq!(rt; root(&rt, &forest)?.1, 1);
+    Ok(())
+}
+
+#[test]
+fn one_long_part(rt: HostRuntime) -> Result<(), Fail> {
+    let (forest, counts) = forest_of(&rt, 16_777_216, &[(0, 16_777_216)])?;
+    assert!(rt; counts.as_slice() == [0].as_slice());
+    assert_eq!(rt; root(&rt, &forest)?.1, 1);
+    Ok(())
+}
+
+// The root of a pattern that is cut into parts of `size` bytes, which come in turns of `step`.
+fn root_of_cut(rt: &impl AllocGlobal, len: u64, size: u64, step: u64) -> Result<[u8; 32], Fail> {
+    let mut forest = forest(rt, len)?;
+    for turn in 0..step {
+        for number in 0..17u64 {
+            let offset = size.wrapping_mul(number);
+            if offset < len && number.checked_rem(step) == Some(step - 1 - turn) {
+                let _ = added(rt, &mut forest, offset, size.min(len - offset))?;
+            }
+        }
+    }
+    Ok(root(rt, &forest)?.0)
+}
+
+#[test]
+fn cuttings_and_orders_agree_with_the_hash(rt: HostRuntime) -> Result<(), Fail> {
+    let lengths = [
+        1u64, 1023, 1024, 1025, 2048, 2049, 3072, 3073, 4095, 4096, 4097, 5120, 5121, 8192, 8193,
+        9216, 9217, 16_383, 16_384, 16_385,
+    ];
+    for len in lengths {
+        let hash = hash_of_pattern(&rt, len)?;
+        for size in [1024u64, 2048, 3072, 5120] {
+            for step in [1u64, 2, 3] {
+                assert_eq!(rt; root_of_cut(&rt, len, size, step)?, hash);
+            }
+        }
+    }
+    Ok(())
+}
