@@ -6,8 +6,6 @@ pub mod refusal;
 pub mod rule;
 pub mod seat;
 pub mod size;
-#[cfg(test)]
-mod tests;
 pub mod view;
 
 use crate::board::drawn::Drawn;

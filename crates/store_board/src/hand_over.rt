@@ -8,8 +8,6 @@ pub mod refusal;
 pub mod rule;
 pub mod take_pass;
 pub mod taken;
-#[cfg(test)]
-mod tests;
 pub mod view;
 
 use crate::hand_over::give_pass::GivePass;

@@ -23,6 +23,3 @@ mod words;
 
 pub use said::{Fault, Options, SumMode, SumOptions, UploadOptions};
 pub use words::options;
-
-#[cfg(test)]
-mod tests;

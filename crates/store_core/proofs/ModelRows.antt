@@ -8,13 +8,13 @@ use Rattle.b3_core.specs.Tree.{chain, chunk_top, parent_top, power_below, left_l
 use Rattle.b3_forest.specs.Parts.{planned}
 use Rattle.b3_forest.specs.Uploads.{content_of, first_gap, overlap_at, with_part}
 use Rattle.store_core.specs.declared.held.Held.{Held}
-use Rattle.store_core.specs.declared.totals.Totals.{Totals}
+use Rattle.store_journal.specs.declared.totals.Totals.{Totals}
 use Rattle.store_core.specs.declared.usage.Usage.{Usage}
 use Rattle.store_core.specs.declared.refusal.Refusal.{Refusal}
 use Rattle.store_core.specs.declared.refusal.Refusal.TheVariants.{BelowUse, Incomplete, LimitTooLarge, NoTenant, NoUpload, NotHeld, OverQuota, Overlap, TooLong, WrongAddress}
 use Rattle.store_core.specs.Commands.{Acceptance, abort_in, begin_in, forget_in, list_in, open_tenant_in, put_in, seal_as_in, seal_in, set_limit_in, usage_in}
 use Rattle.store_core.specs.Model.{ModelStore, totals_of}
-use Rattle.store_core.specs.Replay.{with_holder, without_holder}
+use Rattle.store_journal.specs.Replay.{with_holder, without_holder}
 
 unfoldable on_literals : ⊤
 unfolding content_of first_gap overlap_at with_part with_holder without_holder

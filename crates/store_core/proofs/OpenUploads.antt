@@ -13,7 +13,7 @@ use Rattle.b3_forest.specs.Uploads.{Upload}
 use Rattle.store_core.specs.declared.open_upload.OpenUpload.{OpenUpload}
 use Rattle.store_core.specs.Lawful.{model_upload, model_uploads}
 use Rattle.store_core.specs.Model.{ModelUpload}
-use Rattle.store_core.specs.Replay.{is_number}
+use Rattle.store_journal.specs.Replay.{is_number}
 use Rattle.store_core.specs.Sound.{IsOpen}
 use Rattle.store_core.proofs.Listed.{removed_seen, set_seen}
 

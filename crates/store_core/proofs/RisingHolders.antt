@@ -4,7 +4,7 @@ use Rattle.std.specs.Prelude.{nat_le, nat_lt, ◌==◌, ◌||◌, ◌&&◌, filt
 use Rattle.std.specs.List.{AllByRecursion, list_any}
 use Rattle.std.proofs.lemmas.Bool.{eqb-true, eqb-false, ltb-true, ltb-false, ne_eqb, eq-eqb, leb-true, le-ltb, lt-ltb, or_parts}
 use Rattle.std.proofs.lemmas.List.{drop_all, take-append-drop, take_more}
-use Rattle.store_core.specs.Replay.{with_holder, without_holder}
+use Rattle.store_journal.specs.Replay.{with_holder, without_holder}
 use Rattle.store_core.specs.Sound.{IsRisingFrom}
 use Rattle.store_core.proofs.Listed.{either}
 

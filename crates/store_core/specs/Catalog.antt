@@ -1,24 +1,17 @@
--- Filed objects by the numbers of their filings, which their addresses lead to.
-use Rattle.std.specs.Prelude.{◌≡◌, ◌<◌, ℕ, List, Option, Some}
-use Rattle.std.specs.BTreeMap.{BTreeMap, IsOrdered, get}
+-- Filed objects, each under the hash of its bytes.
+use Rattle.std.specs.Prelude.{◌≡◌, ℕ, List, Option}
+use Rattle.std.specs.BTreeMap.{BTreeMap}
 use Rattle.std.specs.List.{AllByRecursion}
 use Rattle.std.specs.Map.{values_of}
-use Rattle.std.specs.Ordering.{nat_cmp}
 use Rattle.b3_core.specs.Modes.{hash_of}
+use Rattle.store_journal.specs.Filed.{AreFiled}
 use Rattle.store_core.specs.Model.{ModelObject}
-
--- objects by number, filed before a number, which their addresses lead to
-pub record AreFiled {Y : Type 0} (filed : ℕ) (objects : BTreeMap ℕ (List ℕ × Y)) (number_of : List ℕ → Option ℕ) : Type 0 where
-  pub ordered : IsOrdered nat_cmp objects
-  pub before : (number : ℕ) (object : List ℕ × Y) → get nat_cmp objects number ≡ Some object → number < filed
-  pub there : (address : List ℕ) (number : ℕ) → number_of address ≡ Some number → (object : Y) × (get nat_cmp objects number ≡ Some (address, object))
-  pub found : (number : ℕ) (object : List ℕ × Y) → get nat_cmp objects number ≡ Some object → number_of object.0 ≡ Some number
 
 -- the address is the hash of the object's bytes
 abbrev pub IsAddressed : List ℕ × ModelObject → Type 0
 IsAddressed e = e.0 ≡ hash_of e.1.bytes
 
--- objects that stand so, each under the hash of its bytes
+-- objects by the numbers of their filings, each under the hash of its bytes
 pub record AreCatalogued (filings : ℕ) (objects : BTreeMap ℕ (List ℕ × ModelObject)) (number_of : List ℕ → Option ℕ) : Type 0 where
   pub filed : AreFiled filings objects number_of
   pub addressed : AllByRecursion IsAddressed (values_of objects.entries)

@@ -6,15 +6,15 @@ use Rattle.std.specs.Str.{bytes_eq}
 use Rattle.b3_core.specs.Modes.{hash_of}
 use Rattle.b3_forest.specs.Parts.{PlannedPart}
 use Rattle.b3_forest.specs.Uploads.{Upload, first_missing, held_bytes, overlap_at, pieces_held, put_work, with_more}
-use Rattle.store_core.specs.declared.entry.Entry.{Entry}
-use Rattle.store_core.specs.declared.entry.Entry.TheVariants as entry
+use Rattle.store_journal.specs.declared.entry.Entry.{Entry}
+use Rattle.store_journal.specs.declared.entry.Entry.TheVariants as entry
 use Rattle.store_core.specs.declared.held.Held.{Held}
 use Rattle.store_core.specs.declared.put_refused.PutRefused.{PutRefused}
 use Rattle.store_core.specs.declared.usage.Usage.{Usage}
 use Rattle.store_core.specs.declared.refusal.Refusal.{Refusal}
 use Rattle.store_core.specs.declared.refusal.Refusal.TheVariants.{BelowUse, Incomplete, JournalFull, LimitTooLarge, NoMemory, NoTenant, NoUpload, NotHeld, OverQuota, Overlap, TenantsFull, TooLong, WrongAddress, WrongPlan}
 use Rattle.store_core.specs.Model.{ModelObject, ModelStore, ModelUpload, Shown, addressed, content, free_of, in_use, is_held_by, limit_of, object_at, reserved_of, upload_at, use_of}
-use Rattle.store_core.specs.Replay.{is_number, with_holder, without_holder}
+use Rattle.store_journal.specs.Replay.{is_number, with_holder, without_holder}
 
 -- ---- answers
 

@@ -7,7 +7,7 @@ use Rattle.b3_core.specs.Modes.{hash_of}
 use Rattle.b3_forest.specs.Uploads.{held_bytes}
 use Rattle.store_core.specs.declared.closing.Closing.{Closing}
 use Rattle.store_core.specs.declared.contents.Contents.{Contents}
-use Rattle.store_core.specs.declared.entry.Entry.{Entry}
+use Rattle.store_journal.specs.declared.entry.Entry.{Entry}
 use Rattle.store_core.specs.declared.known.Known.{Known}
 use Rattle.store_core.specs.declared.limits.Limits.{Limits}
 use Rattle.store_core.specs.declared.open_upload.OpenUpload.{OpenUpload}
@@ -17,7 +17,7 @@ use Rattle.store_core.specs.declared.sealed.Sealed.{Sealed}
 use Rattle.store_core.specs.declared.tenant.Tenant.{Tenant}
 use Rattle.store_core.specs.Commands.{ModelSealed, ready_in}
 use Rattle.store_core.specs.Model.{ModelObject, ModelStore, ModelUpload, Shown, content, held_bytes_of, is_held_by, limit_of, object_among, object_bytes_of, parts_of, reserved_of, upload_at, use_of}
-use Rattle.store_core.specs.Replay.{is_number}
+use Rattle.store_journal.specs.Replay.{is_number}
 use Rattle.store_core.specs.Sound.{IsCarried}
 
 -- a seal's reply, whose object is seen as its bytes

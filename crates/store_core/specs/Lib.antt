@@ -1,13 +1,7 @@
-pub mod Entries
-pub mod Journal
-pub mod Replay
-pub mod Laws
 pub mod Model
+pub mod Refusals
 pub mod Catalog
 pub mod Commands
 pub mod Sound
 pub mod Lawful
-pub mod Held
-pub mod Index
-pub mod Replayed
 pub mod Runs

@@ -5,9 +5,9 @@ use Rattle.std.specs.Map.{lookup, values_of}
 use Rattle.std.specs.Str.{bytes_eq}
 use Rattle.b3_core.specs.Modes.{hash_of}
 use Rattle.b3_forest.specs.Uploads.{Upload, content_of, held_bytes}
-use Rattle.store_core.specs.declared.entry.Entry.{Entry}
-use Rattle.store_core.specs.declared.totals.Totals.{Totals}
-use Rattle.store_core.specs.Replay.{is_number}
+use Rattle.store_journal.specs.declared.entry.Entry.{Entry}
+use Rattle.store_journal.specs.declared.totals.Totals.{Totals}
+use Rattle.store_journal.specs.Replay.{is_number}
 
 -- an open upload: its tenant, its length and its parts
 pub record ModelUpload : Type 0 where

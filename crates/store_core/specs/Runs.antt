@@ -1,10 +1,10 @@
 -- Runs of the model store: commands and questions along a list, with their replies.
 use Rattle.std.specs.Prelude.{◌≡◌, ℕ, List, [], ◌∷◌, Result, Ok, Err}
 use Rattle.b3_forest.specs.Parts.{PlannedPart}
-use Rattle.store_core.specs.declared.entry.Entry.{Entry}
+use Rattle.store_journal.specs.declared.entry.Entry.{Entry}
 use Rattle.store_core.specs.declared.held.Held.{Held}
 use Rattle.store_core.specs.declared.refusal.Refusal.{Refusal}
-use Rattle.store_core.specs.declared.totals.Totals.{Totals}
+use Rattle.store_journal.specs.declared.totals.Totals.{Totals}
 use Rattle.store_core.specs.declared.usage.Usage.{Usage}
 use Rattle.store_core.specs.Commands.{Acceptance, Answers, ModelSealed, Tells, abort_in, as_is, begin_in, fetch_in, forget_in, list_in, open_tenant_in, plan_in, put_in, seal_as_in, seal_in, set_limit_in, usage_in}
 use Rattle.store_core.specs.Model.{Shown, totals_of}

@@ -10,9 +10,8 @@ ghost use Rattle.b3_core.specs.Modes.{hash_of};
 ghost use Rattle.store_core.specs.Commands.{listed, with_holders};
 ghost use Rattle.store_core.specs.Lawful.{IsKnown};
 ghost use Rattle.store_core.specs.Model.{ModelObject as Item, is_held_by, object_among};
-ghost use Rattle.store_core.specs.Replay.{with_holder, without_holder};
+ghost use Rattle.store_journal.specs.Replay.{with_holder, without_holder};
 
-use crate::address::Address;
 use crate::filed::Filed;
 use crate::known::Known;
 use crate::object::Object;
@@ -21,6 +20,7 @@ use std::alloc::{AllocError, Global};
 use std::collections::BTreeMap;
 use std::marker::Model;
 use std::sync::Arc;
+use store_journal::Address;
 
 // Each object stands under the number of its filing, and that number under the object's address.
 #[derive(Drop)]

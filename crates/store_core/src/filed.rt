@@ -3,14 +3,14 @@ ghost use Rattle.std.specs.Prelude.{◌≡◌, ◌∷◌, [], IfOk, OnErr, OnOk,
 ghost use Rattle.std.specs.Arc.{arc_value};
 ghost use Rattle.b3_core.specs.Modes.{hash_of};
 ghost use Rattle.store_core.specs.Model.{is_held_by as is_held_by_in};
-ghost use Rattle.store_core.specs.Replay.{with_holder, without_holder};
+ghost use Rattle.store_journal.specs.Replay.{with_holder, without_holder};
 
-use crate::address::Address;
 use crate::holders;
 use crate::object::Object;
 use std::alloc::{AllocError, Global};
 use std::marker::Model;
 use std::sync::Arc;
+use store_journal::Address;
 
 // An object, and the numbers of the tenants that hold it, in rising order.
 #[derive(Drop)]

@@ -1,7 +1,7 @@
 //! Holders of an object, by number.
 ghost use Rattle.std.specs.Prelude.{◌≡◌, ◌==◌, ◌≤◌, IfNone, IfSome, OnErr, OnOk, insert, length};
 ghost use Rattle.std.specs.List.{list_any};
-ghost use Rattle.store_core.specs.Replay.{with_holder, without_holder};
+ghost use Rattle.store_journal.specs.Replay.{with_holder, without_holder};
 ghost use Rattle.store_core.specs.Sound.{IsRisingFrom};
 
 use std::alloc::AllocError;

@@ -3,9 +3,9 @@ ghost use Rattle.std.specs.Prelude.{◌≡◌, length, map};
 ghost use Rattle.b3_core.specs.Modes.{hash_of};
 ghost use Rattle.b3_forest.specs.Uploads.{content_of, part_of};
 
-use crate::address::Address;
 use b3_forest::Segment;
 use std::marker::Model;
+use store_journal::Address;
 
 /// Bytes that were filed under their address. Contracts see an object as its bytes.
 #[derive(Drop)]

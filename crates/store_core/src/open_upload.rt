@@ -6,7 +6,7 @@ ghost use Rattle.b3_forest.specs.Uploads.{IsUpload, add_refusal, put_work, with_
 ghost use Rattle.store_core.specs.Commands.{held_of};
 ghost use Rattle.store_core.specs.Lawful.{model_uploads};
 ghost use Rattle.store_core.specs.Model.{ModelUpload as Upload};
-ghost use Rattle.store_core.specs.Replay.{is_number};
+ghost use Rattle.store_journal.specs.Replay.{is_number};
 
 use crate::held::Held;
 use b3_core::Work;

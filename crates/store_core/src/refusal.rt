@@ -1,6 +1,9 @@
 //! Why a command or a question is refused.
+ghost use Rattle.std.specs.Prelude.{Some};
+ghost use Rattle.store_core.specs.Refusals.{refusal_text};
 
-use crate::address::Address;
+use std::fmt;
+use store_journal::Address;
 
 /// Why a command or a question is refused. Of those that apply, the first in a call's own list is answered. Each leaves
 /// the store as it was.
@@ -34,4 +37,29 @@ pub enum Refusal {
     JournalFull,
     /// S14: memory was refused.
     NoMemory,
+}
+
+/// The refusal's name with what it carries: `S4 use N`, `S6 free N`, `S9 at N`, `S10 missing N`, `S11 found ADDRESS`, and the
+/// name alone for all others.
+impl fmt::Display for Refusal {
+    ghost output = { λ refusal. Some (refusal_text refusal) };
+
+    fn fmt<W: fmt::Write>(&self, f: &mut fmt::Formatter<W>) -> fmt::Result {
+        match self {
+            Refusal::NoTenant => write!(f, "S1"),
+            Refusal::TenantsFull => write!(f, "S2"),
+            Refusal::LimitTooLarge => write!(f, "S3"),
+            Refusal::BelowUse { in_use } => write!(f, "S4 use {in_use}"),
+            Refusal::TooLong => write!(f, "S5"),
+            Refusal::OverQuota { free } => write!(f, "S6 free {free}"),
+            Refusal::NoUpload => write!(f, "S7"),
+            Refusal::WrongPlan => write!(f, "S8"),
+            Refusal::Overlap { at } => write!(f, "S9 at {at}"),
+            Refusal::Incomplete { missing } => write!(f, "S10 missing {missing}"),
+            Refusal::WrongAddress { found } => write!(f, "S11 found {found}"),
+            Refusal::NotHeld => write!(f, "S12"),
+            Refusal::JournalFull => write!(f, "S13"),
+            Refusal::NoMemory => write!(f, "S14"),
+        }
+    }
 }

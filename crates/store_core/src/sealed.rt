@@ -1,8 +1,8 @@
 //! What a seal answers.
 
-use crate::address::Address;
 use crate::object::Object;
 use std::sync::Arc;
+use store_journal::Address;
 
 /// A sealed upload: its content's address, whether no object was filed under it before, and the filed object.
 #[derive(Drop)]

@@ -1,18 +1,16 @@
 -- What `upload` writes.
 use Rattle.std.specs.Prelude.{◌≡◌, ◌^◌, ℕ, Bool, true, false, List, ◌++◌, Option, Ok, [], codes, length}
-use Rattle.std.specs.Fmt.{decimal}
 use Rattle.std.specs.Io.KnownBytes.{Appends}
 use Rattle.b3_check.specs.Lines.{written_line}
 use Rattle.b3_core.specs.Modes.{hash_of}
-use Rattle.store_core.specs.Journal.{journal_text}
+use Rattle.store_journal.specs.Journal.{journal_text}
 use Rattle.store_core.specs.Model.{Shown}
-use Rattle.store_core.specs.Replay.{Kept, accepted_of, replay_of}
-use Rattle.store_core.specs.declared.entry.Entry.{Entry}
+use Rattle.store_journal.specs.Replay.{Kept, accepted_of, replay_of}
+use Rattle.store_journal.specs.declared.entry.Entry.{Entry}
 use Rattle.store_ledger.specs.declared.holding.Holding.{Holding}
-use Rattle.store_script.specs.Texts.{refusal_text}
 use Rattle.store_shared.specs.Cuts.{cut_of}
+use Rattle.store_shared.specs.Faults.{fault_text}
 use Rattle.store_shared.specs.declared.fault.UploadFaultKind.{UploadFaultKind}
-use Rattle.store_shared.specs.declared.fault.UploadFaultKind.TheVariants.{BadCut, GateFault, NoMemory, Refused, Stopped, StrangePart}
 use Rattle.store_engines.specs.Audits.{accepted_text}
 use Rattle.store_command_line.specs.declared.said.UploadOptions.{UploadOptions}
 
@@ -48,15 +46,6 @@ pub record WroteUpload (o : UploadOptions) (input : List ℕ) (old new : Option 
   pub wrote : Appends old new (uploaded_text o.journal (hash_of input) (length input) (length (cut_of input o.part_chunks)) entries)
 
 -- ---- failed uploads
-
--- the name of what failed
-abbrev pub fault_text : UploadFaultKind → List ℕ
-fault_text (Refused refusal) = codes "U1 " ++ refusal_text refusal
-fault_text BadCut = codes "U2"
-fault_text Stopped = codes "U3"
-fault_text (GateFault part code) = codes "U4 part " ++ (decimal part ++ (codes " code " ++ decimal code))
-fault_text NoMemory = codes "U5"
-fault_text StrangePart = codes "U6"
 
 -- the writer grew by the line of a failed upload
 abbrev pub WroteRefusal : UploadFaultKind → Option (List ℕ) → Option (List ℕ) → Type 0

@@ -22,8 +22,6 @@ mod outcome;
 mod running;
 mod streams;
 mod summing;
-#[cfg(test)]
-mod tests;
 mod uploading;
 
 pub use auditing::audit;

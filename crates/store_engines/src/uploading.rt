@@ -2,8 +2,7 @@
 
 ghost use Rattle.std.specs.Prelude.{◌≡◌, ◌≢◌, ◌^◌, ◌++◌, codes, IfErr, IfOk, IfSome, OnOk, Err, Ok};
 ghost use Rattle.std.specs.Io.KnownBytes.{Appends, IsAtEnd};
-ghost use Rattle.std.specs.String.{string_bytes};
-ghost use Rattle.store_engines.specs.Uploads.{IsTold, SomeRefusal, WroteRefusal, WroteUpload, fault_text, journal_part};
+ghost use Rattle.store_engines.specs.Uploads.{IsTold, SomeRefusal, WroteRefusal, WroteUpload, journal_part};
 
 use crate::auditing::accepted_line;
 use crate::outcome::{Cause, Verdict};
@@ -15,32 +14,12 @@ use std::sync::Wait;
 use std::sync::ledger::{Blank, Ledger};
 use std::thread::Threads;
 use store_command_line::UploadOptions;
-use store_core::{Address, Entry, Limits, Refusal};
+use store_core::{Address, Entry, Limits, Refusal, journal_text};
 use store_ledger::Share;
-use store_script::{journal_text, refusal_name};
 use store_shared::{Locked, PassAll, Shared, UploadFaultKind, lent_open_tenant};
 
 // The tenant's limit, in bytes.
 const LIMIT: u64 = 1 << 40;
-
-// What is told of a failed upload.
-fn fault_name(alloc: Global, kind: UploadFaultKind) -> Result<String, AllocError>
-    ensures { IfOk result (λ name. string_bytes name ≡ fault_text kind) }
-{
-    match kind {
-        UploadFaultKind::Refused(refusal) => {
-            let name = refusal_name(alloc, refusal)?;
-            format!(in alloc; "U1 {name}")
-        }
-        UploadFaultKind::BadCut => format!(in alloc; "U2"),
-        UploadFaultKind::Stopped => format!(in alloc; "U3"),
-        UploadFaultKind::GateFault { part, code } => {
-            format!(in alloc; "U4 part {part} code {code}")
-        }
-        UploadFaultKind::NoMemory => format!(in alloc; "U5"),
-        UploadFaultKind::StrangePart => format!(in alloc; "U6"),
-    }
-}
 
 // Whether memory was refused.
 fn is_memory(kind: &UploadFaultKind) -> bool {
@@ -54,8 +33,7 @@ fn refuse<W: Write>(alloc: Global, kind: UploadFaultKind, writer: &mut W) -> Res
     ensures cause { IfErr result (λ cause. cause ≢ Cause.CannotRead) }
 {
     let memory = is_memory(&kind);
-    let name = fault_name(alloc, kind)?;
-    let text = format!(in alloc; "refused {name}\n")?;
+    let text = format!(in alloc; "refused {kind}\n")?;
     write_all(writer, text.as_bytes())?;
     if memory {
         return Err(Cause::OutOfMemory);

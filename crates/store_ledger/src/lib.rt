@@ -16,8 +16,6 @@ mod book_full;
 mod holding;
 mod not_whole;
 mod share;
-#[cfg(test)]
-mod tests;
 
 pub use crate::accepted::Accepted;
 pub use crate::book::Book;

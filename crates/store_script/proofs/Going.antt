@@ -13,7 +13,7 @@ use Rattle.b3_forest.specs.declared.refusal.PartFault.{PartFault}
 use Rattle.store_core.specs.declared.refusal.Refusal.{Refusal}
 use Rattle.store_core.specs.Commands.{plan_in}
 use Rattle.store_core.specs.declared.limits.Limits.{Limits}
-use Rattle.store_core.specs.Journal.{lines_of, onto_first}
+use Rattle.store_journal.specs.Journal.{lines_of, onto_first}
 use Rattle.store_core.specs.Lawful.{start}
 use Rattle.store_core.specs.Model.{Shown}
 use Rattle.store_core.specs.Runs.{Command, Run, Step, plan}

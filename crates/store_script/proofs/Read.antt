@@ -7,10 +7,10 @@ use Rattle.std.proofs.lemmas.Bool.{leb-true, le-leb}
 use Rattle.std.proofs.lemmas.Slice.Eq.{bytes_eq-Decides}
 use Rattle.hex.specs.Hex.{decode_of, decode_sized}
 use Rattle.hex.specs.declared.error.FromHexError.{FromHexError}
-use Rattle.store_core.specs.Entries.{cut_at, number_at, space, three_fields, two_fields, two_numbers_at}
+use Rattle.store_journal.specs.Entries.{cut_at, number_at, space, three_fields, two_fields, two_numbers_at}
 use Rattle.store_core.specs.Runs.{Command, abort, begin, fetch, forget, journal, list, open_tenant, plan, put, seal, seal_as, set_limit, totals, usage}
-use Rattle.store_core.proofs.Fields.{bind_is, bind_some, chosen, cut_again, cut_found, decimal_spaceless, none_some, number_again, some_is, two_again, two_found}
-use Rattle.store_core.proofs.Numbers.{read_back}
+use Rattle.store_journal.proofs.Fields.{bind_is, bind_some, chosen, cut_again, cut_found, decimal_spaceless, none_some, number_again, some_is, two_again, two_found}
+use Rattle.store_journal.proofs.Numbers.{read_back}
 use Rattle.store_script.specs.Grammar.{ScriptCommand, abort_at, address_in, asks, asks_of_kind, begin_at, bytes_at, bytes_of_kind, colon, command_at, cut_line_at, decoded, fetch_at, forget_at, held_at, list_at, most_pattern, open_tenant_at, pattern_at, pattern_of, puts, puts_at, seal_as_at, seal_at, set_limit_at, usage_at, word_at}
 use Rattle.store_script.specs.Spelling.{IsAsked, IsPart, IsSpelled}
 

@@ -3,7 +3,7 @@ use Rattle.std.specs.Prelude.{ℕ, zero, suc, ◌+◌, ◌%◌, List, [], ◌∷
 use Rattle.std.specs.Str.{bytes_eq}
 use Rattle.hex.specs.Hex.{decode_of, decode_sized}
 use Rattle.hex.specs.declared.error.FromHexError.{FromHexError}
-use Rattle.store_core.specs.Entries.{◌>>=◌, cut_at, number_at, space, two_numbers_at}
+use Rattle.store_journal.specs.Entries.{◌>>=◌, cut_at, number_at, space, two_numbers_at}
 use Rattle.store_core.specs.Runs.{Command, abort, begin, fetch, forget, journal, list, open_tenant, seal, seal_as, set_limit, totals, usage}
 
 -- a command or a question of the store; or a part's upload, offset and bytes: before it is put, the upload's plan is asked for

@@ -9,7 +9,7 @@ use Rattle.b3_forest.specs.declared.refusal.PartFault.TheVariants as faults
 use Rattle.store_core.specs.declared.refusal.Refusal.{Refusal}
 use Rattle.store_core.specs.declared.refusal.Refusal.TheVariants as refusals
 use Rattle.store_core.specs.Commands.{plan_in}
-use Rattle.store_core.specs.Journal.{lines_of}
+use Rattle.store_journal.specs.Journal.{lines_of}
 use Rattle.store_core.specs.Model.{Shown}
 use Rattle.store_core.specs.Runs.{Command, Reply, Run, Step, plan, put}
 use Rattle.store_script.specs.Grammar.{ScriptCommand, asks, command_at, puts}

@@ -2,7 +2,7 @@
 use Rattle.std.specs.Prelude.{◌≡◌, ◌+◌, ◌%◌, ◌<◌, ◌≤◌, ◌^◌, ◌⊎◌, ℕ, List, ◌++◌, Some, Ok, codes, length, slice_index}
 use Rattle.std.specs.Fmt.{decimal}
 use Rattle.hex.specs.Hex.{decode_of, decode_sized}
-use Rattle.store_core.specs.Entries.{three_fields, two_fields}
+use Rattle.store_journal.specs.Entries.{three_fields, two_fields}
 use Rattle.store_core.specs.Runs.{Command, abort, begin, fetch, forget, journal, list, open_tenant, plan, put, seal, seal_as, set_limit, totals, usage}
 use Rattle.store_script.specs.Grammar.{ScriptCommand, asks, command_at, most_pattern, pattern_of, puts}
 

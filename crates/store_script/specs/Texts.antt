@@ -5,14 +5,17 @@ use Rattle.std.specs.List.{flat_map}
 use Rattle.b3_forest.specs.declared.refusal.PartFault.{PartFault}
 use Rattle.b3_forest.specs.declared.refusal.PartFault.TheVariants as faults
 use Rattle.hex.specs.Hex.{encode_lower}
-use Rattle.store_core.specs.declared.entry.Entry.{Entry}
+use Rattle.store_journal.specs.declared.entry.Entry.{Entry}
 use Rattle.store_core.specs.declared.refusal.Refusal.{Refusal}
 use Rattle.store_core.specs.declared.refusal.Refusal.TheVariants as refusals
-use Rattle.store_core.specs.declared.totals.Totals.{Totals}
+use Rattle.store_journal.specs.declared.totals.Totals.{Totals}
 use Rattle.store_core.specs.declared.usage.Usage.{Usage}
 use Rattle.store_core.specs.Commands.{ModelSealed}
-use Rattle.store_core.specs.Entries.{filing_word}
-use Rattle.store_core.specs.Journal.{journal_text}
+use Rattle.store_core.specs.Refusals.{refusal_text}
+use Rattle.b3_forest.specs.PartRefusals.{part_fault_text}
+use Rattle.store_journal.specs.Entries.{filing_word}
+use Rattle.store_journal.specs.Journal.{journal_text}
+use Rattle.store_journal.specs.Totals.{totals_text}
 use Rattle.store_core.specs.Runs.{Reply, begun_upload, done, now_held, now_sealed, opened_tenant, the_bytes, the_journal, the_list, the_plan, the_totals, the_usage}
 
 -- ---- replies: each line with its line feed
@@ -46,13 +49,8 @@ listed_line object = encode_lower object.0 ++ (codes " " ++ (decimal object.1 ++
 abbrev pub list_text : List (List ℕ × ℕ) → List ℕ
 list_text objects = codes "list " ++ (decimal (length objects) ++ (codes "\n" ++ flat_map listed_line objects))
 
--- a store's totals, without a line feed
 abbrev pub totals_line : Totals → List ℕ
-totals_line t = codes "objects " ++ (decimal t.objects ++ (codes " bytes " ++ (decimal t.object_bytes ++ (codes " uploads " ++ (decimal t.uploads ++
-    (codes " held " ++ (decimal t.held_bytes ++ (codes " parts " ++ decimal t.parts))))))))
-
-abbrev pub totals_text : Totals → List ℕ
-totals_text t = totals_line t ++ codes "\n"
+totals_line t = totals_text t ++ codes "\n"
 
 -- how many entries there are, and the line of each
 abbrev pub entries_text : List Entry → List ℕ
@@ -68,36 +66,19 @@ reply_text (the_bytes bytes) = object_text bytes
 reply_text (the_usage u) = usage_text u
 reply_text (the_plan len) = codes "ok\n"
 reply_text (the_list objects) = list_text objects
-reply_text (the_totals t) = totals_text t
+reply_text (the_totals t) = totals_line t
 reply_text (the_journal entries) = entries_text entries
 
 -- ---- refusals
 
--- the number of a refusal, and what it carries
-abbrev pub refusal_text : Refusal → List ℕ
-refusal_text refusals.NoTenant = codes "S1"
-refusal_text refusals.TenantsFull = codes "S2"
-refusal_text refusals.LimitTooLarge = codes "S3"
-refusal_text (refusals.BelowUse bytes) = codes "S4 use " ++ decimal bytes
-refusal_text refusals.TooLong = codes "S5"
-refusal_text (refusals.OverQuota free) = codes "S6 free " ++ decimal free
-refusal_text refusals.NoUpload = codes "S7"
-refusal_text refusals.WrongPlan = codes "S8"
-refusal_text (refusals.Overlap offset) = codes "S9 at " ++ decimal offset
-refusal_text (refusals.Incomplete missing) = codes "S10 missing " ++ decimal missing
-refusal_text (refusals.WrongAddress found) = codes "S11 found " ++ encode_lower found
-refusal_text refusals.NotHeld = codes "S12"
-refusal_text refusals.JournalFull = codes "S13"
-refusal_text refusals.NoMemory = codes "S14"
-
 -- the number of what is wrong with a part; want of memory is told as the store tells it
 abbrev pub fault_text : PartFault → List ℕ
-fault_text faults.EmptyPart = codes "F2"
-fault_text faults.OffAlign = codes "F3"
-fault_text faults.PastEnd = codes "F4"
-fault_text faults.Ragged = codes "F5"
-fault_text faults.PartTooLong = codes "F6"
-fault_text faults.NoMemory = codes "S14"
+fault_text faults.NoMemory = refusal_text refusals.NoMemory
+fault_text faults.EmptyPart = part_fault_text faults.EmptyPart
+fault_text faults.OffAlign = part_fault_text faults.OffAlign
+fault_text faults.PastEnd = part_fault_text faults.PastEnd
+fault_text faults.Ragged = part_fault_text faults.Ragged
+fault_text faults.PartTooLong = part_fault_text faults.PartTooLong
 
 abbrev pub refused_text : List ℕ → List ℕ
 refused_text name = codes "refused " ++ (name ++ codes "\n")

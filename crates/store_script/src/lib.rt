@@ -26,8 +26,6 @@
 //! `i mod 251` for i from OFFSET on. A `put` asks for the upload's plan first (S7), then makes the part (F2 to F6), then puts
 //! it; want of memory where the part is made is S14.
 //!
-//! `refusal_name`, `totals_line` and `journal_text` are the texts of refusals, totals and journals, for programs that show them too.
-//!
 //! What is refused answers `refused` and the refusal's name, with what it carries: `refused S4 use N`, `refused S6 free N`,
 //! `refused S9 at N`, `refused S10 missing N`, `refused S11 found ADDRESS`, and the name alone for all others.
 //!
@@ -49,7 +47,3 @@ mod texts;
 pub use engine::run;
 pub use laws::script_laws;
 pub use outcome::{Ending, Stop};
-pub use texts::{journal_text, refusal_name, totals_line};
-
-#[cfg(test)]
-mod tests;

@@ -2,3 +2,4 @@ pub mod Accounts
 pub mod Cuts
 pub mod Gates
 pub mod Uploading
+pub mod Faults

@@ -1,6 +1,8 @@
 //! Why an upload fails.
-ghost use Rattle.std.specs.Prelude.{◌≡◌, None};
+ghost use Rattle.std.specs.Prelude.{◌≡◌, None, Some};
+ghost use Rattle.store_shared.specs.Faults.{fault_text};
 
+use std::fmt;
 use store_core::{Refusal, UploadId};
 
 /// Why an upload fails.
@@ -19,6 +21,22 @@ pub enum UploadFaultKind {
     NoMemory,
     /// U6: a part that was handed over is not one of the cut, or parts are missing where nothing failed.
     StrangePart,
+}
+
+/// The fault's name with what it carries: `U1` with the store's refusal, `U4 part P code C`, and the name alone for all others.
+impl fmt::Display for UploadFaultKind {
+    ghost output = { λ kind. Some (fault_text kind) };
+
+    fn fmt<W: fmt::Write>(&self, f: &mut fmt::Formatter<W>) -> fmt::Result {
+        match self {
+            UploadFaultKind::Refused(refusal) => write!(f, "U1 {refusal}"),
+            UploadFaultKind::BadCut => write!(f, "U2"),
+            UploadFaultKind::Stopped => write!(f, "U3"),
+            UploadFaultKind::GateFault { part, code } => write!(f, "U4 part {part} code {code}"),
+            UploadFaultKind::NoMemory => write!(f, "U5"),
+            UploadFaultKind::StrangePart => write!(f, "U6"),
+        }
+    }
 }
 
 /// A failed upload. `left` names it where it is still open.

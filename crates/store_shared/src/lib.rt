@@ -31,8 +31,3 @@ pub use lent::{
 pub use locked::Locked;
 pub use shared::Shared;
 pub use uploads::upload;
-
-#[cfg(test)]
-mod tests;
-#[cfg(test)]
-mod upload_tests;

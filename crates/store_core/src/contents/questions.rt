@@ -4,13 +4,12 @@ ghost use Rattle.std.specs.Arc.{arc_value};
 ghost use Rattle.store_core.specs.Commands.{Tells, fetch_in, list_in, usage_in};
 ghost use Rattle.store_core.specs.Lawful.{IsLawful, shown_of};
 
-use crate::address::Address;
 use crate::contents::Contents;
 use crate::object::Object;
 use crate::refusal::Refusal;
-use crate::tenant_id::TenantId;
 use crate::usage::Usage;
 use std::sync::Arc;
+use store_journal::{Address, TenantId};
 
 impl Contents {
     /// The step of `Store::usage`.

@@ -1,5 +1,5 @@
 use Rattle.std.proofs.Common.{◌≡◌, ◌++◌, drop, take}
-use Rattle.store_core.specs.Replay.{with_holder}
+use Rattle.store_journal.specs.Replay.{with_holder}
 use Rattle.store_core.proofs.holders.place.Given as goal
 
 -- those so far stay in front

@@ -7,7 +7,7 @@ use Rattle.b3_forest.specs.Uploads.{IsUpload, Upload, put_work, with_more}
 use Rattle.store_core.specs.Commands.{held_of}
 use Rattle.store_core.specs.Lawful.{model_upload, model_uploads}
 use Rattle.store_core.specs.Model.{ModelUpload}
-use Rattle.store_core.specs.Replay.{is_number}
+use Rattle.store_journal.specs.Replay.{is_number}
 use Rattle.store_core.proofs.OpenUploads.{found_here, looked_up, unchanged_here, written_here}
 use Rattle.store_core.proofs.open_upload.add_part.Goals as goal
 

@@ -2,9 +2,9 @@ use Rattle.std.proofs.Common.{refl, sym}
 use Rattle.std.specs.HashMap.{get}
 use Rattle.std.specs.Str.{bytes_eq}
 use Rattle.std.proofs.lemmas.Result.{on_ok_weaker}
-use Rattle.store_core.specs.Replay.{with_holder}
+use Rattle.store_journal.specs.Replay.{with_holder}
 use Rattle.store_core.proofs.Catalogs.{catalog_after, catalogued_after, catalogued_still, is_numbered}
-use Rattle.store_core.proofs.Options.{either_way}
+use Rattle.store_journal.proofs.Options.{either_way}
 use Rattle.store_core.proofs.RisingHolders.{some_with}
 use Rattle.store_core.proofs.catalog.Catalog.add_holder.Goals as goal
 

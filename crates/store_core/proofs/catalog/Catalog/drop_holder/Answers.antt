@@ -2,7 +2,7 @@ use Rattle.std.proofs.Common.{◌∙◌, List, ℕ, ap, sym}
 use Rattle.std.specs.HashMap.{get}
 use Rattle.std.specs.Str.{bytes_eq}
 use Rattle.store_core.specs.Commands.{with_holders}
-use Rattle.store_core.specs.Replay.{without_holder}
+use Rattle.store_journal.specs.Replay.{without_holder}
 use Rattle.store_core.proofs.Catalogs.{catalog_after, catalogued_after, is_numbered}
 use Rattle.store_core.proofs.RisingHolders.{alone_without, several_without}
 use Rattle.store_core.proofs.catalog.Catalog.drop_holder.Goals as goal

@@ -1,6 +1,6 @@
 use Rattle.std.proofs.Common.{arith, subst, sym}
 use Rattle.store_core.specs.Sound.{IsRisingFrom}
-use Rattle.store_core.proofs.Options.{either_way}
+use Rattle.store_journal.proofs.Options.{either_way}
 use Rattle.store_core.proofs.RisingHolders.{rising_with}
 use Rattle.store_core.proofs.filed.Filed.add.Goals as goal
 

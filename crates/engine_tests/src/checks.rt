@@ -1,0 +1,88 @@
+//! The engine of `check`.
+
+use crate::fakes::{FailingReader, FailingWriter, Table};
+use crate::vectors::ABC;
+use b3_check::NameFault;
+use hex::FromHex;
+use std::process::Abort;
+use std::test::Fail;
+use store_engines::{Cause, Verdict, check};
+
+const NO_NAMES: &[(&[u8], Result<[u8; 32], NameFault>)] = &[];
+
+#[test]
+fn good_bad_and_unreadable_names(rt: HostRuntime) -> Result<(), Fail> {
+    let abc = <[u8; 32]>::from_hex(ABC)?;
+    let input = format!(in rt.alloc(); "{ABC}  f\n{ABC}  g\n{ABC}  h\n{ABC}  i\n")?;
+    let answers = [
+        (b"f".as_slice(), Ok(abc)),
+        (b"g".as_slice(), Ok([0; 32])),
+        (b"h".as_slice(), Err(NameFault::Unreadable)),
+    ];
+    let mut names = Table::new(&answers);
+    let mut reader = input.as_bytes();
+    let mut writer: Vec<u8> = Vec::new(rt.alloc());
+    let ended = check(rt.alloc(), &mut names, &mut reader, &mut writer);
+    assert_eq!(rt; ended, Ok(Verdict::Refused));
+    assert_eq!(rt;
+        writer.as_slice(),
+        b"good f\nbad g\nunreadable h\nmissing i\ngood 1 bad 1 missing 1 unreadable 1 faults 0\n".as_slice()
+    );
+    Ok(())
+}
+
+#[test]
+fn names_without_memory(rt: HostRuntime) -> Result<(), Fail> {
+    let input = format!(in rt.alloc(); "{ABC}  f\n{ABC}  g\n")?;
+    let answers = [(b"f".as_slice(), Err(NameFault::NoMemory))];
+    let mut names = Table::new(&answers);
+    let mut reader = input.as_bytes();
+    let mut writer: Vec<u8> = Vec::new(rt.alloc());
+    let ended = check(rt.alloc(), &mut names, &mut reader, &mut writer);
+    assert_eq!(rt; ended, Err(Cause::OutOfMemory));
+    assert_eq!(rt; names.calls, 1);
+    assert!(rt; writer.is_empty());
+    Ok(())
+}
+
+#[test]
+fn a_failed_read_writes_nothing(rt: HostRuntime) -> Result<(), Fail> {
+    for fails_at in 0..4u64 {
+        let mut names = Table::new(NO_NAMES);
+        let mut reader = FailingReader::new(b"abc", fails_at);
+        let mut writer: Vec<u8> = Vec::new(rt.alloc());
+        let ended = check(rt.alloc(), &mut names, &mut reader, &mut writer);
+        assert_eq!(rt; ended, Err(Cause::CannotRead));
+        assert_eq!(rt; names.calls, 0);
+        assert!(rt; writer.is_empty());
+    }
+    Ok(())
+}
+
+#[test]
+fn a_failed_write_ends_it(rt: HostRuntime) -> Result<(), Fail> {
+    // The report is `fault 1 C2` and the counts: 11 bytes and 45.
+    for fails_at in 0..56u64 {
+        let mut names = Table::new(NO_NAMES);
+        let mut reader = b"abc".as_slice();
+        let mut writer = FailingWriter::new(rt.alloc(), fails_at);
+        let ended = check(rt.alloc(), &mut names, &mut reader, &mut writer);
+        assert_eq!(rt; ended, Err(Cause::CannotWrite));
+        assert_eq!(rt; writer.calls_after, 1);
+    }
+    Ok(())
+}
+
+#[test]
+fn one_byte_a_call_is_no_fault(rt: HostRuntime) -> Result<(), Fail> {
+    let mut names = Table::new(NO_NAMES);
+    let mut reader = FailingReader::new(b"abc", u64::MAX);
+    let mut writer = FailingWriter::new(rt.alloc(), u64::MAX);
+    let ended = check(rt.alloc(), &mut names, &mut reader, &mut writer);
+    assert_eq!(rt; ended, Ok(Verdict::Refused));
+    assert_eq!(rt;
+        writer.taken.as_slice(),
+        b"fault 1 C2\ngood 0 bad 0 missing 0 unreadable 0 faults 1\n".as_slice()
+    );
+    Ok(())
+}

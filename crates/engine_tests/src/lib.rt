@@ -1,0 +1,25 @@
+//! Tests of scripts, command lines and engines, over the public calls of `store_script`, `store_command_line` and `store_engines`.
+#![tactic(auto)]
+
+#[cfg(test)]
+mod audits;
+#[cfg(test)]
+mod checks;
+#[cfg(test)]
+mod command_lines;
+#[cfg(test)]
+mod fakes;
+#[cfg(test)]
+mod files;
+#[cfg(test)]
+mod memory;
+#[cfg(test)]
+mod runs;
+#[cfg(test)]
+mod scripts;
+#[cfg(test)]
+mod sums;
+#[cfg(test)]
+mod uploads;
+#[cfg(test)]
+mod vectors;

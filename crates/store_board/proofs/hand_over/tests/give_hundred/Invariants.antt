@@ -1,5 +1,0 @@
-use Rattle.store_board.specs.Passes.{IsGiverOf}
-use Rattle.store_board.proofs.hand_over.tests.give_hundred.Given as goal
-
-abbrev pub invariant-loop-number : goal.invariant-loop-number
-invariant-loop-number g l = IsGiverOf l.hand_over l.pass

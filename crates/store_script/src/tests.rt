@@ -1,4 +1,0 @@
-//! Whole scripts over memory.
-mod fakes;
-mod memory;
-mod rows;

@@ -1,0 +1,200 @@
+//! Names, entries, and the journal's text. What is outside the grammar stands in tests/cases/journal-lines.table.
+
+use hex::FromHex;
+use std::alloc::Global;
+use std::io;
+use std::io::{ErrorKind, Write};
+use std::test::Fail;
+use store_journal::{
+    Address, BadText, Entry, IllegalEntry, ReadError, ReplayError, TenantId, UploadId,
+    journal_text, read_entry, read_journal, write_entry,
+};
+
+// The BLAKE3 hash of no bytes, and of one byte 0.
+const NOTHING: &str = "af1349b9f5f9a1a6a0404dea36dcc9499bcb25c9adc112b7cc9a93cae41f3262";
+
+const ZERO: &str = "2d3adedff11b61f14c886e35afa036736dcd87a74d27b5c1510225d0f592e213";
+
+// An entry of each kind, and a seal of either word.
+const EIGHT_LINES: &str =
+    "tenant 0 4096\nlimit 3 18446744073709551615\nbegin 0 0 1\nput 0 1024 1\nseal 0 2d3adedff11b61f14c886e35afa036736dcd87a74d27b5c1510225d0f592e213 new\nseal 4 af1349b9f5f9a1a6a0404dea36dcc9499bcb25c9adc112b7cc9a93cae41f3262 known\nabort 12\nforget 0 2d3adedff11b61f14c886e35afa036736dcd87a74d27b5c1510225d0f592e213\n";
+
+fn address(digits: &str) -> Result<Address, Fail> {
+    Ok(Address::new(<[u8; 32]>::from_hex(digits)?))
+}
+
+fn tenant_entries() -> [Entry; 2] {
+    [
+        Entry::Tenant {
+            tenant: TenantId::new(0),
+            limit: 4096,
+        },
+        Entry::Limit {
+            tenant: TenantId::new(3),
+            limit: u64::MAX,
+        },
+    ]
+}
+
+fn begin() -> Entry {
+    Entry::Begin {
+        upload: UploadId::new(0),
+        tenant: TenantId::new(0),
+        len: 1,
+    }
+}
+
+fn put() -> Entry {
+    Entry::Put {
+        upload: UploadId::new(0),
+        offset: 1024,
+        len: 1,
+    }
+}
+
+fn seal(upload: u64, digits: &str, new: bool) -> Result<Entry, Fail> {
+    Ok(Entry::Seal {
+        upload: UploadId::new(upload),
+        address: address(digits)?,
+        new,
+    })
+}
+
+fn forget() -> Result<Entry, Fail> {
+    Ok(Entry::Forget {
+        tenant: TenantId::new(0),
+        address: address(ZERO)?,
+    })
+}
+
+fn eight_entries() -> Result<[Entry; 8], Fail> {
+    let [tenant, limit] = tenant_entries();
+    let abort = Entry::Abort {
+        upload: UploadId::new(12),
+    };
+    Ok([
+        tenant,
+        limit,
+        begin(),
+        put(),
+        seal(0, ZERO, true)?,
+        seal(4, NOTHING, false)?,
+        abort,
+        forget()?,
+    ])
+}
+
+#[test]
+fn an_address_gives_back_its_bytes(rt: HostRuntime) -> Result<(), Fail> {
+    let bytes = <[u8; 32]>::from_hex(ZERO)?;
+    let address = Address::new(bytes);
+    assert_eq!(rt; address.bytes().as_slice(), bytes.as_slice());
+    assert_eq!(rt; address.to_string(rt.alloc())?.as_str(), ZERO);
+    Ok(())
+}
+
+#[test]
+fn numbers_are_given_back(rt: HostRuntime) -> Result<(), Fail> {
+    let alloc = rt.alloc();
+    assert_eq!(rt; TenantId::new(7).number(), 7);
+    assert_eq!(rt; TenantId::new(7).to_string(alloc)?.as_str(), "7");
+    assert_eq!(rt; UploadId::new(u64::MAX).number(), u64::MAX);
+    assert_eq!(rt; UploadId::new(0).to_string(alloc)?.as_str(), "0");
+    Ok(())
+}
+
+#[test]
+fn a_journal_is_written(rt: HostRuntime) -> Result<(), Fail> {
+    let alloc = rt.alloc();
+    let entries = eight_entries()?;
+    assert_eq!(rt;
+        journal_text(alloc, &entries)?.as_slice(),
+        EIGHT_LINES.as_bytes()
+    );
+    let mut written = Vec::new(alloc);
+    for entry in &entries {
+        write_entry(entry, &mut written)?;
+    }
+    assert_eq!(rt; written.as_slice(), EIGHT_LINES.as_bytes());
+    Ok(())
+}
+
+#[test]
+fn a_journal_is_read(rt: HostRuntime) -> Result<(), Fail> {
+    let alloc = rt.alloc();
+    let entries = eight_entries()?;
+    let read = read_journal(alloc, EIGHT_LINES.as_bytes())?;
+    assert_eq!(rt; read.as_slice(), entries.as_slice());
+    assert_eq!(rt; read_journal(alloc, b"")?.len(), 0);
+    Ok(())
+}
+
+#[test]
+fn an_entry_is_read_back(rt: HostRuntime) -> Result<(), Fail> {
+    for entry in &eight_entries()? {
+        let line = entry.to_string(rt.alloc())?;
+        assert_eq!(rt; read_entry(line.as_bytes()), Ok(*entry));
+    }
+    Ok(())
+}
+
+fn refusal(alloc: Global, text: &[u8]) -> Option<ReadError> {
+    read_journal(alloc, text).err()
+}
+
+#[test]
+fn a_line_outside_the_grammar_is_told(rt: HostRuntime) {
+    let alloc = rt.alloc();
+    assert_eq!(rt; read_entry(b"abort 0\n"), Err(BadText { line: 1 }));
+    let third = ReadError::BadText(BadText { line: 3 });
+    assert_eq!(rt;
+        refusal(alloc, b"abort 1\nabort 1\nabort 01\n"),
+        Some(third)
+    );
+}
+
+#[test]
+fn refusals_are_shown(rt: HostRuntime) -> Result<(), Fail> {
+    let alloc = rt.alloc();
+    let bad = BadText { line: 3 };
+    assert_eq!(rt; bad.to_string(alloc)?.as_str(), "J2 3");
+    assert_eq!(rt; ReadError::BadText(bad).to_string(alloc)?.as_str(), "J2 3");
+    let none = ReadError::NoMemory.to_string(alloc)?;
+    assert_eq!(rt; none.as_str(), "out of memory");
+    let illegal = IllegalEntry { number: 7 };
+    assert_eq!(rt; illegal.to_string(alloc)?.as_str(), "J1 7");
+    let none = ReplayError::NoMemory.to_string(alloc)?;
+    assert_eq!(rt; none.as_str(), "out of memory");
+    Ok(())
+}
+
+// A writer whose call of this number fails, and which takes a byte a call.
+#[derive(Drop)]
+struct Failing {
+    calls: u64,
+    fails: u64,
+}
+
+impl Write for Failing {
+    fn write(&mut self, bytes: &[u8]) -> io::Result<usize> {
+        self.calls = self.calls.wrapping_add(1);
+        if self.calls >= self.fails {
+            return Err(io::Error::from(ErrorKind::Other));
+        }
+        if bytes.is_empty() { Ok(0) } else { Ok(1) }
+    }
+
+    fn flush(&mut self) -> io::Result<()> {
+        Ok(())
+    }
+}
+
+#[test]
+fn a_failed_write_is_the_last(rt: HostRuntime) -> Result<(), Fail> {
+    for fails in 1..11u64 {
+        let mut writer = Failing { calls: 0, fails };
+        assert!(rt; write_entry(&put(), &mut writer).is_err());
+        assert_eq!(rt; writer.calls, fails);
+    }
+    Ok(())
+}

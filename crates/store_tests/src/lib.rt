@@ -1,0 +1,9 @@
+//! Tests of the journal and the store, over the public calls of `store_journal` and `store_core`.
+#![tactic(auto)]
+
+#[cfg(test)]
+mod journal;
+#[cfg(test)]
+mod replay;
+#[cfg(test)]
+mod store;

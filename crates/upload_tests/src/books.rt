@@ -1,0 +1,71 @@
+ghost use Rattle.std.specs.Prelude.{◌≡◌, ◌^◌};
+
+use std::marker::Brand;
+use std::process::Abort;
+use std::sync::ledger::{Blank, Ledger};
+use std::test::Fail;
+use store_ledger::{ALL_PARTS, Accepted, Book, BookFull, NotWhole};
+
+fn share_and_book<B: Ledger, C: Ledger, R: Abort>(rt: &R, bytes: Blank, calls: Blank)
+    requires bytes { (bytes.name ≡ B.name) × (bytes.parts ≡ B.parts) × (bytes.parts ≡ 2 ^ 32) }
+    requires calls { (calls.name ≡ C.name) × (calls.parts ≡ C.parts) × (calls.parts ≡ 2 ^ 32) }
+{
+    let (mut book, mut share) = Book::<B, C>::open(bytes, calls);
+    let mut other = share.split(3);
+    let split = (share.parts(), other.parts());
+    let is_recorded = book.record(&mut other, 5).is_ok();
+    let recorded = (other.bytes(), other.calls());
+    assert_eq!(rt;
+        (split, is_recorded, recorded),
+        ((ALL_PARTS - 3, 3), true, (5, 1))
+    );
+    let missing = NotWhole { bytes: 5, calls: 1 };
+    assert_eq!(rt; book.settle(&mut share), Err(missing));
+    share.join(other);
+    let accepted = Accepted { bytes: 5, calls: 1 };
+    assert_eq!(rt; book.settle(&mut share), Ok(accepted));
+    assert_eq!(rt; book.accepted(&mut share), accepted);
+}
+
+#[test]
+fn a_share_settles_once_the_other_has_joined_it(rt: HostRuntime) {
+    share_and_book::<Brand, Brand, _>(&rt, Blank::new(ALL_PARTS), Blank::new(ALL_PARTS));
+}
+
+fn joined_at_the_book<B: Ledger, C: Ledger, R: Abort>(rt: &R, bytes: Blank, calls: Blank)
+    requires bytes { (bytes.name ≡ B.name) × (bytes.parts ≡ B.parts) × (bytes.parts ≡ 2 ^ 32) }
+    requires calls { (calls.name ≡ C.name) × (calls.parts ≡ C.parts) × (calls.parts ≡ 2 ^ 32) }
+{
+    let (mut book, mut share) = Book::<B, C>::open(bytes, calls);
+    let mut other = share.split(1);
+    let is_recorded = book.record(&mut other, u64::MAX - 7).is_ok();
+    let is_filled = book.record(&mut share, 7).is_ok();
+    book.join(&mut share, other);
+    let is_called = book.record(&mut share, 0).is_ok();
+    assert_eq!(rt; (is_recorded, is_filled, is_called), (true, true, true));
+    assert_eq!(rt; book.record(&mut share, 1), Err(BookFull));
+    assert_eq!(rt; (book.bytes(), book.calls()), (u64::MAX, 3));
+    assert_eq!(rt;
+        (share.parts(), share.bytes(), share.calls()),
+        (ALL_PARTS, u64::MAX, 3)
+    );
+}
+
+#[test]
+fn a_book_joins_its_shares_up_to_its_limit(rt: HostRuntime) {
+    joined_at_the_book::<Brand, Brand, _>(&rt, Blank::new(ALL_PARTS), Blank::new(ALL_PARTS));
+}
+
+#[test]
+fn refusals_have_texts(rt: HostRuntime) -> Result<(), Fail> {
+    let missing = NotWhole { bytes: 5, calls: 1 }.to_string(rt.alloc())?;
+    assert_eq!(rt;
+        missing.as_str(),
+        "the share is not whole: missing bytes 5, calls 1"
+    );
+    assert_eq!(rt;
+        BookFull.to_string(rt.alloc())?.as_str(),
+        "the book is full"
+    );
+    Ok(())
+}

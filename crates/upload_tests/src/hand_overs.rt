@@ -1,0 +1,252 @@
+ghost use Rattle.std.specs.Prelude.{◌≡◌, All, vec_len};
+ghost use Rattle.store_board.specs.Passes.{IsGiverOf, IsTakerOf};
+
+use b3_core::Work;
+use b3_forest::{Plan, Prepared};
+use std::alloc::{AllocError, Global};
+use std::sync::{Mutex, Wait};
+use std::test::Fail;
+use std::thread;
+use std::thread::Threads;
+use store_board::{GivePass, HandOver, HandOverRefusal, TakePass};
+
+// The part of one chunk with that number.
+fn part(alloc: Global, number: u64, work: &mut Work) -> Result<Prepared, AllocError> {
+    let Ok(plan) = Plan::new(1_048_576) else {
+        return Err(AllocError);
+    };
+    let bytes = Vec::from_elem(alloc, 7u8, 1024)?;
+    let offset = number.wrapping_mul(1024);
+    Prepared::make(alloc, &plan, offset, bytes, work).map_err(|_| AllocError)
+}
+
+// Which giver's part was taken, and its offset.
+fn taken<R: Wait>(rt: &R, hand_over: &HandOver, pass: &mut TakePass) -> Option<(u64, u64)>
+    requires { IsTakerOf hand_over.now pass.old }
+    ensures { IsTakerOf hand_over.now pass.new }
+{
+    let taken = hand_over.take(rt, pass)?;
+    Some((taken.giver, taken.part.offset()))
+}
+
+// Gives the part of one chunk with that number, and tells whether there was room, or else the offset of the part that
+// came back.
+fn given<R: Wait + AllocGlobal>(
+    rt: &R,
+    hand_over: &HandOver,
+    pass: &mut GivePass,
+    number: u64,
+) -> Result<Option<u64>, AllocError>
+    requires { IsGiverOf hand_over.now pass.old }
+    ensures { IsGiverOf hand_over.now pass.new }
+{
+    let part = part(rt.alloc(), number, &mut Work::new(rt))?;
+    match hand_over.give(rt, pass, part) {
+        Ok(()) => Ok(None),
+        Err(part) => Ok(Some(part.offset())),
+    }
+}
+
+#[test]
+fn a_full_queue_hands_the_part_back(rt: HostRuntime) -> Result<(), Fail> {
+    let (hand_over, mut givers, mut taker) = HandOver::new(rt.alloc(), 1, 1)?;
+    let mut giver = givers.pop().expect(&rt, "one giver");
+    assert_eq!(rt; given(&rt, &hand_over, &mut giver, 0)?, None);
+    assert_eq!(rt; given(&rt, &hand_over, &mut giver, 1)?, Some(1024));
+    assert_eq!(rt; taken(&rt, &hand_over, &mut taker), Some((0, 0)));
+    assert_eq!(rt; taken(&rt, &hand_over, &mut taker), None);
+    let moved = hand_over.close(&rt, vec![in rt.alloc(); giver]?, taker);
+    assert_eq!(rt; (moved.given, moved.taken), (1, 1));
+    Ok(())
+}
+
+#[test]
+fn parts_come_in_the_order_in_which_they_were_given(rt: HostRuntime) -> Result<(), Fail> {
+    let (hand_over, mut givers, mut taker) = HandOver::new(rt.alloc(), 3, 2)?;
+    let mut second = givers.pop().expect(&rt, "two givers");
+    let mut first = givers.pop().expect(&rt, "two givers");
+    let one = given(&rt, &hand_over, &mut first, 1)?;
+    let two = given(&rt, &hand_over, &mut second, 2)?;
+    let three = given(&rt, &hand_over, &mut first, 3)?;
+    assert_eq!(rt; (one, two, three), (None, None, None));
+    assert_eq!(rt; taken(&rt, &hand_over, &mut taker), Some((0, 1024)));
+    assert_eq!(rt; taken(&rt, &hand_over, &mut taker), Some((1, 2048)));
+    let moved = hand_over.close(&rt, vec![in rt.alloc(); first, second]?, taker);
+    assert_eq!(rt; (moved.given, moved.taken), (3, 2));
+    Ok(())
+}
+
+// Why there is no hand-over of these counts.
+fn refused(rt: &impl AllocGlobal, capacity: usize, givers: u64) -> Option<HandOverRefusal> {
+    HandOver::new(rt.alloc(), capacity, givers).err()
+}
+
+#[test]
+fn a_hand_over_needs_room_and_a_giver(rt: HostRuntime) {
+    assert_eq!(rt; refused(&rt, 0, 1), Some(HandOverRefusal::BadCapacity));
+    assert_eq!(rt; refused(&rt, 1, 0), Some(HandOverRefusal::BadCapacity));
+}
+
+#[test]
+fn refusals_have_texts(rt: HostRuntime) -> Result<(), Fail> {
+    let capacity = HandOverRefusal::BadCapacity.to_string(rt.alloc())?;
+    let memory = HandOverRefusal::NoMemory.to_string(rt.alloc())?;
+    assert_eq!(rt; capacity.as_str(), "no capacity or no giver");
+    assert_eq!(rt; memory.as_str(), "out of memory");
+    Ok(())
+}
+
+// Gives one part, waiting while the queue is full.
+fn give_one<R: Wait>(rt: &R, hand_over: &HandOver, pass: &mut GivePass, part: Prepared)
+    requires { IsGiverOf hand_over.now pass.old }
+    ensures { IsGiverOf hand_over.now pass.new }
+{
+    let mut part = part;
+    for _ in rt.forever() {
+        match hand_over.give(rt, pass, part) {
+            Ok(()) => break,
+            Err(back) => part = back,
+        }
+        thread::yield_now();
+    }
+}
+
+// Makes a part with the work that the threads share.
+fn part_under<R: Wait>(
+    rt: &R,
+    alloc: Global,
+    number: u64,
+    work: &Mutex<Work>,
+) -> Result<Prepared, AllocError> {
+    let mut work = work.lock(rt);
+    part(alloc, number, &mut work)
+}
+
+// Gives a hundred parts in the order of their offsets, and tells that this giver has ended.
+fn give_hundred<R: Wait>(
+    rt: &R,
+    alloc: Global,
+    hand_over: &HandOver,
+    ended: &Mutex<u64>,
+    work: &Mutex<Work>,
+    pass: &mut GivePass,
+)
+    requires { IsGiverOf hand_over.now pass.old }
+    ensures { IsGiverOf hand_over.now pass.new }
+{
+    for number in 0..100 {
+        let Ok(part) = part_under(rt, alloc, number, work) else {
+            break;
+        };
+        give_one(rt, hand_over, pass, part);
+    }
+    let mut count = ended.lock(rt);
+    *count = count.wrapping_add(1);
+}
+
+fn give_from_threads<R: Threads + Wait + Sync>(
+    rt: &R,
+    alloc: Global,
+    hand_over: &HandOver,
+    ended: &Mutex<u64>,
+    work: &Mutex<Work>,
+    givers: Vec<GivePass>,
+) -> Vec<GivePass>
+    requires { All (λ p. IsGiverOf hand_over.now p) givers.items }
+    ensures { All (λ p. IsGiverOf hand_over.now p) result.items × (vec_len result ≡ vec_len givers) }
+{
+    let mut givers = givers;
+    thread::for_each_mut(
+        rt,
+        givers.as_mut_slice(),
+        4,
+        &|_, pass: &mut GivePass| { give_hundred(rt, alloc, hand_over, ended, work, pass) },
+    );
+    givers
+}
+
+// Takes until all givers have ended and nothing is left. How many parts came as the next of their giver.
+fn take_all<R: Wait>(
+    rt: &R,
+    hand_over: &HandOver,
+    ended: &Mutex<u64>,
+    givers: u64,
+    taker: TakePass,
+) -> (TakePass, u64)
+    requires { IsTakerOf hand_over.now taker }
+    ensures { IsTakerOf hand_over.now result.0 }
+{
+    let mut taker = taker;
+    let mut next = [0u64; 4];
+    let mut in_order = 0u64;
+    for _ in rt.forever() {
+        let all_ended = *ended.lock(rt) >= givers;
+        match taken(rt, hand_over, &mut taker) {
+            Some((giver, offset)) => {
+                in_order = in_order.wrapping_add(one_if_next(&mut next, giver, offset));
+            }
+            None if all_ended => break,
+            None => thread::yield_now(),
+        }
+    }
+    (taker, in_order)
+}
+
+// 1 where a part is the next of its giver, which then waits for the one behind it, and 0 where it is not.
+fn one_if_next(next: &mut [u64; 4], giver: u64, offset: u64) -> u64 {
+    let Some(number) = next.get_mut(giver as usize) else {
+        return 0;
+    };
+    let is_next = number.wrapping_mul(1024) == offset;
+    *number = number.wrapping_add(1);
+    if is_next { 1 } else { 0 }
+}
+
+fn hand_over_in_threads<R: Threads + Wait + Sync>(
+    rt: &R,
+    alloc: Global,
+    hand_over: &HandOver,
+    work: Work,
+    givers: Vec<GivePass>,
+    taker: TakePass,
+) -> (Vec<GivePass>, TakePass, u64)
+    requires givers { All (λ p. IsGiverOf hand_over.now p) givers.items }
+    requires taker { IsTakerOf hand_over.now taker }
+    ensures givers { All (λ p. IsGiverOf hand_over.now p) result.0.items × (vec_len result.0 ≡ vec_len givers) }
+    ensures taker { IsTakerOf hand_over.now result.1 }
+{
+    let ended = Mutex::new(0u64);
+    let ended = &ended;
+    let work = Mutex::new(work);
+    let work = &work;
+    let count = givers.len();
+    let (givers, (taker, in_order)) = thread::join(
+        rt,
+        move || -> Vec<GivePass>
+            requires { All (λ p. IsGiverOf hand_over.now p) givers.items }
+            ensures { All (λ p. IsGiverOf hand_over.entry.now p) result.items × (vec_len result ≡ vec_len givers) }
+        { give_from_threads(rt, alloc, hand_over, ended, work, givers) },
+        move || -> (TakePass, u64)
+            requires { IsTakerOf hand_over.now taker }
+            ensures { IsTakerOf hand_over.entry.now result.0 }
+        { take_all(rt, hand_over, ended, count as u64, taker) },
+    );
+    (givers, taker, in_order)
+}
+
+#[test]
+fn four_givers_hand_over_four_hundred_parts(rt: HostRuntime) -> Result<(), Fail> {
+    let (hand_over, givers, taker) = HandOver::new(rt.alloc(), 8, 4)?;
+    let (givers, taker, in_order) = hand_over_in_threads(
+        &rt,
+        rt.alloc(),
+        &hand_over,
+        Work::new(&rt),
+        givers,
+        taker,
+    );
+    assert_eq!(rt; in_order, 400);
+    let moved = hand_over.close(&rt, givers, taker);
+    assert_eq!(rt; (moved.given, moved.taken), (400, 400));
+    Ok(())
+}

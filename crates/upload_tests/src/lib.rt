@@ -1,0 +1,21 @@
+//! Tests of books, boards, shared stores and uploads, over the public calls of `store_ledger`, `store_board` and `store_shared`.
+#![tactic(auto)]
+
+#[cfg(test)]
+mod boards;
+#[cfg(test)]
+mod books;
+#[cfg(test)]
+mod faults;
+#[cfg(test)]
+mod gates;
+#[cfg(test)]
+mod hand_overs;
+#[cfg(test)]
+mod patterns;
+#[cfg(test)]
+mod shared_stores;
+#[cfg(test)]
+mod uploads;
+#[cfg(test)]
+mod uploads_in_threads;
