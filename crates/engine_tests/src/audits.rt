@@ -36,30 +36,6 @@ fn ten_entries(rt: HostRuntime) -> Result<(), Fail> {
     Ok(())
 }
 
-// A beginning of a legal journal is legal, or its last line is cut short.
-fn check_beginning<R: AllocGlobal + Abort>(rt: &R, input: &[u8]) -> Result<(), Fail> {
-    let (text, verdict) = audited(rt, input)?;
-    if verdict == Verdict::Good {
-        assert!(rt; text.starts_with(b"objects "));
-        return Ok(());
-    }
-    let feeds = input.iter().filter(|&&byte| byte == b'\n').count() as u64;
-    let line = feeds.saturating_add(1);
-    let wanted = format!(in rt.alloc(); "refused J2 {line}\n")?;
-    assert_eq!(rt; text.as_slice(), wanted.as_bytes());
-    Ok(())
-}
-
-#[test]
-fn every_beginning_is_read(rt: HostRuntime) -> Result<(), Fail> {
-    let whole = journal(rt.alloc())?;
-    let bytes = whole.as_bytes();
-    for end in 0..bytes.len() {
-        check_beginning(&rt, &bytes[..end])?;
-    }
-    Ok(())
-}
-
 #[test]
 fn a_failed_read_writes_nothing(rt: HostRuntime) -> Result<(), Fail> {
     let mut reader = FailingReader::new(b"tenant 0 5\n", 4);

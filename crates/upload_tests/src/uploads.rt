@@ -2,6 +2,7 @@ ghost use Rattle.std.specs.Prelude.{◌≡◌, ◌^◌};
 
 use crate::gates::{FailAt, HoldFirst, StopAt};
 use crate::patterns::{NO_BYTES, PATTERN_2048, PATTERN_2049, pattern};
+use std::alloc::{AllocError, Global};
 use std::marker::Brand;
 use std::process::Abort;
 use std::sync::Wait;
@@ -9,9 +10,9 @@ use std::sync::atomic::AtomicBool;
 use std::sync::ledger::{Blank, Ledger};
 use std::test::Fail;
 use std::thread::Threads;
-use store_core::{Address, Limits, Refusal, Store, TenantId, UploadId};
+use store_core::{Address, Limits, Refusal, Store, TenantId};
 use store_ledger::{Accepted, NotWhole};
-use store_shared::{Gate, PassAll, Shared, UploadFault, UploadFaultKind, lent_open_tenant, upload};
+use store_shared::{Gate, PassAll, Shared, UploadFault, lent_open_tenant, upload};
 
 // ---- uploads that are sealed
 
@@ -189,14 +190,20 @@ fn a_share_of_one_part_serves(rt: HostRuntime) -> Result<(), Fail> {
 
 // ---- uploads that fail
 
-// What is left after a fault.
-#[derive(Clone, Copy, Debug, PartialEq, Eq)]
-struct Left {
-    fault: UploadFault,
+// A fault and the upload that it leaves, what was accepted, what the store holds, and how many entries its journal has.
+fn left_text(
+    alloc: Global,
+    fault: &UploadFault,
     accepted: Accepted,
-    entries: u64,
-    uploads: u64,
-    held: u64,
+    store: &Store,
+) -> Result<String, AllocError> {
+    let Accepted { bytes, calls } = accepted;
+    let (totals, entries) = (store.totals(), store.journal().len());
+    let held = format!(in alloc; "accepted {bytes} {calls}, {totals}, entries {entries}")?;
+    match fault.left {
+        Some(upload) => format!(in alloc; "{} left {upload}, {held}", fault.kind),
+        None => format!(in alloc; "{}, {held}", fault.kind),
+    }
 }
 
 // Uploads the pattern of 2049 bytes with the whole share, which settles, and looks at what is left.
@@ -208,7 +215,7 @@ fn failed<B: Ledger, C: Ledger, G: Gate + Sync, R: Threads + Wait + Sync + Alloc
     limits: Limits,
     part_chunks: u64,
     workers: u64,
-) -> Result<Left, Fail>
+) -> Result<String, Fail>
     requires bytes { (bytes.name ≡ B.name) × (bytes.parts ≡ B.parts) × (bytes.parts ≡ 2 ^ 32) }
     requires calls { (calls.name ≡ C.name) × (calls.parts ≡ C.parts) × (calls.parts ≡ 2 ^ 32) }
 {
@@ -233,25 +240,7 @@ fn failed<B: Ledger, C: Ledger, G: Gate + Sync, R: Threads + Wait + Sync + Alloc
     let mut share = share;
     let mut locked = shared.close();
     let accepted = locked.settle(&mut share).ok().ok_or("not whole")?;
-    let totals = locked.store().totals();
-    Ok(Left {
-        fault,
-        accepted,
-        entries: locked.store().journal().len() as u64,
-        uploads: totals.uploads,
-        held: totals.held_bytes,
-    })
-}
-
-// What is left after a fault, where the upload was aborted.
-fn aborted(kind: UploadFaultKind, bytes: u64, calls: u64, entries: u64) -> Left {
-    Left {
-        fault: UploadFault { kind, left: None },
-        accepted: Accepted { bytes, calls },
-        entries,
-        uploads: 0,
-        held: 0,
-    }
+    Ok(left_text(alloc, &fault, accepted, locked.store())?)
 }
 
 #[test]
@@ -265,7 +254,10 @@ fn a_stop_is_told(rt: HostRuntime) -> Result<(), Fail> {
         1,
         1,
     )?;
-    assert_eq!(rt; left, aborted(UploadFaultKind::Stopped, 0, 0, 3));
+    assert_eq!(rt;
+        left.as_str(),
+        "U3, accepted 0 0, objects 0 bytes 0 uploads 0 held 0 parts 0, entries 3"
+    );
     Ok(())
 }
 
@@ -280,23 +272,11 @@ fn a_gates_fault_is_told(rt: HostRuntime) -> Result<(), Fail> {
         1,
         1,
     )?;
-    let kind = UploadFaultKind::GateFault { part: 1, code: 9 };
-    assert_eq!(rt; left, aborted(kind, 1024, 1, 4));
+    assert_eq!(rt;
+        left.as_str(),
+        "U4 part 1 code 9, accepted 1024 1, objects 0 bytes 0 uploads 0 held 0 parts 0, entries 4"
+    );
     Ok(())
-}
-
-// What is left where the journal is full, and the upload can't be aborted.
-fn left_open(entries: u64, bytes: u64, calls: u64) -> Left {
-    Left {
-        fault: UploadFault {
-            kind: UploadFaultKind::Refused(Refusal::JournalFull),
-            left: Some(UploadId::new(0)),
-        },
-        accepted: Accepted { bytes, calls },
-        entries,
-        uploads: 1,
-        held: bytes,
-    }
 }
 
 // What a journal of so many entries leaves.
@@ -305,7 +285,7 @@ fn left_by_a_full_journal<B: Ledger, C: Ledger, R: Threads + Wait + Sync + Alloc
     bytes: Blank,
     calls: Blank,
     entries: u64,
-) -> Result<Left, Fail>
+) -> Result<String, Fail>
     requires bytes { (bytes.name ≡ B.name) × (bytes.parts ≡ B.parts) × (bytes.parts ≡ 2 ^ 32) }
     requires calls { (calls.name ≡ C.name) × (calls.parts ≡ C.parts) × (calls.parts ≡ 2 ^ 32) }
 {
@@ -318,7 +298,10 @@ fn a_full_journal_leaves_the_upload(rt: HostRuntime) -> Result<(), Fail> {
     let bytes = Blank::new(1 << 32);
     let calls = Blank::new(1 << 32);
     let left = left_by_a_full_journal::<Brand, Brand, _>(&rt, bytes, calls, 3)?;
-    assert_eq!(rt; left, left_open(3, 1024, 1));
+    assert_eq!(rt;
+        left.as_str(),
+        "U1 S13 left 0, accepted 1024 1, objects 0 bytes 0 uploads 1 held 1024 parts 1, entries 3"
+    );
     Ok(())
 }
 
@@ -327,9 +310,16 @@ fn a_full_journal_takes_no_part(rt: HostRuntime) -> Result<(), Fail> {
     let bytes = Blank::new(1 << 32);
     let calls = Blank::new(1 << 32);
     let left = left_by_a_full_journal::<Brand, Brand, _>(&rt, bytes, calls, 2)?;
-    assert_eq!(rt; left, left_open(2, 0, 0));
+    assert_eq!(rt;
+        left.as_str(),
+        "U1 S13 left 0, accepted 0 0, objects 0 bytes 0 uploads 1 held 0 parts 0, entries 2"
+    );
     Ok(())
 }
+
+// What a bad cut leaves.
+const NOTHING_BEGUN: &str =
+    "U2, accepted 0 0, objects 0 bytes 0 uploads 0 held 0 parts 0, entries 1";
 
 // What parts of so many chunks and so many workers leave, of which two are allowed.
 fn left_by_a_cut<B: Ledger, C: Ledger, R: Threads + Wait + Sync + AllocGlobal>(
@@ -338,7 +328,7 @@ fn left_by_a_cut<B: Ledger, C: Ledger, R: Threads + Wait + Sync + AllocGlobal>(
     calls: Blank,
     part_chunks: u64,
     workers: u64,
-) -> Result<Left, Fail>
+) -> Result<String, Fail>
     requires bytes { (bytes.name ≡ B.name) × (bytes.parts ≡ B.parts) × (bytes.parts ≡ 2 ^ 32) }
     requires calls { (calls.name ≡ C.name) × (calls.parts ≡ C.parts) × (calls.parts ≡ 2 ^ 32) }
 {
@@ -348,24 +338,22 @@ fn left_by_a_cut<B: Ledger, C: Ledger, R: Threads + Wait + Sync + AllocGlobal>(
 
 #[test]
 fn a_bad_cut_begins_nothing(rt: HostRuntime) -> Result<(), Fail> {
-    let wanted = aborted(UploadFaultKind::BadCut, 0, 0, 1);
     for part_chunks in [0, 16385] {
         let bytes = Blank::new(1 << 32);
         let calls = Blank::new(1 << 32);
         let left = left_by_a_cut::<Brand, Brand, _>(&rt, bytes, calls, part_chunks, 1)?;
-        assert_eq!(rt; left, wanted);
+        assert_eq!(rt; left.as_str(), NOTHING_BEGUN);
     }
     Ok(())
 }
 
 #[test]
 fn bad_counts_of_workers_begin_nothing(rt: HostRuntime) -> Result<(), Fail> {
-    let wanted = aborted(UploadFaultKind::BadCut, 0, 0, 1);
     for workers in [0, 3, 17] {
         let bytes = Blank::new(1 << 32);
         let calls = Blank::new(1 << 32);
         let left = left_by_a_cut::<Brand, Brand, _>(&rt, bytes, calls, 1, workers)?;
-        assert_eq!(rt; left, wanted);
+        assert_eq!(rt; left.as_str(), NOTHING_BEGUN);
     }
     Ok(())
 }
