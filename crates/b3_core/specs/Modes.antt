@@ -30,11 +30,3 @@ derive_mode context = record { key = key_words_of (digest_of context context_mod
 -- hash(x)
 abbrev pub hash_of : List ℕ → List ℕ
 hash_of x = digest_of x hash_mode
-
--- keyed_hash(key, x)
-abbrev pub keyed_hash_of : List ℕ → List ℕ → List ℕ
-keyed_hash_of key x = digest_of x (keyed_mode key)
-
--- derive_key(context, x)
-abbrev pub derived_key_of : List ℕ → List ℕ → List ℕ
-derived_key_of context x = digest_of x (derive_mode context)

@@ -4,12 +4,14 @@ ghost use Rattle.std.specs.Prelude.{◌≡◌, ℕ, ◌+◌, ◌-◌, ◌*◌, �
 ghost use Rattle.b3_core.specs.Compression.{columns, diagonals, round, permute, start_state, compress_of, output_words};
 ghost use Rattle.b3_core.specs.Lanes.{lane, half_lane, state_lane, chunk_bytes, chunk_at};
 ghost use Rattle.b3_core.specs.Tree.{Inputs, chaining_value_of, parent_top, word_at, block, block_words_of, chain};
+ghost use Rattle.b3_core.specs.Work.{counted};
 
 use crate::compression::{CHUNK_END, IV, PARENT, high, low};
 use crate::mode::Mode;
 use crate::top::start_flag;
 use crate::vectors::{mix, splat, turn, xor};
 use crate::words::word;
+use crate::work::Work;
 use std::simd::u32x4;
 
 #[inline(always)]
@@ -110,11 +112,20 @@ fn start_states(h: [u32x4; 8], t_low: u32x4, t_high: u32x4, d: u32) -> [u32x4; 1
     ]
 }
 
-// The chaining value of a whole block, in each lane.
-fn compress(h: [u32x4; 8], m0: [u32x4; 16], t_low: u32x4, t_high: u32x4, d: u32) -> [u32x4; 8]
-    ensures { (j t : ℕ) → j < 4 → slice_index t_low j ≡ t % 2 ^ 32 → slice_index t_high j ≡ t / 2 ^ 32
+// The chaining value of a whole block, in each lane: one compression for each.
+fn compress(
+    h: [u32x4; 8],
+    m0: [u32x4; 16],
+    t_low: u32x4,
+    t_high: u32x4,
+    d: u32,
+    work: &mut Work,
+) -> [u32x4; 8]
+    ensures values { (j t : ℕ) → j < 4 → slice_index t_low j ≡ t % 2 ^ 32 → slice_index t_high j ≡ t / 2 ^ 32
         → half_lane j result ≡ take 8 (compress_of (half_lane j h) (lane j m0) t 64 d) }
+    ensures count { work.new ≡ counted work.old 4 }
 {
+    work.add(4);
     let v0 = start_states(h, t_low, t_high, d);
     let v1 = round(v0, m0);
     let m1 = permute(m0);
@@ -252,29 +263,31 @@ fn keys(key: [u32; 8]) -> [u32x4; 8]
 }
 
 /// The chaining value of each of four chunks after all of its blocks but the last.
-pub(crate) fn chains(mode: &Mode, bytes: &[u8], number: u64) -> [u32x4; 8]
+pub(crate) fn chains(mode: &Mode, bytes: &[u8], number: u64, work: &mut Work) -> [u32x4; 8]
     requires four { length bytes.now ≡ 4096 }
     requires number { number ≤ 2 ^ 64 - 4 }
-    ensures { (j : ℕ) → j < 4 → half_lane j result ≡ chain (chunk_bytes bytes.now j) (number + j) mode.now 15 }
+    ensures values { (j : ℕ) → j < 4 → half_lane j result ≡ chain (chunk_bytes bytes.now j) (number + j) mode.now 15 }
+    ensures count { work.new ≡ counted work.old 60 }
 {
     let t_low = low_words(number);
     let t_high = high_words(number);
     let mut h = keys(mode.key());
     'blocks: for k in 0..15 {
         let m = blocks_at(bytes, k);
-        let next = compress(h, m, t_low, t_high, mode.flag() + start_flag(k));
+        let next = compress(h, m, t_low, t_high, mode.flag() + start_flag(k), work);
         h = next;
     }
     h
 }
 
 /// The chaining value of each of four chunks.
-pub(crate) fn chunk_values(mode: &Mode, bytes: &[u8], number: u64) -> [u32x4; 8]
+pub(crate) fn chunk_values(mode: &Mode, bytes: &[u8], number: u64, work: &mut Work) -> [u32x4; 8]
     requires four { length bytes.now ≡ 4096 }
     requires number { number ≤ 2 ^ 64 - 4 }
-    ensures { (j : ℕ) → j < 4 → half_lane j result ≡ chaining_value_of (chunk_at bytes.now number mode.now j) }
+    ensures values { (j : ℕ) → j < 4 → half_lane j result ≡ chaining_value_of (chunk_at bytes.now number mode.now j) }
+    ensures count { work.new ≡ counted work.old 64 }
 {
-    let before_last = chains(mode, bytes, number);
+    let before_last = chains(mode, bytes, number, work);
     let last_block = blocks_at(bytes, 15);
     let t_low = low_words(number);
     let t_high = high_words(number);
@@ -284,19 +297,33 @@ pub(crate) fn chunk_values(mode: &Mode, bytes: &[u8], number: u64) -> [u32x4; 8]
         t_low,
         t_high,
         mode.flag() + CHUNK_END,
+        work,
     )
 }
 
 /// The chaining values of the parents of eight nodes: two of the first four lanes, then two of the other four.
-pub(crate) fn parent_values(mode: &Mode, left: [u32x4; 8], right: [u32x4; 8]) -> [u32x4; 8]
+pub(crate) fn parent_values(
+    mode: &Mode,
+    left: [u32x4; 8],
+    right: [u32x4; 8],
+    work: &mut Work,
+) -> [u32x4; 8]
     ensures front { (j : ℕ) (a b : Inputs) → j < 2 → half_lane (2 * j) left ≡ chaining_value_of a → half_lane (2 * j + 1) left ≡ chaining_value_of b
         → half_lane j result ≡ chaining_value_of (parent_top a b mode.now) }
     ensures back { (j : ℕ) (a b : Inputs) → j < 2 → half_lane (2 * j) right ≡ chaining_value_of a → half_lane (2 * j + 1) right ≡ chaining_value_of b
         → half_lane (j + 2) result ≡ chaining_value_of (parent_top a b mode.now) }
+    ensures count { work.new ≡ counted work.old 4 }
 {
     let block = pairs(left, right);
     let none = splat(0);
-    compress(keys(mode.key()), block, none, none, mode.flag() + PARENT)
+    compress(
+        keys(mode.key()),
+        block,
+        none,
+        none,
+        mode.flag() + PARENT,
+        work,
+    )
 }
 
 // The lanes of even numbers, and those of odd numbers, of eight.

@@ -77,16 +77,15 @@ impl Top {
     }
 
     /// The nodes of eight whole chunks, the first with the given number: node i is `of_chunk` of chunk i with
-    /// `number + i`. It counts their 120 compressions, and makes them side by side, four at a time.
+    /// `number + i`. It makes their 120 compressions side by side, four at a time.
     pub fn of_eight(mode: &Mode, bytes: &[u8; 8192], number: u64, work: &mut Work) -> [Top; 8]
         requires { number ≤ 2 ^ 64 - 8 }
         ensures nodes { result ≡ eight_chunks bytes.now number mode.now }
         ensures count { work.new ≡ counted work.old 120 }
     {
-        work.add(120);
         let (front, back) = bytes.split_at(4096);
-        let front_values = chains(mode, front, number);
-        let back_values = chains(mode, back, number + 4);
+        let front_values = chains(mode, front, number, work);
+        let back_values = chains(mode, back, number + 4, work);
         let n0 = Top::of_lane(mode, front, number, &front_values, 0);
         let n1 = Top::of_lane(mode, front, number, &front_values, 1);
         let n2 = Top::of_lane(mode, front, number, &front_values, 2);

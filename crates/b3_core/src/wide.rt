@@ -44,16 +44,14 @@ fn quarter_values(mode: &Mode, bytes: &[u8], level: u32, number: u64, work: &mut
     ensures count { work.new ≡ counted work.old (68 * 2 ^ level - 4) }
 {
     if level == 0 {
-        work.add(64);
-        return chunk_values(mode, bytes, number);
+        return chunk_values(mode, bytes, number, work);
     }
     let middle = bytes.len() / 2;
     let (left, right) = bytes.split_at(middle);
     let left_values = quarter_values(mode, left, level - 1, number, work);
     let right_number = number + (middle / CHUNK_LEN) as u64;
     let right_values = quarter_values(mode, right, level - 1, right_number, work);
-    work.add(4);
-    parent_values(mode, left_values, right_values)
+    parent_values(mode, left_values, right_values, work)
 }
 
 // The top of the tree over four times 2^level whole chunks, the first with the given number.

@@ -8,10 +8,9 @@ use Rattle.std.specs.Ordering.{nat_cmp}
 use Rattle.std.proofs.lemmas.Bool.Decides.{nat_tests}
 use Rattle.std.proofs.lemmas.List.{length-map}
 use Rattle.b3_forest.specs.Forests.{IsRow, Covers, NoHalves, IsForest}
-use Rattle.b3_forest.specs.Nodes.{Nodes, AreForest, AreHalvesAt, ArePieces, AreSettled, node_at, piece_from}
+use Rattle.b3_forest.specs.Nodes.{Nodes, AreForest, AreHalvesAt, ArePieces, AreSettled, node_at, piece_from, pieces_in}
 use Rattle.b3_forest.specs.Pieces.{pieces_of, piece_count, root_level}
 use Rattle.b3_forest.specs.declared.node.Node.{Node}
-use Rattle.b3_forest.specs.declared.piece.Piece.{Piece}
 use Rattle.b3_forest.proofs.Maps.{at_same, at_other, same_or}
 use Rattle.b3_forest.proofs.Merging.{some_same}
 use Rattle.b3_forest.proofs.OneForest.{one_forest}
@@ -60,9 +59,6 @@ tail_settled e es sorted settled s h = settled s (record {
 
 -- ---- the list of pieces
 
-pub pieces_in : Nodes → List Piece
-pieces_in es = map piece_from es
-
 row_of : (x : ℕ → List ℕ) (a : ℕ) (es : Nodes) → AreSorted es → ArePieces x es → ((s : ℕ) (n : Node) → node_at es s ≡ Some n → a ≤ s)
     → IsRow x (2 ^ 30) a (map piece_from es)
 unfolding IsStrictlySortedBy
@@ -105,7 +101,7 @@ no_halves_of (e ∷ f ∷ es) sorted settled = (
   no_halves_of (f ∷ es) sorted.1 (tail_settled e (f ∷ es) sorted settled),
 )
 
-pub forest_is_canonical : (x : ℕ → List ℕ) (es : Nodes) → AreSorted es → AreForest x [] es → IsForest x root_level 0 (map piece_from es)
+pub forest_is_canonical : (x : ℕ → List ℕ) (es : Nodes) → AreSorted es → AreForest x [] es → IsForest x root_level 0 (pieces_in es)
 forest_is_canonical x es sorted forest = record {
   row = row_of x 0 es sorted forest.pieces (λ s n is. omega arith);
   covers = λ i after before held. let has = forest.all i held before in covers_of es has.first i has.node has.is has.after has.before;

@@ -1,23 +1,26 @@
 -- What is noted of lent bytes.
-use Rattle.std.proofs.Common.{◌≡◌, ℕ, ◌+◌, ◌-◌, ◌*◌, ◌/◌, ◌%◌, ◌^◌, ◌<◌, ◌≤◌, ◌⊎◌, ◌++◌, List, [], ◌∷◌, length, take, drop, Option, Some, None, true, arith, refl, ap, ap₂, subst, sym, ◌∙◌, inl, inr}
-use Rattle.std.specs.Prelude.{IfErr, IfNone, IfOk, IfSome, OnOk, Result, Ok, Err}
+use Rattle.std.proofs.Common.{◌≡◌, ℕ, zero, suc, ◌+◌, ◌-◌, ◌*◌, ◌/◌, ◌%◌, ◌^◌, ◌<◌, ◌≤◌, ◌⊎◌, ◌++◌, List, [], ◌∷◌, length, take, drop, Option, Some, None, true, false, nat_lt, arith, refl, ap, ap₂, subst, sym, ◌∙◌, inl, inr}
+use Rattle.std.specs.Prelude.{Bool, nat_le, ◌&&◌, ◌||◌, ◌↔◌, IfErr, IfNone, IfOk, IfSome, OnOk, Result, Ok, Err}
 use Rattle.std.specs.List.Sorted.{IsStrictlySortedBy}
 use Rattle.std.proofs.lemmas.Bool.{cases_lt}
-use Rattle.std.proofs.lemmas.List.{drop-drop, drop_all, length-map, take-append-drop}
-use Rattle.b3_forest.specs.Followed.{AllNoted, ArePartsOf, Follows, InRanges, IsFirstNoted, IsFirstUnnoted, IsIn, IsNoted, IsNotedWith, NothingNoted, bytes_at, followed, noting_merges, range_of}
+use Rattle.std.proofs.lemmas.Bool.Decides.{nat_tests}
+use Rattle.std.proofs.lemmas.List.{drop-drop, drop_all, length-append, length-drop, length-take, take-append-drop}
+use Rattle.b3_forest.specs.Followed.{AllNoted, ArePartsOf, Followed, Follows, IsFirstNoted, IsFirstUnnoted, IsIn, IsNoted, IsNotedWith, NothingNoted, bytes_at, followed, has_chunk, noted_chunk, noting_merges, pieces_noted, range_of}
 use Rattle.b3_forest.specs.Nodes.{HasChunk, Keeps, Nodes, is_held, node_at}
 use Rattle.b3_forest.specs.Parts.{Part, chunk_in, chunks_of, end_of}
-use Rattle.b3_forest.specs.Pieces.{piece_count}
+use Rattle.b3_forest.specs.Pieces.{is_full, piece_count, pieces_of, root_level}
 use Rattle.b3_forest.specs.Uploads.{ArePlaced, IsFirstMissing, IsFirstOverlap, IsHeldAt, Upload, content_of, first_gap, first_missing, merges_of, overlap_at, with_part}
 use Rattle.b3_forest.specs.declared.node.Node.{Node}
 use Rattle.b3_forest.proofs.Canonical.{AreSorted, forest_count, head_at, in_tail, tail_at}
 use Rattle.b3_forest.proofs.Contents.{gap_follows, gap_here}
 use Rattle.b3_forest.proofs.Finishing.{nothing_missing}
 use Rattle.b3_forest.proofs.HeldOffsets.{least_missing, least_overlap, offset_after}
-use Rattle.b3_forest.proofs.HeldParts.{in_or_out, held_here, held_there, none_held_in_nothing, with_part_first, with_part_later}
+use Rattle.b3_forest.proofs.HeldParts.{held_after, in_or_out, held_here, held_there, none_held_in_nothing, with_part_first, with_part_later}
 use Rattle.b3_forest.proofs.Maps.{same_or}
 use Rattle.b3_forest.proofs.Merging.{some_same}
+use Rattle.b3_forest.proofs.OneForest.{bool_cases}
 use Rattle.b3_forest.proofs.Places.{held_in}
+use Rattle.b3_forest.proofs.Ranges.{pieces_of-full, pieces_of-halves}
 
 -- ---- offsets and chunks
 
@@ -44,36 +47,53 @@ offset_of_chunk n a i (p ∷ ps) placed low held = elim (in_or_out p (i / 1024))
   )
 ]
 
--- ---- ranges
+-- ---- chunks in pieces
 
-in_range : (es : Nodes) (s i : ℕ) (n : Node) → node_at es s ≡ Some n → 1024 * s ≤ i → i < 1024 * (s + 2 ^ n.level) → InRanges (range_of es) i
-in_range [] s i n is after before = cc
-in_range (e ∷ es) s i n is after before = elim (same_or s e.0) [
+in_nodes : (es : Nodes) (s i : ℕ) (n : Node) → node_at es s ≡ Some n → s ≤ i → i < s + 2 ^ n.level → has_chunk (range_of es) i ≡ true
+in_nodes [] s i n is after before = cc
+in_nodes (e ∷ es) s i n is after before = elim (same_or s e.0) [
   | inl same ↦
       let node : n ≡ e.1 = some_same n e.1 (sym is ∙ ap (node_at (e ∷ es)) same ∙ head_at e es) in
       let wide : 2 ^ n.level ≡ 2 ^ e.1.level = ap (λ (w : Node). 2 ^ w.level) node in
-      inl (omega (arith, same, after), omega (arith, same, before, wide))
-  | inr other ↦ inr (in_range es s i n (sym (tail_at e es s other) ∙ is) after before)
+      let low : nat_le e.0 i ≡ true = grind (arith, nat_tests) in
+      let high : nat_lt i (e.0 + 2 ^ e.1.level) ≡ true = grind (arith, nat_tests) in
+      rw (low, high) refl
+  | inr other ↦ rw (in_nodes es s i n (sym (tail_at e es s other) ∙ is) after before) (or_true _)
 ]
+  where
+    or_true : (p : Bool) → (p || true) ≡ true
+    or_true true = refl
+    or_true false = refl
 
-range_node : (es : Nodes) (i : ℕ) → AreSorted es → InRanges (range_of es) i → HasChunk es (i / 1024)
+node_over : (es : Nodes) (i : ℕ) → AreSorted es → has_chunk (range_of es) i ≡ true → HasChunk es i
 unfolding IsStrictlySortedBy
-range_node [] i sorted noted = absurd noted
-range_node (e ∷ es) i sorted (inl here) = record { first = e.0; node = e.1; is = head_at e es; after = omega (arith, here.0); before = omega (arith, here.1) }
-range_node (e ∷ es) i sorted (inr later) =
-    let has = range_node es i sorted.1 later in
-    record { first = has.first; node = has.node; is = in_tail e es has.first has.node sorted has.is; after = has.after; before = has.before }
+node_over [] i sorted noted = cc
+node_over (e ∷ es) i sorted noted = elim (cases_lt i e.0) [
+  | inl early ↦
+      let low : nat_le e.0 i ≡ false = grind (arith, nat_tests) in
+      node_later e es i sorted (node_over es i sorted.1 (rw low at noted))
+  | inr after ↦ elim (cases_lt i (e.0 + 2 ^ e.1.level)) [
+    | inl before ↦ record { first = e.0; node = e.1; is = head_at e es; after = after; before = before }
+    | inr behind ↦
+        let low : nat_le e.0 i ≡ true = grind (arith, nat_tests) in
+        let high : nat_lt i (e.0 + 2 ^ e.1.level) ≡ false = grind (arith, nat_tests) in
+        node_later e es i sorted (node_over es i sorted.1 (rw (low, high) at noted))
+  ]
+]
+  where
+    node_later : (e : ℕ × Node) (es : Nodes) (i : ℕ) → AreSorted (e ∷ es) → HasChunk es i → HasChunk (e ∷ es) i
+    node_later e es i sorted has = record { first = has.first; node = has.node; is = in_tail e es has.first has.node sorted has.is; after = has.after; before = has.before }
 
 pub noted_of : (b : List ℕ) (ps : List Part) (es : Nodes) (i : ℕ) → Keeps (length b) ps es → IsHeldAt ps i → IsNoted (followed b es) i
 noted_of b ps es i keeps held =
     let low = offset_after (length b) 0 i ps keeps.upload.placed held in
     let chunk = chunk_of_offset (length b) 0 i ps keeps.upload.placed held in
     let has = keeps.forest.all (i / 1024) chunk (omega (arith, low.1, keeps.upload.most)) in
-    (low.1, in_range es has.first i has.node has.is (omega (arith, has.after)) (omega (arith, has.before)))
+    (low.1, in_nodes es has.first (i / 1024) has.node has.is has.after has.before)
 
 pub held_of : (b : List ℕ) (ps : List Part) (es : Nodes) (i : ℕ) → Keeps (length b) ps es → IsNoted (followed b es) i → IsHeldAt ps i
 held_of b ps es i keeps noted =
-    let has = range_node es i keeps.sorted noted.1 in
+    let has = node_over es (i / 1024) keeps.sorted noted.1 in
     let chunk = held_in (chunk_in ps) es has.first (i / 1024) has.node keeps.forest.pieces has.is has.after has.before in
     offset_of_chunk (length b) 0 i ps keeps.upload.placed noted.0 chunk
 
@@ -178,22 +198,86 @@ content_is b es w none = content_from b 0 w.parts (omega arith) w.keeps.upload.p
 
 -- ---- counts
 
-pub range_count : (b : List ℕ) (ps : List Part) (es : Nodes) → Keeps (length b) ps es → piece_count (chunk_in ps) ≡ length (range_of es)
-range_count b ps es keeps = sym (forest_count (chunk_in ps) es keeps.sorted keeps.forest) ∙ sym (length-map es (λ (e : ℕ × Node). (e.0, e.0 + 2 ^ e.1.level)))
+-- what is noted and what is held have as many pieces where they are the same chunks
+same_full : (x y : ℕ → List ℕ) (k s : ℕ) → ((i : ℕ) → is_held x i ≡ is_held y i) → is_full x k s ≡ is_full y k s
+unfolding is_full
+same_full x y zero s same = same s
+same_full x y (suc k) s same = ap₂ (λ a b. a && b) (same_full x y k s same) (same_full x y k (s + 2 ^ k) same)
+
+same_count : (x y : ℕ → List ℕ) (k s : ℕ) → ((i : ℕ) → is_held x i ≡ is_held y i) → length (pieces_of x k s) ≡ length (pieces_of y k s)
+unfolding pieces_of
+same_count x y zero s same = elim (bool_cases (is_full x zero s)) [
+  | inl full ↦ ap length (pieces_of-full x zero s full) ∙ sym (ap length (pieces_of-full y zero s (sym (same_full x y zero s same) ∙ full)))
+  | inr none ↦
+      let other : is_full y zero s ≡ false = sym (same_full x y zero s same) ∙ none in
+      rw (none, other, pieces_of) refl
+]
+same_count x y (suc k) s same = elim (bool_cases (is_full x (suc k) s)) [
+  | inl full ↦ ap length (pieces_of-full x (suc k) s full) ∙ sym (ap length (pieces_of-full y (suc k) s (sym (same_full x y (suc k) s same) ∙ full)))
+  | inr part ↦
+      ap length (pieces_of-halves x k s part) ∙ length-append (pieces_of x k s) (pieces_of x k (s + 2 ^ k))
+      ∙ ap₂ (λ a b. a + b) (same_count x y k s same) (same_count x y k (s + 2 ^ k) same)
+      ∙ sym (ap length (pieces_of-halves y k s (sym (same_full x y (suc k) s same) ∙ part)) ∙ length-append (pieces_of y k s) (pieces_of y k (s + 2 ^ k)))
+]
+
+some_noted : (f : Followed) (i : ℕ) → has_chunk f.ranges i ≡ true → 1024 * i < length f.bytes → is_held (noted_chunk f) i ≡ true
+some_noted f i has low =
+    let some : 0 < length (take 1024 (drop (1024 * i) f.bytes)) = omega (arith, length-take 1024 (drop (1024 * i) f.bytes), length-drop (1024 * i) f.bytes) in
+    let test : nat_lt 0 (length (take 1024 (drop (1024 * i) f.bytes))) ≡ true = grind (arith, nat_tests) in
+    rw (has, test) refl
+
+noted_some : (f : Followed) (i : ℕ) → is_held (noted_chunk f) i ≡ true → IsNoted f (1024 * i)
+noted_some f i held = elim (bool_cases (has_chunk f.ranges i)) [
+  | inr not ↦ let bad : false ≡ true = rw not at held in cc
+  | inl has ↦
+      let at : 1024 * i / 1024 ≡ i = omega arith in
+      let there : has_chunk f.ranges (1024 * i / 1024) ≡ true = ap (has_chunk f.ranges) at ∙ has in
+      elim (cases_lt (1024 * i) (length f.bytes)) [
+        | inl low ↦ (low, there)
+        | inr past ↦
+            let none : length (take 1024 (drop (1024 * i) f.bytes)) ≡ 0 = omega (arith, length-take 1024 (drop (1024 * i) f.bytes), length-drop (1024 * i) f.bytes) in
+            let test : nat_lt 0 (length (take 1024 (drop (1024 * i) f.bytes))) ≡ false = grind (arith, nat_tests) in
+            let bad : false ≡ true = rw (has, test) at held in cc
+      ]
+]
+
+noted_as_held : (f : Followed) (n : ℕ) (ps : List Part) → n ≡ length f.bytes → ArePlaced n 0 ps → ((i : ℕ) → IsNoted f i ↔ IsHeldAt ps i)
+    → (i : ℕ) → is_held (noted_chunk f) i ≡ is_held (chunk_in ps) i
+noted_as_held f n ps len placed same i =
+    let at : 1024 * i / 1024 ≡ i = omega arith in
+    elim (bool_cases (is_held (chunk_in ps) i)) [
+      | inl held ↦
+          let low = (held_after n 0 i ps placed held).1 in
+          let noted = (same (1024 * i)).1 (offset_of_chunk n 0 (1024 * i) ps placed low (ap (is_held (chunk_in ps)) at ∙ held)) in
+          some_noted f i (ap (has_chunk f.ranges) (sym at) ∙ noted.1) noted.0 ∙ sym held
+      | inr none ↦ elim (bool_cases (is_held (noted_chunk f) i)) [
+        | inr out ↦ out ∙ sym none
+        | inl inside ↦
+            let held = chunk_of_offset n 0 (1024 * i) ps placed ((same (1024 * i)).0 (noted_some f i inside)) in
+            let bad = sym none ∙ ap (is_held (chunk_in ps)) (sym at) ∙ held in cc
+      ]
+    ]
+
+pub noted_pieces : (f : Followed) (n : ℕ) (ps : List Part) → n ≡ length f.bytes → ArePlaced n 0 ps → ((i : ℕ) → IsNoted f i ↔ IsHeldAt ps i)
+    → pieces_noted f ≡ piece_count (chunk_in ps)
+noted_pieces f n ps len placed same = same_count (noted_chunk f) (chunk_in ps) root_level 0 (noted_as_held f n ps len placed same)
+
+pub noted_count : (b : List ℕ) (ps : List Part) (es : Nodes) → Keeps (length b) ps es → piece_count (chunk_in ps) ≡ pieces_noted (followed b es)
+noted_count b ps es keeps =
+    sym (noted_pieces (followed b es) (length b) ps refl keeps.upload.placed (λ i. (held_of b ps es i keeps, noted_of b ps es i keeps)))
+
+pub nothing_noted : (b : List ℕ) (es : Nodes) → Keeps (length b) [] es → es ≡ [] → pieces_noted (followed b es) ≡ 0
+nothing_noted b es keeps empty = sym (noted_count b [] es keeps) ∙ sym (forest_count (chunk_in []) es keeps.sorted keeps.forest) ∙ ap length empty
 
 pub merges_noted : (b : List ℕ) (ps : List Part) (es fs : Nodes) (p : Part) → Keeps (length b) ps es → Keeps (length b) (with_part p ps) fs
     → merges_of (record { len = length b; parts = ps }) p ≡ noting_merges (followed b es) (followed b fs) p
-merges_noted b ps es fs p old new = ap₂ (λ i j. i + piece_count (chunks_of p) - j) (range_count b ps es old) (range_count b (with_part p ps) fs new)
+merges_noted b ps es fs p old new = ap₂ (λ i j. i + piece_count (chunks_of p) - j) (noted_count b ps es old) (noted_count b (with_part p ps) fs new)
 
 -- ---- answers
 
 pub if_err_by : {A E : Type 0} (r : Result A E) (P Q : E → Type 0) → ((e : E) → P e → Q e) → IfErr r P → IfErr r Q
 if_err_by (Ok a) P Q by holds = tt
 if_err_by (Err e) P Q by holds = by e holds
-
-pub if_ok_by : {A E : Type 0} (r : Result A E) (P Q : A → Type 0) → ((a : A) → P a → Q a) → IfOk r P → IfOk r Q
-if_ok_by (Ok a) P Q by holds = by a holds
-if_ok_by (Err e) P Q by holds = tt
 
 pub on_ok_by : {A E : Type 0} (r : Result A E) (P Q : Type 0) → (P → Q) → OnOk r P → OnOk r Q
 on_ok_by (Ok a) P Q by holds = by holds

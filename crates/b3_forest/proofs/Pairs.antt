@@ -1,5 +1,5 @@
 -- Finding the other half of a piece.
-use Rattle.std.proofs.Common.{◌≡◌, ℕ, suc, ◌+◌, ◌-◌, ◌*◌, ◌/◌, ◌%◌, ◌^◌, ◌<◌, ◌≤◌, List, Some, None, arith, refl, ap, ap₂, sym, ◌∙◌, inl, inr}
+use Rattle.std.proofs.Common.{◌≡◌, ℕ, suc, ◌+◌, ◌-◌, ◌*◌, ◌/◌, ◌%◌, ◌^◌, ◌<◌, ◌≤◌, List, Some, arith, refl, ap, ap₂, sym, ◌∙◌, inl, inr}
 use Rattle.std.specs.Prelude.{◌≢◌}
 use Rattle.std.proofs.lemmas.Bool.{cases_lt}
 use Rattle.std.proofs.lemmas.Nat.{pow_pos}
@@ -26,19 +26,19 @@ odd_multiple q w v twice odd =
 quotient : (first width l q : ℕ) → width ≡ 2 ^ l → first ≡ q * 2 ^ l → first / width ≡ q
 quotient first width l q wide is = ap₂ (λ i j. i / j) is wide ∙ mul-div_cancel q (pow_pos l)
 
-pub behind_left : (first width l q : ℕ) → width ≡ 2 ^ l → first ≡ q * 2 ^ l → first + 2 ^ l ≤ 2 ^ 30 → (first / width) % 2 ≡ 0 → IsOtherHalf first l ((first + width) % 2 ^ 64)
-behind_left first width l q wide is most even =
+pub behind_left : (first width l q : ℕ) → width ≡ 2 ^ l → first ≡ q * 2 ^ l → (first / width) % 2 ≡ 0 → IsOtherHalf first l (first + width)
+behind_left first width l q wide is even =
     let two = two-pow-succ l in
     let parity : q % 2 ≡ 0 = ap (λ i. i % 2) (sym (quotient first width l q wide is)) ∙ even in
-    inl ((q / 2, is ∙ even_multiple q (2 ^ l) (2 ^ suc l) two parity), omega (arith, wide, most))
+    inl ((q / 2, is ∙ even_multiple q (2 ^ l) (2 ^ suc l) two parity), omega (arith, wide))
 
-pub before_right : (first width l q : ℕ) → width ≡ 2 ^ l → first ≡ q * 2 ^ l → first + 2 ^ l ≤ 2 ^ 30 → (first / width) % 2 ≢ 0 → IsOtherHalf first l ((first + (2 ^ 64 - width)) % 2 ^ 64)
-before_right first width l q wide is most odd =
+pub before_right : (first width l q : ℕ) → width ≡ 2 ^ l → first ≡ q * 2 ^ l → (first / width) % 2 ≢ 0 → IsOtherHalf first l (first - width)
+before_right first width l q wide is odd =
     let two = two-pow-succ l in
     let parity : q % 2 ≢ 0 = λ h. odd (ap (λ i. i % 2) (quotient first width l q wide is) ∙ h) in
     let split = is ∙ odd_multiple q (2 ^ l) (2 ^ suc l) two parity in
     let c = (q / 2) * 2 ^ suc l in
-    let place : (first + (2 ^ 64 - width)) % 2 ^ 64 ≡ c = omega (arith, wide, most, split) in
+    let place : first - width ≡ c = omega (arith, wide, split) in
     inr ((q / 2, place), omega (arith, place, split))
 
 -- no multiple of twice a width is another one and the width
@@ -49,12 +49,6 @@ no_both c d w v twice some same = elim (cases_lt d c) [
 ]
 
 -- ---- pairs
-
-pub none_alone : (es : Nodes) (first : ℕ) → node_at es first ≡ None → IsAlone es first
-none_alone es first none s h = (
-  (λ same. let bad = sym h.is_left ∙ ap (node_at es) (sym same) ∙ none in cc),
-  (λ same. let bad = sym h.is_right ∙ ap (node_at es) (sym same) ∙ none in cc),
-)
 
 pub other_alone : (es : Nodes) (first place : ℕ) (node : Node) → node_at es first ≡ Some node → IsOtherHalf first node.level place
     → ((m : Node) → node_at es place ≡ Some m → m.level ≢ node.level) → IsAlone es first
@@ -141,9 +135,8 @@ level_most x es s n pieces is = elim (cases_lt 30 n.level) [
 
 -- where the other half of a piece begins
 pub other_place : (x : ℕ → List ℕ) (es : Nodes) (first : ℕ) (node : Node) (width place : ℕ) → ArePieces x es → node_at es first ≡ Some node
-    → (node.level ≤ 30 → width ≡ 2 ^ node.level)
-    → ((l q : ℕ) → width ≡ 2 ^ l → first ≡ q * 2 ^ l → first + 2 ^ l ≤ 2 ^ 30 → IsOtherHalf first l place) → IsOtherHalf first node.level place
+    → width ≡ 2 ^ node.level
+    → ((l q : ℕ) → width ≡ 2 ^ l → first ≡ q * 2 ^ l → IsOtherHalf first l place) → IsOtherHalf first node.level place
 other_place x es first node width place pieces here wide other =
-    let most = pieces.within first node here in
     let aligned = (pieces.lawful first node here).aligned in
-    other node.level aligned.0 (wide (level_most x es first node pieces here)) aligned.1 most
+    other node.level aligned.0 wide aligned.1

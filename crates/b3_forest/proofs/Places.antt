@@ -8,7 +8,7 @@ use Rattle.std.specs.declared.ops.Bound.TheVariants.{Included, Excluded, Unbound
 use Rattle.std.proofs.lemmas.Bool.Decides.{nat_tests}
 use Rattle.std.proofs.lemmas.Bool.{cases_lt}
 use Rattle.std.proofs.lemmas.Nat.{pow_pos}
-use Rattle.b3_forest.specs.Nodes.{Nodes, AreForest, ArePieces, HasChunk, IsBound, IsFirstGap, IsLastUpto, IsLeastHeld, IsNextFrom, NoneFrom, NoneHeld, NoneUpto, is_held, node_at}
+use Rattle.b3_forest.specs.Nodes.{Nodes, AreForest, ArePieces, HasChunk, IsLastUpto, IsLeastHeld, IsNextFrom, NoneFrom, NoneHeld, NoneUpto, is_held, node_at}
 use Rattle.b3_forest.specs.declared.node.Node.{Node}
 use Rattle.b3_forest.proofs.Chunks.{full_at}
 use Rattle.b3_forest.proofs.Maps.{three}
@@ -132,30 +132,3 @@ none_held x es start end forest most reaches none i after before = not_held x es
       | inl behind ↦ let late = none has.first has.node has.is (omega (arith, behind)) in omega (arith, late, has.after, before)
       | inr upto ↦ let short = reaches.none has.first has.node has.is upto in omega (arith, short, has.before, after)
     ])
-
--- ---- the first gap
-
-pub gap_at : (x : ℕ → List ℕ) (es : Nodes) (next : ℕ) → AreForest x [] es → IsBound es next → ((i : ℕ) → i < next → is_held x i ≡ true)
-    → ((i : ℕ) → 2 ^ 30 ≤ i → is_held x i ≡ false) → ((n : Node) → next < 2 ^ 30 → node_at es next ≡ Some n → ⊥) → IsFirstGap x next
-gap_at x es next forest bound held past none = record {
-  held = held;
-  gap = elim (cases_lt next (2 ^ 30)) [
-    | inr high ↦ past next high
-    | inl low ↦ not_held x es next forest low (λ has. elim (three has.first next) [
-      | inr (inr more) ↦ omega (arith, more, has.after)
-      | inr (inl same) ↦ none has.node low (ap (node_at es) (sym same) ∙ has.is)
-      | inl less ↦ inside x es next has.first has.node forest bound has.is less has.before
-    ])
-  ];
-}
-  where
-    inside : (x : ℕ → List ℕ) (es : Nodes) (next s : ℕ) (m : Node) → AreForest x [] es → IsBound es next → node_at es s ≡ Some m → s < next → next < s + 2 ^ m.level → ⊥
-    inside x es next s m forest (inl zero_) is less before = omega (arith, zero_, less)
-    inside x es next s m forest (inr b) is less before = elim (three s b.0) [
-      | inl low ↦ let apart = forest.pieces.apart s b.0 m b.1 is b.2 low in let wide = pow_pos b.1.level in omega (arith, apart, before, b.3, wide)
-      | inr (inl same) ↦
-          let node : m ≡ b.1 = some_same m b.1 (sym is ∙ ap (node_at es) same ∙ b.2) in
-          let wide : 2 ^ m.level ≡ 2 ^ b.1.level = ap (λ (k : Node). 2 ^ k.level) node in
-          omega (arith, same, wide, b.3, before)
-      | inr (inr high) ↦ let apart = forest.pieces.apart b.0 s b.1 m b.2 is high in omega (arith, apart, b.3, less)
-    ]

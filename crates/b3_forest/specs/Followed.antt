@@ -1,23 +1,38 @@
 -- Parts that are noted over the bytes that they are to be of.
-use Rattle.std.specs.Prelude.{◌≡◌, ◌≢◌, ◌↔◌, ℕ, ◌+◌, ◌-◌, ◌*◌, ◌^◌, ◌<◌, ◌≤◌, ◌⊎◌, List, [], ◌∷◌, length, map, take, drop}
+use Rattle.std.specs.Prelude.{◌≡◌, ◌≢◌, ◌↔◌, ℕ, ◌+◌, ◌-◌, ◌*◌, ◌^◌, ◌<◌, ◌≤◌, ◌⊎◌, ◌/◌, ◌&&◌, ◌||◌, Bool, true, false, nat_le, nat_lt, if◌then◌else◌, List, [], ◌∷◌, length, map, take, drop}
 use Rattle.b3_forest.specs.Nodes.{Keeps, Nodes}
 use Rattle.b3_forest.specs.Parts.{Part, PlannedPart, chunks_of, end_of}
 use Rattle.b3_forest.specs.Pieces.{piece_count}
+use Rattle.b3_forest.specs.Uploads.{IsHeldAt, IsUpload, Upload, pieces_held}
 use Rattle.b3_forest.specs.declared.note_fault.NoteFault.{NoteFault}
 use Rattle.b3_forest.specs.declared.note_fault.NoteFault.TheVariants.{NoMemory, Overlap, Stranger, WrongPlan}
 
--- lent bytes, and what of them was noted: chunks, from one to before another, a range for each piece
+-- lent bytes, and what of them was noted: ranges of chunks, each from one to before another
 pub record Followed : Type 0 where
   pub bytes : List ℕ
   pub ranges : List (ℕ × ℕ)
 
-abbrev pub InRanges : List (ℕ × ℕ) → ℕ → Type 0
-InRanges [] i = ⊥
-InRanges (r ∷ rs) i = ((1024 * r.0 ≤ i) × (i < 1024 * r.1)) ⊎ InRanges rs i
+-- chunk i is in one of the ranges
+abbrev pub has_chunk : List (ℕ × ℕ) → ℕ → Bool
+has_chunk [] i = false
+has_chunk (r ∷ rs) i = (nat_le r.0 i && nat_lt i r.1) || has_chunk rs i
 
 -- offset i was noted
 abbrev pub IsNoted : Followed → ℕ → Type 0
-IsNoted f i = (i < length f.bytes) × InRanges f.ranges i
+IsNoted f i = (i < length f.bytes) × (has_chunk f.ranges (i / 1024) ≡ true)
+
+-- the bytes of chunk i where it was noted, and none where it wasn't
+abbrev pub noted_chunk : Followed → ℕ → List ℕ
+noted_chunk f i = if has_chunk f.ranges i then take 1024 (drop (1024 * i) f.bytes) else []
+
+-- how many pieces the noted chunks have
+abbrev pub pieces_noted : Followed → ℕ
+pieces_noted f = piece_count (noted_chunk f)
+
+-- they are as many as those of an upload that holds the same offsets
+abbrev pub NotedAsHeld : Type 0
+NotedAsHeld = (f : Followed) (u : Upload) → IsUpload u → u.len ≡ length f.bytes → ((i : ℕ) → IsNoted f i ↔ IsHeldAt u.parts i)
+    → pieces_noted f ≡ pieces_held u
 
 -- offset i is in the part
 abbrev pub IsIn : Part → ℕ → Type 0
@@ -58,7 +73,7 @@ pub record IsNotedWith (f g : Followed) (p : Part) : Type 0 where
 
 -- the merges of a part more: the pieces before and those of the part, less the pieces after
 abbrev pub noting_merges : Followed → Followed → Part → ℕ
-noting_merges f g p = length f.ranges + piece_count (chunks_of p) - length g.ranges
+noting_merges f g p = pieces_noted f + piece_count (chunks_of p) - pieces_noted g
 
 -- ---- what is missing
 

@@ -6,9 +6,10 @@ use Rattle.std.specs.Map.{keys_of, lookup}
 use Rattle.std.specs.Ordering.{nat_cmp}
 use Rattle.b3_core.specs.Modes.{hash_mode}
 use Rattle.b3_core.specs.Tree.{Inputs, parent_top}
-use Rattle.b3_forest.specs.Forests.{IsPiece}
-use Rattle.b3_forest.specs.Parts.{Part, chunk_in}
-use Rattle.b3_forest.specs.Uploads.{IsUpload}
+use Rattle.b3_forest.specs.Forests.{IsForest, IsPiece}
+use Rattle.b3_forest.specs.Parts.{Part, PlannedPart, chunk_in}
+use Rattle.b3_forest.specs.Pieces.{root_level}
+use Rattle.b3_forest.specs.Uploads.{IsUpload, overlap_at}
 use Rattle.b3_forest.specs.declared.halves.Halves.{Halves}
 use Rattle.b3_forest.specs.declared.node.Node.{Node}
 use Rattle.b3_forest.specs.declared.piece.Piece.{Piece}
@@ -18,6 +19,9 @@ Nodes = List (ℕ × Node)
 
 abbrev pub piece_from : ℕ × Node → Piece
 piece_from e = record { first = e.0; level = e.1.level; top = e.1.top }
+
+abbrev pub pieces_in : Nodes → List Piece
+pieces_in es = map piece_from es
 
 abbrev pub node_of : Piece → Node
 node_of p = record { level = p.level; top = p.top }
@@ -72,6 +76,10 @@ pub record AreForest (x : ℕ → List ℕ) (ds : List ℕ) (es : Nodes) : Type 
   pub all : HaveAll x es
   pub settled : AreSettled ds es
 
+-- the nodes are lawful pieces of some chunks
+abbrev pub ArePiecesOfSome : Nodes → Type 0
+ArePiecesOfSome es = (x : ℕ → List ℕ) × ArePieces x es
+
 -- the chunks that these pieces begin with
 abbrev pub firsts : List Piece → List ℕ
 firsts ps = map (λ p. p.first) ps
@@ -84,6 +92,13 @@ is_held x i = nat_lt 0 (length (x i))
 -- what is held of n bytes: whole chunks, but for the last
 abbrev pub AreChunks : ℕ → (ℕ → List ℕ) → Type 0
 AreChunks n x = (i : ℕ) → is_held x i ≡ true → length (x i) ≡ min 1024 (n - 1024 * i)
+
+-- the nodes are a canonical forest of what is held of some upload, but for halves at such chunks
+pub record IsSettling (ds : List ℕ) (es : Nodes) : Type 0 where
+  pub len : ℕ
+  pub chunks : ℕ → List ℕ
+  pub whole : AreChunks len chunks
+  pub forest : AreForest chunks ds es
 
 -- the least chunk from a to below e that is held
 pub record IsLeastHeld (x : ℕ → List ℕ) (a e c : ℕ) : Type 0 where
@@ -135,6 +150,18 @@ pub record Keeps (n : ℕ) (ps : List Part) (es : Nodes) : Type 0 where
   pub upload : IsUpload (record { len = n; parts = ps })
   pub forest : AreForest (chunk_in ps) [] es
   pub sorted : IsStrictlySortedBy nat_cmp (keys_of es)
+
+-- what is so kept is a canonical forest of what the parts hold
+abbrev pub KeptIsForest : Type 0
+KeptIsForest = (n : ℕ) (ps : List Part) (es : Nodes) → Keeps n ps es → IsForest (chunk_in ps) root_level 0 (pieces_in es)
+
+-- the nodes are those of some parts of an upload of n bytes
+abbrev pub AreOfUpload : ℕ → Nodes → Type 0
+AreOfUpload n es = (ps : List Part) × Keeps n ps es
+
+-- and none of these parts has an offset of this one
+abbrev pub HaveRoom : PlannedPart → Nodes → Type 0
+HaveRoom p es = (ps : List Part) × Keeps p.plan ps es × (overlap_at p.part ps ≡ None)
 
 -- ---- halves
 

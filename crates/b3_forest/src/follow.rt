@@ -4,7 +4,7 @@ ghost use Rattle.std.specs.Prelude.{◌≡◌, ◌≢◌, ℕ, ◌*◌, ◌-◌,
 ghost use Rattle.b3_core.specs.Modes.{hash_mode};
 ghost use Rattle.b3_core.specs.Tree.{tree_top};
 ghost use Rattle.b3_core.specs.Work.{counted};
-ghost use Rattle.b3_forest.specs.Followed.{AllNoted, IsFirstUnnoted, IsNoted, IsNotedWith, IsRefused, MayNote, bytes_at, noting_merges};
+ghost use Rattle.b3_forest.specs.Followed.{AllNoted, IsFirstUnnoted, IsNoted, IsNotedWith, IsRefused, MayNote, bytes_at, noting_merges, pieces_noted};
 
 use crate::held;
 use crate::incomplete::Incomplete;
@@ -40,6 +40,7 @@ impl<'a> Follow<'a> {
     pub fn new(alloc: Global, bytes: &'a [u8]) -> Result<Follow<'a>, PlanTooLong>
         ensures bytes { IfOk result (λ f. f.bytes ≡ bytes.now) }
         ensures nothing { IfOk result (λ f. (i : ℕ) → IsNoted f i → ⊥) }
+        ensures no_pieces { IfOk result (λ f. pieces_noted f ≡ 0) }
         ensures too_long { IsErr result ↔ 2 ^ 40 < length bytes.now }
     {
         let plan = Plan::new(bytes.len() as u64)?;
@@ -91,7 +92,7 @@ impl<'a> Follow<'a> {
         ensures missing { IfErr result (λ r. IsFirstUnnoted self.now r.missing) }
         ensures complete { OnOk result (AllNoted self.now) }
         ensures top { IfOk result (λ top. top ≡ tree_top self.now.bytes 0 hash_mode) }
-        ensures count { OnOk result (work.new ≡ counted work.old (2 * (length self.now.ranges - 1))) }
+        ensures count { OnOk result (work.new ≡ counted work.old (2 * (pieces_noted self.now - 1))) }
         ensures uncounted { OnErr result (work.new ≡ work.old) }
     {
         held::finish(&self.nodes, self.bytes.len() as u64, work)

@@ -4,7 +4,7 @@ ghost use Rattle.std.specs.Prelude.{◌≡◌, [], IfErr, IfOk, OnErr, OnOk, Non
 ghost use Rattle.b3_core.specs.Modes.{hash_mode};
 ghost use Rattle.b3_core.specs.Tree.{tree_top};
 ghost use Rattle.b3_core.specs.Work.{counted};
-ghost use Rattle.b3_forest.specs.Uploads.{IsUpload, add_refusal, content_of, finish_work, first_missing, held_bytes, merges_of, part_of, put_work, with_more};
+ghost use Rattle.b3_forest.specs.Uploads.{ArePlaced, IsComplete, IsUpload, add_refusal, content_of, finish_work, first_missing, held_bytes, merges_of, part_of, put_work, with_more};
 ghost use Rattle.b3_forest.specs.declared.add_refused.AddFault.TheVariants.{NoMemory};
 
 use crate::add_refused::{AddFault, AddRefused};
@@ -20,7 +20,7 @@ use std::collections::BTreeMap;
 use std::marker::Model;
 
 /// The parts that an upload holds. It keeps their bytes by offset, and the pieces of all of them: neighbours that are
-/// the halves of one aligned range are merged, so that there are never more than about twice as many as gaps.
+/// the halves of one aligned range are merged, so that a run of held chunks has at most two pieces of each width.
 #[derive(Drop)]
 pub struct Forest {
     plan: Plan,
@@ -130,9 +130,10 @@ impl Forest {
         self.segments.len()
     }
 
-    /// The parts, by offset.
+    /// The parts, in order of offset.
     pub fn segments(&self) -> &[Segment]
-        ensures { map part_of result.now ≡ self.now.parts }
+        ensures parts { map part_of result.now ≡ self.now.parts }
+        ensures in_order { ArePlaced self.now.len 0 (map part_of result.now) }
     {
         self.segments.as_slice()
     }
@@ -141,7 +142,7 @@ impl Forest {
     /// compressions for each piece after the first, and none where the upload is not whole.
     pub fn finish(&self, work: &mut Work) -> Result<Top, Incomplete>
         ensures missing { IfErr result (λ r. first_missing self.now ≡ Some r.missing) }
-        ensures complete { OnOk result (first_missing self.now ≡ None) }
+        ensures complete { OnOk result (IsComplete self.now) }
         ensures top { IfOk result (λ top. top ≡ tree_top (content_of self.now.parts) 0 hash_mode) }
         ensures len { OnOk result (length (content_of self.now.parts) ≡ self.now.len) }
         ensures count { OnOk result (work.new ≡ counted work.old (finish_work self.now)) }

@@ -4,7 +4,7 @@ ghost use Rattle.std.specs.Prelude.{◌≡◌, ◌+◌, ◌*◌, ◌^◌, ◌≤
 ghost use Rattle.b3_core.specs.Modes.{hash_mode};
 ghost use Rattle.b3_core.specs.Tree.{tree_top};
 ghost use Rattle.b3_core.specs.Work.{counted};
-ghost use Rattle.b3_forest.specs.Nodes.{Keeps};
+ghost use Rattle.b3_forest.specs.Nodes.{AreOfUpload, HaveRoom, Keeps};
 ghost use Rattle.b3_forest.specs.Parts.{Fits, Part};
 ghost use Rattle.b3_forest.specs.Uploads.{content_of, finish_work, first_missing as first_missing_of, merges_of, overlap_at, put_work, with_part};
 
@@ -20,6 +20,7 @@ const CHUNK_LEN: u64 = 1024;
 
 /// The least offset of a part that is held already.
 pub(crate) fn overlap(nodes: &BTreeMap<u64, Node>, part: &Prepared) -> Option<u64>
+    requires { AreOfUpload part.now.plan nodes.now.entries }
     ensures at { (ps : List Part) → Keeps part.now.plan ps nodes.now.entries → result ≡ overlap_at part.now.part ps }
     ensures fits { Fits part.now.plan part.now.part.offset (length part.now.part.bytes) }
 {
@@ -27,16 +28,17 @@ pub(crate) fn overlap(nodes: &BTreeMap<u64, Node>, part: &Prepared) -> Option<u6
     let start = part.offset() / CHUNK_LEN;
     let end = (part.offset() + bytes.len() as u64).div_ceil(CHUNK_LEN);
     match first_held(nodes, start, end) {
-        Some(chunk) => Some(chunk.saturating_mul(CHUNK_LEN)),
+        Some(chunk) => Some(chunk * CHUNK_LEN),
         None => None,
     }
 }
 
 /// The least offset of an upload of `len` bytes that is not held.
 pub(crate) fn first_missing(nodes: &BTreeMap<u64, Node>, len: u64) -> Option<u64>
+    requires { AreOfUpload len nodes.now.entries }
     ensures { (ps : List Part) → Keeps len ps nodes.now.entries → result ≡ first_missing_of (record { len = len; parts = ps }) }
 {
-    let offset = first_gap(nodes, 0).saturating_mul(CHUNK_LEN);
+    let offset = first_gap(nodes, 0) * CHUNK_LEN;
     if offset < len { Some(offset) } else { None }
 }
 
@@ -46,6 +48,7 @@ pub(crate) fn add(
     part: &Prepared,
     work: &mut Work,
 ) -> Result<u64, AllocError>
+    requires { HaveRoom part.now nodes.old.entries }
     ensures kept { (ps : List Part) → Keeps part.now.plan ps nodes.old.entries → overlap_at part.now.part ps ≡ None
         → OnOk result (Keeps part.now.plan (with_part part.now.part ps) nodes.new.entries) }
     ensures merges { (ps : List Part) → Keeps part.now.plan ps nodes.old.entries → overlap_at part.now.part ps ≡ None
@@ -68,6 +71,7 @@ pub(crate) fn finish(
     len: u64,
     work: &mut Work,
 ) -> Result<Top, Incomplete>
+    requires { AreOfUpload len nodes.now.entries }
     ensures missing { (ps : List Part) → Keeps len ps nodes.now.entries
         → IfErr result (λ r. first_missing_of (record { len = len; parts = ps }) ≡ Some r.missing) }
     ensures complete { (ps : List Part) → Keeps len ps nodes.now.entries

@@ -25,9 +25,9 @@ impl Node {
 
     /// How many chunks the piece has.
     pub(crate) fn width(&self) -> u64
-        ensures width { self.now.level ≤ 30 → result ≡ 2 ^ self.now.level }
-        ensures some { 0 < result }
+        requires { self.now.level ≤ 30 }
+        ensures { result ≡ 2 ^ self.now.level }
     {
-        1u64.wrapping_shl(self.level)
+        1 << self.level
     }
 }

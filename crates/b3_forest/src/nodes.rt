@@ -4,7 +4,7 @@ ghost use Rattle.std.specs.Prelude.{◌≡◌, ◌≢◌, ℕ, ◌+◌, ◌-◌,
 ghost use Rattle.std.specs.Map.{values_of};
 ghost use Rattle.b3_core.specs.Laws.{NeighboursJoin};
 ghost use Rattle.b3_core.specs.Work.{counted};
-ghost use Rattle.b3_forest.specs.Nodes.{AreBoth, AreChunks, AreForest, AreFresh, ArePieces, IsAlone, IsBound, IsFirstGap, IsLastUpto, IsLeastHeld, IsMerged, IsNextFrom, IsOtherHalf, IsPair, NoneFrom, NoneHeld, NoneUpto, firsts, is_held, top_over, with_nodes};
+ghost use Rattle.b3_forest.specs.Nodes.{AreBoth, AreChunks, AreForest, AreFresh, ArePiecesOfSome, IsAlone, IsBound, IsFirstGap, IsLastUpto, IsLeastHeld, IsMerged, IsNextFrom, IsOtherHalf, IsPair, IsSettling, NoneFrom, NoneHeld, NoneUpto, firsts, is_held, top_over, with_nodes};
 
 use crate::halves::Halves;
 use crate::node::Node;
@@ -35,21 +35,21 @@ pub(crate) fn put_in(nodes: &mut BTreeMap<u64, Node>, pieces: &[Piece]) -> Resul
 // The chunk with which the other half begins, of a range of `width` chunks.
 fn other_half(first: u64, width: u64) -> u64
     requires some { 0 < width }
-    ensures other { (l q : ℕ) → width ≡ 2 ^ l → first ≡ q * 2 ^ l → first + 2 ^ l ≤ 2 ^ 30 → IsOtherHalf first l result }
-    ensures differ { result ≢ first }
+    requires within { first + width ≤ 2 ^ 30 }
+    ensures { (l q : ℕ) → width ≡ 2 ^ l → first ≡ q * 2 ^ l → IsOtherHalf first l result }
 {
     if first / width % 2 == 0 {
-        first.wrapping_add(width)
+        first + width
     } else {
-        first.wrapping_sub(width)
+        first - width
     }
 }
 
 // The halves of which one is the piece at a chunk, if both are there.
 fn halves_at(nodes: &BTreeMap<u64, Node>, first: u64) -> Option<Halves>
-    ensures both { IfSome result (AreBoth nodes.now.entries) }
-    ensures pair { (x : ℕ → List ℕ) → ArePieces x nodes.now.entries → IfSome result (IsPair nodes.now.entries first) }
-    ensures alone { (x : ℕ → List ℕ) → ArePieces x nodes.now.entries → IfNone result (IsAlone nodes.now.entries first) }
+    requires { ArePiecesOfSome nodes.now.entries }
+    ensures pair { IfSome result (IsPair nodes.now.entries first) }
+    ensures alone { IfNone result (IsAlone nodes.now.entries first) }
 {
     let Some(node) = nodes.get(&first) else {
         return None;
@@ -78,15 +78,16 @@ fn halves_at(nodes: &BTreeMap<u64, Node>, first: u64) -> Option<Halves>
 // Puts the parent of two halves in their place.
 fn merge(nodes: &mut BTreeMap<u64, Node>, halves: &Halves, work: &mut Work)
     requires both { AreBoth nodes.old.entries halves.now }
+    requires low { halves.now.level < 30 }
     ensures join { NeighboursJoin }
-    ensures merged { halves.now.level < 30 → IsMerged nodes.old.entries nodes.new.entries halves.now }
+    ensures merged { IsMerged nodes.old.entries nodes.new.entries halves.now }
     ensures fewer { length nodes.new.entries + 1 ≡ length nodes.old.entries }
     ensures count { work.new ≡ counted work.old 2 }
 {
     tree_laws();
     let top = Top::parent(&Mode::hash(), &halves.left_top, &halves.right_top, work);
     nodes.remove(&halves.right);
-    let level = halves.level.wrapping_add(1);
+    let level = halves.level + 1;
     let Ok(_) = nodes.insert(halves.left, Node { level, top }) else {
         unreachable!()
     };
@@ -94,6 +95,7 @@ fn merge(nodes: &mut BTreeMap<u64, Node>, halves: &Halves, work: &mut Work)
 
 // Merges the piece at a chunk with its other half, and the result with its own, as long as there is one.
 fn settle(nodes: &mut BTreeMap<u64, Node>, first: u64, work: &mut Work)
+    requires { (ds : List ℕ) × IsSettling (first ∷ ds) nodes.old.entries }
     ensures forest { (n : ℕ) (x : ℕ → List ℕ) (ds : List ℕ) → AreChunks n x → AreForest x (first ∷ ds) nodes.old.entries → AreForest x ds nodes.new.entries }
     ensures fewer { length nodes.new.entries ≤ length nodes.old.entries }
     ensures count { work.new ≡ counted work.old (2 * (length nodes.old.entries - length nodes.new.entries)) }
@@ -107,6 +109,7 @@ fn settle(nodes: &mut BTreeMap<u64, Node>, first: u64, work: &mut Work)
 
 /// Merges what these pieces meet.
 pub(crate) fn settle_all(nodes: &mut BTreeMap<u64, Node>, pieces: &[Piece], work: &mut Work)
+    requires { IsSettling (firsts pieces.now) nodes.old.entries }
     ensures forest { (n : ℕ) (x : ℕ → List ℕ) → AreChunks n x → AreForest x (firsts pieces.now) nodes.old.entries → AreForest x [] nodes.new.entries }
     ensures fewer { length nodes.new.entries ≤ length nodes.old.entries }
     ensures count { work.new ≡ counted work.old (2 * (length nodes.old.entries - length nodes.new.entries)) }
@@ -143,6 +146,7 @@ fn next_from(nodes: &BTreeMap<u64, Node>, start: u64, end: u64) -> Option<u64>
 
 /// The least chunk from `start` to below `end` that is in a piece.
 pub(crate) fn first_held(nodes: &BTreeMap<u64, Node>, start: u64, end: u64) -> Option<u64>
+    requires pieces { ArePiecesOfSome nodes.now.entries }
     requires order { start < end }
     ensures least { (x : ℕ → List ℕ) → AreForest x [] nodes.now.entries → IfSome result (IsLeastHeld x start end) }
     ensures none { (x : ℕ → List ℕ) → end ≤ 2 ^ 30 → AreForest x [] nodes.now.entries → IfNone result (NoneHeld x start end) }
@@ -155,12 +159,13 @@ pub(crate) fn first_held(nodes: &BTreeMap<u64, Node>, start: u64, end: u64) -> O
 
 /// The least chunk from a bound on that is in no piece.
 pub(crate) fn first_gap(nodes: &BTreeMap<u64, Node>, next: u64) -> u64
+    requires { ArePiecesOfSome nodes.now.entries }
     ensures gap { (x : ℕ → List ℕ) → AreForest x [] nodes.now.entries → next ≤ 2 ^ 30 → IsBound nodes.now.entries next
         → ((i : ℕ) → i < next → is_held x i ≡ true) → ((i : ℕ) → 2 ^ 30 ≤ i → is_held x i ≡ false) → IsFirstGap x result }
     ensures most { (x : ℕ → List ℕ) → AreForest x [] nodes.now.entries → next ≤ 2 ^ 30 → result ≤ 2 ^ 30 }
 {
     match nodes.get(&next) {
-        Some(node) if next < ROOT_WIDTH => first_gap(nodes, next.saturating_add(node.width())),
+        Some(node) if next < ROOT_WIDTH => first_gap(nodes, next + node.width()),
         _ => next,
     }
 }

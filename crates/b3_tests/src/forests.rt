@@ -1,7 +1,7 @@
 use crate::digests::digest;
 use crate::patterns::{part_of_pattern, pattern};
 use crate::vectors::COUNTS;
-use b3_core::{Mode, Work, hash};
+use b3_core::{Mode, Top, Work, hash};
 use b3_forest::{AddFault, Forest, Incomplete, Plan};
 use std::process::Abort;
 use std::test::Fail;
@@ -23,6 +23,12 @@ fn added(
     let mut work = Work::new(rt);
     let merges = forest.add(part, &mut work).ok().ok_or("refused")?;
     Ok((merges, work.count()))
+}
+
+// The top over what a whole forest holds.
+fn top_of(rt: &impl AllocGlobal, forest: &Forest) -> Result<Top, Fail> {
+    let top = forest.finish(&mut Work::new(rt));
+    Ok(top.ok().ok_or("not whole")?)
 }
 
 // The root's hash, and the compressions that it takes.
@@ -107,6 +113,7 @@ fn in_order(rt: &impl AllocGlobal, order: &[u64]) -> Result<Forest, Fail> {
 #[test]
 fn three_parts_in_any_order(rt: HostRuntime) -> Result<(), Fail> {
     let wanted = digest(COUNTS[5].hash)?;
+    let top = top_of(&rt, &in_order(&rt, &[0, 1, 2])?)?;
     for order in [
         [0, 1, 2],
         [0, 2, 1],
@@ -116,6 +123,7 @@ fn three_parts_in_any_order(rt: HostRuntime) -> Result<(), Fail> {
         [2, 1, 0],
     ] {
         let forest = in_order(&rt, &order)?;
+        assert!(rt; top_of(&rt, &forest)? == top);
         assert_eq!(rt; root(&rt, &forest)?, (wanted, 3));
     }
     Ok(())
@@ -202,6 +210,27 @@ fn one_long_part(rt: HostRuntime) -> Result<(), Fail> {
     Ok(())
 }
 
+// A pattern in one part: the compressions of the part, of it and its top, and of it, its top and the root; and whether
+// the root is the hash.
+fn one_part(rt: &impl AllocGlobal, len: u64) -> Result<String, Fail> {
+    let mut work = Work::new(rt);
+    let part = part_of_pattern(rt.alloc(), len, 0, len, &mut work)?;
+    let made = work.count();
+    let mut forest = forest(rt, len)?;
+    let _merges = forest.add(part, &mut work).ok().ok_or("refused")?;
+    let top = forest.finish(&mut work).ok().ok_or("not whole")?;
+    let finished = work.count();
+    let is_hash = top.root32(&mut work) == hash_of_pattern(rt, len)?;
+    let all = work.count();
+    Ok(format!(in rt.alloc(); "{made} {finished} {all} {is_hash}")?)
+}
+
+#[test]
+fn ten_chunks_in_one_part(rt: HostRuntime) -> Result<(), Fail> {
+    assert_eq!(rt; one_part(&rt, 9217)?.as_str(), "151 153 154 true");
+    Ok(())
+}
+
 // The root of a pattern that is cut into parts of `size` bytes, which come in turns of `step`.
 fn root_of_cut(rt: &impl AllocGlobal, len: u64, size: u64, step: u64) -> Result<[u8; 32], Fail> {
     let mut forest = forest(rt, len)?;
@@ -219,12 +248,13 @@ fn root_of_cut(rt: &impl AllocGlobal, len: u64, size: u64, step: u64) -> Result<
 #[test]
 fn cuttings_and_orders_agree_with_the_hash(rt: HostRuntime) -> Result<(), Fail> {
     let lengths = [
-        1u64, 1023, 1024, 1025, 2048, 2049, 3072, 3073, 4095, 4096, 4097, 5120, 5121, 8192, 8193,
-        9216, 9217, 16_383, 16_384, 16_385,
+        1u64, 1023, 1024, 1025, 2048, 2049, 3072, 3073, 4095, 4096, 4097, 5120, 5121, 8191, 8192,
+        8193, 9216, 9217, 16_383, 16_384, 16_385,
     ];
     for len in lengths {
         let hash = hash_of_pattern(&rt, len)?;
-        for size in [1024u64, 2048, 3072, 5120] {
+        // The last size makes one part of each length.
+        for size in [1024u64, 2048, 3072, 5120, 17_408] {
             for step in [1u64, 2, 3] {
                 assert_eq!(rt; root_of_cut(&rt, len, size, step)?, hash);
             }

@@ -127,6 +127,18 @@ fn are_eight_times_one(mode: &Mode, bytes: &[u8; 8192], work: &mut Work) -> bool
     are_same && number == 4_294_967_300
 }
 
+// The root over the nodes of eight chunks.
+fn root_of_eight(mode: &Mode, bytes: &[u8; 8192], work: &mut Work) -> [u8; 32] {
+    let [n0, n1, n2, n3, n4, n5, n6, n7] = Top::of_eight(mode, bytes, 0, work);
+    let first = Top::parent(mode, &n0, &n1, work);
+    let second = Top::parent(mode, &n2, &n3, work);
+    let third = Top::parent(mode, &n4, &n5, work);
+    let fourth = Top::parent(mode, &n6, &n7, work);
+    let left = Top::parent(mode, &first, &second, work);
+    let right = Top::parent(mode, &third, &fourth, work);
+    Top::parent(mode, &left, &right, work).root32(work)
+}
+
 #[test]
 fn eight_chunks_are_eight_times_one(rt: HostRuntime) -> Result<(), Fail> {
     let mut work = Work::new(&rt);
@@ -137,7 +149,9 @@ fn eight_chunks_are_eight_times_one(rt: HostRuntime) -> Result<(), Fail> {
     let whole = whole.first().ok_or("no chunks")?;
     for mode in &[Mode::hash(), keyed, derive] {
         assert!(rt; are_eight_times_one(mode, whole, &mut work));
+        let root = root_of_eight(mode, whole, &mut work);
+        assert!(rt; root == hash(mode, whole, &mut work));
     }
-    assert_eq!(rt; work.count(), 1 + 3 * 240);
+    assert_eq!(rt; work.count(), 1 + 3 * (240 + 270));
     Ok(())
 }

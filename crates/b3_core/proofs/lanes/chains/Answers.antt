@@ -6,16 +6,19 @@ use Rattle.b3_core.proofs.lanes.chains.Goals as goal
 
 pub blocks-2-init : goal.blocks-2-init
 unfolding chain
-blocks-2-init c j h = c.keys-h.ensures j h ∙ c.key.ensures
+blocks-2-init c = record { chained = λ j h. c.keys-h.ensures j h ∙ c.key.ensures; work = omega arith }
 
 pub blocks-2-preserved : goal.blocks-2-preserved
-blocks-2-preserved c j h =
-    c.compress-next.ensures j (c.args.number + j) h (c.low_words-t_low.ensures j h) (c.high_words-t_high.ensures j h)
-    ∙ chain_step (chunk_bytes c.args.bytes.now j) (c.args.number + j) c.args.mode.now c.blocks-2.k _ _ _ (c.blocks-2.invariant j h)
-    (c.blocks_at-m.ensures j h)
-    (ap₂ (λ a b. a + b) c.flag.ensures.value c.start_flag.ensures)
+blocks-2-preserved c = record {
+  chained = λ j h.
+      c.compress-next.ensures.values j (c.args.number + j) h (c.low_words-t_low.ensures j h) (c.high_words-t_high.ensures j h)
+      ∙ chain_step (chunk_bytes c.args.bytes.now j) (c.args.number + j) c.args.mode.now c.blocks-2.k _ _ _ (c.blocks-2.invariant.chained j h)
+      (c.blocks_at-m.ensures j h)
+      (ap₂ (λ a b. a + b) c.flag.ensures.value c.start_flag.ensures);
+  work = omega arith;
+}
 
-pub returns : goal.returns
-returns c j h =
+pub returns-clause-values : goal.returns-clause-values
+returns-clause-values c j h =
     let done : c.blocks-2.k ≡ 15 = omega arith in
-    rw done at (c.blocks-2.invariant j h)
+    rw done at (c.blocks-2.invariant.chained j h)

@@ -4,13 +4,13 @@ use Rattle.b3_core.specs.Lanes.{chunk_bytes}
 use Rattle.b3_core.proofs.Nodes.{whole_chunk_value}
 use Rattle.b3_core.proofs.lanes.chunk_values.Goals as goal
 
-pub returns : goal.returns
-returns c j h =
+pub returns-clause-values : goal.returns-clause-values
+returns-clause-values c j h =
     let x = c.args.bytes.now in
     let rest = drop (1024 * j) x in
     let rest_len : length rest ≡ length x - 1024 * j = length-drop (1024 * j) x in
     let len : length (chunk_bytes x j) ≡ 1024 = length-take-le 1024 rest (omega arith) in
-    c.compress.ensures j (c.args.number + j) h (c.low_words-t_low.ensures j h) (c.high_words-t_high.ensures j h)
-    ∙ whole_chunk_value (chunk_bytes x j) (c.args.number + j) c.args.mode.now _ _ _ len (c.chains-before_last.ensures j h)
+    c.compress.ensures.values j (c.args.number + j) h (c.low_words-t_low.ensures j h) (c.high_words-t_high.ensures j h)
+    ∙ whole_chunk_value (chunk_bytes x j) (c.args.number + j) c.args.mode.now _ _ _ len (c.chains-before_last.ensures.values j h)
     (c.blocks_at-last_block.ensures j h)
     (ap (λ n. n + 2) c.flag.ensures.value)

@@ -3,9 +3,9 @@ use Rattle.b3_core.specs.Compression.{compress_of, rounds, round, permute, messa
 use Rattle.b3_core.specs.Lanes.{lane, half_lane}
 use Rattle.b3_core.proofs.lanes.compress.Goals as goal
 
-pub returns : goal.returns
+pub returns-clause-values : goal.returns-clause-values
 unfolding compress_of rounds message
-returns c j t h low high =
+returns-clause-values c j t h low high =
     let m1 = c.permute-m1.ensures j h in
     let m2 = c.permute-m2.ensures j h ∙ ap permute m1 in
     let m3 = c.permute-m3.ensures j h ∙ ap permute m2 in

@@ -10,7 +10,7 @@ use Rattle.b3_core.proofs.wide.+quarter_values.Goals as goal
 pub returns-then-level-eq0-clause-values : goal.returns-then-level-eq0-clause-values
 returns-then-level-eq0-clause-values t c j h =
     let one : 2 ^ c.args.level ≡ 1 = ap (λ k. 2 ^ k) c.if-level-eq0.true in
-    c.chunk_values.ensures j h
+    c.chunk_values.ensures.values j h
     ∙ ap chaining_value_of (quarter_one c.args.bytes.now c.args.number j c.args.mode.now ∙ ap (λ k. quarter_top k c.args.bytes.now c.args.number c.args.mode.now j) (sym one))
 
 pub quarter_values-left_values-requires : goal.quarter_values-left_values-requires
@@ -56,4 +56,4 @@ pub returns-clause-count : goal.returns-clause-count
 returns-clause-count t c =
     let twice = level_up c.args.level c.if-level-eq0.false in
     let pos = pow_pos (c.args.level - 1) in
-    omega (arith, twice, pos, c.quarter_values-left_values.ensures.count, c.quarter_values-right_values.ensures.count, c.add-2.ensures)
+    omega (arith, twice, pos, c.quarter_values-left_values.ensures.count, c.quarter_values-right_values.ensures.count, c.parent_values.ensures.count)

@@ -13,6 +13,22 @@ returns-in_err-put_in-clause-unchanged c ps keeps none =
     let fresh = put_fresh p.plan ps p.part c.piece_list.result.now c.args.nodes.now.entries keeps none c.piece_list.ensures.pieces in
     on_err c.from_residual.result _ (c.in_err-put_in.ensures.back fresh)
 
+pub settle_all-requires : goal.settle_all-requires
+settle_all-requires c =
+    let p = c.args.part.now in
+    let es = c.args.nodes.now.entries in
+    let ps = c.requires.0 in
+    let keeps = c.requires.1 in
+    let none = c.requires.2 in
+    let put = is_put p.plan ps p.part c.piece_list.result.now es c.put_in.new.nodes.entries keeps none c.piece_list.ensures.pieces c.in_ok-put_in.ensures.put in
+    let same = c.piece_list.ensures.pieces ∙ sym c.piece_list-2.ensures.pieces in
+    record {
+      len = p.plan;
+      chunks = chunk_in (with_part p.part ps);
+      whole = placed_chunks p.plan 0 (with_part p.part ps) (placed_more p.plan 0 p.part ps (omega arith) c.piece_list.ensures.fits keeps.upload.placed none);
+      forest = subst (λ (l : List Piece). AreForest (chunk_in (with_part p.part ps)) (firsts l) c.put_in.new.nodes.entries) same put.forest;
+    }
+
 pub returns-clause-kept : goal.returns-clause-kept
 returns-clause-kept c ps keeps none =
     let p = c.args.part.now in

@@ -8,13 +8,12 @@ pub returns-in-Some-clause-at : goal.returns-in-Some-clause-at
 returns-in-Some-clause-at c ps keeps =
     let p = c.args.part.now.part in
     let fits = c.fitting-bytes.ensures.fits in
-    let most = c.fitting-bytes.ensures.most in
     let found = c.in-Some.ensures.least (chunk_in ps) keeps.forest in
     let bytes = ap length c.fitting-bytes.ensures.bytes in
     let start : c.offset-start.result / 1024 ≡ p.offset / 1024 = ap (λ i. i / 1024) c.offset-start.ensures in
     let end : c.div_ceil-end.result ≡ chunk_end p = omega (arith, c.div_ceil-end.ensures, c.offset.ensures, bytes) in
     let least = subst (λ e. IsLeastHeld (chunk_in ps) (p.offset / 1024) e c.in-Some.chunk) end (subst (λ a. IsLeastHeld (chunk_in ps) a c.div_ceil-end.result c.in-Some.chunk) start found) in
-    let place : c.saturating_mul.result ≡ 1024 * c.in-Some.chunk = omega (arith, c.saturating_mul.ensures, least.before, fits.within, most) in
+    let place : c.in-Some.chunk * 1024 ≡ 1024 * c.in-Some.chunk = omega arith in
     ap Some place ∙ sym (overlap_least c.args.part.now.plan 0 c.in-Some.chunk p ps fits keeps.upload.placed least)
 
 pub returns-in-None-clause-at : goal.returns-in-None-clause-at

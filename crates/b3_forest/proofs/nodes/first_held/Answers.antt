@@ -5,11 +5,14 @@ use Rattle.b3_forest.proofs.Places.{NoneReaches, if_none_by, if_some_by, least_a
 use Rattle.b3_forest.proofs.nodes.first_held.Goals as goal
 use Rattle.b3_forest.proofs.nodes.first_held.Goals.{in_default-via-in-Some+else-start-first, in_default-via-in_default}
 
+pub width-requires : goal.width-requires
+width-requires c = level_most c.requires.pieces.0 c.args.nodes.now.entries c.in-Some.first c.in-Some.node c.requires.pieces.1 c.in-Some.ensures.some.is
+
 pub returns-in-Some-clause-least : goal.returns-in-Some-clause-least
 returns-in-Some-clause-least c x forest =
     let es = c.args.nodes.now.entries in
     let last = c.in-Some.ensures.some in
-    let wide = c.width.ensures.width (level_most x es c.in-Some.first c.in-Some.node forest.pieces last.is) in
+    let wide = c.width.ensures in
     let test = c.if-start-first.true in
     least_at_start x es c.args.start c.args.end c.in-Some.first c.in-Some.node forest c.requires.order last (omega (arith, wide, test, last.upto))
 
@@ -19,7 +22,7 @@ returns-in_default-clause-least c x forest =
     let reaches : NoneReaches es c.args.start = elim c.in_default.branch [
       | in_default-via-in-Some+else-start-first w ↦
           let last = w.in-Some.ensures.some in
-          let wide = w.width.ensures.width (level_most x es w.in-Some.first w.in-Some.node forest.pieces last.is) in
+          let wide = w.width.ensures in
           let test = w.if-start-first.false in
           none_reaches x es c.args.start w.in-Some.first w.in-Some.node forest last (omega (arith, wide, test, last.upto))
       | in_default-via-in_default w ↦ nothing_reaches es c.args.start w.in_default.ensures.none
@@ -33,7 +36,7 @@ returns-in_default-clause-none c x most forest =
     let reaches : NoneReaches es c.args.start = elim c.in_default.branch [
       | in_default-via-in-Some+else-start-first w ↦
           let last = w.in-Some.ensures.some in
-          let wide = w.width.ensures.width (level_most x es w.in-Some.first w.in-Some.node forest.pieces last.is) in
+          let wide = w.width.ensures in
           let test = w.if-start-first.false in
           none_reaches x es c.args.start w.in-Some.first w.in-Some.node forest last (omega (arith, wide, test, last.upto))
       | in_default-via-in_default w ↦ nothing_reaches es c.args.start w.in_default.ensures.none

@@ -3,10 +3,10 @@ use Rattle.std.specs.Prelude.{IfErr, IfOk, OnOk}
 use Rattle.b3_core.specs.Modes.{hash_mode}
 use Rattle.b3_core.specs.Tree.{tree_top}
 use Rattle.b3_core.specs.Work.{counted}
-use Rattle.b3_forest.specs.Followed.{AllNoted, Followed, IsFirstUnnoted, followed}
+use Rattle.b3_forest.specs.Followed.{AllNoted, Followed, IsFirstUnnoted, followed, pieces_noted}
 use Rattle.b3_forest.specs.Uploads.{first_missing, content_of, finish_work}
 use Rattle.b3_forest.specs.declared.incomplete.Incomplete.{Incomplete}
-use Rattle.b3_forest.proofs.Following.{content_is, if_err_by, if_ok_both, on_ok_by, range_count, told_all, told_missing}
+use Rattle.b3_forest.proofs.Following.{content_is, if_err_by, if_ok_both, on_ok_by, noted_count, told_all, told_missing}
 use Rattle.b3_forest.proofs.follow.Follow.finish.Goals as goal
 
 pub returns-clause-missing : goal.returns-clause-missing
@@ -41,6 +41,6 @@ returns-clause-count c =
     let w = c.self.invariant in
     let b = c.self.inside.bytes.now in
     let es = c.self.inside.nodes.entries in
-    subst (λ (f : Followed). OnOk c.finish.result (c.finish.new.work ≡ counted c.args.work.now (2 * (length f.ranges - 1)))) c.self.view_is
-    (on_ok_by c.finish.result (c.finish.new.work ≡ counted c.args.work.now (finish_work (record { len = length b; parts = w.parts }))) (c.finish.new.work ≡ counted c.args.work.now (2 * (length (followed b es).ranges - 1)))
-    (λ is. is ∙ ap (λ i. counted c.args.work.now (2 * (i - 1))) (range_count b w.parts es w.keeps)) (c.finish.ensures.count w.parts w.keeps))
+    subst (λ (f : Followed). OnOk c.finish.result (c.finish.new.work ≡ counted c.args.work.now (2 * (pieces_noted f - 1)))) c.self.view_is
+    (on_ok_by c.finish.result (c.finish.new.work ≡ counted c.args.work.now (finish_work (record { len = length b; parts = w.parts }))) (c.finish.new.work ≡ counted c.args.work.now (2 * (pieces_noted (followed b es) - 1)))
+    (λ is. is ∙ ap (λ i. counted c.args.work.now (2 * (i - 1))) (noted_count b w.parts es w.keeps)) (c.finish.ensures.count w.parts w.keeps))
