@@ -10,7 +10,7 @@ use Rattle.crossbeam_queue.specs.Fifo.{Pushes, Pops, Forks, Merges, Learns}
 use Rattle.crossbeam_queue.proofs.Lists.{at_set, at_snoc}
 use Rattle.store_board.specs.declared.hand_over.taken.Taken.{Taken}
 use Rattle.store_board.specs.declared.hand_over.view.PassView.{PassView}
-use Rattle.store_board.specs.HandOverRule.{of_giver, pass_view, taker_view, first_view, giver_view, giving_view, taking_view, sum_view, from_on, cover, HandOverRule, Gave, Took, Ended}
+use Rattle.store_board.specs.HandOverRule.{of_giver, pass_view, taker_view, first_view, giver_view, giving_view, taking_view, sum_view, from_on, cover, HandOverRule, IsSeenWith, Ended}
 use Rattle.store_board.proofs.Sums.{pos_or_zero, hit, hit_self, sum_at, two_le, alone}
 
 -- where a fact holds of one new view and of all others, it holds of all
@@ -57,9 +57,9 @@ pushes n id v x right no_root mine items views room h at =
       refl,
     )
 
--- what a giver learns of a full queue
-pub gave : (id : ℕ) (v : PassView) → Learns HandOverRule id v (Gave v)
-gave id v items views h at = (h.taken, λ g p. h.gives id v g at p)
+-- what a pass learns of a full or an empty queue
+pub seen : (id : ℕ) (v : PassView) → Learns HandOverRule id v (IsSeenWith v)
+seen id v items views h at = (views, id, h, at)
 
 -- the taker takes the first item
 pub pops : (id : ℕ) (v : PassView) → 0 < v.rights → v.taker ≡ 1 → Pops HandOverRule id v (λ x w. w ≡ taking_view v x)
@@ -84,10 +84,6 @@ pops id v right root x items views h at =
       },
       refl,
     )
-
--- what the taker learns of an empty queue
-pub took : (id : ℕ) (v : PassView) → v.taker ≡ 1 → Learns HandOverRule id v (Took v)
-took id v root items views h at = λ g p. h.gives id v g at p ∙ ap (λ l. of_giver g (l ++ items)) (sym (h.takes id v at (omega (arith, root))))
 
 -- the next giver is one of those that have no pass yet
 begun : (g n r : ℕ) → r ≡ 1 → from_on n r g ≡ from_on (n + 1) r g + hit g n

@@ -59,13 +59,9 @@ pub record HandOverRule (items : List Taken) (views : List PassView) : Type 0 wh
   pub takes : (id : ℕ) (v : PassView) → get_elem? views id ≡ some v → 0 < v.taker → v.taken ≡ taken
   pub idle : (id : ℕ) (v : PassView) → get_elem? views id ≡ some v → v.rights ≡ 0 → (v.taker ≡ 0) × (v.givers ≡ []) × (v.given ≡ [])
 
--- what a giver's pass learns: something was taken with which the queue's items have of the giver what it gave
-abbrev pub Gave : PassView → List Taken → Type 0
-Gave v items = (taken : List Taken) × ((g : ℕ) → 0 < cover g v → of_giver g v.given ≡ of_giver g (taken ++ items))
-
--- what the taker's pass learns: with what it took, the queue's items have of each giver that it stands for what that one gave
-abbrev pub Took : PassView → List Taken → Type 0
-Took v items = (g : ℕ) → 0 < cover g v → of_giver g v.given ≡ of_giver g (v.taken ++ items)
+-- what a pass learns: the rule held of the queue's items, with views of all passes, among them its own
+abbrev pub IsSeenWith : PassView → List Taken → Type 0
+IsSeenWith v items = (views : List PassView) × (id : ℕ) × HandOverRule items views × (get_elem? views id ≡ some v)
 
 -- what the pass with every right learns: what was taken, followed by the queue's items, is all that was given
 abbrev pub Ended : PassView → List Taken → Type 0

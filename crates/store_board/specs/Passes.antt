@@ -2,7 +2,7 @@
 use Rattle.std.specs.Prelude.{◌≡◌, ℕ, ◌+◌, ◌<◌, ◌^◌, List, [], ◌∷◌, ◌++◌, All, length, slice_index_or}
 use Rattle.crossbeam_queue.specs.Fifo.{Held}
 use Rattle.crossbeam_queue.specs.Passes.{view, IsPassOf, ruled_capacity}
-use Rattle.store_board.specs.HandOverRule.{of_giver, Gave, Took}
+use Rattle.store_board.specs.HandOverRule.{of_giver, IsSeenWith}
 use Rattle.store_board.specs.declared.hand_over.HandOver.{HandOver}
 use Rattle.store_board.specs.declared.hand_over.give_pass.GivePass.{GivePass}
 use Rattle.store_board.specs.declared.hand_over.take_pass.TakePass.{TakePass}
@@ -54,10 +54,10 @@ pub record IsHandedOver (gives : List GivePass) (history : List Taken) : Type 0 
   pub each : All (λ p. of_giver (giver_of p) history ≡ given_of p) gives
   pub count : length history ≡ length (all_given gives)
 
--- at one moment of the call the queue was full
+-- at one moment of the call the queue was full: of so many items and the views of all passes, this one's among them, the rule held
 abbrev pub WasFull : HandOver → GivePass → Type 0
-WasFull h p = Held (capacity_of h) (Gave (view p.pass))
+WasFull h p = Held (capacity_of h) (IsSeenWith (view p.pass))
 
--- at one moment of the call the queue was empty
+-- at one moment of the call the queue was empty, and the rule held of no items and the views of all passes, this one's among them
 abbrev pub WasEmpty : HandOver → TakePass → Type 0
-WasEmpty h p = Held 0 (Took (view p.pass))
+WasEmpty h p = Held 0 (IsSeenWith (view p.pass))

@@ -1,6 +1,6 @@
 // The rule of a hand-over's queue, and the steps that its passes make.
 ghost use Rattle.std.specs.Prelude.{◌≡◌, ◌+◌, ◌-◌, [], ◌∷◌};
-ghost use Rattle.store_board.specs.HandOverRule.{pass_view, first_view, giver_view, giving_view, taking_view, sum_view, HandOverRule, Gave, Took, Ended};
+ghost use Rattle.store_board.specs.HandOverRule.{pass_view, first_view, giver_view, giving_view, taking_view, sum_view, HandOverRule, IsSeenWith, Ended};
 
 use crate::hand_over::taken::Taken;
 use crate::hand_over::view::PassView;
@@ -23,7 +23,7 @@ impl Outcome<Taken, PassView> for Give {
 }
 
 impl Lesson<Taken, PassView> for Give {
-    ghost fact = { Gave };
+    ghost fact = { IsSeenWith };
 }
 
 /// A part is taken.
@@ -34,7 +34,7 @@ impl Outcome<Taken, PassView> for Take {
 }
 
 impl Lesson<Taken, PassView> for Take {
-    ghost fact = { Took };
+    ghost fact = { IsSeenWith };
 }
 
 /// The pass with every right learns what is left.
