@@ -1,7 +1,8 @@
 //! Times the crates' calls over bytes in memory. It writes what was computed to standard output, and the
 //! microseconds that it took to standard error. `bench/run` calls it and prints ratios.
 //!
-//! Words: `hash MIB`, `hash_wide MIB`, `make PARTS`, `upload MIB WORKERS PART_CHUNKS`; or `add LOG2`, `add_jumping` and
+//! Words: `hash MIB`, `hash_wide MIB`, `make PARTS`, `upload MIB WORKERS PART_CHUNKS`,
+//! `upload_slowly`; or `add LOG2`, `add_jumping` and
 //! `store LOG2`, whose numbers are nanoseconds.
 #![tactic(auto)]
 
@@ -25,8 +26,9 @@ fn main(rt: HostRuntime) -> io::Result<()> {
         Some(Job::Store { log2 }) => storing::time_store(&rt, log2),
         Some(Job::AddJumping) => adding::time_jumping(&rt),
         Some(Job::Upload(load)) => uploading::time_upload(&rt, &rt, load),
+        Some(Job::UploadSlowly) => uploading::time_slow_upload(&rt, &rt),
         None => eprintln!(rt;
-            "benchmarks: hash MIB | hash_wide MIB | make PARTS | upload MIB WORKERS PART_CHUNKS | add LOG2 | add_jumping | store LOG2"
+            "benchmarks: hash MIB | hash_wide MIB | make PARTS | upload MIB WORKERS PART_CHUNKS | upload_slowly | add LOG2 | add_jumping | store LOG2"
         ),
     }
 }

@@ -2,32 +2,51 @@
 ghost use Rattle.std.specs.Prelude.{◌≡◌, ◌^◌};
 
 use crate::hashing::{pattern, report};
-use std::io;
 use std::io::ErrorKind;
 use std::marker::Brand;
 use std::rt::Clock;
 use std::sync::Wait;
 use std::sync::ledger::{Blank, Ledger};
 use std::thread::Threads;
-use std::time::Instant;
+use std::time::{Duration, Instant};
+use std::{io, thread};
 use store_core::Limits;
-use store_shared::{PassAll, Shared, lent_open_tenant, upload};
+use store_shared::{Gate, GateStop, PassAll, Shared, lent_open_tenant, upload};
 
 // The tenant's limit, in bytes.
 const LIMIT: u64 = 1 << 40;
 
-/// How much is uploaded, by how many workers, and in parts of how many chunks.
+/// How much is uploaded, at most so many bytes, by how many workers, and in parts of how many chunks.
 #[derive(Clone, Copy, Debug)]
 pub struct Load {
     pub mib: u16,
+    pub most: usize,
     pub workers: u16,
     pub part_chunks: u16,
 }
 
+// A gate that takes 10 ms for each part.
+#[derive(Drop)]
+struct Slow<'a, K: Clock> {
+    clock: &'a K,
+}
+
+impl<'a, K: Clock> Gate for Slow<'a, K> {
+    ghost may_stop = { λ gate part. ⊥ };
+
+    ghost may_fault = { λ gate part code. ⊥ };
+
+    fn passed(&self, _part: u64) -> Result<(), GateStop> {
+        thread::sleep(self.clock, Duration::from_millis(10));
+        Ok(())
+    }
+}
+
 // Times one upload into a new store, and writes its address.
-fn time_one<B: Ledger, C: Ledger, T: Threads + Wait + Sync + Alloc>(
+fn time_one<B: Ledger, C: Ledger, G: Gate + Sync, T: Threads + Wait + Sync + Alloc>(
     rt: &(impl Print + Eprint + Clock + AllocGlobal),
     threads: &T,
+    gate: &G,
     load: Load,
     bytes: Blank,
     calls: Blank,
@@ -37,6 +56,7 @@ fn time_one<B: Ledger, C: Ledger, T: Threads + Wait + Sync + Alloc>(
 {
     let alloc = rt.alloc();
     let input = pattern(alloc, load.mib)?;
+    let most = load.most.min(input.len());
     let (shared, share): (Shared<B, C>, _) = Shared::new(alloc, Limits::full(), bytes, calls);
     let Ok(tenant) = lent_open_tenant(&mut *shared.lock(threads), LIMIT) else {
         return Err(io::Error::from(ErrorKind::Other));
@@ -47,9 +67,9 @@ fn time_one<B: Ledger, C: Ledger, T: Threads + Wait + Sync + Alloc>(
         alloc,
         &shared,
         share,
-        &PassAll,
+        gate,
         tenant,
-        input.as_slice(),
+        &input.as_slice()[..most],
         load.part_chunks as u64,
         load.workers as u64,
     );
@@ -66,5 +86,24 @@ pub fn time_upload<T: Threads + Wait + Sync + Alloc>(
     threads: &T,
     load: Load,
 ) -> io::Result<()> {
-    time_one::<Brand, Brand, _>(rt, threads, load, Blank::new(1 << 32), Blank::new(1 << 32))
+    let bytes = Blank::new(1 << 32);
+    let calls = Blank::new(1 << 32);
+    time_one::<Brand, Brand, _, _>(rt, threads, &PassAll, load, bytes, calls)
+}
+
+/// Times an upload of 200 parts of one chunk by one worker, with a gate that takes 10 ms for each.
+pub fn time_slow_upload<T: Threads + Wait + Sync + Alloc + Clock>(
+    rt: &(impl Print + Eprint + Clock + AllocGlobal),
+    threads: &T,
+) -> io::Result<()> {
+    let load = Load {
+        mib: 1,
+        most: 204_800,
+        workers: 1,
+        part_chunks: 1,
+    };
+    let gate = Slow { clock: threads };
+    let bytes = Blank::new(1 << 32);
+    let calls = Blank::new(1 << 32);
+    time_one::<Brand, Brand, _, _>(rt, threads, &gate, load, bytes, calls)
 }

@@ -19,6 +19,8 @@ pub enum Job {
     AddJumping,
     /// One upload by several workers.
     Upload(Load),
+    /// One upload of 200 parts by one worker, with a gate that takes 10 ms for each.
+    UploadSlowly,
 }
 
 fn number(word: &String) -> Option<u16> {
@@ -30,9 +32,13 @@ pub fn job_of(words: &[String]) -> Option<Job> {
     if words.len() == 2 && words[1].as_str() == "add_jumping" {
         return Some(Job::AddJumping);
     }
+    if words.len() == 2 && words[1].as_str() == "upload_slowly" {
+        return Some(Job::UploadSlowly);
+    }
     if words.len() == 5 && words[1].as_str() == "upload" {
         return Some(Job::Upload(Load {
             mib: number(&words[2])?,
+            most: usize::MAX,
             workers: number(&words[3])?,
             part_chunks: number(&words[4])?,
         }));

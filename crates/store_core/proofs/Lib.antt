@@ -8,7 +8,9 @@ pub mod Keeping
 pub mod Leaving
 pub mod Listed
 pub mod ModelRows
+pub mod Naming
 pub mod OpenUploads
 pub mod PartsKept
+pub mod Replaying
 pub mod RisingHolders
 pub mod StoreSums

@@ -169,15 +169,16 @@ put_in s number part = then_on (allowed_in s number part) (λ u. refuse_if (is_f
 abbrev pub without_upload : ModelStore → ℕ → List (ℕ × ModelUpload)
 without_upload s number = remove_entry (is_number number) s.uploads
 
-abbrev pub aborted : ModelStore → ℕ → Acceptance (Unit {0})
-aborted s number = record {
-  reply = tt;
+-- the upload goes, and what it held is handed back
+abbrev pub aborted : ModelStore → ℕ → ModelUpload → Acceptance Upload
+aborted s number u = record {
+  reply = u.upload;
   state = record s { uploads = without_upload s number; accepted = s.accepted + 1 };
   entry = entry.Abort number;
 }
 
-abbrev pub abort_in : ModelStore → ℕ → Result (Acceptance (Unit {0})) Refusal
-abort_in s number = on_upload s number (λ u. refuse_if (is_full s) JournalFull (Ok (aborted s number)))
+abbrev pub abort_in : ModelStore → ℕ → Result (Acceptance Upload) Refusal
+abort_in s number = on_upload s number (λ u. refuse_if (is_full s) JournalFull (Ok (aborted s number u)))
 
 -- ---- objects
 

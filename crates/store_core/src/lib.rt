@@ -35,7 +35,7 @@ pub use sealed::Sealed;
 pub use store::Store;
 pub use store_journal::{
     Accepted, Address, BadText, Entry, FiledObject, HeldPart, IllegalEntry, LeftUpload, ReadError,
-    ReplayError, Replayed, TenantId, Totals, UploadId, cut_at, journal_laws, journal_text, number,
-    read_entry, read_journal, replay, two_numbers, write_entry,
+    ReplayError, Replayed, TenantId, Totals, UploadId, cut_at, entry_laws, journal_laws,
+    journal_text, number, read_entry, read_journal, replay, two_numbers, write_entry,
 };
 pub use usage::Usage;

@@ -99,10 +99,8 @@ fn seal_as(
 fn abort(store: &mut Store, upload: UploadId) -> Result<Reply, Refusal>
     ensures { Step store.old (abort upload) (reply_seen (reply_of store.new) result) store.new }
 {
-    match store.abort(upload) {
-        Ok(()) => Ok(Reply::Done),
-        Err(refusal) => Err(refusal),
-    }
+    let _held = store.abort(upload)?;
+    Ok(Reply::Done)
 }
 
 fn forget(store: &mut Store, tenant: TenantId, address: Address) -> Result<Reply, Refusal>

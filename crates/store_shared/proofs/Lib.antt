@@ -3,4 +3,4 @@ pub mod NoPuts
 pub mod Noting
 pub mod Numbers
 pub mod PartPlaces
-pub mod Sealings
+pub mod Beginnings

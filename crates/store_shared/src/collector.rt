@@ -9,6 +9,7 @@ ghost use Rattle.store_shared.specs.Gates.{IsOwnFault};
 ghost use Rattle.store_shared.specs.Uploading.{IsCollecting, NotesMore, RoseByBeginning};
 ghost use Rattle.store_shared.specs.declared.fault.UploadFaultKind.TheVariants.{StrangePart};
 
+use crate::backoff::Backoff;
 use crate::cut::Cut;
 use crate::fault::UploadFaultKind;
 use crate::gate::Gate;
@@ -20,9 +21,8 @@ use b3_forest::{Follow, NoteFault, Prepared};
 use std::alloc::Global;
 use std::sync::Wait;
 use std::sync::ledger::Ledger;
-use std::thread;
 use store_board::{HandOver, TakePass, Taken};
-use store_core::{Address, UploadId};
+use store_core::{Address, PutRefused, UploadId};
 use store_ledger::Share;
 
 // The most parts that are put at one taking of the lock.
@@ -81,7 +81,8 @@ fn note_all(
     Ok(())
 }
 
-// Puts parts one after another, at one taking of the lock.
+// Puts parts one after another, at one taking of the lock, until one is refused. That one is handed back, and those
+// behind it are freed after the lock is given back, as the guard is dropped before what stands above it.
 fn put_all<B: Ledger, C: Ledger, R: Wait>(
     rt: &R,
     shared: &Shared<B, C>,
@@ -89,15 +90,15 @@ fn put_all<B: Ledger, C: Ledger, R: Wait>(
     parts: Vec<Prepared>,
     share: &mut Share<B, C>,
     work: &mut Work,
-) -> Result<(), UploadFaultKind>
+) -> Result<(), PutRefused>
     ensures ok { OnOk result (share.new ≡ holding_with share.old (map (λ p. p.part) parts.items)) }
     ensures err { OnErr result (RoseByBeginning (map (λ p. p.part) parts.items) share.old share.new) }
-    ensures fault { IfErr result IsOwnFault }
 {
+    let mut rest = parts.into_iter();
     let mut locked = shared.lock(rt);
-    for part in parts {
+    while let Some(part) = rest.next() {
         if let Err(refused) = lent_put(&mut *locked, share, upload, part, work) {
-            return Err(UploadFaultKind::Refused(refused.refusal));
+            return Err(refused);
         }
     }
     Ok(())
@@ -146,8 +147,8 @@ impl<'a, B: Ledger, C: Ledger> Collector<'a, B, C> {
             return Err(kind);
         }
         let (share, work) = (&mut self.share, &mut self.work);
-        if let Err(kind) = put_all(rt, shared, self.upload, parts, share, work) {
-            return Err(kind);
+        if let Err(refused) = put_all(rt, shared, self.upload, parts, share, work) {
+            return Err(UploadFaultKind::Refused(refused.refusal));
         }
         Ok(())
     }
@@ -188,7 +189,7 @@ impl<'a, B: Ledger, C: Ledger> Collector<'a, B, C> {
         true
     }
 
-    /// Collects until so many workers have ended and nothing is left.
+    /// Collects until so many workers have ended and nothing is left. Once something failed, the workers are told to end.
     pub(crate) fn collect<G: Gate, R: Wait>(
         &mut self,
         rt: &R,
@@ -206,13 +207,19 @@ impl<'a, B: Ledger, C: Ledger> Collector<'a, B, C> {
         ensures kept { (start : Holding) → IsCollecting job.now.cut start self.old.follow self.old.share self.old.fault → IsCollecting job.now.cut start self.new.follow self.new.share self.new.fault }
     {
         let mut pass = pass;
+        let mut backoff = Backoff::new();
         for _ in rt.forever() {
-            let all_ended = *job.ended.lock(rt) >= started;
-            if !self.collect_some(rt, alloc, job, shared, &mut pass) {
+            if self.fault.is_some() {
+                job.progress.give_up();
+            }
+            let all_ended = job.progress.ended() >= started;
+            if self.collect_some(rt, alloc, job, shared, &mut pass) {
+                backoff = Backoff::new();
+            } else {
                 if all_ended {
                     break;
                 }
-                thread::yield_now();
+                backoff.wait(rt);
             }
         }
     }

@@ -63,7 +63,7 @@ pub(crate) fn start_all<'s, E, G: Gate + Sync, R: Wait + Sync>(
     let bytes = job.cut.bytes();
     let part_chunks = job.cut.part_chunks();
     let gate = job.gate;
-    let (board, line, ended) = (&job.board, &job.line, &job.ended);
+    let (board, line, progress) = (&job.board, &job.line, &job.progress);
     let mut handles = Vec::new(alloc);
     let mut workers = workers;
     while let Some(worker) = workers.pop() {
@@ -88,7 +88,7 @@ pub(crate) fn start_all<'s, E, G: Gate + Sync, R: Wait + Sync>(
                     gate,
                     board,
                     line,
-                    ended,
+                    progress,
                     worker,
                 )
             },

@@ -5,17 +5,17 @@ ghost use Rattle.store_shared.specs.Uploading.{count_of};
 
 use crate::cut::Cut;
 use crate::gate::Gate;
-use std::sync::Mutex;
+use crate::progress::Progress;
 use store_board::{Board, HandOver};
 
-// The cut, the board from which workers draw the numbers of its parts, the hand-over to the collector, the gate, and
-// the number of workers that have ended.
+// The cut, the board from which workers draw the numbers of its parts, the hand-over to the collector, the gate, and how
+// far workers and collector are.
 #[derive(Drop)]
 pub(crate) struct Job<'a, G: Gate> {
     pub(crate) cut: Cut<'a>,
     pub(crate) board: Board,
     pub(crate) line: HandOver,
     pub(crate) gate: &'a G,
-    pub(crate) ended: Mutex<u64>,
+    pub(crate) progress: Progress,
     ghost parts: { parts_of board ≡ count_of cut },
 }

@@ -10,6 +10,7 @@
 //!   computed itself. A `Gate` is asked after each part, and may end the upload.
 #![tactic(auto)]
 
+mod backoff;
 mod collector;
 mod crew;
 mod cut;
@@ -18,6 +19,7 @@ mod gate;
 mod job;
 mod lent;
 mod locked;
+mod progress;
 mod shared;
 mod uploads;
 mod worker;

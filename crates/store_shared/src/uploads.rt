@@ -16,13 +16,14 @@ use crate::fault::{UploadFault, UploadFaultKind};
 use crate::gate::Gate;
 use crate::job::Job;
 use crate::lent::{lent_abort, lent_begin, lent_seal_as};
+use crate::progress::Progress;
 use crate::shared::Shared;
 use crate::worker::{FaultOf, Worker};
 use b3_core::Work;
 use b3_forest::Follow;
 use std::alloc::Global;
+use std::sync::Wait;
 use std::sync::ledger::Ledger;
-use std::sync::{Mutex, Wait};
 use std::thread;
 use std::thread::{PromisedHandle, Threads};
 use store_board::{Board, HandOver, TakePass};
@@ -153,14 +154,15 @@ fn seal<B: Ledger, C: Ledger, R: Wait + Alloc>(
     }
 }
 
-// Tries to abort an upload, and names it where it is left open.
+// Tries to abort an upload, and names it where it is left open. What it held is freed after the lock is given back.
 fn abort<B: Ledger, C: Ledger, R: Wait>(
     rt: &R,
     shared: &Shared<B, C>,
     upload: UploadId,
 ) -> Option<UploadId> {
-    match lent_abort(&mut *shared.lock(rt), upload) {
-        Ok(()) | Err(Refusal::NoUpload) => None,
+    let aborted = lent_abort(&mut *shared.lock(rt), upload);
+    match aborted {
+        Ok(_) | Err(Refusal::NoUpload) => None,
         Err(_) => Some(upload),
     }
 }
@@ -189,13 +191,12 @@ fn put_parts<B: Ledger, C: Ledger, G: Gate + Sync, R: Threads + Wait + Sync + Al
     let Ok(follow) = Follow::new(alloc, cut.bytes()) else {
         return (share, no_memory);
     };
-    let ended = Mutex::new(0);
     let job = Job {
         cut,
         board,
         line,
         gate,
-        ended,
+        progress: Progress::new(),
     };
     let Ok(workers) = workers_of(rt, alloc, &job, seats, passes) else {
         return (share, no_memory);

@@ -6,14 +6,15 @@ ghost use Rattle.store_shared.specs.Cuts.{part_count};
 ghost use Rattle.store_shared.specs.Gates.{IsFaultOf, fault_for};
 ghost use Rattle.store_shared.specs.Uploading.{count_of};
 
+use crate::backoff::Backoff;
 use crate::cut::Cut;
 use crate::fault::UploadFaultKind;
 use crate::gate::{Gate, GateStop};
+use crate::progress::Progress;
 use b3_core::Work;
 use b3_forest::Prepared;
 use std::alloc::Global;
-use std::sync::{Mutex, Wait};
-use std::thread;
+use std::sync::Wait;
 use std::thread::Promise;
 use store_board::{Board, BoardSeat, GivePass, HandOver};
 
@@ -47,11 +48,20 @@ fn fault_at(part: u64, answer: GateStop) -> UploadFaultKind
     }
 }
 
-// Hands a part over, or drops it once the board is stopped while the queue is full. Answers whether it was handed over.
+// Whether no more parts are wanted: a worker has stopped the board, or the collector has given up.
+fn is_over(board: &Board, progress: &Progress, seat: &mut BoardSeat) -> bool
+    requires { IsSeatOf board.now seat.old }
+    ensures { IsSeatOf board.now seat.new }
+{
+    board.stopped(seat) || progress.has_given_up()
+}
+
+// Hands a part over, or drops it once no more are wanted while the queue is full. Answers whether it was handed over.
 fn hand_over<R: Wait>(
     rt: &R,
     board: &Board,
     line: &HandOver,
+    progress: &Progress,
     worker: &mut Worker,
     part: Prepared,
 ) -> bool
@@ -59,20 +69,21 @@ fn hand_over<R: Wait>(
     ensures { IsSeatOf board.now worker.new.seat × IsGiverOf line.now worker.new.pass }
 {
     let mut part = part;
+    let mut backoff = Backoff::new();
     for _ in rt.forever() {
         match line.give(rt, &mut worker.pass, part) {
             Ok(()) => return true,
             Err(back) => part = back,
         }
-        if board.stopped(&mut worker.seat) {
+        if is_over(board, progress, &mut worker.seat) {
             return false;
         }
-        thread::yield_now();
+        backoff.wait(rt);
     }
     unreachable!()
 }
 
-// Makes parts and hands them over, until there are no more, the board is stopped, or something fails.
+// Makes parts and hands them over, until there are no more, none are wanted, or something fails.
 fn make_parts<G: Gate, R: Wait>(
     rt: &R,
     alloc: Global,
@@ -80,6 +91,7 @@ fn make_parts<G: Gate, R: Wait>(
     gate: &G,
     board: &Board,
     line: &HandOver,
+    progress: &Progress,
     worker: &mut Worker,
 ) -> Result<(), UploadFaultKind>
     requires own { IsSeatOf board.now worker.old.seat × IsGiverOf line.now worker.old.pass }
@@ -88,7 +100,7 @@ fn make_parts<G: Gate, R: Wait>(
     ensures fault { IfErr result (IsFaultOf (G.may_stop gate.now) (G.may_fault gate.now) (count_of cut.now)) }
 {
     for _ in rt.forever() {
-        if board.stopped(&mut worker.seat) {
+        if is_over(board, progress, &mut worker.seat) {
             return Ok(());
         }
         let Some(number) = board.claim(&mut worker.seat) else {
@@ -98,7 +110,7 @@ fn make_parts<G: Gate, R: Wait>(
         if let Err(answer) = gate.passed(number) {
             return Err(fault_at(number, answer));
         }
-        if !hand_over(rt, board, line, worker, part) {
+        if !hand_over(rt, board, line, progress, worker, part) {
             return Ok(());
         }
     }
@@ -114,7 +126,7 @@ pub(crate) fn run<G: Gate, R: Wait>(
     gate: &G,
     board: &Board,
     line: &HandOver,
-    ended: &Mutex<u64>,
+    progress: &Progress,
     worker: Worker,
 ) -> Option<UploadFaultKind>
     requires own { IsSeatOf board.now worker.seat × IsGiverOf line.now worker.pass }
@@ -126,11 +138,10 @@ pub(crate) fn run<G: Gate, R: Wait>(
 {
     let cut = Cut::new(bytes, part_chunks);
     let mut worker = worker;
-    let fault = make_parts(rt, alloc, &cut, gate, board, line, &mut worker).err();
+    let fault = make_parts(rt, alloc, &cut, gate, board, line, progress, &mut worker).err();
     if fault.is_some() {
         board.stop(&mut worker.seat);
     }
-    let mut count = ended.lock(rt);
-    *count = count.wrapping_add(1);
+    progress.end();
     fault
 }

@@ -113,7 +113,8 @@ impl Fixture {
     }
 
     fn abort(&mut self, upload: u64) -> Result<String, AllocError> {
-        done_text(self.alloc, self.store.abort(UploadId::new(upload)))
+        let aborted = self.store.abort(UploadId::new(upload));
+        done_text(self.alloc, aborted.map(|_| ()))
     }
 
     fn forget(&mut self, address: Address) -> Result<String, AllocError> {
@@ -260,4 +261,65 @@ fn chunks_sealed<R: AllocGlobal + Abort>(rt: &R, on: &mut Fixture) -> Result<(),
 #[test]
 fn chunks_make_the_compressions_of_their_merges(rt: HostRuntime) -> Result<(), Fail> {
     chunks_sealed(&rt, &mut store_with(&rt, Limits::full()))
+}
+
+fn three_parts_sealed<R: AllocGlobal + Abort>(rt: &R, on: &mut Fixture) -> Result<(), Fail> {
+    let _tenant = on.open_tenant(4096)?;
+    let _upload = on.begin(2049)?;
+    for (offset, len, count) in [(2048, 1, 0), (0, 1024, 0), (1024, 1024, 2)] {
+        let _held = on.put(offset, len)?;
+        assert_eq!(rt; on.work.count(), count);
+    }
+    let _sealed = on.seal()?;
+    assert_eq!(rt; on.work.count(), 5);
+    assert_eq!(rt; on.making.count(), 30);
+    Ok(())
+}
+
+// Together as many as one hash of the 2049 bytes: 33 blocks and 3 chunks.
+#[test]
+fn three_parts_make_the_compressions_of_one_hash(rt: HostRuntime) -> Result<(), Fail> {
+    three_parts_sealed(&rt, &mut store_with(&rt, Limits::full()))
+}
+
+fn greatest_part_sealed<R: AllocGlobal + Abort>(rt: &R, on: &mut Fixture) -> Result<(), Fail> {
+    let _tenant = on.open_tenant(1 << 24)?;
+    let _upload = on.begin(1 << 24)?;
+    assert_eq!(rt; on.put(0, 1 << 24)?.as_str(), "held 16777216 all");
+    assert_eq!(rt; on.work.count(), 0);
+    let _sealed = on.seal()?;
+    assert_eq!(rt; on.work.count(), 1);
+    Ok(())
+}
+
+#[test]
+fn the_greatest_part_is_one_piece(rt: HostRuntime) -> Result<(), Fail> {
+    greatest_part_sealed(&rt, &mut store_with(&rt, Limits::full()))
+}
+
+// Puts a part of another upload's plan, and tells what comes back.
+fn put_a_stranger(on: &mut Fixture) -> Result<String, Fail> {
+    let _first = on.begin(2048)?;
+    let _second = on.begin(1024)?;
+    let plan = on.store.plan(UploadId::new(1))?;
+    let bytes = pattern(on.alloc, 0, 1024)?;
+    let part = Prepared::make(on.alloc, &plan, 0, bytes, &mut on.making)?;
+    match on.store.put(UploadId::new(0), part, &mut on.work) {
+        Ok(_) => Ok(format!(in on.alloc; "held")?),
+        Err(PutRefused { refusal, part }) => {
+            let (offset, bytes) = (part.offset(), part.bytes().len());
+            Ok(format!(in on.alloc; "{refusal}, back {offset} {bytes}")?)
+        }
+    }
+}
+
+fn stranger_refused<R: AllocGlobal + Abort>(rt: &R, on: &mut Fixture) -> Result<(), Fail> {
+    let _tenant = on.open_tenant(4096)?;
+    assert_eq!(rt; put_a_stranger(on)?.as_str(), "S8, back 0 1024");
+    Ok(())
+}
+
+#[test]
+fn a_part_of_another_plan_comes_back(rt: HostRuntime) -> Result<(), Fail> {
+    stranger_refused(&rt, &mut store_with(&rt, Limits::full()))
 }

@@ -2,7 +2,7 @@
 
 ghost use Rattle.std.specs.Prelude.{◌≡◌};
 
-use std::sync::atomic::{AtomicBool, Ordering};
+use std::sync::atomic::{AtomicBool, AtomicU64, Ordering};
 use std::thread;
 use store_shared::{Gate, GateStop};
 
@@ -97,5 +97,71 @@ impl Gate for HoldForAbort {
             return Ok(());
         }
         Err(GateStop::Fault(1))
+    }
+}
+
+/// Fails at all parts, with the part's number as code, but holds part 0 until another one is asked for.
+#[derive(Drop)]
+pub(crate) struct FailBoth {
+    other_asked: AtomicBool,
+}
+
+impl FailBoth {
+    pub(crate) fn new() -> FailBoth {
+        FailBoth {
+            other_asked: AtomicBool::new(false),
+        }
+    }
+}
+
+impl Gate for FailBoth {
+    ghost may_stop = { λ gate part. ⊥ };
+
+    ghost may_fault = { λ gate part code. code ≡ part };
+
+    fn passed(&self, part: u64) -> Result<(), GateStop> {
+        if part == 0 {
+            let _is_asked = is_set(&self.other_asked);
+        } else {
+            self.other_asked.store(true, Ordering::SeqCst);
+        }
+        Err(GateStop::Fault(part))
+    }
+}
+
+/// Counts how often it is asked, answers Stop at one part, and takes some time for each other.
+#[derive(Drop)]
+pub(crate) struct Counting {
+    stop: u64,
+    asked: AtomicU64,
+}
+
+impl Counting {
+    pub(crate) fn new(stop: u64) -> Counting {
+        Counting {
+            stop,
+            asked: AtomicU64::new(0),
+        }
+    }
+
+    pub(crate) fn asked(&self) -> u64 {
+        self.asked.load(Ordering::SeqCst)
+    }
+}
+
+impl Gate for Counting {
+    ghost may_stop = { λ gate part. part ≡ gate.stop };
+
+    ghost may_fault = { λ gate part code. ⊥ };
+
+    fn passed(&self, part: u64) -> Result<(), GateStop> {
+        let _before = self.asked.fetch_add(1, Ordering::SeqCst);
+        if part == self.stop {
+            return Err(GateStop::Stop);
+        }
+        for _ in 0..100 {
+            thread::yield_now();
+        }
+        Ok(())
     }
 }

@@ -6,6 +6,8 @@ mod boards;
 #[cfg(test)]
 mod books;
 #[cfg(test)]
+mod failed_uploads;
+#[cfg(test)]
 mod faults;
 #[cfg(test)]
 mod gates;

@@ -1,8 +1,7 @@
 ghost use Rattle.std.specs.Prelude.{◌≡◌, ◌^◌};
 
-use crate::gates::{FailAt, HoldFirst, StopAt};
+use crate::gates::HoldFirst;
 use crate::patterns::{NO_BYTES, PATTERN_2048, PATTERN_2049, pattern};
-use std::alloc::{AllocError, Global};
 use std::marker::Brand;
 use std::process::Abort;
 use std::sync::Wait;
@@ -12,9 +11,7 @@ use std::test::Fail;
 use std::thread::Threads;
 use store_core::{Address, Limits, Refusal, Store, TenantId};
 use store_ledger::{Accepted, NotWhole};
-use store_shared::{Gate, PassAll, Shared, UploadFault, lent_open_tenant, upload};
-
-// ---- uploads that are sealed
+use store_shared::{Gate, PassAll, Shared, lent_open_tenant, upload};
 
 /// Opens the tenants 0 and 1.
 pub(crate) fn open_two_tenants<B: Ledger, C: Ledger, R: Wait>(
@@ -178,7 +175,7 @@ fn with_one_part<B: Ledger, C: Ledger, R: Threads + Wait + Sync + AllocGlobal + 
         calls: 3,
     };
     assert_eq!(rt; locked.settle(&mut share), Err(missing));
-    share.join(one);
+    locked.join(&mut share, one);
     assert!(rt; locked.settle(&mut share).is_ok());
     Ok(())
 }
@@ -186,174 +183,4 @@ fn with_one_part<B: Ledger, C: Ledger, R: Threads + Wait + Sync + AllocGlobal + 
 #[test]
 fn a_share_of_one_part_serves(rt: HostRuntime) -> Result<(), Fail> {
     with_one_part::<Brand, Brand, _>(&rt, Blank::new(1 << 32), Blank::new(1 << 32))
-}
-
-// ---- uploads that fail
-
-// A fault and the upload that it leaves, what was accepted, what the store holds, and how many entries its journal has.
-fn left_text(
-    alloc: Global,
-    fault: &UploadFault,
-    accepted: Accepted,
-    store: &Store,
-) -> Result<String, AllocError> {
-    let Accepted { bytes, calls } = accepted;
-    let (totals, entries) = (store.totals(), store.journal().len());
-    let held = format!(in alloc; "accepted {bytes} {calls}, {totals}, entries {entries}")?;
-    match fault.left {
-        Some(upload) => format!(in alloc; "{} left {upload}, {held}", fault.kind),
-        None => format!(in alloc; "{}, {held}", fault.kind),
-    }
-}
-
-// Uploads the pattern of 2049 bytes with the whole share, which settles, and looks at what is left.
-fn failed<B: Ledger, C: Ledger, G: Gate + Sync, R: Threads + Wait + Sync + AllocGlobal>(
-    rt: &R,
-    bytes: Blank,
-    calls: Blank,
-    gate: &G,
-    limits: Limits,
-    part_chunks: u64,
-    workers: u64,
-) -> Result<String, Fail>
-    requires bytes { (bytes.name ≡ B.name) × (bytes.parts ≡ B.parts) × (bytes.parts ≡ 2 ^ 32) }
-    requires calls { (calls.name ≡ C.name) × (calls.parts ≡ C.parts) × (calls.parts ≡ 2 ^ 32) }
-{
-    let alloc = rt.alloc();
-    let input = pattern(alloc, 0, 2049)?;
-    let row = input.as_slice();
-    let (shared, share) = Shared::<B, C>::new(alloc, limits, bytes, calls);
-    let opened = lent_open_tenant(&mut *shared.lock(rt), 4098);
-    let tenant = opened.ok().ok_or("no tenant")?;
-    let (share, answer) = upload(
-        rt,
-        alloc,
-        &shared,
-        share,
-        gate,
-        tenant,
-        row,
-        part_chunks,
-        workers,
-    );
-    let fault = answer.err().ok_or("sealed")?;
-    let mut share = share;
-    let mut locked = shared.close();
-    let accepted = locked.settle(&mut share).ok().ok_or("not whole")?;
-    Ok(left_text(alloc, &fault, accepted, locked.store())?)
-}
-
-#[test]
-fn a_stop_is_told(rt: HostRuntime) -> Result<(), Fail> {
-    let left = failed::<Brand, Brand, _, _>(
-        &rt,
-        Blank::new(1 << 32),
-        Blank::new(1 << 32),
-        &StopAt(0),
-        Limits::full(),
-        1,
-        1,
-    )?;
-    assert_eq!(rt;
-        left.as_str(),
-        "U3, accepted 0 0, objects 0 bytes 0 uploads 0 held 0 parts 0, entries 3"
-    );
-    Ok(())
-}
-
-#[test]
-fn a_gates_fault_is_told(rt: HostRuntime) -> Result<(), Fail> {
-    let left = failed::<Brand, Brand, _, _>(
-        &rt,
-        Blank::new(1 << 32),
-        Blank::new(1 << 32),
-        &FailAt(1),
-        Limits::full(),
-        1,
-        1,
-    )?;
-    assert_eq!(rt;
-        left.as_str(),
-        "U4 part 1 code 9, accepted 1024 1, objects 0 bytes 0 uploads 0 held 0 parts 0, entries 4"
-    );
-    Ok(())
-}
-
-// What a journal of so many entries leaves.
-fn left_by_a_full_journal<B: Ledger, C: Ledger, R: Threads + Wait + Sync + AllocGlobal>(
-    rt: &R,
-    bytes: Blank,
-    calls: Blank,
-    entries: u64,
-) -> Result<String, Fail>
-    requires bytes { (bytes.name ≡ B.name) × (bytes.parts ≡ B.parts) × (bytes.parts ≡ 2 ^ 32) }
-    requires calls { (calls.name ≡ C.name) × (calls.parts ≡ C.parts) × (calls.parts ≡ 2 ^ 32) }
-{
-    let limits = Limits::new(1, entries, 1).ok().ok_or("no limits")?;
-    failed::<B, C, _, _>(rt, bytes, calls, &PassAll, limits, 1, 1)
-}
-
-#[test]
-fn a_full_journal_leaves_the_upload(rt: HostRuntime) -> Result<(), Fail> {
-    let bytes = Blank::new(1 << 32);
-    let calls = Blank::new(1 << 32);
-    let left = left_by_a_full_journal::<Brand, Brand, _>(&rt, bytes, calls, 3)?;
-    assert_eq!(rt;
-        left.as_str(),
-        "U1 S13 left 0, accepted 1024 1, objects 0 bytes 0 uploads 1 held 1024 parts 1, entries 3"
-    );
-    Ok(())
-}
-
-#[test]
-fn a_full_journal_takes_no_part(rt: HostRuntime) -> Result<(), Fail> {
-    let bytes = Blank::new(1 << 32);
-    let calls = Blank::new(1 << 32);
-    let left = left_by_a_full_journal::<Brand, Brand, _>(&rt, bytes, calls, 2)?;
-    assert_eq!(rt;
-        left.as_str(),
-        "U1 S13 left 0, accepted 0 0, objects 0 bytes 0 uploads 1 held 0 parts 0, entries 2"
-    );
-    Ok(())
-}
-
-// What a bad cut leaves.
-const NOTHING_BEGUN: &str =
-    "U2, accepted 0 0, objects 0 bytes 0 uploads 0 held 0 parts 0, entries 1";
-
-// What parts of so many chunks and so many workers leave, of which two are allowed.
-fn left_by_a_cut<B: Ledger, C: Ledger, R: Threads + Wait + Sync + AllocGlobal>(
-    rt: &R,
-    bytes: Blank,
-    calls: Blank,
-    part_chunks: u64,
-    workers: u64,
-) -> Result<String, Fail>
-    requires bytes { (bytes.name ≡ B.name) × (bytes.parts ≡ B.parts) × (bytes.parts ≡ 2 ^ 32) }
-    requires calls { (calls.name ≡ C.name) × (calls.parts ≡ C.parts) × (calls.parts ≡ 2 ^ 32) }
-{
-    let limits = Limits::new(1, 9, 2).ok().ok_or("no limits")?;
-    failed::<B, C, _, _>(rt, bytes, calls, &PassAll, limits, part_chunks, workers)
-}
-
-#[test]
-fn a_bad_cut_begins_nothing(rt: HostRuntime) -> Result<(), Fail> {
-    for part_chunks in [0, 16385] {
-        let bytes = Blank::new(1 << 32);
-        let calls = Blank::new(1 << 32);
-        let left = left_by_a_cut::<Brand, Brand, _>(&rt, bytes, calls, part_chunks, 1)?;
-        assert_eq!(rt; left.as_str(), NOTHING_BEGUN);
-    }
-    Ok(())
-}
-
-#[test]
-fn bad_counts_of_workers_begin_nothing(rt: HostRuntime) -> Result<(), Fail> {
-    for workers in [0, 3, 17] {
-        let bytes = Blank::new(1 << 32);
-        let calls = Blank::new(1 << 32);
-        let left = left_by_a_cut::<Brand, Brand, _>(&rt, bytes, calls, 1, workers)?;
-        assert_eq!(rt; left.as_str(), NOTHING_BEGUN);
-    }
-    Ok(())
 }

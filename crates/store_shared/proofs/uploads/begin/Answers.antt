@@ -1,5 +1,5 @@
 use Rattle.std.proofs.Common.{◌≡◌, arith}
-use Rattle.store_shared.proofs.Sealings.{begun_plan}
+use Rattle.store_shared.proofs.Beginnings.{begun_plan}
 use Rattle.store_shared.proofs.uploads.begin.Goals as goal
 
 pub returns-in-Ok-clause-most : goal.returns-in-Ok-clause-most

@@ -1,4 +1,4 @@
-use Rattle.upload_tests.proofs.uploads.a_stop_is_told.Given as goal
+use Rattle.upload_tests.proofs.failed_uploads.left_by.Given as goal
 
 abbrev pub ghosts-failed-B-Ledger : goal.ghosts-failed-B-Ledger
 ghosts-failed-B-Ledger g a = record { name = a.bytes.name; parts = a.bytes.parts }
