@@ -5,7 +5,7 @@ ghost use Rattle.store_command_line.specs.Ranges.{InRange};
 
 use b3_core::Work;
 use std::io;
-use std::io::BufReader;
+use std::io::{BufReader, ErrorKind};
 use std::marker::Brand;
 use std::process::ExitCode;
 use std::sync::Wait;
@@ -22,8 +22,17 @@ const USAGE: u8 = 2;
 
 const STOPPED: u8 = 3;
 
-fn words_of(rt: &HostRuntime) -> io::Result<Vec<String>> {
-    let words: Vec<String> = std::env::args(rt)?.collect(rt.alloc())?;
+// The words of the command line. The system's words may be any bytes; those that are not UTF-8 are a usage fault.
+fn words_of(rt: &HostRuntime) -> Result<Vec<String>, Fault> {
+    let words = match std::env::args(rt) {
+        Ok(words) => words,
+        Err(error) if error.kind() == ErrorKind::OutOfMemory => return Err(Fault::NoMemory),
+        Err(_) => {
+            let text = String::from_str(rt.alloc(), "b3store: an argument is not UTF-8\n")?;
+            return Err(Fault::Usage(text));
+        }
+    };
+    let words: Vec<String> = words.collect(rt.alloc())?;
     Ok(words)
 }
 
@@ -80,20 +89,28 @@ fn perform<T: Threads + Wait + Sync + Alloc>(
     }
 }
 
+// Tells why there are no options, and answers the status.
+fn unusable(rt: &HostRuntime, fault: Fault) -> u8 {
+    match fault {
+        Fault::Usage(text) => {
+            let _ = eprint!(rt; "{text}");
+            USAGE
+        }
+        Fault::NoMemory => stopped(rt, Cause::OutOfMemory),
+    }
+}
+
 fn main(rt: HostRuntime) -> ExitCode {
-    let Ok(words) = words_of(&rt) else {
-        return ExitCode::from(stopped(&rt, Cause::OutOfMemory));
+    let words = match words_of(&rt) {
+        Ok(words) => words,
+        Err(fault) => return ExitCode::from(unusable(&rt, fault)),
     };
     let status = match options(rt.alloc(), words.as_slice()) {
         Ok(options) => match perform(&rt, &rt, &options) {
             Ok(status) => status,
             Err(cause) => stopped(&rt, cause),
         },
-        Err(Fault::Usage(text)) => {
-            let _ = eprint!(rt; "{text}");
-            USAGE
-        }
-        Err(Fault::NoMemory) => stopped(&rt, Cause::OutOfMemory),
+        Err(fault) => unusable(&rt, fault),
     };
     ExitCode::from(status)
 }

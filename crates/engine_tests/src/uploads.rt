@@ -83,3 +83,27 @@ fn a_failed_read_writes_nothing(rt: HostRuntime) -> Result<(), Fail> {
     assert!(rt; writer.is_empty());
     Ok(())
 }
+
+// No worker: a cut that no command line asks for.
+#[test]
+fn a_cut_without_workers_is_refused(rt: HostRuntime) -> Result<(), Fail> {
+    let options = UploadOptions {
+        workers: 0,
+        part_chunks: 1,
+        journal: true,
+    };
+    let mut reader = b"abc".as_slice();
+    let mut writer: Vec<u8> = Vec::new(rt.alloc());
+    let ended = upload::<Brand, Brand, _, _, _>(
+        &rt,
+        rt.alloc(),
+        options,
+        Blank::new(1 << 32),
+        Blank::new(1 << 32),
+        &mut reader,
+        &mut writer,
+    );
+    assert_eq!(rt; ended, Ok(Verdict::Refused));
+    assert_eq!(rt; writer.as_slice(), b"refused U2\n".as_slice());
+    Ok(())
+}

@@ -1,10 +1,12 @@
 -- The subcommand that a parse entered, from what the getters say.
-use Rattle.std.proofs.Common.{◌≡◌, ◌∙◌, Bool, true, false, List, Option, Some, None, ap, codes, refl, rules}
-use Rattle.std.specs.Prelude.{option_map, Result, Ok, ℕ}
-use Rattle.clap.specs.Words.{TriesOne}
-use Rattle.std.specs.Str.Parse.{digits_value, without_leading_plus}
-use Rattle.store_command_line.specs.Stated.{SaysFlag, Spells}
-use Rattle.clap.specs.Words.{Row, Text, subcommand_rows_of, subcommand_name_of}
+use Rattle.std.proofs.Common.{◌≡◌, ◌∙◌, ℕ, Bool, true, false, List, [], Option, Some, None, ap, sym, subst, codes, inl, inr, refl, rules}
+use Rattle.std.specs.Prelude.{option_map, IfSome}
+use Rattle.store_command_line.specs.CommandLine.{IsTaken, command_line}
+use Rattle.store_command_line.specs.Ranges.{IsWithin}
+use Rattle.store_command_line.specs.Stated.{SaysFlag, Spells, SpellsOr}
+use Rattle.clap.specs.Words.{App, HasKind, Row, Text, fault_of, is_simple_and_free, kind_of, subcommand_rows_of, subcommand_name_of}
+use Rattle.clap.specs.declared.error.Error.{Error}
+use Rattle.clap.specs.declared.error.kind.ErrorKind.TheVariants as kinds
 use Rattle.clap.specs.declared.parser.matches.ArgMatches.{ArgMatches}
 
 pair_of : (o : Option (Text × List Row)) (n : Text) (rs : List Row) → Some n ≡ option_map (λ p. p.0) o → Some rs ≡ option_map (λ p. p.1) o → o ≡ Some (n, rs)
@@ -17,15 +19,26 @@ names m = search rules
 pub entered : (m : ArgMatches) (n : Text) (rs : List Row) → Some n ≡ subcommand_name_of m → Some rs ≡ option_map (λ p. p.1) (subcommand_rows_of m) → subcommand_rows_of m ≡ Some (n, rs)
 entered m n rs a b = pair_of (subcommand_rows_of m) n rs (a ∙ names m) b
 
--- what a number's getter says is what its text spells
-pub spells : {E : Type 0} (gives : List ℕ → Result ℕ E → Type 0) → ((t : List ℕ) (x : ℕ) → gives t (Ok x) → digits_value 10 (without_leading_plus t) ≡ x)
-    → (o : Option Text) (n : Option ℕ) → (o ≡ None → n ≡ None) → ((t : List ℕ) → o ≡ Some t → TriesOne gives t (Ok n)) → Spells o n
-spells gives exact None None none value = tt
-spells gives exact None (Some x) none value = let e = none refl in cc
-spells gives exact (Some t) None none value = value t refl
-spells gives exact (Some t) (Some x) none value = exact t x (value t refl)
-
 -- what a flag's getter says is what clap keeps of it
 pub says_flag : (o : Option Text) (b : Bool) → (o ≡ None → b ≡ false) → (o ≡ Some (codes "true") → b ≡ true) → (o ≡ Some (codes "false") → b ≡ false) → SaysFlag o b
 says_flag None b none on off = none refl
 says_flag (Some t) b none on off = (λ e. on (ap Some e), λ e. off (ap Some e))
+
+-- words that clap takes, from what a parse says
+pub taken : (a : App) (words : List Text) → a ≡ command_line → (is_simple_and_free a ≡ true → fault_of a words ≡ []) → IsTaken words
+unfolding IsTaken
+taken a words shape fits = ap (λ (b : App). fault_of b words) (sym shape) ∙ fits (ap is_simple_and_free shape)
+
+-- at such words a parse fails for want of memory alone
+pub memory : (a : App) (words : List Text) (e : Error) → a ≡ command_line → (is_simple_and_free a ≡ true → HasKind (fault_of a words) e) → IsTaken words → kind_of e ≡ kinds.OutOfMemory
+unfolding IsTaken
+memory a words e shape fails is = go (subst (λ ks. HasKind ks e) (ap (λ (b : App). fault_of b words) shape ∙ is) (fails (ap is_simple_and_free shape)))
+  where
+    go : HasKind [] e → kind_of e ≡ kinds.OutOfMemory
+    go (inl h) = h
+    go (inr h) = absurd h
+
+-- what follows of the number that is spelled, where one is given
+pub spelled_or : (most other n : ℕ) (o : Option Text) (P : Type 0) → SpellsOr other o n → IsWithin most n → ((m : Option ℕ) → Spells o m → IfSome m (IsWithin most) → P) → P
+spelled_or most other n None P spells within f = f None tt tt
+spelled_or most other n (Some t) P spells within f = f (Some n) spells within

@@ -1,6 +1,6 @@
 -- The command line, as the program states it to clap.
-use Rattle.std.specs.Prelude.{ℕ, Some, pos, codes}
-use Rattle.clap.specs.Words.{App, Rule, Text, new_app, new_rule, with_rule, with_subcommand}
+use Rattle.std.specs.Prelude.{◌≡◌, ℕ, List, [], Some, pos, codes}
+use Rattle.clap.specs.Words.{App, Rule, Text, fault_of, new_app, new_rule, with_rule, with_subcommand}
 use Rattle.clap.specs.declared.builder.action.ArgAction.TheVariants.{SetTrue}
 use Rattle.clap.specs.declared.builder.value_parser.ValueParser.TheVariants as vp
 
@@ -47,3 +47,7 @@ storing_line = with_subcommand (with_subcommand (with_subcommand (new_app (codes
 -- and with those that read reports
 abbrev pub command_line : App
 command_line = with_subcommand (with_subcommand storing_line check_line.top) audit_line.top
+
+-- clap finds no fault in the words, of which the first is the program's name
+unfoldable pub IsTaken : List Text → Type 0
+IsTaken words = fault_of command_line words ≡ []

@@ -1,8 +1,10 @@
 -- What the words of a command line say to the program.
-use Rattle.std.specs.Prelude.{◌≡◌, ℕ, Bool, true, false, Option, Some, None, Ok, IsSomeAnd, List, codes}
-use Rattle.std.specs.Str.Parse.{digits_value, without_leading_plus}
+use Rattle.std.specs.Prelude.{◌≡◌, ℕ, Bool, true, false, Option, Some, None, Result, Ok, IfErr, IsSomeAnd, List, codes}
+use Rattle.std.specs.Str.Parse.{IsNumeral, digits_value}
 use Rattle.clap.specs.Words.{Row, Text, first_of, one_of}
 use Rattle.hex.specs.Hex.{decode_sized}
+use Rattle.store_command_line.specs.declared.said.Fault.{Fault}
+use Rattle.store_command_line.specs.declared.said.Fault.TheVariants.{NoMemory}
 use Rattle.store_command_line.specs.declared.said.Options.{Options}
 use Rattle.store_command_line.specs.declared.said.Options.TheVariants.{Sum, Run, Upload, Check, Audit}
 use Rattle.store_command_line.specs.declared.said.SumMode.{SumMode}
@@ -10,17 +12,21 @@ use Rattle.store_command_line.specs.declared.said.SumMode.TheVariants.{Hash, Key
 use Rattle.store_command_line.specs.declared.said.SumOptions.{SumOptions}
 use Rattle.store_command_line.specs.declared.said.UploadOptions.{UploadOptions}
 
+-- a text is decimal digits, one or more and no sign, and they write the number
+abbrev pub IsNumber : Text → ℕ → Type 0
+IsNumber t n = IsNumeral 10 t × (digits_value 10 t ≡ n)
+
 -- the number that an argument's text spells, where the argument is given
 abbrev pub Spells : Option Text → Option ℕ → Type 0
 Spells None None = Unit {0}
-Spells (Some t) (Some n) = digits_value 10 (without_leading_plus t) ≡ n
+Spells (Some t) (Some n) = IsNumber t n
 Spells None (Some n) = ⊥
 Spells (Some t) None = ⊥
 
 -- the number that an argument's text spells, or another where the argument is not given
 abbrev pub SpellsOr : ℕ → Option Text → ℕ → Type 0
 SpellsOr other None n = n ≡ other
-SpellsOr other (Some t) n = digits_value 10 (without_leading_plus t) ≡ n
+SpellsOr other (Some t) n = IsNumber t n
 
 -- whether a flag is given, from the text that clap keeps of it
 abbrev pub SaysFlag : Option Text → Bool → Type 0
@@ -41,11 +47,11 @@ SaysName name (Some t) = name ≡ t
 pub record SaysSum (o : SumOptions) (rows : List Row) : Type 0 where
   pub name : SaysName o.name.now (first_of (codes "name") rows)
   pub mode : SaysMode o.mode (first_of (codes "key") rows) (first_of (codes "context") rows)
-  pub length : Spells (one_of (codes "length") rows) o.length
+  pub length : Spells (first_of (codes "length") rows) o.length
 
 pub record SaysUpload (o : UploadOptions) (rows : List Row) : Type 0 where
-  pub workers : SpellsOr 4 (one_of (codes "workers") rows) o.workers
-  pub part_chunks : SpellsOr 64 (one_of (codes "part-chunks") rows) o.part_chunks
+  pub workers : SpellsOr 4 (first_of (codes "workers") rows) o.workers
+  pub part_chunks : SpellsOr 64 (first_of (codes "part-chunks") rows) o.part_chunks
   pub journal : SaysFlag (one_of (codes "journal") rows) o.journal
 
 -- the subcommand that was entered, and its rows, say these options
@@ -55,3 +61,7 @@ Says Run found = (rows : List Row) × (found ≡ Some (codes "run", rows))
 Says (Upload o) found = (rows : List Row) × (found ≡ Some (codes "upload", rows)) × SaysUpload o rows
 Says Check found = (rows : List Row) × (found ≡ Some (codes "check", rows))
 Says Audit found = (rows : List Row) × (found ≡ Some (codes "audit", rows))
+
+-- where there are no options, that is for want of memory
+abbrev pub IsNotUsage : {T : Type 0} → Result T Fault → Type 0
+IsNotUsage r = IfErr r (λ fault. fault ≡ NoMemory)

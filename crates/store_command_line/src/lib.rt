@@ -13,8 +13,9 @@
 //!
 //! Contracts see a command line by `specs/CommandLine.antt`, as it is stated to clap, and by `specs/Stated.antt`: the options are
 //! the subcommand that was entered, with the values that its words have. `specs/Ranges.antt` has what holds of options beside
-//! this: numbers are within their ranges, and the name is one that a check line may have. No clause says which words are
-//! accepted, nor what a text says.
+//! this: numbers are within their ranges, and the name is one that a check line may have. Words are accepted exactly where
+//! clap finds no fault in them and they say options of which this holds, unless memory is refused. No clause says what a
+//! text of a usage fault says.
 #![tactic(auto)]
 
 mod command;

@@ -1,5 +1,8 @@
 //! What a command line says.
 
+ghost use Rattle.std.specs.Prelude.{◌≡◌};
+ghost use Rattle.store_command_line.specs.declared.said.Fault.TheVariants.{NoMemory};
+
 use std::alloc::AllocError;
 
 /// The mode that `sum` hashes in.
@@ -60,6 +63,8 @@ pub enum Fault {
 }
 
 impl From<AllocError> for Fault {
+    ghost from_gives = { λ _ fault. fault ≡ NoMemory };
+
     fn from(_: AllocError) -> Fault {
         Fault::NoMemory
     }

@@ -1,11 +1,17 @@
 //! What the words of the command line say.
 
-ghost use Rattle.std.specs.Prelude.{◌≡◌, ◌≤◌, IfOk, IfSome, codes, map};
+ghost use Rattle.std.specs.Prelude.{◌≡◌, ◌↔◌, ◌^◌, ◌≤◌, ℕ, true, List, Option, None, IfOk, IfSome, OnOk, codes, map, option_map};
+ghost use Rattle.clap.specs.Values.{kind_of};
 ghost use Rattle.clap.specs.Words.{found_of, first_of, one_of, rows_of, subcommand_of};
 ghost use Rattle.b3_check.specs.Names.{IsName};
-ghost use Rattle.store_command_line.specs.CommandLine.{command_line};
-ghost use Rattle.store_command_line.specs.Ranges.{AreWithin, InRange};
-ghost use Rattle.store_command_line.specs.Stated.{Says, SaysFlag, SaysMode, SaysName, SaysSum, SaysUpload, Spells, SpellsOr};
+ghost use Rattle.store_command_line.specs.CommandLine.{IsTaken, command_line};
+ghost use Rattle.store_command_line.specs.Ranges.{AreWithin, InRange, IsWithin};
+ghost use Rattle.store_command_line.specs.Stated.{IsNotUsage, IsNumber, Says, SaysFlag, SaysMode, SaysName, SaysSum, SaysUpload, Spells, SpellsOr};
+ghost use Rattle.store_command_line.specs.declared.said.Fault.TheVariants.{NoMemory};
+ghost use Rattle.store_command_line.specs.declared.said.Options.{Options as Said};
+ghost use Rattle.store_command_line.specs.declared.said.SumMode.{SumMode as SaidMode};
+ghost use Rattle.store_command_line.specs.declared.said.SumOptions.{SumOptions as SaidSum};
+ghost use Rattle.store_command_line.specs.declared.said.UploadOptions.{UploadOptions as SaidUpload};
 
 use crate::command::program;
 use crate::said::{Fault, Options, SumMode, SumOptions, UploadOptions};
@@ -15,7 +21,9 @@ use hex::FromHex;
 use std::alloc::Global;
 use std::convert::AsStr;
 
-fn fault_of(alloc: Global, error: &Error) -> Fault {
+fn fault_of(alloc: Global, error: &Error) -> Fault
+    ensures { kind_of error.now ≡ ErrorKind.OutOfMemory → result ≡ NoMemory }
+{
     if error.kind() == ErrorKind::OutOfMemory {
         return Fault::NoMemory;
     }
@@ -32,39 +40,56 @@ fn usage(alloc: Global, text: &str) -> Fault {
     }
 }
 
-fn number(alloc: Global, found: &ArgMatches<'_>, id: &str) -> Result<Option<u32>, Fault>
-    ensures { IfOk result (λ n. Spells (one_of id.now (rows_of (found_of found.now))) n) }
+// The text of an argument, where it is given.
+fn text_of<'a>(found: &ArgMatches<'a>, id: &str) -> Option<&'a str>
+    ensures { option_map (λ s. s.now) result ≡ first_of id.now (rows_of (found_of found.now)) }
 {
-    match found.try_get_one::<u32>(id) {
-        Ok(n) => Ok(n),
-        Err(_) => Err(usage(alloc, "b3store: a number is wanted\n")),
-    }
+    found.get_str(id)
 }
 
-// A number from 1 to `most`. clap states no range inside a subcommand.
+// The number that a text spells in decimal digits, without a sign.
+fn digits(text: &str) -> Option<u32>
+    ensures some { IfSome result (IsNumber text.now) }
+    ensures none { result ≡ None → (n : ℕ) → IsNumber text.now n → 2 ^ 32 ≤ n }
+{
+    if text.as_bytes().first() == Some(&b'+') {
+        return None;
+    }
+    text.parse::<u32>().ok()
+}
+
+// A number from 1 to `most`. clap takes a sign, and states no range inside a subcommand.
 fn number_within(
     alloc: Global,
     found: &ArgMatches<'_>,
     id: &str,
     most: u32,
 ) -> Result<Option<u32>, Fault>
-    ensures spells { IfOk result (λ n. Spells (one_of id.now (rows_of (found_of found.now))) n) }
-    ensures range { IfOk result (λ n. IfSome n (λ n. (1 ≤ n) × (n ≤ most))) }
+    ensures spells { IfOk result (λ n. Spells (first_of id.now (rows_of (found_of found.now))) n) }
+    ensures range { IfOk result (λ n. IfSome n (IsWithin most)) }
+    ensures only { (n : Option ℕ) → Spells (first_of id.now (rows_of (found_of found.now))) n → IfSome n (IsWithin most)
+        → IsNotUsage result }
 {
-    let Some(n) = number(alloc, found, id)? else {
+    let Some(text) = text_of(found, id) else {
         return Ok(None);
     };
-    if n < 1 || n > most {
-        return Err(usage(alloc, "b3store: a number is out of its range\n"));
+    match digits(text) {
+        Some(n) if n >= 1 && n <= most => Ok(Some(n)),
+        Some(_) => Err(usage(alloc, "b3store: a number is out of its range\n")),
+        None => Err(usage(
+            alloc,
+            "b3store: a number is decimal digits, without a sign\n",
+        )),
     }
-    Ok(Some(n))
 }
 
 fn sum_mode<'a>(alloc: Global, found: &ArgMatches<'a>) -> Result<SumMode<'a>, Fault>
-    ensures { IfOk result (λ m. let rows = rows_of (found_of found.now) in
+    ensures says { IfOk result (λ m. let rows = rows_of (found_of found.now) in
         SaysMode m (first_of (codes "key") rows) (first_of (codes "context") rows)) }
+    ensures only { (m : SaidMode) → (let rows = rows_of (found_of found.now) in
+        SaysMode m (first_of (codes "key") rows) (first_of (codes "context") rows)) → IsNotUsage result }
 {
-    match (found.get_str("key"), found.get_str("context")) {
+    match (text_of(found, "key"), text_of(found, "context")) {
         (None, None) => Ok(SumMode::Hash),
         (None, Some(context)) => Ok(SumMode::Derive(context)),
         (Some(digits), None) => match <[u8; 32] as FromHex>::from_hex(digits) {
@@ -78,15 +103,24 @@ fn sum_mode<'a>(alloc: Global, found: &ArgMatches<'a>) -> Result<SumMode<'a>, Fa
     }
 }
 
+// Whether a check line may have the name.
+fn is_name(text: &str) -> bool
+    ensures { (result ≡ true) ↔ IsName text.now }
+{
+    !text.is_empty() && !text.as_bytes().contains(&0)
+}
+
 // The name that a check line gets: `-` where none is given.
 fn sum_name<'a>(alloc: Global, found: &ArgMatches<'a>) -> Result<&'a str, Fault>
     ensures says { IfOk result (λ name. SaysName name.now (first_of (codes "name") (rows_of (found_of found.now)))) }
     ensures lawful { IfOk result (λ name. IsName name.now) }
+    ensures only { (name : List ℕ) → SaysName name (first_of (codes "name") (rows_of (found_of found.now))) → IsName name
+        → IsNotUsage result }
 {
-    let Some(name) = found.get_str("name") else {
+    let Some(name) = text_of(found, "name") else {
         return Ok("-");
     };
-    if name.is_empty() || name.as_bytes().contains(&0) {
+    if !is_name(name) {
         return Err(usage(
             alloc,
             "b3store: --name takes a name that is not empty and has no byte 0\n",
@@ -98,7 +132,9 @@ fn sum_name<'a>(alloc: Global, found: &ArgMatches<'a>) -> Result<&'a str, Fault>
 fn sum_options<'a>(alloc: Global, found: &ArgMatches<'a>) -> Result<SumOptions<'a>, Fault>
     ensures says { IfOk result (λ o. SaysSum o (rows_of (found_of found.now))) }
     ensures named { IfOk result (λ o. IsName o.name.now) }
-    ensures range { IfOk result (λ o. IfSome o.length (λ n. (1 ≤ n) × (n ≤ 65536))) }
+    ensures range { IfOk result (λ o. IfSome o.length (IsWithin 65536)) }
+    ensures only { (o : SaidSum) → SaysSum o (rows_of (found_of found.now)) → IsName o.name.now → IfSome o.length (IsWithin 65536)
+        → IsNotUsage result }
 {
     let name = sum_name(alloc, found)?;
     let mode = sum_mode(alloc, found)?;
@@ -114,9 +150,11 @@ fn number_or(
     most: u32,
     other: u32,
 ) -> Result<u32, Fault>
-    requires { (1 ≤ other) × (other ≤ most) }
-    ensures spells { IfOk result (λ n. SpellsOr other (one_of id.now (rows_of (found_of found.now))) n) }
-    ensures range { IfOk result (λ n. (1 ≤ n) × (n ≤ most)) }
+    requires { IsWithin most other }
+    ensures spells { IfOk result (λ n. SpellsOr other (first_of id.now (rows_of (found_of found.now))) n) }
+    ensures range { IfOk result (IsWithin most) }
+    ensures only { (n : ℕ) → SpellsOr other (first_of id.now (rows_of (found_of found.now))) n → IsWithin most n
+        → IsNotUsage result }
 {
     match number_within(alloc, found, id, most)? {
         Some(n) => Ok(n),
@@ -133,6 +171,7 @@ fn flag(found: &ArgMatches<'_>, id: &str) -> bool
 fn upload_options(alloc: Global, found: &ArgMatches<'_>) -> Result<UploadOptions, Fault>
     ensures says { IfOk result (λ o. SaysUpload o (rows_of (found_of found.now))) }
     ensures range { IfOk result AreWithin }
+    ensures only { (o : SaidUpload) → SaysUpload o (rows_of (found_of found.now)) → AreWithin o → IsNotUsage result }
 {
     let workers = number_or(alloc, found, "workers", 16, 4)?;
     let part_chunks = number_or(alloc, found, "part-chunks", 16384, 64)?;
@@ -146,12 +185,16 @@ fn upload_options(alloc: Global, found: &ArgMatches<'_>) -> Result<UploadOptions
 
 /// What the words say, the first of them being the program's name.
 ///
-/// `Ok` only with the subcommand and the values that clap states of the words, each number within its range, a name that
-/// is not empty and has no byte 0, never a key and a context together. All other words are `Usage`, a request for help
-/// too. `NoMemory` where memory is refused.
+/// `Ok` with the subcommand and the values that clap states of the words, where clap finds no fault in them, each number is
+/// decimal digits without a sign and within its range, the name is not empty and has no byte 0, and there are not both a key
+/// and a context. All other words are `Usage`, a request for help too. `NoMemory` where memory is refused.
 pub fn options<'a, S: AsStr>(alloc: Global, words: &'a [S]) -> Result<Options<'a>, Fault>
     ensures says { IfOk result (λ o. Says o (subcommand_of command_line (map S.text words.entry.now))) }
     ensures range { IfOk result InRange }
+    ensures taken { OnOk result (IsTaken (map S.text words.entry.now)) }
+    // Words in which clap finds no fault, and which say options within their ranges, are refused for want of memory alone.
+    ensures only { (o : Said) → IsTaken (map S.text words.entry.now) → Says o (subcommand_of command_line (map S.text words.entry.now)) → InRange o
+        → IsNotUsage result }
 {
     let matches = match program(alloc)?.try_get_matches_from(words) {
         Ok(matches) => matches,

@@ -1,5 +1,5 @@
 -- What an upload writes.
-use Rattle.std.proofs.Common.{◌≡◌, ◌+◌, ◌++◌, codes, refl, ℕ, List, Option, Some, None, Result, Ok, Err, ap, ap₂, subst, sym, length, rules, ◌∙◌}
+use Rattle.std.proofs.Common.{◌≡◌, ◌+◌, ◌++◌, codes, refl, ℕ, Bool, true, false, List, Option, Some, None, Result, Ok, Err, ap, ap₂, subst, sym, length, rules, ◌∙◌}
 use Rattle.std.specs.Prelude.{IfSome, OnOk}
 use Rattle.std.specs.Io.KnownBytes.{Appends}
 use Rattle.b3_core.specs.Modes.{hash_of}
@@ -7,16 +7,21 @@ use Rattle.store_core.specs.Model.{Shown}
 use Rattle.store_ledger.specs.declared.holding.Holding.{Holding}
 use Rattle.store_shared.specs.Cuts.{cut_of}
 use Rattle.store_shared.specs.declared.fault.UploadFaultKind.{UploadFaultKind}
-use Rattle.store_engines.specs.Uploads.{IsTold, SomeRefusal, WroteRefusal, WroteUpload, uploaded_text}
+use Rattle.store_engines.specs.Uploads.{IsTold, SomeRefusal, WroteRefusal, WroteUpload, is_memory, uploaded_text}
 use Rattle.store_engines.specs.declared.outcome.Cause.{Cause}
+use Rattle.store_engines.specs.declared.outcome.Cause.TheVariants.{OutOfMemory}
 use Rattle.store_engines.specs.declared.outcome.Verdict.{Verdict}
 use Rattle.store_engines.specs.declared.outcome.Verdict.TheVariants.{Refused}
 use Rattle.store_command_line.specs.declared.said.UploadOptions.{UploadOptions}
 
--- a refusal that was told is some refusal
-pub told : (r : Result Verdict Cause) (kind : UploadFaultKind) (old new : Option (List ℕ)) → OnOk r (WroteRefusal kind old new) → r ≡ Ok Refused → SomeRefusal old new
-told (Ok verdict) kind old new wrote is = (kind, wrote)
-told (Err cause) kind old new wrote is = absurd (cc)
+-- a refusal that was told, and is not want of memory, is some refusal
+pub told : (r : Result Verdict Cause) (kind : UploadFaultKind) (old new : Option (List ℕ)) → OnOk r (WroteRefusal kind old new) → (is_memory kind ≡ true → r ≡ Err OutOfMemory) → r ≡ Ok Refused
+    → SomeRefusal old new
+told r kind old new wrote memory is = go (is_memory kind) refl
+  where
+    go : (b : Bool) → is_memory kind ≡ b → SomeRefusal old new
+    go true e = let stopped = memory e in absurd (cc)
+    go false e = (kind, e, rw is at wrote)
 
 -- what was written of an input that is known
 pub wrote : (o : UploadOptions) (known : Option (List ℕ)) (input text address : List ℕ) (share : Holding) (shown : Shown) (old new : Option (List ℕ))

@@ -5,12 +5,14 @@ use Rattle.b3_check.specs.Lines.{written_line}
 use Rattle.b3_core.specs.Modes.{hash_of}
 use Rattle.store_journal.specs.Journal.{journal_text}
 use Rattle.store_core.specs.Model.{Shown}
+use Rattle.store_core.specs.declared.refusal.Refusal.TheVariants as refusals
 use Rattle.store_journal.specs.Replay.{Kept, accepted_of, replay_of}
 use Rattle.store_journal.specs.declared.entry.Entry.{Entry}
 use Rattle.store_ledger.specs.declared.holding.Holding.{Holding}
 use Rattle.store_shared.specs.Cuts.{cut_of}
 use Rattle.store_shared.specs.Faults.{fault_text}
 use Rattle.store_shared.specs.declared.fault.UploadFaultKind.{UploadFaultKind}
+use Rattle.store_shared.specs.declared.fault.UploadFaultKind.TheVariants.{NoMemory, Refused}
 use Rattle.store_engines.specs.Audits.{accepted_text}
 use Rattle.store_command_line.specs.declared.said.UploadOptions.{UploadOptions}
 
@@ -47,9 +49,16 @@ pub record WroteUpload (o : UploadOptions) (input : List ℕ) (old new : Option 
 
 -- ---- failed uploads
 
+-- memory was refused, by the store or outside its commands
+abbrev pub is_memory : UploadFaultKind → Bool
+is_memory NoMemory = true
+is_memory (Refused refusals.NoMemory) = true
+is_memory _ = false
+
 -- the writer grew by the line of a failed upload
 abbrev pub WroteRefusal : UploadFaultKind → Option (List ℕ) → Option (List ℕ) → Type 0
 WroteRefusal kind old new = Appends old new (codes "refused " ++ (fault_text kind ++ codes "\n"))
 
+-- by that of one that did not fail for want of memory
 abbrev pub SomeRefusal : Option (List ℕ) → Option (List ℕ) → Type 0
-SomeRefusal old new = (kind : UploadFaultKind) × WroteRefusal kind old new
+SomeRefusal old new = (kind : UploadFaultKind) × (is_memory kind ≡ false) × WroteRefusal kind old new

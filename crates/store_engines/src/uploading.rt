@@ -1,8 +1,9 @@
 //! The engine of `upload`.
 
-ghost use Rattle.std.specs.Prelude.{◌≡◌, ◌≢◌, ◌^◌, ◌++◌, codes, IfErr, IfOk, IfSome, OnOk, Err, Ok};
+ghost use Rattle.std.specs.Prelude.{◌≡◌, ◌≢◌, ◌^◌, ◌++◌, codes, false, true, IfErr, IfOk, IfSome, OnOk, Err, Ok};
 ghost use Rattle.std.specs.Io.KnownBytes.{Appends, IsAtEnd};
-ghost use Rattle.store_engines.specs.Uploads.{IsTold, SomeRefusal, WroteRefusal, WroteUpload, journal_part};
+ghost use Rattle.store_shared.specs.Cuts.{IsBadCut};
+ghost use Rattle.store_engines.specs.Uploads.{IsTold, SomeRefusal, WroteRefusal, WroteUpload, is_memory, journal_part};
 
 use crate::auditing::accepted_line;
 use crate::outcome::{Cause, Verdict};
@@ -21,23 +22,28 @@ use store_shared::{Locked, PassAll, Shared, UploadFaultKind, lent_open_tenant};
 // The tenant's limit, in bytes.
 const LIMIT: u64 = 1 << 40;
 
-// Whether memory was refused.
-fn is_memory(kind: &UploadFaultKind) -> bool {
+// Whether memory was refused, by the store or outside its commands.
+fn is_memory(kind: &UploadFaultKind) -> bool
+    ensures { result ≡ is_memory kind.now }
+{
     *kind == UploadFaultKind::NoMemory || *kind == UploadFaultKind::Refused(Refusal::NoMemory)
 }
 
-// Tells a failed upload. Want of memory is the engine's cause, and all else a refusal.
+// Tells a failed upload. Want of memory is the engine's cause, also where a write fails behind it, and all else a refusal.
 fn refuse<W: Write>(alloc: Global, kind: UploadFaultKind, writer: &mut W) -> Result<Verdict, Cause>
     ensures told { OnOk result (WroteRefusal kind (W.contents writer.old) (W.contents writer.new)) }
     ensures verdict { IfOk result (λ verdict. verdict ≡ Verdict.Refused) }
+    ensures memory { is_memory kind ≡ true → result ≡ Err Cause.OutOfMemory }
+    ensures other { is_memory kind ≡ false → result ≡ Err Cause.OutOfMemory → W.contents writer.new ≡ W.contents writer.old }
     ensures cause { IfErr result (λ cause. cause ≢ Cause.CannotRead) }
 {
     let memory = is_memory(&kind);
     let text = format!(in alloc; "refused {kind}\n")?;
-    write_all(writer, text.as_bytes())?;
+    let written = write_all(writer, text.as_bytes());
     if memory {
         return Err(Cause::OutOfMemory);
     }
+    written?;
     Ok(Verdict::Refused)
 }
 
@@ -92,7 +98,8 @@ fn uploaded_text<B: Ledger, C: Ledger>(
 /// refusal, U2 to U6.
 ///
 /// It stops at the first read or write that fails, or where memory is refused; `refused U5` and `refused U1 S14` are written
-/// first. It writes nothing before it has read everything. The two blanks are for the store's book.
+/// first, and want of memory is told also where that write fails. It writes nothing before it has read everything. The two
+/// blanks are for the store's book.
 pub fn upload<B: Ledger, C: Ledger, T: Threads + Wait + Sync + Alloc, R: Read, W: Write>(
     rt: &T,
     alloc: Global,
@@ -107,6 +114,7 @@ pub fn upload<B: Ledger, C: Ledger, T: Threads + Wait + Sync + Alloc, R: Read, W
     ensures written { result ≡ Ok Verdict.Good → IfSome (R.remaining reader.old) (λ input.
         WroteUpload options input (W.contents writer.old) (W.contents writer.new)) }
     ensures refused { result ≡ Ok Verdict.Refused → SomeRefusal (W.contents writer.old) (W.contents writer.new) }
+    ensures bad_cut { IsBadCut options.part_chunks options.workers 16 → result ≢ Ok Verdict.Good }
     ensures end { OnOk result (IsAtEnd (R.remaining reader.new)) }
     ensures silent { result ≡ Err Cause.CannotRead → W.contents writer.new ≡ W.contents writer.old }
 {

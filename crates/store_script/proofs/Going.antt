@@ -1,6 +1,6 @@
 -- How far a script has come.
 use Rattle.std.proofs.Common.{◌≡◌, ◌∙◌, ◌<◌, ◌-◌, ◌^◌, ℕ, Bool, true, false, List, [], ◌∷◌, ◌++◌, Some, None, Ok, Err, Result, refl, ap, sym, subst, arith, length, cond, take, append_assoc, suc}
-use Rattle.std.specs.Prelude.{Option, ◌==◌, IfSome, slice_index}
+use Rattle.std.specs.Prelude.{◌≢◌, Option, ◌==◌, IfSome, slice_index}
 use Rattle.std.specs.List.{flat_map}
 use Rattle.std.specs.Io.BufRead.{DropsThrough, drop_through, strip_last, take_through}
 use Rattle.std.specs.Io.KnownBytes.{Appends, IsAtEnd}
@@ -21,6 +21,8 @@ use Rattle.store_script.specs.Grammar.{ScriptCommand, asks, command_at, puts}
 use Rattle.store_script.specs.Script.{AllPlay, Answered, AreAnswered, Does, Makes, Plays, Puts, PutsBy, Ran, RanSome, Takes, Turn, bad, commands_of, ending_of, replies_of, skipped, took, turn_ending, turn_text, unmade, widest, worse}
 use Rattle.store_script.specs.declared.outcome.Ending.{Ending}
 use Rattle.store_script.specs.declared.outcome.Ending.TheVariants as endings
+use Rattle.store_script.specs.declared.outcome.Stop.{Stop}
+use Rattle.store_script.specs.declared.outcome.Stop.TheVariants as stops
 use Rattle.store_script.proofs.Turns.{LineTurn}
 
 -- ---- a line more
@@ -204,15 +206,20 @@ at_end (Some input) now was is store ending h e =
       wrote = h.wrote;
     }
 
-pub at_stop : (old now was is : Option (List ℕ)) (store : Shown) (ending : Ending) → IfSome old (IsUnder now was is store ending) → IfSome old (λ input. RanSome input was is)
-at_stop None now was is store ending h = tt
-at_stop (Some input) now was is store ending h = record {
+-- a failed read is told only where no answer before told want of memory
+pub has_memory : (ending : Ending) (stop : Stop) → (ending ≡ endings.OutOfMemory → stop ≡ stops.OutOfMemory) → stop ≡ stops.CannotRead → ending ≢ endings.OutOfMemory
+has_memory ending stop told is = λ memory. let other = told memory in absurd (cc)
+
+pub at_stop : (old now was is : Option (List ℕ)) (store : Shown) (ending : Ending) → ending ≢ endings.OutOfMemory → IfSome old (IsUnder now was is store ending) → IfSome old (λ input. RanSome input was is)
+at_stop None now was is store ending memory h = tt
+at_stop (Some input) now was is store ending memory h = record {
   front = h.front;
   back = lines_of h.rest;
   lines = h.lines;
   output = flat_map turn_text h.turns;
   ending = ending;
   answered = are_answered h.front h.turns store ending h.plays h.ending_is;
+  has_memory = memory;
   wrote = h.wrote;
 }
 

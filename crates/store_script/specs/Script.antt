@@ -1,5 +1,5 @@
 -- A script and its output.
-use Rattle.std.specs.Prelude.{◌≡◌, ◌^◌, ℕ, List, [], ◌∷◌, ◌++◌, Option, Some, None, Result, Ok, Err, length, codes}
+use Rattle.std.specs.Prelude.{◌≡◌, ◌≢◌, ◌^◌, ℕ, List, [], ◌∷◌, ◌++◌, Option, Some, None, Result, Ok, Err, length, codes}
 use Rattle.std.specs.Io.KnownBytes.{Appends}
 use Rattle.std.specs.List.{flat_map}
 use Rattle.b3_forest.specs.Parts.{PlannedPart, planned}
@@ -16,6 +16,8 @@ use Rattle.store_script.specs.Grammar.{ScriptCommand, asks, command_at, puts}
 use Rattle.store_script.specs.Texts.{answer_text, fault_text, refused_text}
 use Rattle.store_script.specs.declared.outcome.Ending.{Ending}
 use Rattle.store_script.specs.declared.outcome.Ending.TheVariants as endings
+use Rattle.store_script.specs.declared.outcome.Stop.{Stop}
+use Rattle.store_script.specs.declared.outcome.Stop.TheVariants as stops
 
 -- ---- one line
 
@@ -123,6 +125,11 @@ abbrev pub ending_of : List Turn → Ending
 ending_of [] = endings.Good
 ending_of (turn ∷ turns) = worse (turn_ending turn) (ending_of turns)
 
+-- what stops a run whose answers so far end so: want of memory where one of them told it, else what came now
+abbrev pub first_cause : Ending → Stop → Stop
+first_cause endings.OutOfMemory stop = stops.OutOfMemory
+first_cause _ stop = stop
+
 -- an empty store with the widest limits
 abbrev pub widest : Shown
 widest = record {
@@ -150,7 +157,7 @@ pub record Ran (input : List ℕ) (old new : Option (List ℕ)) (ending : Ending
   pub script : IsScriptRun input output ending
   pub wrote : Appends old new output
 
--- the writer grew by the answers to a beginning of the script's lines
+-- the writer grew by the answers to a beginning of the script's lines, none of which is `refused S14`
 pub record RanSome (input : List ℕ) (old new : Option (List ℕ)) : Type 0 where
   pub front : List (List ℕ)
   pub back : List (List ℕ)
@@ -158,4 +165,5 @@ pub record RanSome (input : List ℕ) (old new : Option (List ℕ)) : Type 0 whe
   pub output : List ℕ
   pub ending : Ending
   pub answered : AreAnswered front output ending
+  pub has_memory : ending ≢ endings.OutOfMemory
   pub wrote : Appends old new output

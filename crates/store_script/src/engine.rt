@@ -2,7 +2,8 @@
 ghost use Rattle.std.specs.Prelude.{◌≡◌, ◌<◌, IfErr, IfOk, IfSome, OnOk, Err, Ok, false, length, true};
 ghost use Rattle.std.specs.Io.BufRead.{DropsThrough, strip_last, take_through};
 ghost use Rattle.std.specs.Io.KnownBytes.{Appends, IsAtEnd};
-ghost use Rattle.store_script.specs.Script.{Ran, RanSome, widest, worse};
+ghost use Rattle.store_script.specs.Script.{Ran, RanSome, first_cause, widest, worse};
+ghost use Rattle.store_script.specs.declared.outcome.Ending.TheVariants as endings;
 ghost use Rattle.store_script.specs.declared.outcome.Stop.TheVariants as stops;
 
 use crate::answer::answer_line;
@@ -16,7 +17,9 @@ use store_core::{Limits, Store};
 /// line feed was read. The writer is flushed behind each answer.
 ///
 /// It stops at the first read or write that fails, or where memory is refused for a line, a part's bytes or an answer's
-/// text; nothing more is written. What a failed read leaves of a line is not run. Compressions are counted in `work`.
+/// text; nothing more is written. Behind 2^64-1 lines it gives up reading, as std's readers do. The first cause is told: want
+/// of memory where an answer before is `refused S14`. What a failed read leaves of a line is not run. Compressions are counted
+/// in `work`.
 pub fn run<R: BufRead, W: Write>(
     alloc: Global,
     reader: &mut R,
@@ -26,7 +29,7 @@ pub fn run<R: BufRead, W: Write>(
     // The writer grew by the script's output, and the ending is that of its answers.
     ensures written { IfOk result (λ ending. IfSome (R.Read.remaining reader.old) (λ input. Ran input (W.contents writer.old) (W.contents writer.new) ending)) }
     ensures end { OnOk result (IfSome (R.Read.remaining reader.old) (λ _. IsAtEnd (R.Read.remaining reader.new))) }
-    // After a failed read it grew by the answers to a beginning of the lines.
+    // After a failed read it grew by the answers to a beginning of the lines, and none of these told want of memory.
     ensures read { result ≡ Err stops.CannotRead → IfSome (R.Read.remaining reader.old) (λ input. RanSome input (W.contents writer.old) (W.contents writer.new)) }
 {
     let mut store = Store::new(alloc, Limits::full());
@@ -49,28 +52,30 @@ fn answer_lines<R: BufRead, W: Write>(
     let mut ending = Ending::Good;
     let mut line: Vec<u8> = Vec::new(alloc);
     for _ in 0..u64::MAX {
-        if !read_line(reader, &mut line)? {
+        if !read_line(reader, &mut line, ending)? {
             return Ok(ending);
         }
         let answer = answer_line(alloc, store, without_end(line.as_slice()), work)?;
-        tell(writer, answer.text.as_slice())?;
         ending = worse(ending, answer.ending);
+        tell(writer, answer.text.as_slice(), ending)?;
     }
-    Err(Stop::CannotRead)
+    Err(first_cause(ending, Stop::CannotRead))
 }
 
-// Reads the next line with its line feed, which the last line may lack. False at the end of the input.
-fn read_line<R: BufRead>(reader: &mut R, line: &mut Vec<u8>) -> Result<bool, Stop>
+// Reads the next line with its line feed, which the last line may lack. False at the end of the input. A failure is told by
+// the first cause behind answers that end so.
+fn read_line<R: BufRead>(reader: &mut R, line: &mut Vec<u8>, ending: Ending) -> Result<bool, Stop>
     ensures bytes { OnOk result (IfSome (R.Read.remaining reader.old) (λ left. line.new.items ≡ take_through 10 left)) }
     ensures rest { OnOk result (DropsThrough (R.Read.remaining reader.old) (R.Read.remaining reader.new) 10) }
     ensures end { result ≡ Ok false → IsAtEnd (R.Read.remaining reader.old) }
     ensures some { result ≡ Ok true → 0 < length line.new.items }
+    ensures stop { IfErr result (λ stop. ending ≡ endings.OutOfMemory → stop ≡ stops.OutOfMemory) }
 {
     line.clear();
     match reader.read_until(b'\n', line) {
         Ok(count) => Ok(count != 0),
         Err(error) if error.kind() == ErrorKind::OutOfMemory => Err(Stop::OutOfMemory),
-        Err(_) => Err(Stop::CannotRead),
+        Err(_) => Err(first_cause(ending, Stop::CannotRead)),
     }
 }
 
@@ -84,13 +89,24 @@ fn without_end(line: &[u8]) -> &[u8]
     }
 }
 
-// Writes an answer, and flushes.
-fn tell<W: Write>(writer: &mut W, text: &[u8]) -> Result<(), Stop>
+// Writes an answer, and flushes. A failure is told by the first cause behind answers that end so, this one among them.
+fn tell<W: Write>(writer: &mut W, text: &[u8], ending: Ending) -> Result<(), Stop>
     ensures wrote { OnOk result (Appends (W.contents writer.old) (W.contents writer.new) text.now) }
-    ensures stop { IfErr result (λ stop. stop ≡ stops.CannotWrite) }
+    ensures stop { IfErr result (λ stop. stop ≡ first_cause ending stops.CannotWrite) }
 {
-    writer.write_all(text).map_err(|_| Stop::CannotWrite)?;
-    writer.flush().map_err(|_| Stop::CannotWrite)
+    let stop = first_cause(ending, Stop::CannotWrite);
+    writer.write_all(text).map_err(|_| stop)?;
+    writer.flush().map_err(|_| stop)
+}
+
+// What stops a run whose answers so far end so.
+fn first_cause(ending: Ending, stop: Stop) -> Stop
+    ensures { result ≡ first_cause ending stop }
+{
+    match ending {
+        Ending::OutOfMemory => Stop::OutOfMemory,
+        Ending::Good | Ending::Refused => stop,
+    }
 }
 
 // The worse of two endings.

@@ -16,14 +16,14 @@ pub enum Ending {
     OutOfMemory,
 }
 
-/// What stopped a run. Nothing more is written.
+/// What stopped a run, the first cause of it. Nothing more is written.
 #[derive(Clone, Copy, Debug, PartialEq, Eq)]
 pub enum Stop {
-    /// A read failed.
+    /// A read failed, or was given up: a run reads at most 2^64-1 lines.
     CannotRead,
     /// A write failed.
     CannotWrite,
-    /// Memory was refused for a line, a part's bytes or an answer's text.
+    /// Memory was refused for a line, a part's bytes or an answer's text, or to the store before a read or a write failed.
     OutOfMemory,
 }
 

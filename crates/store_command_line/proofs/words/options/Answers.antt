@@ -1,6 +1,6 @@
 use Rattle.std.proofs.Common.{◌∙◌, sym, ap, map, Some}
 use Rattle.clap.specs.Words.{App, Text, found_of, rows_of, is_simple, subcommand_of}
-use Rattle.store_command_line.proofs.Found.{entered}
+use Rattle.store_command_line.proofs.Found.{entered, memory, taken}
 use Rattle.store_command_line.proofs.words.options.Goals as goal
 
 pub returns-in-Some-run-default-clause-says : goal.returns-in-Some-run-default-clause-says
@@ -35,3 +35,21 @@ returns-in-Some-audit-default-clause-says g c =
       ap (λ (a : App). subcommand_of a words) (sym shape) ∙ sym (c.in-Ok.ensures.matches (ap is_simple shape)).1
           ∙ entered c.in-Ok.matches is.field-0-0.now rows is.ensures.name is.ensures.rows ∙ ap (λ (n : Text). Some (n, rows)) is.is-audit,
     )
+
+pub returns-in-Err-clause-only : goal.returns-in-Err-clause-only
+returns-in-Err-clause-only g c = λ o is says range. c.fault_of.ensures (memory _ (map g.S.AsStr.text c.args.words.now) c.in-Err.error c.in_ok-program.ensures.shape c.in-Err.ensures.kinds is)
+
+pub returns-in-Some-sum-default-clause-taken : goal.returns-in-Some-sum-default-clause-taken
+returns-in-Some-sum-default-clause-taken g c = taken _ (map g.S.AsStr.text c.args.words.now) c.in_ok-program.ensures.shape c.in-Ok.ensures.kinds
+
+pub returns-in-Some-run-default-clause-taken : goal.returns-in-Some-run-default-clause-taken
+returns-in-Some-run-default-clause-taken g c = taken _ (map g.S.AsStr.text c.args.words.now) c.in_ok-program.ensures.shape c.in-Ok.ensures.kinds
+
+pub returns-in-Some-upload-default-clause-taken : goal.returns-in-Some-upload-default-clause-taken
+returns-in-Some-upload-default-clause-taken g c = taken _ (map g.S.AsStr.text c.args.words.now) c.in_ok-program.ensures.shape c.in-Ok.ensures.kinds
+
+pub returns-in-Some-check-default-clause-taken : goal.returns-in-Some-check-default-clause-taken
+returns-in-Some-check-default-clause-taken g c = taken _ (map g.S.AsStr.text c.args.words.now) c.in_ok-program.ensures.shape c.in-Ok.ensures.kinds
+
+pub returns-in-Some-audit-default-clause-taken : goal.returns-in-Some-audit-default-clause-taken
+returns-in-Some-audit-default-clause-taken g c = taken _ (map g.S.AsStr.text c.args.words.now) c.in_ok-program.ensures.shape c.in-Ok.ensures.kinds
