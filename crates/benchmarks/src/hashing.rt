@@ -38,7 +38,7 @@ pub fn time_hash(rt: &(impl Print + Eprint + Clock + AllocGlobal), mib: u16) -> 
     report(rt, &digest, time.as_micros())
 }
 
-/// Times the hash by eight chunks at a time.
+/// Times the hash by four chunks at a time.
 pub fn time_hash_wide(
     rt: &(impl Print + Eprint + Clock + AllocGlobal),
     mib: u16,

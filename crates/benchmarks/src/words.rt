@@ -7,7 +7,7 @@ use crate::uploading::Load;
 pub enum Job {
     /// The plain hash of so many MiB.
     Hash { mib: u16 },
-    /// The hash by eight chunks at a time.
+    /// The hash by four chunks at a time.
     HashWide { mib: u16 },
     /// Parts of 16 MiB, made.
     Make { parts: u16 },
