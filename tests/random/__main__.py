@@ -1,0 +1,54 @@
+"""python3 tests/random PROGRAM [--cases N] [--seed S]: runs the program over random scripts, journals, check files and uploads,
+and compares what it writes with a plain second reading, which stands beside this file and was written from docs/COMMANDS.md.
+
+A case that differs is printed with its seed; `--cases 1 --seed S` runs it again. The last line is `N passed, M failed`.
+"""
+import argparse
+import os
+import random
+import subprocess
+import sys
+import tempfile
+
+import checks
+import journals
+import scripts
+import uploads
+
+KINDS = (scripts, journals, checks, uploads)
+SECONDS = 60
+
+
+def difference(program, folder, kind, case):
+    """What the program does otherwise, or None."""
+    words, data, wanted, status = case
+    run = subprocess.run([program] + words, input=data, capture_output=True, cwd=folder, timeout=SECONDS)
+    differs = kind.differs(run.stdout, wanted, data) if kind is uploads else run.stdout != wanted
+    if not differs and run.returncode == status and not run.stderr:
+        return None
+    return f"input {data!r}\nwanted {status} {wanted!r}\nanswered {run.returncode} {run.stdout!r} {run.stderr!r}"
+
+
+def main():
+    parser = argparse.ArgumentParser(description=__doc__.split("\n\n")[0])
+    parser.add_argument("program")
+    parser.add_argument("--cases", type=int, default=500)
+    parser.add_argument("--seed", type=int, default=1)
+    options = parser.parse_args()
+    program, failed = os.path.abspath(options.program), 0
+    with tempfile.TemporaryDirectory() as folder:
+        for name, content in checks.FILES.items():
+            with open(os.path.join(os.fsencode(folder), name), "wb") as file:
+                file.write(content)
+        for seed in range(options.seed, options.seed + options.cases):
+            kind = KINDS[seed % len(KINDS)]
+            found = difference(program, folder, kind, kind.case(random.Random(seed)))
+            if found:
+                failed += 1
+                print(f"{kind.__name__}, seed {seed}: {found}")
+    print(f"{options.cases - failed} passed, {failed} failed")
+    return 1 if failed else 0
+
+
+if __name__ == "__main__":
+    sys.exit(main())

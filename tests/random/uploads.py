@@ -1,0 +1,27 @@
+"""Random uploads: by any number of workers, and in parts of any size. The journal that is written is replayed here."""
+from blake3 import address_of
+from journals import audit_of, entry_of
+from script import pattern
+
+LENGTHS = (0, 1, 1023, 1024, 1025, 2048, 3000, 4096, 5121, 8192, 9217)
+
+
+def case(chance):
+    data = pattern(chance.randrange(251), chance.choice(LENGTHS))
+    chunks = chance.choice((1, 2, 3, 16384))
+    words = ["upload", "--workers", str(chance.randrange(1, 17)), "--part-chunks", str(chunks)]
+    parts = -(-len(data) // (1024 * chunks))
+    told = f"{address_of(data)}  -\naccepted {len(data)} {parts}\n".encode()
+    return words + ["--journal"], data, told, 0
+
+
+def differs(told, wanted, data):
+    """Whether an output is not the wanted lines with a journal behind them that leaves the object alone."""
+    if not told.startswith(wanted):
+        return True
+    text = told[len(wanted) :].decode()
+    entries = [entry_of(line) for line in text.split("\n")[:-1]]
+    calls = wanted.split()[-1].decode()
+    left = f"objects 1 bytes {len(data)} uploads 0 held 0 parts 0\naccepted {len(data)} {calls}\n"
+    is_sealed = entries and entries[-1] == ("seal", [0, address_of(data), "new"])
+    return not is_sealed or audit_of(text) != (left, 0)
