@@ -1,5 +1,5 @@
 """python3 tests/random PROGRAM [--cases N] [--seed S]: runs the program over random scripts, journals, check files and uploads,
-and compares what it writes with a plain second reading, which stands beside this file and was written from docs/COMMANDS.md.
+and compares what it writes with the plain second reading of tests/second_reading, which was written from docs/COMMANDS.md.
 
 A case that differs is printed with its seed; `--cases 1 --seed S` runs it again. The last line is `N passed, M failed`.
 """
@@ -10,6 +10,8 @@ import subprocess
 import sys
 import tempfile
 
+sys.dont_write_bytecode = True
+sys.path.insert(0, os.path.join(os.path.dirname(os.path.dirname(os.path.abspath(__file__))), "second_reading"))
 import checks
 import journals
 import scripts

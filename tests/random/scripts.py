@@ -1,6 +1,6 @@
 """Random scripts: commands that mostly mean something, and lines that a little change has spoilt."""
-from model import Refused, Store
 from script import answers_of, call_of, pattern
+from store import Refused, Store
 
 LENGTHS = (0, 1, 5, 63, 64, 65, 1023, 1024, 1025, 2047, 2048, 2049, 3072, 4096, 5000)
 NUMBERS = ("18446744073709551615", "18446744073709551616", "70368744177664", "70368744177665", "1099511627776", "1099511627777", "007", "-1", "+1", "")

@@ -1,6 +1,6 @@
 """Random uploads: by any number of workers, and in parts of any size. The journal that is written is replayed here."""
 from blake3 import address_of
-from journals import audit_of, entry_of
+from journal import audit_answer, entry_of
 from script import pattern
 
 LENGTHS = (0, 1, 1023, 1024, 1025, 2048, 3000, 4096, 5121, 8192, 9217)
@@ -19,9 +19,9 @@ def differs(told, wanted, data):
     """Whether an output is not the wanted lines with a journal behind them that leaves the object alone."""
     if not told.startswith(wanted):
         return True
-    text = told[len(wanted) :].decode()
-    entries = [entry_of(line) for line in text.split("\n")[:-1]]
-    calls = wanted.split()[-1].decode()
-    left = f"objects 1 bytes {len(data)} uploads 0 held 0 parts 0\naccepted {len(data)} {calls}\n"
-    is_sealed = entries and entries[-1] == ("seal", [0, address_of(data), "new"])
-    return not is_sealed or audit_of(text) != (left, 0)
+    text = told[len(wanted) :]
+    calls = wanted.split()[-1]
+    left = b"objects 1 bytes %d uploads 0 held 0 parts 0\naccepted %d %s\n" % (len(data), len(data), calls)
+    last = text.split(b"\n")[-2] if text.endswith(b"\n") else b""
+    is_sealed = entry_of(last) == ("seal", 0, address_of(data).encode(), b"new")
+    return not is_sealed or audit_answer(text) != (left, 0)

@@ -1,7 +1,7 @@
 """Reads a script's lines as docs/COMMANDS.md has them, and answers them by the model."""
 import re
 
-from model import Refused, Store
+from store import Refused, Store
 
 NUMBER, ADDRESS = r"(0|[1-9][0-9]*)", r"([0-9a-fA-F]{64})"
 FORMS = {
