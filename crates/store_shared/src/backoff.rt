@@ -7,7 +7,7 @@ use std::thread::Parker;
 use std::time::Duration;
 
 // How often a thread gives up the processor before it sleeps.
-const YIELDS: u32 = 16;
+const YIELDS: u32 = 128;
 
 // The shortest sleep is 2^5 microseconds, and the longest 2^10.
 const SHORTEST: u32 = 5;

@@ -157,8 +157,7 @@ fn many_parts_meet_a_full_journal(rt: HostRuntime) -> Result<(), Fail> {
     Ok(())
 }
 
-// Two workers fail at one time. The worker that is started first, and so nearly always draws part 0, has the greater
-// number.
+// Two workers fail at one time. The worker with the least number is started first, and so nearly always draws part 0.
 #[test]
 fn the_least_workers_fault_is_told(rt: HostRuntime) -> Result<(), Fail> {
     let cut = Cut {
@@ -173,7 +172,7 @@ fn the_least_workers_fault_is_told(rt: HostRuntime) -> Result<(), Fail> {
         told = told
             || left
                 .as_str()
-                .starts_with("U4 part 1 code 1, accepted 0 0, ");
+                .starts_with("U4 part 0 code 0, accepted 0 0, ");
     }
     assert!(rt; told);
     Ok(())
