@@ -157,7 +157,8 @@ fn many_parts_meet_a_full_journal(rt: HostRuntime) -> Result<(), Fail> {
     Ok(())
 }
 
-// Two workers fail at one time. The worker with the least number is started first, and so nearly always draws part 0.
+// Two workers fail at one time. The worker with the least number is started first, and so mostly draws part 0. On a busy machine
+// it is the other one, many times in a row: one time of a thousand is enough.
 #[test]
 fn the_least_workers_fault_is_told(rt: HostRuntime) -> Result<(), Fail> {
     let cut = Cut {
@@ -166,7 +167,10 @@ fn the_least_workers_fault_is_told(rt: HostRuntime) -> Result<(), Fail> {
         workers: 2,
     };
     let mut told = false;
-    for _ in 0..8 {
+    for _ in 0..1000 {
+        if told {
+            break;
+        }
         let gate = FailBoth::new();
         let left = left_by(&rt, &gate, Limits::full(), cut)?;
         told = told
