@@ -6,7 +6,7 @@ use std::thread;
 use std::thread::Parker;
 use std::time::Duration;
 
-// How often a thread gives up the processor before it sleeps.
+// How often a thread gives up the processor before it sleeps. With 16 times, small parts took twice as long (bench/README.md).
 const YIELDS: u32 = 128;
 
 // The shortest sleep is 2^5 microseconds, and the longest 2^10.
@@ -14,7 +14,7 @@ const SHORTEST: u32 = 5;
 
 const LONGEST: u32 = 10;
 
-/// How long a thread has waited: a few turns of giving up the processor, then sleeps, each twice as long as the one
+/// How long a thread has waited: some turns of giving up the processor, then sleeps, each twice as long as the one
 /// before up to a millisecond.
 #[derive(Drop)]
 pub(crate) struct Backoff {
