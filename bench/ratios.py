@@ -6,6 +6,7 @@ import tempfile
 import time
 
 TURNS = 9
+KIB = [1, 2, 4, 6, 8, 12, 16, 31, 32]
 MIB = int(sys.argv[1])
 
 
@@ -30,6 +31,21 @@ def peak_memory(path, *words):
         return usage.ru_maxrss * 1024
 
 
+def lengths(pairs):
+    """A row for each of a few short lengths: GB/s of each program, and the ratio of each pair of them."""
+    print("KiB   " + "  ".join(f"{name:>13}" for pair in pairs for name in pair))
+    for kib in KIB:
+        size, turns = kib << 10, 32768 // kib
+        best = {}
+        for _ in range(TURNS):
+            for pair in pairs:
+                for name, words in pair.items():
+                    best[name] = min(best.get(name, 1 << 62), inner(*words, str(size), str(turns)))
+        rates = "  ".join(f"{size * turns / best[name] / 1000:13.2f}" for pair in pairs for name in pair)
+        ratios = "  ".join(f"{best[theirs] / best[ours]:.2f}" for ours, theirs in pairs)
+        print(f"{kib:3}   {rates}   {ratios}")
+
+
 def main():
     with tempfile.TemporaryDirectory() as folder:
         path = os.path.join(folder, "input")
@@ -37,15 +53,20 @@ def main():
             for _ in range(MIB):
                 file.write(os.urandom(1 << 20))
         official = "target/official/{}/release/official"
+        ours = "target/benchmarks-{}"
         runs = {
-            "hash": lambda: inner("crates/benchmarks/out/benchmarks", "hash", str(MIB)),
+            "hash": lambda: inner(ours.format("v2"), "hash", str(MIB)),
             "portable": lambda: inner(official.format("portable"), str(MIB)),
-            "hash_wide": lambda: inner("crates/benchmarks/out/benchmarks", "hash_wide", str(MIB)),
-            "sse41": lambda: inner(official.format("sse41"), str(MIB)),
-            "make": lambda: inner("crates/benchmarks/out/benchmarks", "make", str(MIB // 16)),
+            "hash_wide, v2": lambda: inner(ours.format("v2"), "hash_wide", str(MIB)),
+            "SSE4.1": lambda: inner(official.format("sse41"), str(MIB)),
+            "make, v2": lambda: inner(ours.format("v2"), "make", str(MIB // 16)),
             "sum": lambda: whole(path, "target/b3store", "sum"),
             "b3sum": lambda: whole(path, "b3sum", "--num-threads", "1"),
         }
+        if os.path.exists(ours.format("v3")):
+            runs["hash_wide, v3"] = lambda: inner(ours.format("v3"), "hash_wide", str(MIB))
+            runs["AVX2"] = lambda: inner(official.format("avx2"), str(MIB))
+            runs["make, v3"] = lambda: inner(ours.format("v3"), "make", str(MIB // 16))
         best = {}
         for _ in range(TURNS):
             for name, run in runs.items():
@@ -53,12 +74,25 @@ def main():
         memory = peak_memory(path, "target/b3store", "sum")
     size = MIB << 20
     for name, micros in best.items():
-        print(f"{name:10} {size / micros / 1000:6.2f} GB/s")
-    print(f"hash / official portable        {best['portable'] / best['hash']:.2f}  (goal 1.1)")
-    print(f"hash_wide / official SSE4.1     {best['sse41'] / best['hash_wide']:.2f}  (goal 0.9)")
-    print(f"make, 16 MiB / official SSE4.1  {best['sse41'] / best['make']:.2f}  (goal 0.9)")
-    print(f"sum / b3sum --num-threads 1     {best['b3sum'] / best['sum']:.2f}  (whole processes; b3sum takes what the processor has)")
-    print(f"memory of sum / input           {memory / size:.2f}  (goal at most 2.1)")
+        print(f"{name:14} {size / micros / 1000:6.2f} GB/s")
+    for name, other, goal in [
+        ("hash", "portable", 1.1),
+        ("hash_wide, v2", "SSE4.1", 0.65),
+        ("hash_wide, v3", "AVX2", 0.8),
+        ("make, v2", "hash_wide, v2", 0.95),
+        ("make, v3", "hash_wide, v3", 0.95),
+    ]:
+        if name in best:
+            print(f"{name} / {other}: {best[other] / best[name]:.2f}  (goal {goal})")
+    print(f"sum / b3sum --num-threads 1: {best['b3sum'] / best['sum']:.2f}  (whole processes; b3sum takes what the processor has)")
+    print(f"memory of sum / input: {memory / size:.2f}  (goal at most 2.1)")
+    lengths(
+        [
+            {f"hash_wide, {level}": (ours.format(level), "hash_length"), form: (official.format(form.lower().replace(".", "")),)}
+            for level, form in [("v2", "SSE4.1"), ("v3", "AVX2")]
+            if os.path.exists(ours.format(level))
+        ]
+    )
 
 
 main()

@@ -1,6 +1,7 @@
 mod StandardFacts
-pub mod FourLanes
+pub mod EightLanes
+pub mod Eighths
+pub mod Hashings
 pub mod Nodes
 pub mod OutputBytes
-pub mod Quarters
 pub mod Turns

@@ -1,4 +1,4 @@
--- Four compressions side by side: each word is a vector, with one lane for each of them.
+-- Eight compressions side by side: each word is a vector, with one lane for each of them.
 use Rattle.std.specs.Prelude.{ℕ, ◌+◌, ◌*◌, List, [], ◌∷◌, take, drop, slice_index, slice_index_or}
 use Rattle.b3_core.specs.Compression.{turned}
 use Rattle.b3_core.specs.Tree.{Keying, Inputs, chunk_top, tree_top}
@@ -29,6 +29,12 @@ state_lane j x =
     ∷ lane_at x 8 j ∷ lane_at x 9 j ∷ lane_at x 10 j ∷ lane_at x 11 j
     ∷ turned 8 (lane_at x 12 j) ∷ turned 8 (lane_at x 13 j) ∷ turned 8 (lane_at x 14 j) ∷ turned 8 (lane_at x 15 j) ∷ []
 
+-- lane i of the first half of four vectors, and then of their second half
+abbrev pub transposed_lanes : ℕ → List ℕ → List ℕ → List ℕ → List ℕ → List ℕ
+transposed_lanes i a b c d =
+    slice_index a i ∷ slice_index b i ∷ slice_index c i ∷ slice_index d i
+    ∷ slice_index a (i + 4) ∷ slice_index b (i + 4) ∷ slice_index c (i + 4) ∷ slice_index d (i + 4) ∷ []
+
 -- the bytes of chunk i, of 1024 bytes each
 abbrev pub chunk_bytes : List ℕ → ℕ → List ℕ
 chunk_bytes x i = take 1024 (drop (1024 * i) x)
@@ -43,6 +49,6 @@ eight_chunks x c p =
     chunk_at x c p 0 ∷ chunk_at x c p 1 ∷ chunk_at x c p 2 ∷ chunk_at x c p 3
     ∷ chunk_at x c p 4 ∷ chunk_at x c p 5 ∷ chunk_at x c p 6 ∷ chunk_at x c p 7 ∷ []
 
--- the top over quarter j of the bytes x, where a quarter is k whole chunks and the first chunk has the number c
-abbrev pub quarter_top : ℕ → List ℕ → ℕ → Keying → ℕ → Inputs
-quarter_top k x c p j = tree_top (take (1024 * k) (drop (1024 * k * j) x)) (c + k * j) p
+-- the top over eighth j of the bytes x, where an eighth is k whole chunks and the first chunk has the number c
+abbrev pub eighth_top : ℕ → List ℕ → ℕ → Keying → ℕ → Inputs
+eighth_top k x c p j = tree_top (take (1024 * k) (drop (1024 * k * j) x)) (c + k * j) p

@@ -1,5 +1,6 @@
 pub mod Compression
 pub mod ExtendedOutput
+pub mod Hashers
 pub mod Lanes
 pub mod Laws
 pub mod Modes

@@ -55,7 +55,7 @@ fn columns(v: Rows, m: [u32; 16]) -> Rows
 {
     let even = u32x4::from_array([m[0], m[2], m[4], m[6]]);
     let odd = u32x4::from_array([m[1], m[3], m[5], m[7]]);
-    let (a, b, c, d) = mix(v.a, v.b, v.c, v.d, even, odd);
+    let [a, b, c, d] = mix([v.a, v.b, v.c, v.d], even, odd);
     Rows { a, b, c, d }
 }
 
@@ -69,7 +69,7 @@ fn diagonals(v: Rows, m: [u32; 16]) -> Rows
     let b0 = down_one(v.b);
     let c0 = down_two(v.c);
     let d0 = down_three(v.d);
-    let (a, b1, c1, d1) = mix(v.a, b0, c0, d0, even, odd);
+    let [a, b1, c1, d1] = mix([v.a, b0, c0, d0], even, odd);
     let b = down_three(b1);
     let c = down_two(c1);
     let d = down_one(d1);

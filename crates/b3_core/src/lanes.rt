@@ -1,8 +1,8 @@
-// Four compressions side by side, one lane each. The last row of a state is as it was before its turn by 8 bits, as `mix` has it.
+// Eight compressions side by side, one lane each. The last row of a state is as it was before its turn by 8 bits, as `mix` has it.
 
 ghost use Rattle.std.specs.Prelude.{◌≡◌, ℕ, ◌+◌, ◌-◌, ◌*◌, ◌/◌, ◌%◌, ◌^◌, ◌<◌, ◌≤◌, ◌++◌, List, [], ◌∷◌, length, take, slice_index};
 ghost use Rattle.b3_core.specs.Compression.{columns, diagonals, round, permute, start_state, compress_of, output_words};
-ghost use Rattle.b3_core.specs.Lanes.{lane, half_lane, state_lane, chunk_bytes, chunk_at};
+ghost use Rattle.b3_core.specs.Lanes.{lane, half_lane, state_lane, transposed_lanes, chunk_bytes, chunk_at};
 ghost use Rattle.b3_core.specs.Tree.{Inputs, chaining_value_of, parent_top, word_at, block, block_words_of, chain};
 ghost use Rattle.b3_core.specs.Work.{counted};
 
@@ -12,11 +12,11 @@ use crate::top::start_flag;
 use crate::vectors::{mix, splat, turn, xor};
 use crate::words::word;
 use crate::work::Work;
-use std::simd::u32x4;
+use std::simd::{u32x4, u32x8};
 
 #[inline(always)]
-fn columns(v: [u32x4; 16], m: [u32x4; 16]) -> [u32x4; 16]
-    ensures { (j : ℕ) → j < 4 → state_lane j result ≡ columns (state_lane j v) (lane j m) }
+fn columns(v: [u32x8; 16], m: [u32x8; 16]) -> [u32x8; 16]
+    ensures { (j : ℕ) → j < 8 → state_lane j result ≡ columns (state_lane j v) (lane j m) }
 {
     let [
         v0,
@@ -36,18 +36,18 @@ fn columns(v: [u32x4; 16], m: [u32x4; 16]) -> [u32x4; 16]
         v14,
         v15,
     ] = v;
-    let (v0, v4, v8, v12) = mix(v0, v4, v8, v12, m[0], m[1]);
-    let (v1, v5, v9, v13) = mix(v1, v5, v9, v13, m[2], m[3]);
-    let (v2, v6, v10, v14) = mix(v2, v6, v10, v14, m[4], m[5]);
-    let (v3, v7, v11, v15) = mix(v3, v7, v11, v15, m[6], m[7]);
+    let [v0, v4, v8, v12] = mix([v0, v4, v8, v12], m[0], m[1]);
+    let [v1, v5, v9, v13] = mix([v1, v5, v9, v13], m[2], m[3]);
+    let [v2, v6, v10, v14] = mix([v2, v6, v10, v14], m[4], m[5]);
+    let [v3, v7, v11, v15] = mix([v3, v7, v11, v15], m[6], m[7]);
     [
         v0, v1, v2, v3, v4, v5, v6, v7, v8, v9, v10, v11, v12, v13, v14, v15,
     ]
 }
 
 #[inline(always)]
-fn diagonals(v: [u32x4; 16], m: [u32x4; 16]) -> [u32x4; 16]
-    ensures { (j : ℕ) → j < 4 → state_lane j result ≡ diagonals (state_lane j v) (lane j m) }
+fn diagonals(v: [u32x8; 16], m: [u32x8; 16]) -> [u32x8; 16]
+    ensures { (j : ℕ) → j < 8 → state_lane j result ≡ diagonals (state_lane j v) (lane j m) }
 {
     let [
         v0,
@@ -67,25 +67,25 @@ fn diagonals(v: [u32x4; 16], m: [u32x4; 16]) -> [u32x4; 16]
         v14,
         v15,
     ] = v;
-    let (v0, v5, v10, v15) = mix(v0, v5, v10, v15, m[8], m[9]);
-    let (v1, v6, v11, v12) = mix(v1, v6, v11, v12, m[10], m[11]);
-    let (v2, v7, v8, v13) = mix(v2, v7, v8, v13, m[12], m[13]);
-    let (v3, v4, v9, v14) = mix(v3, v4, v9, v14, m[14], m[15]);
+    let [v0, v5, v10, v15] = mix([v0, v5, v10, v15], m[8], m[9]);
+    let [v1, v6, v11, v12] = mix([v1, v6, v11, v12], m[10], m[11]);
+    let [v2, v7, v8, v13] = mix([v2, v7, v8, v13], m[12], m[13]);
+    let [v3, v4, v9, v14] = mix([v3, v4, v9, v14], m[14], m[15]);
     [
         v0, v1, v2, v3, v4, v5, v6, v7, v8, v9, v10, v11, v12, v13, v14, v15,
     ]
 }
 
 #[inline(always)]
-fn round(v: [u32x4; 16], m: [u32x4; 16]) -> [u32x4; 16]
-    ensures { (j : ℕ) → j < 4 → state_lane j result ≡ round (state_lane j v) (lane j m) }
+fn round(v: [u32x8; 16], m: [u32x8; 16]) -> [u32x8; 16]
+    ensures { (j : ℕ) → j < 8 → state_lane j result ≡ round (state_lane j v) (lane j m) }
 {
     diagonals(columns(v, m), m)
 }
 
 #[inline(always)]
-fn permute(m: [u32x4; 16]) -> [u32x4; 16]
-    ensures { (j : ℕ) → j < 4 → lane j result ≡ permute (lane j m) }
+fn permute(m: [u32x8; 16]) -> [u32x8; 16]
+    ensures { (j : ℕ) → j < 8 → lane j result ≡ permute (lane j m) }
 {
     [
         m[2], m[6], m[3], m[10], m[7], m[0], m[4], m[13], m[1], m[11], m[12], m[5], m[9], m[14],
@@ -95,8 +95,8 @@ fn permute(m: [u32x4; 16]) -> [u32x4; 16]
 
 // The state before the rounds, in each lane.
 #[inline(always)]
-fn start_states(h: [u32x4; 8], t_low: u32x4, t_high: u32x4, d: u32) -> [u32x4; 16]
-    ensures { (j t : ℕ) → j < 4 → slice_index t_low j ≡ t % 2 ^ 32 → slice_index t_high j ≡ t / 2 ^ 32
+fn start_states(h: [u32x8; 8], t_low: u32x8, t_high: u32x8, d: u32) -> [u32x8; 16]
+    ensures { (j t : ℕ) → j < 8 → slice_index t_low j ≡ t % 2 ^ 32 → slice_index t_high j ≡ t / 2 ^ 32
         → state_lane j result ≡ start_state (half_lane j h) t 64 d }
 {
     let i0 = splat(IV[0]);
@@ -114,18 +114,18 @@ fn start_states(h: [u32x4; 8], t_low: u32x4, t_high: u32x4, d: u32) -> [u32x4; 1
 
 // The chaining value of a whole block, in each lane: one compression for each.
 fn compress(
-    h: [u32x4; 8],
-    m0: [u32x4; 16],
-    t_low: u32x4,
-    t_high: u32x4,
+    h: [u32x8; 8],
+    m0: [u32x8; 16],
+    t_low: u32x8,
+    t_high: u32x8,
     d: u32,
     work: &mut Work,
-) -> [u32x4; 8]
-    ensures values { (j t : ℕ) → j < 4 → slice_index t_low j ≡ t % 2 ^ 32 → slice_index t_high j ≡ t / 2 ^ 32
+) -> [u32x8; 8]
+    ensures values { (j t : ℕ) → j < 8 → slice_index t_low j ≡ t % 2 ^ 32 → slice_index t_high j ≡ t / 2 ^ 32
         → half_lane j result ≡ take 8 (compress_of (half_lane j h) (lane j m0) t 64 d) }
-    ensures count { work.new ≡ counted work.old 4 }
+    ensures count { work.new ≡ counted work.old 8 }
 {
-    work.add(4);
+    work.add(8);
     let v0 = start_states(h, t_low, t_high, d);
     let v1 = round(v0, m0);
     let m1 = permute(m0);
@@ -144,8 +144,8 @@ fn compress(
 }
 
 #[inline(always)]
-fn halves(v: [u32x4; 16]) -> [u32x4; 8]
-    ensures { (j : ℕ) (h : List ℕ) → j < 4 → half_lane j result ≡ take 8 (output_words h (state_lane j v)) }
+fn halves(v: [u32x8; 16]) -> [u32x8; 8]
+    ensures { (j : ℕ) (h : List ℕ) → j < 8 → half_lane j result ≡ take 8 (output_words h (state_lane j v)) }
 {
     let w0 = xor(v[0], v[8]);
     let w1 = xor(v[1], v[9]);
@@ -162,7 +162,8 @@ fn halves(v: [u32x4; 16]) -> [u32x4; 8]
 #[inline(always)]
 fn row(bytes: &[u8], at: usize) -> u32x4
     requires { at + 16 ≤ length bytes.now }
-    ensures { (i : ℕ) → i < 4 → slice_index result i ≡ word_at bytes.now (at + 4 * i) }
+    ensures four { length result ≡ 4 }
+    ensures words { (i : ℕ) → i < 4 → slice_index result i ≡ word_at bytes.now (at + 4 * i) }
 {
     u32x4::from_array([
         word(bytes, at),
@@ -172,44 +173,60 @@ fn row(bytes: &[u8], at: usize) -> u32x4
     ])
 }
 
-// Four vectors as the lanes of four others.
+// Four words in a row, and behind them the four that stand four chunks further on.
 #[inline(always)]
-fn transposed(a: u32x4, b: u32x4, c: u32x4, d: u32x4) -> (u32x4, u32x4, u32x4, u32x4)
-    ensures first { result.0 ≡ slice_index a 0 ∷ slice_index b 0 ∷ slice_index c 0 ∷ slice_index d 0 ∷ [] }
-    ensures second { result.1 ≡ slice_index a 1 ∷ slice_index b 1 ∷ slice_index c 1 ∷ slice_index d 1 ∷ [] }
-    ensures third { result.2 ≡ slice_index a 2 ∷ slice_index b 2 ∷ slice_index c 2 ∷ slice_index d 2 ∷ [] }
-    ensures fourth { result.3 ≡ slice_index a 3 ∷ slice_index b 3 ∷ slice_index c 3 ∷ slice_index d 3 ∷ [] }
+fn two_rows(bytes: &[u8], at: usize) -> u32x8
+    requires { at + 4112 ≤ length bytes.now }
+    ensures front { (i : ℕ) → i < 4 → slice_index result i ≡ word_at bytes.now (at + 4 * i) }
+    ensures back { (i : ℕ) → i < 4 → slice_index result (i + 4) ≡ word_at bytes.now (at + 4096 + 4 * i) }
 {
-    let (ac_front, ac_back) = a.interleave(c);
-    let (bd_front, bd_back) = b.interleave(d);
-    let (first, second) = ac_front.interleave(bd_front);
-    let (third, fourth) = ac_back.interleave(bd_back);
+    let front = row(bytes, at);
+    let back = row(bytes, at + 4096);
+    front.shuffle(back, [0, 1, 2, 3, 4, 5, 6, 7])
+}
+
+// Four vectors as the lanes of four others, in each half by itself.
+#[inline(always)]
+fn transposed(a: u32x8, b: u32x8, c: u32x8, d: u32x8) -> (u32x8, u32x8, u32x8, u32x8)
+    ensures first { result.0 ≡ transposed_lanes 0 a b c d }
+    ensures second { result.1 ≡ transposed_lanes 1 a b c d }
+    ensures third { result.2 ≡ transposed_lanes 2 a b c d }
+    ensures fourth { result.3 ≡ transposed_lanes 3 a b c d }
+{
+    let ab_front = a.shuffle(b, [0, 8, 1, 9, 4, 12, 5, 13]);
+    let ab_back = a.shuffle(b, [2, 10, 3, 11, 6, 14, 7, 15]);
+    let cd_front = c.shuffle(d, [0, 8, 1, 9, 4, 12, 5, 13]);
+    let cd_back = c.shuffle(d, [2, 10, 3, 11, 6, 14, 7, 15]);
+    let first = ab_front.shuffle(cd_front, [0, 1, 8, 9, 4, 5, 12, 13]);
+    let second = ab_front.shuffle(cd_front, [2, 3, 10, 11, 6, 7, 14, 15]);
+    let third = ab_back.shuffle(cd_back, [0, 1, 8, 9, 4, 5, 12, 13]);
+    let fourth = ab_back.shuffle(cd_back, [2, 3, 10, 11, 6, 7, 14, 15]);
     (first, second, third, fourth)
 }
 
 // Four words in a row of each chunk, a lane for each chunk.
 #[inline(always)]
-fn words_at(bytes: &[u8], at: usize) -> (u32x4, u32x4, u32x4, u32x4)
-    requires four { length bytes.now ≡ 4096 }
+fn words_at(bytes: &[u8], at: usize) -> (u32x8, u32x8, u32x8, u32x8)
+    requires eight { length bytes.now ≡ 8192 }
     requires within { at + 16 ≤ 1024 }
-    ensures first { (j : ℕ) → j < 4 → slice_index result.0 j ≡ word_at bytes.now (1024 * j + at) }
-    ensures second { (j : ℕ) → j < 4 → slice_index result.1 j ≡ word_at bytes.now (1024 * j + (at + 4)) }
-    ensures third { (j : ℕ) → j < 4 → slice_index result.2 j ≡ word_at bytes.now (1024 * j + (at + 8)) }
-    ensures fourth { (j : ℕ) → j < 4 → slice_index result.3 j ≡ word_at bytes.now (1024 * j + (at + 12)) }
+    ensures first { (j : ℕ) → j < 8 → slice_index result.0 j ≡ word_at bytes.now (1024 * j + at) }
+    ensures second { (j : ℕ) → j < 8 → slice_index result.1 j ≡ word_at bytes.now (1024 * j + (at + 4)) }
+    ensures third { (j : ℕ) → j < 8 → slice_index result.2 j ≡ word_at bytes.now (1024 * j + (at + 8)) }
+    ensures fourth { (j : ℕ) → j < 8 → slice_index result.3 j ≡ word_at bytes.now (1024 * j + (at + 12)) }
 {
-    let a = row(bytes, at);
-    let b = row(bytes, 1024 + at);
-    let c = row(bytes, 2048 + at);
-    let d = row(bytes, 3072 + at);
+    let a = two_rows(bytes, at);
+    let b = two_rows(bytes, 1024 + at);
+    let c = two_rows(bytes, 2048 + at);
+    let d = two_rows(bytes, 3072 + at);
     transposed(a, b, c, d)
 }
 
 // Block `k` of each chunk.
 #[inline(always)]
-fn blocks_at(bytes: &[u8], k: usize) -> [u32x4; 16]
-    requires four { length bytes.now ≡ 4096 }
+fn blocks_at(bytes: &[u8], k: usize) -> [u32x8; 16]
+    requires eight { length bytes.now ≡ 8192 }
     requires block { k < 16 }
-    ensures { (j : ℕ) → j < 4 → lane j result ≡ block_words_of (block (chunk_bytes bytes.now j) k) }
+    ensures { (j : ℕ) → j < 8 → lane j result ≡ block_words_of (block (chunk_bytes bytes.now j) k) }
 {
     let at = 64 * k;
     let (w0, w1, w2, w3) = words_at(bytes, at);
@@ -222,34 +239,42 @@ fn blocks_at(bytes: &[u8], k: usize) -> [u32x4; 16]
 }
 
 // The low word of each chunk's number.
-fn low_words(number: u64) -> u32x4
-    requires { number ≤ 2 ^ 64 - 4 }
-    ensures { (j : ℕ) → j < 4 → slice_index result j ≡ (number + j) % 2 ^ 32 }
+fn low_words(number: u64) -> u32x8
+    requires { number ≤ 2 ^ 64 - 8 }
+    ensures { (j : ℕ) → j < 8 → slice_index result j ≡ (number + j) % 2 ^ 32 }
 {
-    u32x4::from_array([
+    u32x8::from_array([
         low(number),
         low(number + 1),
         low(number + 2),
         low(number + 3),
+        low(number + 4),
+        low(number + 5),
+        low(number + 6),
+        low(number + 7),
     ])
 }
 
 // The high word of each chunk's number.
-fn high_words(number: u64) -> u32x4
-    requires { number ≤ 2 ^ 64 - 4 }
-    ensures { (j : ℕ) → j < 4 → slice_index result j ≡ (number + j) / 2 ^ 32 }
+fn high_words(number: u64) -> u32x8
+    requires { number ≤ 2 ^ 64 - 8 }
+    ensures { (j : ℕ) → j < 8 → slice_index result j ≡ (number + j) / 2 ^ 32 }
 {
-    u32x4::from_array([
+    u32x8::from_array([
         high(number),
         high(number + 1),
         high(number + 2),
         high(number + 3),
+        high(number + 4),
+        high(number + 5),
+        high(number + 6),
+        high(number + 7),
     ])
 }
 
 // The key words, in each lane.
-fn keys(key: [u32; 8]) -> [u32x4; 8]
-    ensures { (j : ℕ) → j < 4 → half_lane j result ≡ key }
+fn keys(key: [u32; 8]) -> [u32x8; 8]
+    ensures { (j : ℕ) → j < 8 → half_lane j result ≡ key }
 {
     let k0 = splat(key[0]);
     let k1 = splat(key[1]);
@@ -262,12 +287,12 @@ fn keys(key: [u32; 8]) -> [u32x4; 8]
     [k0, k1, k2, k3, k4, k5, k6, k7]
 }
 
-/// The chaining value of each of four chunks after all of its blocks but the last.
-pub(crate) fn chains(mode: &Mode, bytes: &[u8], number: u64, work: &mut Work) -> [u32x4; 8]
-    requires four { length bytes.now ≡ 4096 }
-    requires number { number ≤ 2 ^ 64 - 4 }
-    ensures values { (j : ℕ) → j < 4 → half_lane j result ≡ chain (chunk_bytes bytes.now j) (number + j) mode.now 15 }
-    ensures count { work.new ≡ counted work.old 60 }
+/// The chaining value of each of eight chunks after all of its blocks but the last.
+pub(crate) fn chains(mode: &Mode, bytes: &[u8], number: u64, work: &mut Work) -> [u32x8; 8]
+    requires eight { length bytes.now ≡ 8192 }
+    requires number { number ≤ 2 ^ 64 - 8 }
+    ensures values { (j : ℕ) → j < 8 → half_lane j result ≡ chain (chunk_bytes bytes.now j) (number + j) mode.now 15 }
+    ensures count { work.new ≡ counted work.old 120 }
 {
     let t_low = low_words(number);
     let t_high = high_words(number);
@@ -280,12 +305,12 @@ pub(crate) fn chains(mode: &Mode, bytes: &[u8], number: u64, work: &mut Work) ->
     h
 }
 
-/// The chaining value of each of four chunks.
-pub(crate) fn chunk_values(mode: &Mode, bytes: &[u8], number: u64, work: &mut Work) -> [u32x4; 8]
-    requires four { length bytes.now ≡ 4096 }
-    requires number { number ≤ 2 ^ 64 - 4 }
-    ensures values { (j : ℕ) → j < 4 → half_lane j result ≡ chaining_value_of (chunk_at bytes.now number mode.now j) }
-    ensures count { work.new ≡ counted work.old 64 }
+/// The chaining value of each of eight chunks.
+pub(crate) fn chunk_values(mode: &Mode, bytes: &[u8], number: u64, work: &mut Work) -> [u32x8; 8]
+    requires eight { length bytes.now ≡ 8192 }
+    requires number { number ≤ 2 ^ 64 - 8 }
+    ensures values { (j : ℕ) → j < 8 → half_lane j result ≡ chaining_value_of (chunk_at bytes.now number mode.now j) }
+    ensures count { work.new ≡ counted work.old 128 }
 {
     let before_last = chains(mode, bytes, number, work);
     let last_block = blocks_at(bytes, 15);
@@ -301,18 +326,18 @@ pub(crate) fn chunk_values(mode: &Mode, bytes: &[u8], number: u64, work: &mut Wo
     )
 }
 
-/// The chaining values of the parents of eight nodes: two of the first four lanes, then two of the other four.
+/// The chaining values of the parents of sixteen nodes: four of the first eight lanes, then four of the other eight.
 pub(crate) fn parent_values(
     mode: &Mode,
-    left: [u32x4; 8],
-    right: [u32x4; 8],
+    left: [u32x8; 8],
+    right: [u32x8; 8],
     work: &mut Work,
-) -> [u32x4; 8]
-    ensures front { (j : ℕ) (a b : Inputs) → j < 2 → half_lane (2 * j) left ≡ chaining_value_of a → half_lane (2 * j + 1) left ≡ chaining_value_of b
+) -> [u32x8; 8]
+    ensures front { (j : ℕ) (a b : Inputs) → j < 4 → half_lane (2 * j) left ≡ chaining_value_of a → half_lane (2 * j + 1) left ≡ chaining_value_of b
         → half_lane j result ≡ chaining_value_of (parent_top a b mode.now) }
-    ensures back { (j : ℕ) (a b : Inputs) → j < 2 → half_lane (2 * j) right ≡ chaining_value_of a → half_lane (2 * j + 1) right ≡ chaining_value_of b
-        → half_lane (j + 2) result ≡ chaining_value_of (parent_top a b mode.now) }
-    ensures count { work.new ≡ counted work.old 4 }
+    ensures back { (j : ℕ) (a b : Inputs) → j < 4 → half_lane (2 * j) right ≡ chaining_value_of a → half_lane (2 * j + 1) right ≡ chaining_value_of b
+        → half_lane (j + 4) result ≡ chaining_value_of (parent_top a b mode.now) }
+    ensures count { work.new ≡ counted work.old 8 }
 {
     let block = pairs(left, right);
     let none = splat(0);
@@ -326,20 +351,20 @@ pub(crate) fn parent_values(
     )
 }
 
-// The lanes of even numbers, and those of odd numbers, of eight.
+// The lanes of even numbers, and those of odd numbers, of sixteen.
 #[inline(always)]
-fn parted(left: u32x4, right: u32x4) -> (u32x4, u32x4)
-    ensures front { (j : ℕ) → j < 2 → (slice_index result.0 j ≡ slice_index left (2 * j)) × (slice_index result.1 j ≡ slice_index left (2 * j + 1)) }
-    ensures back { (j : ℕ) → j < 2 → (slice_index result.0 (j + 2) ≡ slice_index right (2 * j)) × (slice_index result.1 (j + 2) ≡ slice_index right (2 * j + 1)) }
+fn parted(left: u32x8, right: u32x8) -> (u32x8, u32x8)
+    ensures front { (j : ℕ) → j < 4 → (slice_index result.0 j ≡ slice_index left (2 * j)) × (slice_index result.1 j ≡ slice_index left (2 * j + 1)) }
+    ensures back { (j : ℕ) → j < 4 → (slice_index result.0 (j + 4) ≡ slice_index right (2 * j)) × (slice_index result.1 (j + 4) ≡ slice_index right (2 * j + 1)) }
 {
     left.deinterleave(right)
 }
 
-// The blocks of four parents: the words of two neighbouring lanes each.
+// The blocks of eight parents: the words of two neighbouring lanes each.
 #[inline(always)]
-fn pairs(left: [u32x4; 8], right: [u32x4; 8]) -> [u32x4; 16]
-    ensures front { (j : ℕ) → j < 2 → lane j result ≡ half_lane (2 * j) left ++ half_lane (2 * j + 1) left }
-    ensures back { (j : ℕ) → j < 2 → lane (j + 2) result ≡ half_lane (2 * j) right ++ half_lane (2 * j + 1) right }
+fn pairs(left: [u32x8; 8], right: [u32x8; 8]) -> [u32x8; 16]
+    ensures front { (j : ℕ) → j < 4 → lane j result ≡ half_lane (2 * j) left ++ half_lane (2 * j + 1) left }
+    ensures back { (j : ℕ) → j < 4 → lane (j + 4) result ≡ half_lane (2 * j) right ++ half_lane (2 * j + 1) right }
 {
     let (l0, r0) = parted(left[0], right[0]);
     let (l1, r1) = parted(left[1], right[1]);
@@ -355,8 +380,8 @@ fn pairs(left: [u32x4; 8], right: [u32x4; 8]) -> [u32x4; 16]
 }
 
 /// The words of one lane.
-pub(crate) fn lane_words(h: &[u32x4; 8], i: usize) -> [u32; 8]
-    requires { i < 4 }
+pub(crate) fn lane_words(h: &[u32x8; 8], i: usize) -> [u32; 8]
+    requires { i < 8 }
     ensures { result ≡ half_lane i h.now }
 {
     [

@@ -14,7 +14,7 @@ use crate::mode::Mode;
 use crate::words::{bytes_of, joined, words_of_block, words_of_short_block};
 use crate::work::Work;
 use std::marker::Model;
-use std::simd::u32x4;
+use std::simd::u32x8;
 
 /// A node of the tree: the inputs of its last compression, before it is known whether it is the root.
 ///
@@ -77,31 +77,29 @@ impl Top {
     }
 
     /// The nodes of eight whole chunks, the first with the given number: node i is `of_chunk` of chunk i with
-    /// `number + i`. It makes their 120 compressions side by side, four at a time.
+    /// `number + i`. It makes their 120 compressions in one pass, eight side by side.
     pub fn of_eight(mode: &Mode, bytes: &[u8; 8192], number: u64, work: &mut Work) -> [Top; 8]
         requires { number ≤ 2 ^ 64 - 8 }
         ensures nodes { result ≡ eight_chunks bytes.now number mode.now }
         ensures count { work.new ≡ counted work.old 120 }
     {
-        let (front, back) = bytes.split_at(4096);
-        let front_values = chains(mode, front, number, work);
-        let back_values = chains(mode, back, number + 4, work);
-        let n0 = Top::of_lane(mode, front, number, &front_values, 0);
-        let n1 = Top::of_lane(mode, front, number, &front_values, 1);
-        let n2 = Top::of_lane(mode, front, number, &front_values, 2);
-        let n3 = Top::of_lane(mode, front, number, &front_values, 3);
-        let n4 = Top::of_lane(mode, back, number + 4, &back_values, 0);
-        let n5 = Top::of_lane(mode, back, number + 4, &back_values, 1);
-        let n6 = Top::of_lane(mode, back, number + 4, &back_values, 2);
-        let n7 = Top::of_lane(mode, back, number + 4, &back_values, 3);
+        let values = chains(mode, bytes, number, work);
+        let n0 = Top::of_lane(mode, bytes, number, &values, 0);
+        let n1 = Top::of_lane(mode, bytes, number, &values, 1);
+        let n2 = Top::of_lane(mode, bytes, number, &values, 2);
+        let n3 = Top::of_lane(mode, bytes, number, &values, 3);
+        let n4 = Top::of_lane(mode, bytes, number, &values, 4);
+        let n5 = Top::of_lane(mode, bytes, number, &values, 5);
+        let n6 = Top::of_lane(mode, bytes, number, &values, 6);
+        let n7 = Top::of_lane(mode, bytes, number, &values, 7);
         [n0, n1, n2, n3, n4, n5, n6, n7]
     }
 
-    // The node of chunk `i` of four, from the chaining values before their last blocks.
-    fn of_lane(mode: &Mode, bytes: &[u8], number: u64, values: &[u32x4; 8], i: usize) -> Top
-        requires four { length bytes.now ≡ 4096 }
-        requires index { i < 4 }
-        requires number { number ≤ 2 ^ 64 - 4 }
+    // The node of chunk `i` of eight, from the chaining values before their last blocks.
+    fn of_lane(mode: &Mode, bytes: &[u8], number: u64, values: &[u32x8; 8], i: usize) -> Top
+        requires eight { length bytes.now ≡ 8192 }
+        requires index { i < 8 }
+        requires number { number ≤ 2 ^ 64 - 8 }
         ensures { half_lane i values.now ≡ chain (chunk_bytes bytes.now i) (number + i) mode.now 15
             → result ≡ chunk_at bytes.now number mode.now i }
     {

@@ -1,7 +1,7 @@
-// The hash by four compressions at a time, of chunks and of parents.
+// The hash by eight compressions at a time, of chunks and of parents.
 
 ghost use Rattle.std.specs.Prelude.{◌≡◌, ℕ, ◌+◌, ◌-◌, ◌*◌, ◌/◌, ◌^◌, ◌<◌, ◌≤◌, IfSome, length};
-ghost use Rattle.b3_core.specs.Lanes.{half_lane, quarter_top};
+ghost use Rattle.b3_core.specs.Lanes.{half_lane, eighth_top};
 ghost use Rattle.b3_core.specs.Modes.{digest_of};
 ghost use Rattle.b3_core.specs.Tree.{Inputs, chaining_value_of, parent_top, tree_top};
 ghost use Rattle.b3_core.specs.Work.{counted, hash_work};
@@ -12,7 +12,7 @@ use crate::mode::Mode;
 use crate::top::Top;
 use crate::tree::left_len;
 use crate::work::Work;
-use std::simd::u32x4;
+use std::simd::u32x8;
 
 // The chaining value of the parent of two nodes with these chaining values.
 fn parent_value(mode: &Mode, left: [u32; 8], right: [u32; 8], work: &mut Work) -> [u32; 8]
@@ -23,12 +23,27 @@ fn parent_value(mode: &Mode, left: [u32; 8], right: [u32; 8], work: &mut Work) -
     Top::of_children(mode, left, right).cv(work)
 }
 
-// The level at which so many bytes are four times 2^level whole chunks.
-fn quarter_level(len: usize) -> Option<u32>
-    ensures { IfSome result (λ level. len ≡ 4096 * 2 ^ level) }
+// The chaining value of the parent of the nodes in lanes `2 i` and `2 i + 1`.
+fn pair_value(mode: &Mode, values: &[u32x8; 8], i: usize, work: &mut Work) -> [u32; 8]
+    requires { i < 4 }
+    ensures value { (l r : Inputs) → half_lane (2 * i) values.now ≡ chaining_value_of l → half_lane (2 * i + 1) values.now ≡ chaining_value_of r
+        → result ≡ chaining_value_of (parent_top l r mode.now) }
+    ensures count { work.new ≡ counted work.old 1 }
+{
+    parent_value(
+        mode,
+        lane_words(values, 2 * i),
+        lane_words(values, 2 * i + 1),
+        work,
+    )
+}
+
+// The level at which so many bytes are eight times 2^level whole chunks.
+fn eighth_level(len: usize) -> Option<u32>
+    ensures { IfSome result (λ level. len ≡ 8192 * 2 ^ level) }
 {
     let mut level = 0;
-    let mut whole = 4 * CHUNK_LEN;
+    let mut whole = 8 * CHUNK_LEN;
     while whole <= len / 2 {
         whole *= 2;
         level += 1;
@@ -36,34 +51,38 @@ fn quarter_level(len: usize) -> Option<u32>
     if whole == len { Some(level) } else { None }
 }
 
-// The chaining values of the four quarters of bytes, of 2^level whole chunks each; the first chunk has the given number.
-fn quarter_values(mode: &Mode, bytes: &[u8], level: u32, number: u64, work: &mut Work) -> [u32x4; 8]
-    requires len { length bytes.now ≡ 4096 * 2 ^ level }
+// The chaining values of the eight eighths of bytes, of 2^level whole chunks each; the first chunk has the given number.
+fn eighth_values(mode: &Mode, bytes: &[u8], level: u32, number: u64, work: &mut Work) -> [u32x8; 8]
+    requires len { length bytes.now ≡ 8192 * 2 ^ level }
     requires number { number + length bytes.now / 1024 < 2 ^ 64 }
-    ensures values { (j : ℕ) → j < 4 → half_lane j result ≡ chaining_value_of (quarter_top (2 ^ level) bytes.now number mode.now j) }
-    ensures count { work.new ≡ counted work.old (68 * 2 ^ level - 4) }
+    ensures values { (j : ℕ) → j < 8 → half_lane j result ≡ chaining_value_of (eighth_top (2 ^ level) bytes.now number mode.now j) }
+    ensures count { work.new ≡ counted work.old (136 * 2 ^ level - 8) }
 {
     if level == 0 {
         return chunk_values(mode, bytes, number, work);
     }
     let middle = bytes.len() / 2;
     let (left, right) = bytes.split_at(middle);
-    let left_values = quarter_values(mode, left, level - 1, number, work);
+    let left_values = eighth_values(mode, left, level - 1, number, work);
     let right_number = number + (middle / CHUNK_LEN) as u64;
-    let right_values = quarter_values(mode, right, level - 1, right_number, work);
+    let right_values = eighth_values(mode, right, level - 1, right_number, work);
     parent_values(mode, left_values, right_values, work)
 }
 
-// The top of the tree over four times 2^level whole chunks, the first with the given number.
+// The top of the tree over eight times 2^level whole chunks, the first with the given number.
 fn whole_top(mode: &Mode, bytes: &[u8], level: u32, number: u64, work: &mut Work) -> Top
-    requires len { length bytes.now ≡ 4096 * 2 ^ level }
+    requires len { length bytes.now ≡ 8192 * 2 ^ level }
     requires number { number + length bytes.now / 1024 < 2 ^ 64 }
     ensures node { result ≡ tree_top bytes.now number mode.now }
     ensures count { work.new ≡ counted work.old (hash_work (length bytes.now) - 1) }
 {
-    let values = quarter_values(mode, bytes, level, number, work);
-    let left = parent_value(mode, lane_words(&values, 0), lane_words(&values, 1), work);
-    let right = parent_value(mode, lane_words(&values, 2), lane_words(&values, 3), work);
+    let values = eighth_values(mode, bytes, level, number, work);
+    let first = pair_value(mode, &values, 0, work);
+    let second = pair_value(mode, &values, 1, work);
+    let third = pair_value(mode, &values, 2, work);
+    let fourth = pair_value(mode, &values, 3, work);
+    let left = parent_value(mode, first, second, work);
+    let right = parent_value(mode, third, fourth, work);
     Top::of_children(mode, left, right)
 }
 
@@ -76,7 +95,7 @@ fn wide_top(mode: &Mode, bytes: &[u8], number: u64, work: &mut Work) -> Top
     if bytes.len() <= CHUNK_LEN {
         return Top::of_chunk(mode, bytes, number, work);
     }
-    if let Some(level) = quarter_level(bytes.len()) {
+    if let Some(level) = eighth_level(bytes.len()) {
         return whole_top(mode, bytes, level, number, work);
     }
     let middle = left_len(bytes.len());
@@ -87,7 +106,7 @@ fn wide_top(mode: &Mode, bytes: &[u8], number: u64, work: &mut Work) -> Top
 }
 
 impl Top {
-    /// The top of the tree over a whole input, by four compressions side by side: the node whose `root32` is the
+    /// The top of the tree over a whole input, by eight compressions side by side: the node whose `root32` is the
     /// input's hash, and from which an `OutputReader` reads its extended output. It makes the compressions of the
     /// hash but the last one.
     pub fn of_input(mode: &Mode, bytes: &[u8], work: &mut Work) -> Top
@@ -108,7 +127,7 @@ impl Top {
 }
 
 /// The hash of `bytes` in a mode, as [`hash`](crate::hash) gives it and with the same count of compressions: chunks
-/// and parents are compressed four at a time, side by side, wherever 2^k whole chunks are a subtree, k at least 2.
+/// and parents are compressed eight at a time, side by side, wherever 2^k whole chunks are a subtree, k at least 3.
 #[tactic(auto, unfolding(crate::specs::Modes::digest_of))]
 pub fn hash_wide(mode: &Mode, bytes: &[u8], work: &mut Work) -> [u8; 32]
     ensures bytes { result ≡ digest_of bytes.now mode.now }

@@ -1,7 +1,7 @@
 use crate::digests::digest;
 use crate::patterns::pattern;
 use crate::vectors::{ABC, CONTEXT, COUNTS, KEY, ROWS};
-use b3_core::{Mode, OutputReader, Top, Work, compress, hash, hash_wide};
+use b3_core::{Hasher, Mode, OutputReader, Top, Work, compress, hash, hash_wide};
 use std::process::Abort;
 use std::test::Fail;
 
@@ -15,7 +15,16 @@ fn first_output(mode: &Mode, bytes: &[u8], work: &mut Work) -> Option<[u8; 32]> 
     }
 }
 
-// Both bodies of the hash and the output give these digits.
+// The hash of bytes that come in two pieces.
+fn in_pieces(mode: &Mode, bytes: &[u8], work: &mut Work) -> [u8; 32] {
+    let mut hasher = Hasher::new(mode);
+    let (front, back) = bytes.split_at(bytes.len() / 2);
+    hasher.update(front, work);
+    hasher.update(back, work);
+    hasher.top(work).root32(work)
+}
+
+// Both bodies of the hash, the hasher and the output give these digits.
 fn gives<R: AllocGlobal + Abort>(
     rt: &R,
     mode: &Mode,
@@ -27,7 +36,8 @@ fn gives<R: AllocGlobal + Abort>(
     let plain = hash(mode, bytes, &mut work);
     let wide = hash_wide(mode, bytes, &mut work);
     let output = first_output(mode, bytes, &mut work);
-    let are_all = plain == wanted && wide == wanted && output == Some(wanted);
+    let pieces = in_pieces(mode, bytes, &mut work);
+    let are_all = plain == wanted && wide == wanted && pieces == wanted && output == Some(wanted);
     assert!(rt; are_all, "{digits}");
     Ok(())
 }

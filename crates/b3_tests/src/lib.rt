@@ -18,6 +18,8 @@ mod parts;
 #[cfg(test)]
 mod patterns;
 #[cfg(test)]
+mod pieces;
+#[cfg(test)]
 mod reports;
 #[cfg(test)]
 mod vectors;

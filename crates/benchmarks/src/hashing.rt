@@ -3,6 +3,7 @@
 use b3_core::{Mode, Work, hash, hash_wide};
 use std::alloc::{AllocError, Global};
 use std::io;
+use std::io::ErrorKind;
 use std::rt::Clock;
 use std::time::Instant;
 
@@ -38,7 +39,7 @@ pub fn time_hash(rt: &(impl Print + Eprint + Clock + AllocGlobal), mib: u16) -> 
     report(rt, &digest, time.as_micros())
 }
 
-/// Times the hash by four chunks at a time.
+/// Times the hash by eight chunks at a time.
 pub fn time_hash_wide(
     rt: &(impl Print + Eprint + Clock + AllocGlobal),
     mib: u16,
@@ -47,6 +48,26 @@ pub fn time_hash_wide(
     let mut work = Work::new(rt);
     let start = Instant::now(rt)?;
     let digest = hash_wide(&Mode::hash(), &bytes, &mut work);
+    let time = start.elapsed(rt)?;
+    report(rt, &digest, time.as_micros())
+}
+
+/// Times the hash by eight chunks at a time of so many bytes, so many times.
+pub fn time_length(
+    rt: &(impl Print + Eprint + Clock + AllocGlobal),
+    len: u16,
+    turns: u16,
+) -> io::Result<()> {
+    let bytes = pattern(rt.alloc(), 1)?;
+    let Some(part) = bytes.get(..len as usize) else {
+        return Err(io::Error::from(ErrorKind::InvalidInput));
+    };
+    let mut work = Work::new(rt);
+    let mut digest = [0u8; 32];
+    let start = Instant::now(rt)?;
+    for _ in 0..turns {
+        digest = hash_wide(&Mode::hash(), part, &mut work);
+    }
     let time = start.elapsed(rt)?;
     report(rt, &digest, time.as_micros())
 }

@@ -1,7 +1,7 @@
 //! Times the crates' calls over bytes in memory. It writes what was computed to standard output, and the
 //! microseconds that it took to standard error. `bench/run` calls it and prints ratios.
 //!
-//! Words: `hash MIB`, `hash_wide MIB`, `make PARTS`, `upload MIB WORKERS PART_CHUNKS`,
+//! Words: `hash MIB`, `hash_wide MIB`, `hash_length BYTES TURNS`, `make PARTS`, `upload MIB WORKERS PART_CHUNKS`,
 //! `upload_slowly`; or `add LOG2`, `add_jumping` and
 //! `store LOG2`, whose numbers are nanoseconds.
 #![tactic(auto)]
@@ -21,6 +21,7 @@ fn main(rt: HostRuntime) -> io::Result<()> {
     match job_of(words.as_slice()) {
         Some(Job::Hash { mib }) => hashing::time_hash(&rt, mib),
         Some(Job::HashWide { mib }) => hashing::time_hash_wide(&rt, mib),
+        Some(Job::HashLength { bytes, turns }) => hashing::time_length(&rt, bytes, turns),
         Some(Job::Make { parts }) => parts::time_make(&rt, parts),
         Some(Job::Add { log2 }) => adding::time_add(&rt, log2),
         Some(Job::Store { log2 }) => storing::time_store(&rt, log2),
@@ -28,7 +29,7 @@ fn main(rt: HostRuntime) -> io::Result<()> {
         Some(Job::Upload(load)) => uploading::time_upload(&rt, &rt, load),
         Some(Job::UploadSlowly) => uploading::time_slow_upload(&rt, &rt),
         None => eprintln!(rt;
-            "benchmarks: hash MIB | hash_wide MIB | make PARTS | upload MIB WORKERS PART_CHUNKS | upload_slowly | add LOG2 | add_jumping | store LOG2"
+            "benchmarks: hash MIB | hash_wide MIB | hash_length BYTES TURNS | make PARTS | upload MIB WORKERS PART_CHUNKS | upload_slowly | add LOG2 | add_jumping | store LOG2"
         ),
     }
 }

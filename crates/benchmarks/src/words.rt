@@ -7,8 +7,10 @@ use crate::uploading::Load;
 pub enum Job {
     /// The plain hash of so many MiB.
     Hash { mib: u16 },
-    /// The hash by four chunks at a time.
+    /// The hash by eight chunks at a time.
     HashWide { mib: u16 },
+    /// The same of so many bytes, so many times.
+    HashLength { bytes: u16, turns: u16 },
     /// Parts of 16 MiB, made.
     Make { parts: u16 },
     /// Parts added to a forest of 2^log2 pieces.
@@ -34,6 +36,12 @@ pub fn job_of(words: &[String]) -> Option<Job> {
     }
     if words.len() == 2 && words[1].as_str() == "upload_slowly" {
         return Some(Job::UploadSlowly);
+    }
+    if words.len() == 4 && words[1].as_str() == "hash_length" {
+        return Some(Job::HashLength {
+            bytes: number(&words[2])?,
+            turns: number(&words[3])?,
+        });
     }
     if words.len() == 5 && words[1].as_str() == "upload" {
         return Some(Job::Upload(Load {

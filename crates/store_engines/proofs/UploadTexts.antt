@@ -1,5 +1,5 @@
 -- What an upload writes.
-use Rattle.std.proofs.Common.{◌≡◌, ◌+◌, ◌++◌, codes, refl, ℕ, Bool, true, false, List, Option, Some, None, Result, Ok, Err, ap, ap₂, subst, sym, length, rules, ◌∙◌}
+use Rattle.std.proofs.Common.{◌≡◌, ◌++◌, codes, refl, ℕ, Bool, true, false, List, Option, Some, None, Result, Ok, Err, ap, ap₂, subst, length, ◌∙◌}
 use Rattle.std.specs.Prelude.{IfSome, OnOk}
 use Rattle.std.specs.Io.KnownBytes.{Appends}
 use Rattle.b3_core.specs.Modes.{hash_of}

@@ -1,5 +1,5 @@
 -- What `upload` writes.
-use Rattle.std.specs.Prelude.{◌≡◌, ◌^◌, ℕ, Bool, true, false, List, ◌++◌, Option, Ok, [], codes, length}
+use Rattle.std.specs.Prelude.{◌≡◌, ℕ, Bool, true, false, List, ◌++◌, Option, Ok, [], codes, length}
 use Rattle.std.specs.Io.KnownBytes.{Appends}
 use Rattle.b3_check.specs.Lines.{written_line}
 use Rattle.b3_core.specs.Modes.{hash_of}

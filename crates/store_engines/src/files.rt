@@ -2,9 +2,11 @@
 
 ghost use Rattle.std.specs.Prelude.{◌≡◌};
 
+use crate::outcome::Cause;
+use crate::streams::hash_all;
 use b3_check::{NameFault, Names};
-use b3_core::{Mode, Work, hash_wide};
-use std::fs;
+use b3_core::{Mode, Work};
+use std::fs::File;
 use std::io::ErrorKind;
 use std::rt::Files;
 
@@ -38,13 +40,20 @@ impl<R: Files + AllocGlobal> Names for SystemFiles<'_, R> {
         let Ok(path) = str::from_utf8(name) else {
             return Err(NameFault::Unreadable);
         };
-        match fs::read(self.rt, path) {
-            Ok(bytes) => Ok(Some(hash_wide(&Mode::hash(), &bytes, &mut self.work))),
-            Err(error) => match error.kind() {
-                ErrorKind::NotFound => Ok(None),
-                ErrorKind::OutOfMemory => Err(NameFault::NoMemory),
-                _ => Err(NameFault::Unreadable),
-            },
+        let mut file = match File::open(self.rt, path) {
+            Ok(file) => file,
+            Err(error) => {
+                return match error.kind() {
+                    ErrorKind::NotFound => Ok(None),
+                    ErrorKind::OutOfMemory => Err(NameFault::NoMemory),
+                    _ => Err(NameFault::Unreadable),
+                };
+            }
+        };
+        match hash_all(self.rt.alloc(), &Mode::hash(), &mut file, &mut self.work) {
+            Ok(top) => Ok(Some(top.root32(&mut self.work))),
+            Err(Cause::OutOfMemory) => Err(NameFault::NoMemory),
+            Err(_) => Err(NameFault::Unreadable),
         }
     }
 }

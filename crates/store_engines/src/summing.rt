@@ -1,19 +1,18 @@
 //! The engine of `sum`.
 
-ghost use Rattle.std.specs.Prelude.{◌≡◌, ◌≢◌, ◌++◌, IfErr, IfOk, IfSome, OnOk, codes};
+ghost use Rattle.std.specs.Prelude.{◌≡◌, ◌≢◌, ◌++◌, ℕ, List, IfErr, IfOk, IfSome, OnOk, codes};
 ghost use Rattle.std.specs.Io.KnownBytes.{Appends, IsAtEnd};
 ghost use Rattle.hex.specs.Hex.{encode_lower};
 ghost use Rattle.b3_check.specs.Lines.{written_line};
 ghost use Rattle.b3_check.specs.Names.{IsName};
 ghost use Rattle.b3_core.specs.ExtendedOutput.{output_of};
-ghost use Rattle.b3_core.specs.Modes.{digest_of};
 ghost use Rattle.b3_core.specs.Tree.{tree_top};
-ghost use Rattle.store_engines.specs.Sums.{mode_of, text_in, sum_text};
+ghost use Rattle.store_engines.specs.Sums.{mode_of, sum_text};
 
 use crate::outcome::Cause;
-use crate::streams::{read_all, write_all};
+use crate::streams::{hash_all, write_all};
 use b3_check::Line;
-use b3_core::{Mode, OutputReader, Top, Work, hash_wide};
+use b3_core::{Mode, OutputReader, Top, Work};
 use std::alloc::{AllocError, Global};
 use std::io::{Read, Write};
 use store_command_line::{SumMode, SumOptions};
@@ -39,53 +38,40 @@ pub(crate) fn line_of(alloc: Global, digest: [u8; 32], name: &str) -> Result<Vec
     line.text(alloc)
 }
 
-// The check line of an input.
-fn check_line(
-    alloc: Global,
-    mode: &Mode,
-    name: &str,
-    input: &[u8],
-    work: &mut Work,
-) -> Result<Vec<u8>, AllocError>
+// The check line of the input of which this is the root.
+fn check_line(alloc: Global, name: &str, root: &Top, work: &mut Work) -> Result<Vec<u8>, AllocError>
     requires { IsName name.now }
-    ensures { IfOk result (λ line. line.items ≡ written_line (record { digest = digest_of input.now mode.now; name = name.now })) }
+    ensures { IfOk result (λ line. line.items ≡ written_line (record { digest = output_of root.now 0 32; name = name.now })) }
 {
-    let digest = hash_wide(mode, input, work);
+    let digest = root.root32(work);
     line_of(alloc, digest, name)
 }
 
-// The digits of the first `len` bytes of an input's extended output, and a line feed.
-fn output_line(
-    alloc: Global,
-    mode: &Mode,
-    input: &[u8],
-    len: u32,
-    work: &mut Work,
-) -> Result<Vec<u8>, AllocError>
-    ensures { IfOk result (λ line. line.items ≡ encode_lower (output_of (tree_top input.now 0 mode.now) 0 len) ++ codes "\n") }
+// The digits of the first `len` bytes of the extended output of a root, and a line feed.
+fn output_line(alloc: Global, root: Top, len: u32, work: &mut Work) -> Result<Vec<u8>, AllocError>
+    ensures { IfOk result (λ line. line.items ≡ encode_lower (output_of root 0 len) ++ codes "\n") }
 {
     let mut output = vec![in alloc; 0u8; len as usize]?;
-    let mut reader = OutputReader::new(Top::of_input(mode, input, work));
+    let mut reader = OutputReader::new(root);
     reader.fill(&mut output, work).unwrap();
     let mut line = hex::encode(alloc, &output[..])?;
     line.push_str("\n")?;
     Ok(line.into_bytes())
 }
 
-// What `sum` writes of an input.
+// What `sum` writes of the input of which this is the root.
 fn text_of(
     alloc: Global,
     options: &SumOptions<'_>,
-    input: &[u8],
+    root: Top,
     work: &mut Work,
 ) -> Result<Vec<u8>, AllocError>
     requires { IsName options.now.name.now }
-    ensures { IfOk result (λ text. text.items ≡ sum_text options.now input.now) }
+    ensures { (input : List ℕ) → root ≡ tree_top input 0 (mode_of options.now.mode) → IfOk result (λ text. text.items ≡ sum_text options.now input) }
 {
-    let mode = mode_of(options.mode, work);
     match options.length {
-        None => check_line(alloc, &mode, options.name, input, work),
-        Some(len) => output_line(alloc, &mode, input, len, work),
+        None => check_line(alloc, options.name, &root, work),
+        Some(len) => output_line(alloc, root, len, work),
     }
 }
 
@@ -93,6 +79,8 @@ fn text_of(
 ///
 /// Without a length that is the check line with the options' name; with a length it is the digits of so many bytes of the
 /// extended output, and a line feed.
+///
+/// The input is hashed as it is read, in memory that doesn't grow with it.
 ///
 /// It stops at the first read or write that fails, or where memory is refused. It writes nothing before it has
 /// read everything.
@@ -109,7 +97,8 @@ pub fn sum<R: Read, W: Write>(
     ensures end { OnOk result (IsAtEnd (R.remaining reader.new)) }
     ensures silent { IfErr result (λ cause. cause ≢ Cause.CannotWrite → W.contents writer.new ≡ W.contents writer.old) }
 {
-    let input = read_all(alloc, reader)?;
-    let text = text_of(alloc, options, &input, work)?;
+    let mode = mode_of(options.mode, work);
+    let root = hash_all(alloc, &mode, reader, work)?;
+    let text = text_of(alloc, options, root, work)?;
     write_all(writer, &text)
 }

@@ -6,6 +6,6 @@ use Rattle.b3_core.proofs.lanes.chains.Given as goal
 
 abbrev pub invariant-blocks-2 : goal.invariant-blocks-2
 invariant-blocks-2 l = record {
-  chained : (j : ℕ) → j < 4 → half_lane j l.h ≡ chain (chunk_bytes l.bytes j) (l.number + j) l.mode l.k;
-  work : l.work ≡ counted l.fn.work (4 * l.k);
+  chained : (j : ℕ) → j < 8 → half_lane j l.h ≡ chain (chunk_bytes l.bytes j) (l.number + j) l.mode l.k;
+  work : l.work ≡ counted l.fn.work (8 * l.k);
 }

@@ -11,7 +11,7 @@ returns-clause-front c j a b h left right =
 
 pub returns-clause-back : goal.returns-clause-back
 returns-clause-back c j a b h left right =
-    c.compress.ensures.values (j + 2) 0 (omega arith) (c.splat-none.ensures (j + 2) (omega arith)) (c.splat-none.ensures (j + 2) (omega arith))
-    ∙ parent_value a b c.args.mode.now _ _ _ (c.keys.ensures (j + 2) (omega arith) ∙ c.key.ensures)
+    c.compress.ensures.values (j + 4) 0 (omega arith) (c.splat-none.ensures (j + 4) (omega arith)) (c.splat-none.ensures (j + 4) (omega arith))
+    ∙ parent_value a b c.args.mode.now _ _ _ (c.keys.ensures (j + 4) (omega arith) ∙ c.key.ensures)
     (c.pairs-block.ensures.back j h ∙ ap₂ (λ l r. l ++ r) left right)
     (ap (λ n. n + 4) c.flag.ensures.value)

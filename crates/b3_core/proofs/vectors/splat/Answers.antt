@@ -1,6 +1,5 @@
-use Rattle.std.proofs.Common.{refl}
-use Rattle.b3_core.proofs.FourLanes.{below_four}
+use Rattle.std.proofs.lemmas.Simd.{get_or-replicate}
 use Rattle.b3_core.proofs.vectors.splat.Goals as goal
 
 pub returns : goal.returns
-returns c = below_four _ refl refl refl refl
+returns g c j h = get_or-replicate g.row.N j c.args.x 0 h

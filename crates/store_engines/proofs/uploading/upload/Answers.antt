@@ -1,4 +1,4 @@
-use Rattle.std.proofs.Common.{rules, ◌≡◌, ◌+◌, length}
+use Rattle.std.proofs.Common.{rules, ◌≡◌, length}
 use Rattle.std.specs.Prelude.{IfSome}
 use Rattle.b3_core.specs.Modes.{hash_of}
 use Rattle.store_shared.specs.Cuts.{cut_of}

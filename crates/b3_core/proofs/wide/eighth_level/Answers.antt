@@ -1,6 +1,6 @@
 use Rattle.std.proofs.Common.{arith}
-use Rattle.b3_core.proofs.Quarters.{level_fits}
-use Rattle.b3_core.proofs.wide.quarter_level.Goals as goal
+use Rattle.b3_core.proofs.Eighths.{level_fits}
+use Rattle.b3_core.proofs.wide.eighth_level.Goals as goal
 
 pub overflow_add-level : goal.overflow_add-level
 overflow_add-level c =

@@ -1,0 +1,61 @@
+-- Bytes that come in pieces, and what is kept of them: one node for each whole subtree, and the bytes behind these.
+use Rattle.std.specs.Prelude.{◌≡◌, ℕ, ◌+◌, ◌-◌, ◌*◌, ◌/◌, ◌^◌, ◌<◌, ◌≤◌, List, [], ◌∷◌, ◌++◌, length}
+use Rattle.b3_core.specs.Tree.{Inputs, Keying, parent_top, tree_top}
+use Rattle.b3_core.specs.Work.{counted, hash_work}
+
+-- the nodes of whole subtrees with their levels, the last first
+abbrev pub Subtrees : Type 0
+Subtrees = List (ℕ × Inputs)
+
+-- what a hasher keeps
+pub record Hashing : Type 0 where
+  pub mode : Keying
+  pub subtrees : Subtrees
+  pub whole : ℕ
+  pub tail : List ℕ
+
+-- the first of the subtrees has a level above k, and one of k or above
+abbrev pub AreAbove : ℕ → Subtrees → Type 0
+AreAbove k [] = Unit {0}
+AreAbove k (s ∷ subtrees) = k < s.0
+
+abbrev pub AreFrom : ℕ → Subtrees → Type 0
+AreFrom k [] = Unit {0}
+AreFrom k (s ∷ subtrees) = k ≤ s.0
+
+-- the subtrees are those of x: 2^k whole chunks each, every one greater than those behind it
+abbrev pub AreSubtrees : Keying → Subtrees → List ℕ → Type 0
+AreSubtrees p [] x = x ≡ []
+AreSubtrees p (s ∷ subtrees) x =
+    (before : List ℕ) × (mine : List ℕ) × (x ≡ before ++ mine) × (length mine ≡ 1024 * 2 ^ s.0)
+    × (s.1 ≡ tree_top mine (length before / 1024) p) × AreAbove s.0 subtrees × AreSubtrees p subtrees before
+
+-- the subtrees and the next one, no greater than the last of them, are those of x
+abbrev pub IsNext : Keying → Subtrees → (ℕ × Inputs) → List ℕ → Type 0
+IsNext p subtrees s x =
+    (before : List ℕ) × (mine : List ℕ) × (x ≡ before ++ mine) × (length mine ≡ 1024 * 2 ^ s.0)
+    × (s.1 ≡ tree_top mine (length before / 1024) p) × AreFrom s.0 subtrees × AreSubtrees p subtrees before
+
+-- the hasher was given the bytes x
+abbrev pub Holds : Hashing → List ℕ → Type 0
+Holds h x = (before : List ℕ) × (x ≡ before ++ h.tail) × AreSubtrees h.mode h.subtrees before × (length before ≡ h.whole) × (length h.tail < 1024)
+
+-- the compressions behind these nodes
+abbrev pub kept_work : Subtrees → ℕ
+kept_work [] = 0
+kept_work (s ∷ subtrees) = kept_work subtrees + (hash_work (1024 * 2 ^ s.0) - 1)
+
+-- a count of n compressions is m after those that lead from k of them to l
+abbrev pub Makes : ℕ → ℕ → ℕ → ℕ → Type 0
+Makes k l n m = (made : ℕ) × (l ≡ k + made) × (m ≡ counted n made)
+
+-- of the bytes that a hasher gets, which was given x and has made n compressions, the rest is left where it is h and has made m
+abbrev pub IsLeft : Hashing → List ℕ → List ℕ → ℕ → Hashing → List ℕ → ℕ → Type 0
+IsLeft old x bytes n h rest m =
+    (front : List ℕ) × (bytes ≡ front ++ rest) × Holds h (x ++ front) × (0 < length rest → h.tail ≡ [])
+    × Makes (kept_work old.subtrees) (kept_work h.subtrees) n m
+
+-- the node over all subtrees and what stands behind them, of which this is the node
+abbrev pub joined : Keying → Subtrees → Inputs → Inputs
+joined p [] right = right
+joined p (s ∷ subtrees) right = joined p subtrees (parent_top s.1 right p)

@@ -1,0 +1,86 @@
+// Bytes that a hasher is given in pieces.
+
+use crate::patterns::pattern;
+use crate::vectors::{CONTEXT, KEY};
+use b3_core::{Hasher, Mode, Work, hash};
+use std::process::Abort;
+use std::test::Fail;
+
+// Pieces of these sizes in turn, and then the rest, give the hash of the whole by as many compressions.
+fn agree<R: AllocGlobal + Abort>(rt: &R, mode: &Mode, bytes: &[u8], sizes: &[usize]) {
+    let mut work = Work::new(rt);
+    let mut hasher = Hasher::new(mode);
+    let mut rest = bytes;
+    for size in sizes {
+        let (piece, behind) = rest.split_at((*size).min(rest.len()));
+        hasher.update(piece, &mut work);
+        rest = behind;
+    }
+    hasher.update(rest, &mut work);
+    let digest = hasher.top(&mut work).root32(&mut work);
+    let mut whole = Work::new(rt);
+    assert!(rt;
+        digest == hash(mode, bytes, &mut whole),
+        "{} bytes",
+        bytes.len()
+    );
+    assert_eq!(rt; work.count(), whole.count());
+}
+
+#[test]
+fn one_cut_in_three_modes(rt: HostRuntime) -> Result<(), Fail> {
+    let keyed = Mode::keyed(KEY);
+    let derive = Mode::derive(CONTEXT, &mut Work::new(&rt));
+    let bytes = pattern(rt.alloc(), 0, 17_409)?;
+    for cut in [
+        0usize, 1, 63, 64, 1023, 1024, 1025, 8191, 8192, 8193, 17_409,
+    ] {
+        agree(&rt, &Mode::hash(), &bytes, &[cut]);
+        agree(&rt, &keyed, &bytes, &[cut]);
+        agree(&rt, &derive, &bytes, &[cut, 8192 - cut % 8192]);
+    }
+    Ok(())
+}
+
+#[test]
+fn many_pieces_of_one_size(rt: HostRuntime) -> Result<(), Fail> {
+    let bytes = pattern(rt.alloc(), 0, 12_289)?;
+    for size in [1usize, 63, 64, 1023, 1024, 1025, 2048, 3072] {
+        agree(&rt, &Mode::hash(), &bytes, &[size; 200]);
+    }
+    Ok(())
+}
+
+#[test]
+fn pieces_of_many_sizes(rt: HostRuntime) -> Result<(), Fail> {
+    let bytes = pattern(rt.alloc(), 0, 70_000)?;
+    let mut state = 1u32;
+    for _ in 0..40 {
+        let mut sizes = [0usize; 40];
+        for size in &mut sizes {
+            state = state.wrapping_mul(1_664_525).wrapping_add(1_013_904_223);
+            *size = ((state >> 8) % 4_099) as usize;
+        }
+        agree(&rt, &Mode::hash(), &bytes, &sizes);
+    }
+    Ok(())
+}
+
+// The node is that of what was given so far, and more can be given behind it.
+#[test]
+fn a_top_in_between(rt: HostRuntime) -> Result<(), Fail> {
+    let bytes = pattern(rt.alloc(), 0, 5_000)?;
+    let mut work = Work::new(&rt);
+    let mut hasher = Hasher::new(&Mode::hash());
+    let mut given = 0;
+    for end in [0usize, 1, 1024, 3072, 4096, 5_000] {
+        hasher.update(&bytes[given..end], &mut work);
+        given = end;
+        let wanted = hash(&Mode::hash(), &bytes[..end], &mut work);
+        assert!(rt;
+            hasher.top(&mut work).root32(&mut work) == wanted,
+            "{end} bytes"
+        );
+    }
+    Ok(())
+}
