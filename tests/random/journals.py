@@ -1,8 +1,8 @@
-"""Random journals: those of random scripts, whole, cut, or with one line, field or byte another."""
+"""Random journals of either version, for `audit` and `migrate`: those of random scripts, whole, cut, or with one line, field or byte another."""
 import re
 
 import scripts
-from journal import audit_answer
+from journal import ANSWERS, HEADER
 
 
 def changed(chance, lines):
@@ -22,17 +22,18 @@ def changed(chance, lines):
     if kind == 3:
         numbers = [found.span() for found in re.finditer(r"(?<= )[0-9]+(?= |$)", line)]
         start, end = chance.choice(numbers) if numbers else (len(line), len(line))
-        other = chance.choice((0, 1, 2, 5, 1024, 2048, 4096, 1 << 40, 1 << 46, 1 << 64))
+        other = chance.choice((0, 1, 2, 5, 1024, 2048, 4096, 1 << 44, (1 << 44) + 1, 1 << 46, 1 << 64))
         return lines[:at] + [line[:start] + str(other) + line[end:]] + lines[at + 1 :]
     return lines[:at] + [scripts.spoilt(chance, line)] + lines[at + 1 :]
 
 
 def case(chance):
-    lines = scripts.journal_of(chance)
+    lines = [HEADER.decode()] * chance.randrange(2) + scripts.journal_of(chance)
     for _ in range(chance.choice((0, 1, 1, 2))):
         lines = changed(chance, lines)
     text = "\n".join(lines) + ("\n" if lines and chance.random() < 0.9 else "")
     if chance.random() < 0.1:
         text = text[: chance.randrange(len(text) + 1)]
-    told, status = audit_answer(text.encode())
-    return ["audit"], text.encode(), told, status
+    word = chance.choice(sorted(ANSWERS))
+    told, status = ANSWERS[word](text.encode())
+    return [word], text.encode(), told, status

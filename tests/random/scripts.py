@@ -3,7 +3,7 @@ from script import answers_of, call_of, pattern
 from store import Refused, Store
 
 LENGTHS = (0, 1, 5, 63, 64, 65, 1023, 1024, 1025, 2047, 2048, 2049, 3072, 4096, 5000)
-NUMBERS = ("18446744073709551615", "18446744073709551616", "70368744177664", "70368744177665", "1099511627776", "1099511627777", "007", "-1", "+1", "")
+NUMBERS = ("18446744073709551615", "18446744073709551616", "70368744177664", "70368744177665", "17592186044416", "17592186044417", "007", "-1", "+1", "")
 
 
 class Writer:
@@ -36,7 +36,7 @@ class Writer:
         return found.upper() if self.chance.random() < 0.2 else found
 
     def begin(self):
-        lengths = self.lengths if self.chance.random() < 0.9 else LENGTHS + (1 << 40, (1 << 40) + 1)
+        lengths = self.lengths if self.chance.random() < 0.9 else LENGTHS + (1 << 44, (1 << 44) + 1)
         return f"begin {self.tenant()} {self.chance.choice(lengths)}"
 
     def put(self):

@@ -9,7 +9,7 @@ use Rattle.std.proofs.lemmas.Bool.Decides.{nat_tests}
 use Rattle.std.proofs.lemmas.List.{length-map}
 use Rattle.b3_forest.specs.Forests.{IsRow, Covers, NoHalves, IsForest}
 use Rattle.b3_forest.specs.Nodes.{Nodes, AreForest, AreHalvesAt, ArePieces, AreSettled, node_at, piece_from, pieces_in}
-use Rattle.b3_forest.specs.Pieces.{pieces_of, piece_count, root_level}
+use Rattle.b3_forest.specs.Pieces.{most_chunks, piece_count, pieces_of, root_level}
 use Rattle.b3_forest.specs.declared.node.Node.{Node}
 use Rattle.b3_forest.proofs.Maps.{at_same, at_other, same_or}
 use Rattle.b3_forest.proofs.Merging.{some_same}
@@ -60,7 +60,7 @@ tail_settled e es sorted settled s h = settled s (record {
 -- ---- the list of pieces
 
 row_of : (x : ℕ → List ℕ) (a : ℕ) (es : Nodes) → AreSorted es → ArePieces x es → ((s : ℕ) (n : Node) → node_at es s ≡ Some n → a ≤ s)
-    → IsRow x (2 ^ 30) a (map piece_from es)
+    → IsRow x most_chunks a (map piece_from es)
 unfolding IsStrictlySortedBy
 row_of x a [] sorted pieces from = tt
 row_of x a (e ∷ es) sorted pieces from =

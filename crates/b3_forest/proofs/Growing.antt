@@ -8,6 +8,7 @@ use Rattle.std.proofs.lemmas.Bool.{cases_lt}
 use Rattle.std.proofs.lemmas.Nat.{pow_pos}
 use Rattle.b3_forest.specs.Forests.{IsPiece, IsRow, Covers, IsForest, piece_end}
 use Rattle.b3_forest.specs.Nodes.{Nodes, AreForest, AreFresh, ArePieces, HasChunk, IsAmong, firsts, is_held, node_at, node_of, piece_from, with_nodes}
+use Rattle.b3_forest.specs.Pieces.{most_chunks, root_level}
 use Rattle.b3_forest.specs.declared.node.Node.{Node}
 use Rattle.b3_forest.specs.declared.piece.Piece.{Piece}
 use Rattle.b3_forest.proofs.Chunks.{Extends, full_at, piece_same}
@@ -72,7 +73,7 @@ meets : (y z : ℕ → List ℕ) (a i : ℕ) (es : Nodes) (p : Piece) → Grows 
 meets y z a i es p grows piece behind has after before =
     omega (arith, grows.below i has (full_at y p.level p.first i piece.full after before), behind, after)
 
-grows_by : (x y z : ℕ → List ℕ) (a : ℕ) (es : Nodes) (p : Piece) → AreJoined x y z → Grows y z a es → IsPiece y p → a ≤ p.first → piece_end p ≤ 2 ^ 30
+grows_by : (x y z : ℕ → List ℕ) (a : ℕ) (es : Nodes) (p : Piece) → AreJoined x y z → Grows y z a es → IsPiece y p → a ≤ p.first → piece_end p ≤ most_chunks
     → Grows y z (piece_end p) (put p es)
 unfolding Found
 grows_by x y z a es p joined grows piece behind most = record {
@@ -82,7 +83,7 @@ grows_by x y z a es p joined grows piece behind most = record {
       | inr other ↦ grows.pieces.lawful s n other.1
     ];
     within = λ s n is. elim (found es p s n is) [
-      | inl at ↦ subst (λ i. i ≤ 2 ^ 30) (ap₂ (λ (i : ℕ) (k : Node). i + 2 ^ k.level) (sym at.0) (sym at.1)) most
+      | inl at ↦ subst (λ i. i ≤ most_chunks) (ap₂ (λ (i : ℕ) (k : Node). i + 2 ^ k.level) (sym at.0) (sym at.1)) most
       | inr other ↦ grows.pieces.within s n other.1
     ];
     apart = λ s t n m is_s is_t before. elim (found es p s n is_s) [
@@ -134,7 +135,7 @@ pub record IsGrown (z : ℕ → List ℕ) (ps : List Piece) (es : Nodes) : Type 
 not_none : (es : Nodes) (s t : ℕ) (m : Node) → node_at es s ≡ Some m → node_at es t ≡ None → s ≢ t
 not_none es s t m some none same = let bad = sym some ∙ ap (node_at es) same ∙ none in cc
 
-grown : (x y z : ℕ → List ℕ) (a : ℕ) (ps : List Piece) (es : Nodes) → AreJoined x y z → Grows y z a es → IsRow y (2 ^ 30) a ps → IsGrown z ps es
+grown : (x y z : ℕ → List ℕ) (a : ℕ) (ps : List Piece) (es : Nodes) → AreJoined x y z → Grows y z a es → IsRow y most_chunks a ps → IsGrown z ps es
 unfolding with_nodes AreFresh Found put
 grown x y z a [] es joined grows row = record {
   are_fresh = tt;
@@ -165,7 +166,7 @@ grown x y z a (p ∷ ps) es joined grows row =
     }
 
 -- the pieces of a part put among those of the others: a canonical forest but for halves at the part's pieces
-pub grown_forest : (x y z : ℕ → List ℕ) (ps : List Piece) (es : Nodes) → AreJoined x y z → AreForest x [] es → IsForest y 30 0 ps
+pub grown_forest : (x y z : ℕ → List ℕ) (ps : List Piece) (es : Nodes) → AreJoined x y z → AreForest x [] es → IsForest y root_level 0 ps
     → IsGrown z ps es × AreForest z (firsts ps) (with_nodes ps es)
 grown_forest x y z ps es joined forest part =
     let g = grown x y z 0 ps es joined (grows_from x y z 0 es joined forest.pieces) part.row in (

@@ -1,5 +1,5 @@
 -- What the pieces of an upload tell of its parts.
-use Rattle.std.proofs.Common.{◌≡◌, ℕ, ◌+◌, ◌-◌, ◌*◌, ◌^◌, ◌<◌, ◌≤◌, List, [], ◌∷◌, length, map, Option, Some, None, nat_lt, true, false, arith, refl, ap, ap₂, subst, sym, ◌∙◌, inl, inr}
+use Rattle.std.proofs.Common.{◌≡◌, ℕ, ◌+◌, ◌-◌, ◌*◌, ◌<◌, ◌≤◌, List, [], ◌∷◌, length, map, Option, Some, None, nat_lt, true, false, arith, refl, ap, ap₂, subst, sym, ◌∙◌, inl, inr}
 use Rattle.std.specs.Prelude.{◌==◌, option_map, OnErr, Result, Ok, Err}
 use Rattle.std.specs.List.Sorted.{IsStrictlySortedBy}
 use Rattle.std.specs.Map.{values_of}
@@ -10,8 +10,8 @@ use Rattle.b3_core.specs.Modes.{hash_mode}
 use Rattle.b3_core.specs.Tree.{Inputs, tree_top}
 use Rattle.b3_forest.specs.Forests.{IsForest}
 use Rattle.b3_forest.specs.Nodes.{Nodes, AreForest, AreFresh, IsFirstGap, Keeps, firsts, is_held, top_over, with_nodes}
-use Rattle.b3_forest.specs.Parts.{Part, PlannedPart, Fits, chunk_in, chunks_of}
-use Rattle.b3_forest.specs.Pieces.{piece_count, pieces_of, root_level}
+use Rattle.b3_forest.specs.Parts.{Fits, Part, PlannedPart, chunk_in, chunks_of, most_bytes}
+use Rattle.b3_forest.specs.Pieces.{most_chunks, piece_count, pieces_of, root_level}
 use Rattle.b3_forest.specs.Uploads.{ArePlaced, Upload, add_refusal, content_of, first_gap, first_missing, held_bytes, merges_of, overlap_at, part_of, with_part}
 use Rattle.b3_forest.specs.declared.segment.Segment.{Segment}
 use Rattle.b3_forest.specs.declared.add_refused.AddFault.TheVariants.{Overlap, WrongPlan}
@@ -26,7 +26,7 @@ use Rattle.b3_forest.proofs.PiecesAreForest.{pieces_are_forest}
 
 -- ---- the first gap
 
-pub nothing_past : (n : ℕ) (ps : List Part) (es : Nodes) → Keeps n ps es → (i : ℕ) → 2 ^ 30 ≤ i → is_held (chunk_in ps) i ≡ false
+pub nothing_past : (n : ℕ) (ps : List Part) (es : Nodes) → Keeps n ps es → (i : ℕ) → most_chunks ≤ i → is_held (chunk_in ps) i ≡ false
 nothing_past n ps es keeps i high = elim (bool_cases (is_held (chunk_in ps) i)) [
   | inr none ↦ none
   | inl held ↦ let low = (held_after n 0 i ps keeps.upload.placed held).1 in absurd (omega (arith, low, high, keeps.upload.most))
@@ -121,7 +121,7 @@ finish_length n ps es keeps none = let sum = (whole_upload n ps es keeps none).l
 
 -- ---- a forest
 
-pub keeps_nothing : (n : ℕ) (ps : List Part) (es : Nodes) → n ≤ 2 ^ 40 → ps ≡ [] → es ≡ [] → Keeps n ps es
+pub keeps_nothing : (n : ℕ) (ps : List Part) (es : Nodes) → n ≤ most_bytes → ps ≡ [] → es ≡ [] → Keeps n ps es
 unfolding chunk_in IsStrictlySortedBy
 keeps_nothing n ps es most no_parts no_nodes = subst (λ (qs : List Part). Keeps n qs es) (sym no_parts) (subst (Keeps n []) (sym no_nodes) (record {
   upload = record { most = most; placed = tt };
@@ -158,7 +158,7 @@ allowed u n ps p es seen free keeps =
 pub held_with : (h len : ℕ) (ps : List Part) (p : Part) (qs : List Part) → qs ≡ with_part p ps → h ≡ held_bytes ps → len ≡ length p.bytes → h + len ≡ held_bytes qs
 held_with h len ps p qs all held bytes = let more = held_more p ps in ap₂ (λ i j. i + j) held bytes ∙ sym (ap held_bytes all ∙ more)
 
-pub held_fits : (n : ℕ) (p : Part) (ps : List Part) (es : Nodes) → Keeps n (with_part p ps) es → held_bytes ps + length p.bytes ≤ 2 ^ 40
+pub held_fits : (n : ℕ) (p : Part) (ps : List Part) (es : Nodes) → Keeps n (with_part p ps) es → held_bytes ps + length p.bytes ≤ most_bytes
 held_fits n p ps es keeps =
     let more = held_more p ps in
     let most = held_most n 0 (with_part p ps) (omega arith) keeps.upload.placed in

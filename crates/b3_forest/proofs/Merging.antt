@@ -7,6 +7,7 @@ use Rattle.b3_core.specs.Modes.{hash_mode}
 use Rattle.b3_core.specs.Tree.{parent_top}
 use Rattle.b3_forest.specs.Forests.{IsPiece}
 use Rattle.b3_forest.specs.Nodes.{Nodes, AreChunks, AreForest, AreHalvesAt, ArePieces, AreSettled, HasChunk, IsAlone, IsAmong, IsMerged, IsPair, node_at, piece_from}
+use Rattle.b3_forest.specs.Pieces.{most_chunks}
 use Rattle.b3_forest.specs.declared.halves.Halves.{Halves}
 use Rattle.b3_forest.specs.declared.node.Node.{Node}
 use Rattle.b3_forest.proofs.Chunks.{halves_piece}
@@ -46,7 +47,7 @@ merged_piece n x es first h join chunks pieces pair =
     halves_piece n x (piece_from (h.left, left_node h)) (piece_from (h.right, right_node h)) join chunks
     (pieces.lawful h.left (left_node h) pair.is_left) (pieces.lawful h.right (right_node h) pair.is_right) refl pair.next pair.aligned
 
-merged_within : (x : ℕ → List ℕ) (es : Nodes) (first : ℕ) (h : Halves) → ArePieces x es → IsPair es first h → h.left + 2 ^ suc h.level ≤ 2 ^ 30
+merged_within : (x : ℕ → List ℕ) (es : Nodes) (first : ℕ) (h : Halves) → ArePieces x es → IsPair es first h → h.left + 2 ^ suc h.level ≤ most_chunks
 unfolding right_node
 merged_within x es first h pieces pair =
     let two = two-pow-succ h.level in
@@ -77,7 +78,7 @@ merged_pieces n x es fs first h join chunks pieces pair merged = record {
     | inr other ↦ pieces.lawful s m other.2
   ];
   within = λ s m is. elim (found es fs h s m merged is) [
-    | inl at ↦ subst (λ i. i ≤ 2 ^ 30) (ap₂ (λ (i : ℕ) (k : Node). i + 2 ^ k.level) (sym at.0) (sym at.1)) (merged_within x es first h pieces pair)
+    | inl at ↦ subst (λ i. i ≤ most_chunks) (ap₂ (λ (i : ℕ) (k : Node). i + 2 ^ k.level) (sym at.0) (sym at.1)) (merged_within x es first h pieces pair)
     | inr other ↦ pieces.within s m other.2
   ];
   apart = λ s t m k is_s is_t before. elim (found es fs h s m merged is_s) [

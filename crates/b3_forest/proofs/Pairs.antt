@@ -6,6 +6,7 @@ use Rattle.std.proofs.lemmas.Nat.{pow_pos}
 use Rattle.std.proofs.Math.Nat.{two-pow-succ, mul-div_cancel, mul-le-mul_right}
 use Rattle.std.proofs.Math.Pow.{pow_mono}
 use Rattle.b3_forest.specs.Nodes.{Nodes, ArePieces, IsAlone, IsOtherHalf, IsPair, node_at}
+use Rattle.b3_forest.specs.Pieces.{root_level}
 use Rattle.b3_forest.specs.declared.node.Node.{Node}
 use Rattle.b3_forest.proofs.Merging.{some_same}
 
@@ -88,13 +89,13 @@ other_alone es first place node here (inr right) no_other s h =
     )
 
 -- the level of a half is below that of all chunks
-low_level : (x : ℕ → List ℕ) (es : Nodes) (s l : ℕ) (m : Node) → ArePieces x es → node_at es (s + 2 ^ l) ≡ Some m → m.level ≡ l → l < 30
+low_level : (x : ℕ → List ℕ) (es : Nodes) (s l : ℕ) (m : Node) → ArePieces x es → node_at es (s + 2 ^ l) ≡ Some m → m.level ≡ l → l < root_level
 low_level x es s l m pieces is level =
     let most = pieces.within (s + 2 ^ l) m is in
     let wide : 2 ^ m.level ≡ 2 ^ l = ap (λ j. 2 ^ j) level in
-    elim (cases_lt l 30) [
+    elim (cases_lt l root_level) [
       | inl low ↦ low
-      | inr high ↦ let up : 2 ^ 30 ≤ 2 ^ l = pow_mono high in absurd (omega (arith, up, most, wide))
+      | inr high ↦ let up : 2 ^ root_level ≤ 2 ^ l = pow_mono high in absurd (omega (arith, up, most, wide))
     ]
 
 pub pair_of : (x : ℕ → List ℕ) (es : Nodes) (first place : ℕ) (node other : Node) → ArePieces x es → node_at es first ≡ Some node → node_at es place ≡ Some other
@@ -124,11 +125,11 @@ pair_to x es first place node other pieces here there level (inr right) after = 
 }
 
 -- no piece is wider than all chunks
-pub level_most : (x : ℕ → List ℕ) (es : Nodes) (s : ℕ) (n : Node) → ArePieces x es → node_at es s ≡ Some n → n.level ≤ 30
-level_most x es s n pieces is = elim (cases_lt 30 n.level) [
+pub level_most : (x : ℕ → List ℕ) (es : Nodes) (s : ℕ) (n : Node) → ArePieces x es → node_at es s ≡ Some n → n.level ≤ root_level
+level_most x es s n pieces is = elim (cases_lt root_level n.level) [
   | inl high ↦
       let most = pieces.within s n is in
-      let up : 2 ^ 31 ≤ 2 ^ n.level = pow_mono high in
+      let up : 2 ^ suc root_level ≤ 2 ^ n.level = pow_mono high in
       absurd (omega (arith, up, most))
   | inr low ↦ low
 ]

@@ -9,6 +9,7 @@ use Rattle.std.proofs.lemmas.Bool.Decides.{nat_tests}
 use Rattle.std.proofs.lemmas.Bool.{cases_lt}
 use Rattle.std.proofs.lemmas.Nat.{pow_pos}
 use Rattle.b3_forest.specs.Nodes.{Nodes, AreForest, ArePieces, HasChunk, IsLastUpto, IsLeastHeld, IsNextFrom, NoneFrom, NoneHeld, NoneUpto, is_held, node_at}
+use Rattle.b3_forest.specs.Pieces.{most_chunks}
 use Rattle.b3_forest.specs.declared.node.Node.{Node}
 use Rattle.b3_forest.proofs.Chunks.{full_at}
 use Rattle.b3_forest.proofs.Maps.{three}
@@ -76,7 +77,7 @@ pub held_in : (x : ℕ → List ℕ) (es : Nodes) (s i : ℕ) (n : Node) → Are
 held_in x es s i n pieces is after before = full_at x n.level s i (pieces.lawful s n is).full after before
 
 -- what is not held, where no piece can be
-not_held : (x : ℕ → List ℕ) (es : Nodes) (i : ℕ) → AreForest x [] es → i < 2 ^ 30 → (HasChunk es i → ⊥) → is_held x i ≡ false
+not_held : (x : ℕ → List ℕ) (es : Nodes) (i : ℕ) → AreForest x [] es → i < most_chunks → (HasChunk es i → ⊥) → is_held x i ≡ false
 not_held x es i forest low never = elim (bool_cases (is_held x i)) [
   | inl held ↦ absurd (never (forest.all i held low))
   | inr none ↦ none
@@ -126,7 +127,7 @@ least_next x es start end first forest reaches next =
           ]);
     }
 
-pub none_held : (x : ℕ → List ℕ) (es : Nodes) (start end : ℕ) → AreForest x [] es → end ≤ 2 ^ 30 → NoneReaches es start → NoneFrom es start end → NoneHeld x start end
+pub none_held : (x : ℕ → List ℕ) (es : Nodes) (start end : ℕ) → AreForest x [] es → end ≤ most_chunks → NoneReaches es start → NoneFrom es start end → NoneHeld x start end
 none_held x es start end forest most reaches none i after before = not_held x es i forest (omega (arith, before, most)) (λ has.
     elim (cases_lt start has.first) [
       | inl behind ↦ let late = none has.first has.node has.is (omega (arith, behind)) in omega (arith, late, has.after, before)

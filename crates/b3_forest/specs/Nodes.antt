@@ -8,7 +8,7 @@ use Rattle.b3_core.specs.Modes.{hash_mode}
 use Rattle.b3_core.specs.Tree.{Inputs, parent_top}
 use Rattle.b3_forest.specs.Forests.{IsForest, IsPiece}
 use Rattle.b3_forest.specs.Parts.{Part, PlannedPart, chunk_in}
-use Rattle.b3_forest.specs.Pieces.{root_level}
+use Rattle.b3_forest.specs.Pieces.{most_chunks, root_level}
 use Rattle.b3_forest.specs.Uploads.{IsUpload, overlap_at}
 use Rattle.b3_forest.specs.declared.halves.Halves.{Halves}
 use Rattle.b3_forest.specs.declared.node.Node.{Node}
@@ -38,7 +38,7 @@ with_nodes (p ∷ ps) es = with_nodes ps (insert_entry nat_cmp es p.first (node_
 -- the nodes are of lawful pieces, disjoint and within the chunks that an upload may have
 pub record ArePieces (x : ℕ → List ℕ) (es : Nodes) : Type 0 where
   pub lawful : (s : ℕ) (n : Node) → node_at es s ≡ Some n → IsPiece x (piece_from (s, n))
-  pub within : (s : ℕ) (n : Node) → node_at es s ≡ Some n → s + 2 ^ n.level ≤ 2 ^ 30
+  pub within : (s : ℕ) (n : Node) → node_at es s ≡ Some n → s + 2 ^ n.level ≤ most_chunks
   pub apart : (s t : ℕ) (n m : Node) → node_at es s ≡ Some n → node_at es t ≡ Some m → s < t → s + 2 ^ n.level ≤ t
 
 -- chunk i is in a piece
@@ -50,7 +50,7 @@ pub record HasChunk (es : Nodes) (i : ℕ) : Type 0 where
   pub before : i < first + 2 ^ node.level
 
 abbrev pub HaveAll : (ℕ → List ℕ) → Nodes → Type 0
-HaveAll x es = (i : ℕ) → nat_lt 0 (length (x i)) ≡ true → i < 2 ^ 30 → HasChunk es i
+HaveAll x es = (i : ℕ) → nat_lt 0 (length (x i)) ≡ true → i < most_chunks → HasChunk es i
 
 -- pieces at s and right behind it are the halves of one aligned range
 pub record AreHalvesAt (es : Nodes) (s : ℕ) : Type 0 where
@@ -176,7 +176,7 @@ pub record IsPair (es : Nodes) (first : ℕ) (h : Halves) : Type 0 where
   pub next : h.right ≡ h.left + 2 ^ h.level
   pub one : (first ≡ h.left) ⊎ (first ≡ h.right)
   pub aligned : (c : ℕ) × (h.left ≡ c * 2 ^ suc h.level)
-  pub low : h.level < 30
+  pub low : h.level < root_level
 
 -- no halves of which one begins at the chunk
 abbrev pub IsAlone : Nodes → ℕ → Type 0

@@ -1,6 +1,10 @@
 -- The parts of an upload: what callers hand in.
 use Rattle.std.specs.Prelude.{◌≡◌, ◌≢◌, ℕ, ◌+◌, ◌-◌, ◌*◌, ◌%◌, ◌^◌, ◌<◌, ◌≤◌, ◌&&◌, nat_lt, nat_le, true, false, List, [], ◌∷◌, length, take, drop}
 
+-- the most bytes of an upload
+abbrev pub most_bytes : ℕ
+most_bytes = 2 ^ 44
+
 -- bytes that begin at an offset of the upload
 pub record Part : Type 0 where
   pub offset : ℕ

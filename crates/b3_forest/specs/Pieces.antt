@@ -3,7 +3,7 @@
 use Rattle.std.specs.Prelude.{◌≡◌, ℕ, zero, suc, ◌+◌, ◌-◌, ◌*◌, ◌/◌, ◌^◌, nat_lt, Bool, true, false, ◌&&◌, List, [], ◌∷◌, ◌++◌, length}
 use Rattle.b3_core.specs.Modes.{hash_mode}
 use Rattle.b3_core.specs.Tree.{tree_top}
-use Rattle.b3_forest.specs.Parts.{Fits, PlannedPart, chunks_of}
+use Rattle.b3_forest.specs.Parts.{Fits, PlannedPart, chunks_of, most_bytes}
 use Rattle.b3_forest.specs.declared.piece.Piece.{Piece}
 
 -- the bytes of 2 ^ k chunks from chunk s on
@@ -29,9 +29,12 @@ pieces_of x (suc k) s = elim (is_full x (suc k) s) [
   | false ↦ pieces_of x k s ++ pieces_of x k (s + 2 ^ k)
 ]
 
--- the level of the range of all chunks that an upload may have
+-- the number of all chunks that an upload may have, and the level of their range
+abbrev pub most_chunks : ℕ
+most_chunks = most_bytes / 1024
+
 abbrev pub root_level : ℕ
-root_level = 30
+root_level = 34
 
 -- the number of pieces, a function of the held chunks alone
 abbrev pub piece_count : (ℕ → List ℕ) → ℕ

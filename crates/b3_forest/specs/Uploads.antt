@@ -1,7 +1,7 @@
 -- Uploads: the parts that are held, and what they leave missing.
-use Rattle.std.specs.Prelude.{◌≡◌, ℕ, ◌<◌, ◌+◌, ◌-◌, ◌*◌, ◌^◌, ◌≤◌, ◌==◌, ◌&&◌, ◌⊎◌, Bool, IfSome, IfNone, nat_lt, true, false, if◌then◌else◌, List, [], ◌∷◌, ◌++◌, Option, Some, None, option_map, length, max, sum_by}
+use Rattle.std.specs.Prelude.{◌≡◌, ℕ, ◌<◌, ◌+◌, ◌-◌, ◌*◌, ◌≤◌, ◌==◌, ◌&&◌, ◌⊎◌, Bool, IfSome, IfNone, nat_lt, true, false, if◌then◌else◌, List, [], ◌∷◌, ◌++◌, Option, Some, None, option_map, length, max, sum_by}
 use Rattle.std.specs.Arc.{arc_value}
-use Rattle.b3_forest.specs.Parts.{Part, PlannedPart, Fits, end_of, chunk_in, chunks_of}
+use Rattle.b3_forest.specs.Parts.{Part, PlannedPart, Fits, end_of, chunk_in, chunks_of, most_bytes}
 use Rattle.b3_forest.specs.Pieces.{piece_count}
 use Rattle.b3_forest.specs.declared.segment.Segment.{Segment}
 use Rattle.b3_forest.specs.declared.add_refused.AddFault.{AddFault}
@@ -17,9 +17,9 @@ abbrev pub ArePlaced : ℕ → ℕ → List Part → Type 0
 ArePlaced n a [] = Unit {0}
 ArePlaced n a (p ∷ ps) = (a ≤ p.offset) × Fits n p.offset (length p.bytes) × ArePlaced n (end_of p) ps
 
--- a lawful upload: at most 2 ^ 40 bytes, and parts that fit, in order and disjoint
+-- a lawful upload: no longer than may be, and parts that fit, in order and disjoint
 pub record IsUpload (u : Upload) : Type 0 where
-  pub most : u.len ≤ 2 ^ 40
+  pub most : u.len ≤ most_bytes
   pub placed : ArePlaced u.len 0 u.parts
 
 -- the part that a segment is

@@ -4,7 +4,7 @@
 ghost use Rattle.std.specs.Prelude.{◌≡◌, ℕ, ◌+◌, ◌-◌, ◌*◌, ◌/◌, ◌^◌, ◌<◌, ◌≤◌, ◌++◌, OnOk, length, min, max};
 ghost use Rattle.b3_core.specs.Work.{counted};
 ghost use Rattle.b3_forest.specs.Parts.{chunks_of};
-ghost use Rattle.b3_forest.specs.Pieces.{pieces_of, piece_at, part_work};
+ghost use Rattle.b3_forest.specs.Pieces.{most_chunks, part_work, piece_at, pieces_of};
 
 use crate::piece::Piece;
 use b3_core::{Mode, Top, Work};
@@ -14,9 +14,9 @@ const CHUNK_LEN: usize = 1024;
 
 // The piece of 2^level chunks from the chunk `first` on, of a part that begins at the chunk `start` and covers them.
 fn piece_of(start: u64, bytes: &[u8], level: u32, width: u64, first: u64, work: &mut Work) -> Piece
-    requires width { (width ≡ 2 ^ level) × (0 < width) × (width ≤ 2 ^ 30) }
+    requires width { (width ≡ 2 ^ level) × (0 < width) × (width ≤ most_chunks) }
     requires len { length bytes.now ≤ 2 ^ 24 }
-    requires within { (start ≤ first) × (first + width ≤ start + (length bytes.now + 1023) / 1024) × (first < 2 ^ 30) }
+    requires within { (start ≤ first) × (first + width ≤ start + (length bytes.now + 1023) / 1024) × (first < most_chunks) }
     ensures piece { result ≡ piece_at (chunks_of (record { offset = 1024 * start; bytes = bytes.now })) level first }
     ensures count { work.new ≡ counted work.old (part_work (min (1024 * width) (length bytes.now - 1024 * (first - start))) 1) }
 {
@@ -36,9 +36,9 @@ pub(crate) fn push_pieces(
     pieces: &mut Vec<Piece>,
     work: &mut Work,
 ) -> Result<(), AllocError>
-    requires width { (width ≡ 2 ^ level) × (0 < width) × (width ≤ 2 ^ 30) }
+    requires width { (width ≡ 2 ^ level) × (0 < width) × (width ≤ most_chunks) }
     requires len { (length bytes.now ≤ 2 ^ 24) × (0 < length bytes.now) }
-    requires within { (first + width ≤ 2 ^ 30) × (start ≤ 2 ^ 30) }
+    requires within { (first + width ≤ most_chunks) × (start ≤ most_chunks) }
     ensures pieces { OnOk result (pieces.new.items ≡ pieces.old.items ++ pieces_of (chunks_of (record { offset = 1024 * start; bytes = bytes.now })) level first) }
     ensures count { OnOk result (work.new ≡ counted work.old (part_work
         (min (1024 * start + length bytes.now) (1024 * (first + width)) - max (1024 * start) (1024 * first))

@@ -1,9 +1,10 @@
 // The parts of bytes that are lent, without copies of them.
 
-ghost use Rattle.std.specs.Prelude.{◌≡◌, ◌≢◌, ℕ, ◌*◌, ◌-◌, ◌<◌, ◌^◌, ◌↔◌, IfErr, IfNone, IfOk, IfSome, IsErr, OnErr, OnOk, false, length, true};
+ghost use Rattle.std.specs.Prelude.{◌≡◌, ◌≢◌, ℕ, ◌*◌, ◌-◌, ◌<◌, ◌↔◌, IfErr, IfNone, IfOk, IfSome, IsErr, OnErr, OnOk, false, length, true};
 ghost use Rattle.b3_core.specs.Modes.{hash_mode};
 ghost use Rattle.b3_core.specs.Tree.{tree_top};
 ghost use Rattle.b3_core.specs.Work.{counted};
+ghost use Rattle.b3_forest.specs.Parts.{most_bytes};
 ghost use Rattle.b3_forest.specs.Followed.{AllNoted, IsFirstUnnoted, IsNoted, IsNotedWith, IsRefused, MayNote, bytes_at, noting_merges, pieces_noted};
 
 use crate::held;
@@ -25,6 +26,7 @@ pub struct Follow<'a> {
 }
 
 impl<'a> Model for Follow<'a> {
+    ghost use Rattle.b3_forest.specs.Parts.{most_bytes};
     ghost use Rattle.b3_forest.specs.Followed.{Followed, Follows, followed};
 
     ghost Value = { Followed };
@@ -35,13 +37,13 @@ impl<'a> Model for Follow<'a> {
 }
 
 impl<'a> Follow<'a> {
-    /// Follows the parts of an upload of these bytes; none is noted. F1 where they are more than 2^40. It takes no
+    /// Follows the parts of an upload of these bytes; none is noted. F1 where they are more than 2^44. It takes no
     /// memory.
     pub fn new(alloc: Global, bytes: &'a [u8]) -> Result<Follow<'a>, PlanTooLong>
         ensures bytes { IfOk result (λ f. f.bytes ≡ bytes.now) }
         ensures nothing { IfOk result (λ f. (i : ℕ) → IsNoted f i → ⊥) }
         ensures no_pieces { IfOk result (λ f. pieces_noted f ≡ 0) }
-        ensures too_long { IsErr result ↔ 2 ^ 40 < length bytes.now }
+        ensures too_long { IsErr result ↔ most_bytes < length bytes.now }
     {
         let plan = Plan::new(bytes.len() as u64)?;
         let _most = plan.length();

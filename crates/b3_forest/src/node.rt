@@ -1,6 +1,7 @@
 // A piece in a map.
 
-ghost use Rattle.std.specs.Prelude.{◌≡◌, ◌^◌, ◌<◌, ◌≤◌};
+ghost use Rattle.std.specs.Prelude.{◌≡◌, ◌^◌, ◌≤◌};
+ghost use Rattle.b3_forest.specs.Pieces.{root_level};
 
 use crate::piece::Piece;
 use b3_core::Top;
@@ -25,7 +26,7 @@ impl Node {
 
     /// How many chunks the piece has.
     pub(crate) fn width(&self) -> u64
-        requires { self.now.level ≤ 30 }
+        requires { self.now.level ≤ root_level }
         ensures { result ≡ 2 ^ self.now.level }
     {
         1 << self.level

@@ -4,17 +4,16 @@ ghost use Rattle.std.specs.Prelude.{◌≡◌, ◌≢◌, ℕ, ◌+◌, ◌-◌,
 ghost use Rattle.std.specs.Map.{values_of};
 ghost use Rattle.b3_core.specs.Laws.{NeighboursJoin};
 ghost use Rattle.b3_core.specs.Work.{counted};
+ghost use Rattle.b3_forest.specs.Pieces.{most_chunks, root_level};
 ghost use Rattle.b3_forest.specs.Nodes.{AreBoth, AreChunks, AreForest, AreFresh, ArePiecesOfSome, IsAlone, IsBound, IsFirstGap, IsLastUpto, IsLeastHeld, IsMerged, IsNextFrom, IsOtherHalf, IsPair, IsSettling, NoneFrom, NoneHeld, NoneUpto, firsts, is_held, top_over, with_nodes};
 
 use crate::halves::Halves;
 use crate::node::Node;
 use crate::piece::Piece;
+use crate::plan::MOST_CHUNKS;
 use b3_core::{Mode, Top, Work, tree_laws};
 use std::alloc::AllocError;
 use std::collections::BTreeMap;
-
-// The number of all chunks that an upload may have.
-const ROOT_WIDTH: u64 = 1 << 30;
 
 /// Puts pieces in. Where memory is refused, the map is as before.
 pub(crate) fn put_in(nodes: &mut BTreeMap<u64, Node>, pieces: &[Piece]) -> Result<(), AllocError>
@@ -35,7 +34,7 @@ pub(crate) fn put_in(nodes: &mut BTreeMap<u64, Node>, pieces: &[Piece]) -> Resul
 // The chunk with which the other half begins, of a range of `width` chunks.
 fn other_half(first: u64, width: u64) -> u64
     requires some { 0 < width }
-    requires within { first + width ≤ 2 ^ 30 }
+    requires within { first + width ≤ most_chunks }
     ensures { (l q : ℕ) → width ≡ 2 ^ l → first ≡ q * 2 ^ l → IsOtherHalf first l result }
 {
     if first / width % 2 == 0 {
@@ -78,7 +77,7 @@ fn halves_at(nodes: &BTreeMap<u64, Node>, first: u64) -> Option<Halves>
 // Puts the parent of two halves in their place.
 fn merge(nodes: &mut BTreeMap<u64, Node>, halves: &Halves, work: &mut Work)
     requires both { AreBoth nodes.old.entries halves.now }
-    requires low { halves.now.level < 30 }
+    requires low { halves.now.level < root_level }
     ensures join { NeighboursJoin }
     ensures merged { IsMerged nodes.old.entries nodes.new.entries halves.now }
     ensures fewer { length nodes.new.entries + 1 ≡ length nodes.old.entries }
@@ -149,7 +148,7 @@ pub(crate) fn first_held(nodes: &BTreeMap<u64, Node>, start: u64, end: u64) -> O
     requires pieces { ArePiecesOfSome nodes.now.entries }
     requires order { start < end }
     ensures least { (x : ℕ → List ℕ) → AreForest x [] nodes.now.entries → IfSome result (IsLeastHeld x start end) }
-    ensures none { (x : ℕ → List ℕ) → end ≤ 2 ^ 30 → AreForest x [] nodes.now.entries → IfNone result (NoneHeld x start end) }
+    ensures none { (x : ℕ → List ℕ) → end ≤ most_chunks → AreForest x [] nodes.now.entries → IfNone result (NoneHeld x start end) }
 {
     match last_upto(nodes, start) {
         Some((first, node)) if start - first < node.width() => Some(start),
@@ -160,12 +159,12 @@ pub(crate) fn first_held(nodes: &BTreeMap<u64, Node>, start: u64, end: u64) -> O
 /// The least chunk from a bound on that is in no piece.
 pub(crate) fn first_gap(nodes: &BTreeMap<u64, Node>, next: u64) -> u64
     requires { ArePiecesOfSome nodes.now.entries }
-    ensures gap { (x : ℕ → List ℕ) → AreForest x [] nodes.now.entries → next ≤ 2 ^ 30 → IsBound nodes.now.entries next
-        → ((i : ℕ) → i < next → is_held x i ≡ true) → ((i : ℕ) → 2 ^ 30 ≤ i → is_held x i ≡ false) → IsFirstGap x result }
-    ensures most { (x : ℕ → List ℕ) → AreForest x [] nodes.now.entries → next ≤ 2 ^ 30 → result ≤ 2 ^ 30 }
+    ensures gap { (x : ℕ → List ℕ) → AreForest x [] nodes.now.entries → next ≤ most_chunks → IsBound nodes.now.entries next
+        → ((i : ℕ) → i < next → is_held x i ≡ true) → ((i : ℕ) → most_chunks ≤ i → is_held x i ≡ false) → IsFirstGap x result }
+    ensures most { (x : ℕ → List ℕ) → AreForest x [] nodes.now.entries → next ≤ most_chunks → result ≤ most_chunks }
 {
     match nodes.get(&next) {
-        Some(node) if next < ROOT_WIDTH => first_gap(nodes, next + node.width()),
+        Some(node) if next < MOST_CHUNKS => first_gap(nodes, next + node.width()),
         _ => next,
     }
 }

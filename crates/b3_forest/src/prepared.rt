@@ -1,16 +1,16 @@
 // One part, hashed alone.
 
-ghost use Rattle.std.specs.Prelude.{◌≡◌, ◌+◌, ◌^◌, ◌≤◌, IfErr, IfOk, IfSome, OnOk, length, unwrap_or, vec_len};
+ghost use Rattle.std.specs.Prelude.{◌≡◌, ◌+◌, ◌≤◌, IfErr, IfOk, IfSome, OnOk, length, unwrap_or, vec_len};
 ghost use Rattle.std.specs.Arc.{arc_value};
 ghost use Rattle.b3_core.specs.Work.{counted};
 ghost use Rattle.b3_forest.specs.PartRefusals.{part_refusal};
-ghost use Rattle.b3_forest.specs.Parts.{Fits, PlannedPart, chunks_of, planned};
+ghost use Rattle.b3_forest.specs.Parts.{Fits, PlannedPart, chunks_of, most_bytes, planned};
 ghost use Rattle.b3_forest.specs.Uploads.{part_of};
 ghost use Rattle.b3_forest.specs.Pieces.{IsPrepared, part_work, piece_count, pieces_of, root_level};
 
 use crate::cutting::push_pieces;
 use crate::piece::Piece;
-use crate::plan::Plan;
+use crate::plan::{MOST_CHUNKS, Plan, ROOT_LEVEL};
 use crate::refusal::{PartFault, PartRefused, fault_of};
 use crate::segment::Segment;
 use b3_core::Work;
@@ -35,11 +35,6 @@ impl Model for Prepared {
 
     ghost invariant = { λ p. IsPrepared (planned p.plan p.offset (arc_value p.bytes).items) p.pieces.items };
 }
-
-// The level and the number of all chunks that an upload may have.
-const ROOT_LEVEL: u32 = 30;
-
-const ROOT_WIDTH: u64 = 1 << 30;
 
 impl Prepared {
     /// Hashes a part of an upload, `bytes` at an offset.
@@ -72,7 +67,7 @@ impl Prepared {
             start,
             bytes.as_slice(),
             ROOT_LEVEL,
-            ROOT_WIDTH,
+            MOST_CHUNKS,
             0,
             &mut pieces,
             work,
@@ -120,7 +115,7 @@ impl Prepared {
     pub(crate) fn fitting(&self) -> &[u8]
         ensures bytes { result.now ≡ self.now.part.bytes }
         ensures fits { Fits self.now.plan self.now.part.offset (length self.now.part.bytes) }
-        ensures most { self.now.plan ≤ 2 ^ 40 }
+        ensures most { self.now.plan ≤ most_bytes }
     {
         let _most = self.plan.length();
         self.bytes()

@@ -1,8 +1,8 @@
 // Why a part is refused when it is made.
 
-ghost use Rattle.std.specs.Prelude.{◌≡◌, ◌^◌, ◌≤◌, IfNone, Some};
+ghost use Rattle.std.specs.Prelude.{◌≡◌, ◌≤◌, IfNone, Some};
 ghost use Rattle.b3_forest.specs.PartRefusals.{part_fault_text, part_refusal};
-ghost use Rattle.b3_forest.specs.Parts.{Fits};
+ghost use Rattle.b3_forest.specs.Parts.{Fits, most_bytes};
 
 use crate::plan::Plan;
 use std::fmt;
@@ -56,7 +56,7 @@ pub struct PartRefused {
 pub(crate) fn fault_of(plan: &Plan, offset: u64, len: u64) -> Option<PartFault>
     ensures fault { result ≡ part_refusal plan.now offset len }
     ensures fits { IfNone result (Fits plan.now offset len) }
-    ensures most { plan.now ≤ 2 ^ 40 }
+    ensures most { plan.now ≤ most_bytes }
 {
     let most = plan.length();
     if len == 0 {

@@ -88,8 +88,8 @@ fn refusals_in_their_order(rt: HostRuntime) -> Result<(), Fail> {
 
 #[test]
 fn plans_up_to_two_to_the_forty(rt: HostRuntime) -> Result<(), Fail> {
-    assert_eq!(rt; Plan::new(1_099_511_627_777), Err(PlanTooLong));
-    let plan = Plan::new(1_099_511_627_776).ok().ok_or("no plan")?;
-    assert_eq!(rt; plan.length(), 1_099_511_627_776);
+    assert_eq!(rt; Plan::new(17_592_186_044_417), Err(PlanTooLong));
+    let plan = Plan::new(17_592_186_044_416).ok().ok_or("no plan")?;
+    assert_eq!(rt; plan.length(), 17_592_186_044_416);
     Ok(())
 }

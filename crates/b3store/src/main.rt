@@ -12,7 +12,7 @@ use std::sync::Wait;
 use std::sync::ledger::Blank;
 use std::thread::Threads;
 use store_command_line::{Fault, Options, options};
-use store_engines::{Cause, SystemFiles, Verdict, audit, check, run, sum, upload};
+use store_engines::{Cause, SystemFiles, Verdict, audit, check, migrate, run, sum, upload};
 
 const GOOD: u8 = 0;
 
@@ -86,6 +86,7 @@ fn perform<T: Threads + Wait + Sync + Alloc>(
             Ok(status_of(check(alloc, &mut names, &mut reader, &mut writer)?))
         }
         Options::Audit => Ok(status_of(audit(alloc, &mut reader, &mut writer)?)),
+        Options::Migrate => Ok(status_of(migrate(alloc, &mut reader, &mut writer)?)),
     }
 }
 

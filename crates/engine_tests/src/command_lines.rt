@@ -97,6 +97,12 @@ fn subcommands_without_options(rt: HostRuntime) {
             Ok(Options::Audit)
         )
     );
+    assert!(rt;
+        matches!(
+            options(rt.alloc(), &["b3store", "migrate"]),
+            Ok(Options::Migrate)
+        )
+    );
 }
 
 // No process can be given such a word.

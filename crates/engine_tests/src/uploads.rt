@@ -28,6 +28,7 @@ fn check_told<R: AllocGlobal + Abort>(rt: &R, text: &[u8]) -> Result<(), Fail> {
     let Some(mut journal) = text.strip_prefix(head.as_bytes()) else {
         panic!(rt; "another beginning");
     };
+    assert!(rt; journal.starts_with(b"b3store-journal 2\n"));
     let mut writer: Vec<u8> = Vec::new(rt.alloc());
     let ended = audit(rt.alloc(), &mut journal, &mut writer);
     assert_eq!(rt; ended, Ok(Verdict::Good));

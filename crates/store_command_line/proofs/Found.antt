@@ -4,7 +4,7 @@ use Rattle.std.specs.Prelude.{option_map, IfSome}
 use Rattle.store_command_line.specs.CommandLine.{IsTaken, command_line}
 use Rattle.store_command_line.specs.Ranges.{IsWithin}
 use Rattle.store_command_line.specs.Stated.{SaysFlag, Spells, SpellsOr}
-use Rattle.clap.specs.Words.{App, HasKind, Row, Text, fault_of, is_simple_and_free, kind_of, subcommand_rows_of, subcommand_name_of}
+use Rattle.clap.specs.Words.{App, HasKind, Row, Text, fault_of, is_simple_and_free, kind_of, subcommand_name_of, subcommand_of, subcommand_rows_of}
 use Rattle.clap.specs.declared.error.Error.{Error}
 use Rattle.clap.specs.declared.error.kind.ErrorKind.TheVariants as kinds
 use Rattle.clap.specs.declared.parser.matches.ArgMatches.{ArgMatches}
@@ -16,8 +16,14 @@ pair_of (Some (x, y)) n rs a b = cc
 names : (m : ArgMatches) → subcommand_name_of m ≡ option_map (λ p. p.0) (subcommand_rows_of m)
 names m = search rules
 
-pub entered : (m : ArgMatches) (n : Text) (rs : List Row) → Some n ≡ subcommand_name_of m → Some rs ≡ option_map (λ p. p.1) (subcommand_rows_of m) → subcommand_rows_of m ≡ Some (n, rs)
+entered : (m : ArgMatches) (n : Text) (rs : List Row) → Some n ≡ subcommand_name_of m → Some rs ≡ option_map (λ p. p.1) (subcommand_rows_of m) → subcommand_rows_of m ≡ Some (n, rs)
 entered m n rs a b = pair_of (subcommand_rows_of m) n rs (a ∙ names m) b
+
+-- the words enter the subcommand of that name
+pub entered_as : (a : App) (words : List Text) (m : ArgMatches) (n name : Text) (rows : List Row) → a ≡ command_line → subcommand_rows_of m ≡ subcommand_of a words
+    → Some n ≡ subcommand_name_of m → Some rows ≡ option_map (λ p. p.1) (subcommand_rows_of m) → n ≡ name → subcommand_of command_line words ≡ Some (name, rows)
+entered_as a words m n name rows shape matches is rows_are named =
+    ap (λ (b : App). subcommand_of b words) (sym shape) ∙ sym matches ∙ entered m n rows is rows_are ∙ ap (λ (x : Text). Some (x, rows)) named
 
 -- what a flag's getter says is what clap keeps of it
 pub says_flag : (o : Option Text) (b : Bool) → (o ≡ None → b ≡ false) → (o ≡ Some (codes "true") → b ≡ true) → (o ≡ Some (codes "false") → b ≡ false) → SaysFlag o b

@@ -40,13 +40,17 @@ check_line = new_app (codes "check")
 abbrev pub audit_line : App
 audit_line = new_app (codes "audit")
 
+-- `migrate`
+abbrev pub migrate_line : App
+migrate_line = new_app (codes "migrate")
+
 -- the program's line with the subcommands that hash and store
 abbrev pub storing_line : App
 storing_line = with_subcommand (with_subcommand (with_subcommand (new_app (codes "b3store")) sum_line.top) run_line.top) upload_line.top
 
--- and with those that read reports
+-- and with those that read reports and journals
 abbrev pub command_line : App
-command_line = with_subcommand (with_subcommand storing_line check_line.top) audit_line.top
+command_line = with_subcommand (with_subcommand (with_subcommand storing_line check_line.top) audit_line.top) migrate_line.top
 
 -- clap finds no fault in the words, of which the first is the program's name
 unfoldable pub IsTaken : List Text → Type 0

@@ -2,7 +2,7 @@
 use Rattle.std.specs.Prelude.{◌≤◌, ℕ, IfSome}
 use Rattle.b3_check.specs.Names.{IsName}
 use Rattle.store_command_line.specs.declared.said.Options.{Options}
-use Rattle.store_command_line.specs.declared.said.Options.TheVariants.{Sum, Run, Upload, Check, Audit}
+use Rattle.store_command_line.specs.declared.said.Options.TheVariants.{Sum, Run, Upload, Check, Audit, Migrate}
 use Rattle.store_command_line.specs.declared.said.UploadOptions.{UploadOptions}
 
 -- from 1 to `most`
@@ -20,3 +20,4 @@ InRange Run = Unit {0}
 InRange (Upload o) = AreWithin o
 InRange Check = Unit {0}
 InRange Audit = Unit {0}
+InRange Migrate = Unit {0}

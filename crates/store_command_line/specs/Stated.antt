@@ -6,7 +6,7 @@ use Rattle.hex.specs.Hex.{decode_sized}
 use Rattle.store_command_line.specs.declared.said.Fault.{Fault}
 use Rattle.store_command_line.specs.declared.said.Fault.TheVariants.{NoMemory}
 use Rattle.store_command_line.specs.declared.said.Options.{Options}
-use Rattle.store_command_line.specs.declared.said.Options.TheVariants.{Sum, Run, Upload, Check, Audit}
+use Rattle.store_command_line.specs.declared.said.Options.TheVariants.{Sum, Run, Upload, Check, Audit, Migrate}
 use Rattle.store_command_line.specs.declared.said.SumMode.{SumMode}
 use Rattle.store_command_line.specs.declared.said.SumMode.TheVariants.{Hash, Keyed, Derive}
 use Rattle.store_command_line.specs.declared.said.SumOptions.{SumOptions}
@@ -61,6 +61,7 @@ Says Run found = (rows : List Row) × (found ≡ Some (codes "run", rows))
 Says (Upload o) found = (rows : List Row) × (found ≡ Some (codes "upload", rows)) × SaysUpload o rows
 Says Check found = (rows : List Row) × (found ≡ Some (codes "check", rows))
 Says Audit found = (rows : List Row) × (found ≡ Some (codes "audit", rows))
+Says Migrate found = (rows : List Row) × (found ≡ Some (codes "migrate", rows))
 
 -- where there are no options, that is for want of memory
 abbrev pub IsNotUsage : {T : Type 0} → Result T Fault → Type 0

@@ -3,7 +3,7 @@
 ghost use Rattle.std.specs.Prelude.{◌≡◌, IfOk, false};
 ghost use Rattle.clap.specs.Words.{app_of, rule_of};
 ghost use Rattle.clap.specs.declared.builder.command.Command.TheViews.{out-Command as fields_of};
-ghost use Rattle.store_command_line.specs.CommandLine.{value_rule, flag_rule, sum_line, run_line, upload_line, check_line, audit_line, storing_line, command_line};
+ghost use Rattle.store_command_line.specs.CommandLine.{value_rule, flag_rule, sum_line, run_line, upload_line, check_line, audit_line, migrate_line, storing_line, command_line};
 
 use clap::{Arg, ArgAction, Command, value_parser};
 use std::alloc::{AllocError, Global};
@@ -119,6 +119,15 @@ fn audit_command<'a>(alloc: Global) -> Command<'a>
     )
 }
 
+fn migrate_command<'a>(alloc: Global) -> Command<'a>
+    ensures shape { app_of result ≡ migrate_line }
+    ensures local { (fields_of result).has_globals ≡ false }
+{
+    Command::new(alloc, "migrate").about(
+        "Read a journal of either version, and write it in version 2",
+    )
+}
+
 // The program's command with the subcommands that hash and store.
 fn storing_program<'a>(alloc: Global) -> Result<Command<'a>, AllocError>
     ensures shape { IfOk result (λ c. app_of c ≡ storing_line) }
@@ -140,5 +149,6 @@ pub(crate) fn program<'a>(alloc: Global) -> Result<Command<'a>, AllocError>
 {
     storing_program(alloc)?
         .subcommand(check_command(alloc))?
-        .subcommand(audit_command(alloc))
+        .subcommand(audit_command(alloc))?
+        .subcommand(migrate_command(alloc))
 }

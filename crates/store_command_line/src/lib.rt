@@ -10,6 +10,7 @@
 //! | `upload` | `--workers W` from 1 to 16, else 4; `--part-chunks P` from 1 to 16384, else 64; `--journal` |
 //! | `check` | |
 //! | `audit` | |
+//! | `migrate` | |
 //!
 //! Contracts see a command line by `specs/CommandLine.antt`, as it is stated to clap, and by `specs/Stated.antt`: the options are
 //! the subcommand that was entered, with the values that its words have. `specs/Ranges.antt` has what holds of options beside

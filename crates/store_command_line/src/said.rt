@@ -51,6 +51,8 @@ pub enum Options<'a> {
     Check,
     /// `audit`.
     Audit,
+    /// `migrate`.
+    Migrate,
 }
 
 /// Why a command line gives no options.

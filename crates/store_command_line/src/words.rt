@@ -206,6 +206,7 @@ pub fn options<'a, S: AsStr>(alloc: Global, words: &'a [S]) -> Result<Options<'a
         Some(("upload", found)) => Ok(Options::Upload(upload_options(alloc, found)?)),
         Some(("check", _)) => Ok(Options::Check),
         Some(("audit", _)) => Ok(Options::Audit),
+        Some(("migrate", _)) => Ok(Options::Migrate),
         _ => Err(usage(
             alloc,
             "b3store: a subcommand is needed; see b3store --help\n",

@@ -176,8 +176,11 @@ too_large = refl
 abbrev large : ModelStore
 large = next start (open_tenant_in start 70368744177664)
 
-too_long : reply (begin_in large 0 1099511627777) ≡ Err TooLong
+too_long : reply (begin_in large 0 17592186044417) ≡ Err TooLong
 too_long = refl
+
+longest : reply (begin_in large 0 17592186044416) ≡ Ok (0, 17592186044416)
+longest = refl
 
 abbrev large_begun : ModelStore
 large_begun = next large (begin_in large 0 33554432)

@@ -4,7 +4,7 @@ use Rattle.std.specs.Map.{remove_entry, set_value, values_of}
 use Rattle.std.specs.Option.{option_map_or}
 use Rattle.std.specs.Str.{bytes_eq}
 use Rattle.b3_core.specs.Modes.{hash_of}
-use Rattle.b3_forest.specs.Parts.{PlannedPart}
+use Rattle.b3_forest.specs.Parts.{PlannedPart, most_bytes}
 use Rattle.b3_forest.specs.Uploads.{Upload, first_missing, held_bytes, overlap_at, pieces_held, put_work, with_more}
 use Rattle.store_journal.specs.declared.entry.Entry.{Entry}
 use Rattle.store_journal.specs.declared.entry.Entry.TheVariants as entry
@@ -137,7 +137,7 @@ begun s tenant len = record {
 abbrev pub begin_in : ModelStore → ℕ → ℕ → Result (Acceptance (ℕ × ℕ)) Refusal
 begin_in s tenant len =
     refuse_if (is_absent s tenant) NoTenant
-    (refuse_if (nat_lt (2 ^ 40) len) TooLong
+    (refuse_if (nat_lt most_bytes len) TooLong
     (refuse_if (nat_lt (limit_of s tenant) (in_use s tenant + len)) (OverQuota (free_of s tenant))
     (refuse_if (is_full s) JournalFull
     (Ok (begun s tenant len)))))

@@ -4,6 +4,7 @@ use Rattle.std.specs.Arc.{arc_value}
 use Rattle.std.specs.List.{slice_index_or}
 use Rattle.std.specs.Map.{remove_entry}
 use Rattle.b3_core.specs.Modes.{hash_of}
+use Rattle.b3_forest.specs.Parts.{most_bytes}
 use Rattle.b3_forest.specs.Uploads.{held_bytes}
 use Rattle.store_core.specs.declared.closing.Closing.{Closing}
 use Rattle.store_core.specs.declared.contents.Contents.{Contents}
@@ -94,7 +95,7 @@ pub record IsClosing (s : ModelStore) (number : ℕ) (c : Closing) : Type 0 wher
   pub parts : c.parts ≡ length upload.upload.parts
   -- its tenant is there, and its sums are parts of the store's
   pub there : c.tenant < length s.limits
-  pub short : c.len ≤ 2 ^ 40
+  pub short : c.len ≤ most_bytes
   pub reserved_within : c.len ≤ reserved_of s c.tenant
   pub held_within : c.held ≤ held_bytes_of s
   pub parts_within : c.parts ≤ parts_of s

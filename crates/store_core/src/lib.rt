@@ -35,7 +35,8 @@ pub use sealed::Sealed;
 pub use store::Store;
 pub use store_journal::{
     Accepted, Address, BadText, Entry, FiledObject, HeldPart, IllegalEntry, LeftUpload, ReadError,
-    ReplayError, Replayed, TenantId, Totals, UploadId, cut_at, entry_laws, journal_laws,
-    journal_text, number, read_entry, read_journal, replay, two_numbers, write_entry,
+    ReplayError, Replayed, TenantId, Totals, UploadId, cut_at, entry_laws, entry_lines,
+    journal_laws, number, read_entry, read_journal, replay, two_numbers, write_entry,
+    write_journal,
 };
 pub use usage::Usage;

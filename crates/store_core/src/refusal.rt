@@ -17,7 +17,7 @@ pub enum Refusal {
     LimitTooLarge,
     /// S4: the new limit is below the tenant's use and reservation together, in bytes.
     BelowUse { in_use: u64 },
-    /// S5: the upload's length is above 2^40 bytes.
+    /// S5: the upload's length is above 2^44 bytes.
     TooLong,
     /// S6: the tenant has too few bytes left; `free` is its limit less its use and its reservation.
     OverQuota { free: u64 },

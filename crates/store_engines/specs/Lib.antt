@@ -1,4 +1,6 @@
 pub mod Audits
+pub mod Journals
+pub mod Migrations
 pub mod Checks
 pub mod Scripts
 pub mod Sums

@@ -3,7 +3,7 @@ use Rattle.std.specs.Prelude.{◌≡◌, ℕ, Bool, true, false, List, ◌++◌,
 use Rattle.std.specs.Io.KnownBytes.{Appends}
 use Rattle.b3_check.specs.Lines.{written_line}
 use Rattle.b3_core.specs.Modes.{hash_of}
-use Rattle.store_journal.specs.Journal.{journal_text}
+use Rattle.store_journal.specs.Journal.{Two, journal_text}
 use Rattle.store_core.specs.Model.{Shown}
 use Rattle.store_core.specs.declared.refusal.Refusal.TheVariants as refusals
 use Rattle.store_journal.specs.Replay.{Kept, accepted_of, replay_of}
@@ -18,7 +18,7 @@ use Rattle.store_command_line.specs.declared.said.UploadOptions.{UploadOptions}
 
 -- the journal's text, where it is asked for
 abbrev pub journal_part : Bool → List Entry → List ℕ
-journal_part true entries = journal_text entries
+journal_part true entries = journal_text Two entries
 journal_part false entries = []
 
 -- the check line of an address, what was accepted, and the journal's text where it is asked for

@@ -7,17 +7,21 @@
 //! | `run` | a script | its answers, from a store of its own |
 //! | `upload` | bytes | their check line and the accounts of an upload by several workers |
 //! | `audit` | a journal's text | the totals that it leaves and what it says was accepted |
+//! | `migrate` | a journal's text | the text of version 2 of its entries |
 //!
 //! An engine ends by its `Verdict`, or by the `Cause` that stopped it. `SystemFiles` are the names that `check` asks in the
 //! program.
 //!
 //! Contracts know what a reader gives and what a writer took where their types tell it, as those of slices and of vectors do. The
-//! texts and verdicts are defined in `specs/`: `Sums`, `Checks`, `Scripts`, `Uploads` and `Audits`.
+//! texts and verdicts are defined in `specs/`: `Sums`, `Checks`, `Scripts`, `Uploads`, `Journals`,
+//! `Audits` and `Migrations`.
 #![tactic(auto)]
 
 mod auditing;
 mod checking;
 mod files;
+mod journals;
+mod migrating;
 mod outcome;
 mod running;
 mod streams;
@@ -27,6 +31,7 @@ mod uploading;
 pub use auditing::audit;
 pub use checking::check;
 pub use files::SystemFiles;
+pub use migrating::migrate;
 pub use outcome::{Cause, Verdict};
 pub use running::run;
 pub use summing::sum;

@@ -6,6 +6,7 @@ ghost use Rattle.store_shared.specs.Cuts.{IsBadCut};
 ghost use Rattle.store_engines.specs.Uploads.{IsTold, SomeRefusal, WroteRefusal, WroteUpload, is_memory, journal_part};
 
 use crate::auditing::accepted_line;
+use crate::journals::text_of;
 use crate::outcome::{Cause, Verdict};
 use crate::streams::{read_all, write_all};
 use crate::summing::line_of;
@@ -15,7 +16,7 @@ use std::sync::Wait;
 use std::sync::ledger::{Blank, Ledger};
 use std::thread::Threads;
 use store_command_line::UploadOptions;
-use store_core::{Address, Entry, Limits, Refusal, journal_text};
+use store_core::{Address, Entry, Limits, Refusal};
 use store_ledger::Share;
 use store_shared::{Locked, PassAll, Shared, UploadFaultKind, lent_open_tenant};
 
@@ -52,7 +53,7 @@ fn journal_part(alloc: Global, wanted: bool, entries: &[Entry]) -> Result<Vec<u8
     ensures { IfOk result (λ text. text.items ≡ journal_part wanted entries.now) }
 {
     if wanted {
-        journal_text(alloc, entries)
+        text_of(alloc, entries)
     } else {
         Ok(Vec::new(alloc))
     }

@@ -14,7 +14,7 @@ use Rattle.store_core.specs.Commands.{ModelSealed}
 use Rattle.store_core.specs.Refusals.{refusal_text}
 use Rattle.b3_forest.specs.PartRefusals.{part_fault_text}
 use Rattle.store_journal.specs.Entries.{filing_word}
-use Rattle.store_journal.specs.Journal.{journal_text}
+use Rattle.store_journal.specs.Journal.{entry_lines}
 use Rattle.store_journal.specs.Totals.{totals_text}
 use Rattle.store_core.specs.Runs.{Reply, begun_upload, done, now_held, now_sealed, opened_tenant, the_bytes, the_journal, the_list, the_plan, the_totals, the_usage}
 
@@ -54,7 +54,7 @@ totals_line t = totals_text t ++ codes "\n"
 
 -- how many entries there are, and the line of each
 abbrev pub entries_text : List Entry → List ℕ
-entries_text entries = codes "journal " ++ (decimal (length entries) ++ (codes "\n" ++ journal_text entries))
+entries_text entries = codes "journal " ++ (decimal (length entries) ++ (codes "\n" ++ entry_lines entries))
 
 abbrev pub reply_text : Reply → List ℕ
 reply_text (opened_tenant number) = codes "tenant " ++ (decimal number ++ codes "\n")

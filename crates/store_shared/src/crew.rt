@@ -1,5 +1,6 @@
 //! The threads of an upload.
 ghost use Rattle.std.specs.Prelude.{◌≡◌, ◌<◌, ◌≤◌, ◌^◌, All, IfOk, IfSome, length};
+ghost use Rattle.b3_forest.specs.Parts.{most_bytes};
 ghost use Rattle.store_board.specs.Passes.{IsGiverOf, IsTakerOf};
 ghost use Rattle.store_board.specs.Seats.{IsSeatOf, parts_of};
 ghost use Rattle.store_shared.specs.Cuts.{part_count};
@@ -77,7 +78,7 @@ pub(crate) fn start_all<'s, E, G: Gate + Sync, R: Wait + Sync>(
                 gate,
             },
             move || -> Option<UploadFaultKind>
-                requires { IsSeatOf board.now worker.seat × IsGiverOf line.now worker.pass × (parts_of board.now ≡ part_count (length bytes.now) part_chunks) × (length bytes.now ≤ 2 ^ 40) × (0 < part_chunks) × (part_chunks ≤ 16384) }
+                requires { IsSeatOf board.now worker.seat × IsGiverOf line.now worker.pass × (parts_of board.now ≡ part_count (length bytes.now) part_chunks) × (length bytes.now ≤ most_bytes) × (0 < part_chunks) × (part_chunks ≤ 16384) }
                 ensures { IfSome result (IsFaultOf (G.may_stop gate.entry.now) (G.may_fault gate.entry.now) (part_count (length bytes.entry.now) part_chunks)) }
             {
                 run(

@@ -1,5 +1,6 @@
 //! How an upload's bytes are cut into parts.
 ghost use Rattle.std.specs.Prelude.{◌≡◌, ◌*◌, ◌-◌, ◌<◌, ◌≤◌, ◌^◌, IfErr, IfOk, IfSome, length, min, true};
+ghost use Rattle.b3_forest.specs.Parts.{most_bytes};
 ghost use Rattle.store_shared.specs.Cuts.{part_at};
 ghost use Rattle.store_shared.specs.Uploading.{IsPlaceOf, count_of};
 ghost use Rattle.store_shared.specs.declared.fault.UploadFaultKind.TheVariants.{NoMemory};
@@ -25,20 +26,21 @@ pub(crate) struct Cut<'a> {
 }
 
 impl<'a> Model for Cut<'a> {
-    ghost use Rattle.std.specs.Prelude.{◌≡◌, ◌<◌, ◌≤◌, ◌^◌, length};
+    ghost use Rattle.std.specs.Prelude.{◌≡◌, ◌<◌, ◌≤◌, length};
+    ghost use Rattle.b3_forest.specs.Parts.{most_bytes};
     ghost use Rattle.store_shared.specs.Uploading.{Cutting};
 
     ghost Value = { Cutting };
 
     ghost view = { λ c. record { bytes = c.bytes.now; part_chunks = c.part_chunks } };
 
-    ghost invariant = { λ c. (c.plan ≡ length c.bytes.now) × (length c.bytes.now ≤ 2 ^ 40) × (0 < c.part_chunks) × (c.part_chunks ≤ 16384) };
+    ghost invariant = { λ c. (c.plan ≡ length c.bytes.now) × (length c.bytes.now ≤ most_bytes) × (0 < c.part_chunks) × (c.part_chunks ≤ 16384) };
 }
 
 impl<'a> Cut<'a> {
     /// The cut of these bytes into parts of so many chunks.
     pub(crate) fn new(bytes: &'a [u8], part_chunks: u64) -> Cut<'a>
-        requires bytes { length bytes.now ≤ 2 ^ 40 }
+        requires bytes { length bytes.now ≤ most_bytes }
         requires some { 0 < part_chunks }
         requires most { part_chunks ≤ 16384 }
         ensures { result ≡ record { bytes = bytes.now; part_chunks = part_chunks } }
@@ -56,7 +58,7 @@ impl<'a> Cut<'a> {
     /// The bytes.
     pub(crate) fn bytes(&self) -> &'a [u8]
         ensures value { result.now ≡ self.now.bytes }
-        ensures most { length result.now ≤ 2 ^ 40 }
+        ensures most { length result.now ≤ most_bytes }
     {
         self.bytes
     }

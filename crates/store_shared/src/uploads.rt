@@ -2,6 +2,7 @@
 ghost use Rattle.std.specs.Prelude.{◌≡◌, ◌+◌, ◌<◌, ◌≤◌, ◌^◌, ℕ, [], All, Err, IfErr, IfOk, IfSome, None, OnErr, OnOk, length};
 ghost use Rattle.std.specs.Arc.{arc_value};
 ghost use Rattle.b3_core.specs.Modes.{hash_of};
+ghost use Rattle.b3_forest.specs.Parts.{most_bytes};
 ghost use Rattle.store_board.specs.Passes.{IsGiverOf, IsTakerOf};
 ghost use Rattle.store_board.specs.Seats.{IsSeatOf};
 ghost use Rattle.store_shared.specs.Cuts.{IsBadCut, RoseBySome, cut_of};
@@ -124,7 +125,7 @@ fn begin<B: Ledger, C: Ledger, R: Wait>(
     tenant: TenantId,
     len: u64,
 ) -> Result<UploadId, UploadFaultKind>
-    ensures most { OnOk result (len ≤ 2 ^ 40) }
+    ensures most { OnOk result (len ≤ most_bytes) }
     ensures fault { IfErr result IsOwnFault }
 {
     match lent_begin(&mut *shared.lock(rt), tenant, len) {

@@ -1,5 +1,6 @@
 //! The workers of an upload.
 ghost use Rattle.std.specs.Prelude.{◌≡◌, ◌<◌, ◌≤◌, ◌^◌, IfErr, IfSome, length};
+ghost use Rattle.b3_forest.specs.Parts.{most_bytes};
 ghost use Rattle.store_board.specs.Passes.{IsGiverOf};
 ghost use Rattle.store_board.specs.Seats.{IsSeatOf, parts_of};
 ghost use Rattle.store_shared.specs.Cuts.{part_count};
@@ -131,7 +132,7 @@ pub(crate) fn run<G: Gate, R: Wait>(
 ) -> Option<UploadFaultKind>
     requires own { IsSeatOf board.now worker.seat × IsGiverOf line.now worker.pass }
     requires parts { parts_of board.now ≡ part_count (length bytes.now) part_chunks }
-    requires bytes { length bytes.now ≤ 2 ^ 40 }
+    requires bytes { length bytes.now ≤ most_bytes }
     requires some { 0 < part_chunks }
     requires most { part_chunks ≤ 16384 }
     ensures { IfSome result (IsFaultOf (G.may_stop gate.now) (G.may_fault gate.now) (part_count (length bytes.now) part_chunks)) }

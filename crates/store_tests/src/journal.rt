@@ -1,13 +1,13 @@
 //! Names, entries, and the journal's text. What is outside the grammar stands in tests/cases/journal-lines.table.
 
 use hex::FromHex;
-use std::alloc::Global;
+use std::alloc::{AllocError, Global};
 use std::io;
 use std::io::{ErrorKind, Write};
 use std::test::Fail;
 use store_journal::{
-    Address, BadText, Entry, IllegalEntry, ReadError, ReplayError, TenantId, UploadId,
-    journal_text, read_entry, read_journal, write_entry,
+    Address, BadText, Entry, IllegalEntry, ReadError, ReplayError, TenantId, UploadId, entry_lines,
+    read_entry, read_journal, write_entry, write_journal,
 };
 
 // The BLAKE3 hash of no bytes, and of one byte 0.
@@ -18,6 +18,10 @@ const ZERO: &str = "2d3adedff11b61f14c886e35afa036736dcd87a74d27b5c1510225d0f592
 // An entry of each kind, and a seal of either word.
 const EIGHT_LINES: &str =
     "tenant 0 4096\nlimit 3 18446744073709551615\nbegin 0 0 1\nput 0 1024 1\nseal 0 2d3adedff11b61f14c886e35afa036736dcd87a74d27b5c1510225d0f592e213 new\nseal 4 af1349b9f5f9a1a6a0404dea36dcc9499bcb25c9adc112b7cc9a93cae41f3262 known\nabort 12\nforget 0 2d3adedff11b61f14c886e35afa036736dcd87a74d27b5c1510225d0f592e213\n";
+
+fn headed(alloc: Global) -> Result<String, AllocError> {
+    format!(in alloc; "b3store-journal 2\n{EIGHT_LINES}")
+}
 
 fn address(digits: &str) -> Result<Address, Fail> {
     Ok(Address::new(<[u8; 32]>::from_hex(digits)?))
@@ -108,14 +112,17 @@ fn a_journal_is_written(rt: HostRuntime) -> Result<(), Fail> {
     let alloc = rt.alloc();
     let entries = eight_entries()?;
     assert_eq!(rt;
-        journal_text(alloc, &entries)?.as_slice(),
+        entry_lines(alloc, &entries)?.as_slice(),
         EIGHT_LINES.as_bytes()
     );
     let mut written = Vec::new(alloc);
+    write_journal(&entries, &mut written)?;
+    assert_eq!(rt; written.as_slice(), headed(alloc)?.as_bytes());
+    let mut lines = Vec::new(alloc);
     for entry in &entries {
-        write_entry(entry, &mut written)?;
+        write_entry(entry, &mut lines)?;
     }
-    assert_eq!(rt; written.as_slice(), EIGHT_LINES.as_bytes());
+    assert_eq!(rt; lines.as_slice(), EIGHT_LINES.as_bytes());
     Ok(())
 }
 
@@ -124,6 +131,8 @@ fn a_journal_is_read(rt: HostRuntime) -> Result<(), Fail> {
     let alloc = rt.alloc();
     let entries = eight_entries()?;
     let read = read_journal(alloc, EIGHT_LINES.as_bytes())?;
+    assert_eq!(rt; read.as_slice(), entries.as_slice());
+    let read = read_journal(alloc, headed(alloc)?.as_bytes())?;
     assert_eq!(rt; read.as_slice(), entries.as_slice());
     assert_eq!(rt; read_journal(alloc, b"")?.len(), 0);
     Ok(())
@@ -194,6 +203,11 @@ fn a_failed_write_is_the_last(rt: HostRuntime) -> Result<(), Fail> {
     for fails in 1..11u64 {
         let mut writer = Failing { calls: 0, fails };
         assert!(rt; write_entry(&put(), &mut writer).is_err());
+        assert_eq!(rt; writer.calls, fails);
+    }
+    for fails in 1..32u64 {
+        let mut writer = Failing { calls: 0, fails };
+        assert!(rt; write_journal(&[put()], &mut writer).is_err());
         assert_eq!(rt; writer.calls, fails);
     }
     Ok(())

@@ -1,39 +1,42 @@
-use Rattle.std.proofs.Common.{◌∙◌, sym, ap, map, Some}
-use Rattle.clap.specs.Words.{App, Text, found_of, rows_of, is_simple, subcommand_of}
-use Rattle.store_command_line.proofs.Found.{entered, memory, taken}
+use Rattle.std.proofs.Common.{ap, codes, map}
+use Rattle.clap.specs.Words.{found_of, is_simple, rows_of}
+use Rattle.store_command_line.proofs.Found.{entered_as, memory, taken}
 use Rattle.store_command_line.proofs.words.options.Goals as goal
 
 pub returns-in-Some-run-default-clause-says : goal.returns-in-Some-run-default-clause-says
 returns-in-Some-run-default-clause-says g c =
     let shape = c.in_ok-program.ensures.shape in
-    let words = map g.S.AsStr.text c.args.words.now in
     let is = c.in-Some-run-default in
     let rows = rows_of (found_of is.field-0-1.now) in (
       rows,
-      ap (λ (a : App). subcommand_of a words) (sym shape) ∙ sym (c.in-Ok.ensures.matches (ap is_simple shape)).1
-          ∙ entered c.in-Ok.matches is.field-0-0.now rows is.ensures.name is.ensures.rows ∙ ap (λ (n : Text). Some (n, rows)) is.is-run,
+      entered_as _ (map g.S.AsStr.text c.args.words.now) c.in-Ok.matches is.field-0-0.now (codes "run") rows shape (c.in-Ok.ensures.matches (ap is_simple shape)).1 is.ensures.name is.ensures.rows is.is-run,
     )
 
 pub returns-in-Some-check-default-clause-says : goal.returns-in-Some-check-default-clause-says
 returns-in-Some-check-default-clause-says g c =
     let shape = c.in_ok-program.ensures.shape in
-    let words = map g.S.AsStr.text c.args.words.now in
     let is = c.in-Some-check-default in
     let rows = rows_of (found_of is.field-0-1.now) in (
       rows,
-      ap (λ (a : App). subcommand_of a words) (sym shape) ∙ sym (c.in-Ok.ensures.matches (ap is_simple shape)).1
-          ∙ entered c.in-Ok.matches is.field-0-0.now rows is.ensures.name is.ensures.rows ∙ ap (λ (n : Text). Some (n, rows)) is.is-check,
+      entered_as _ (map g.S.AsStr.text c.args.words.now) c.in-Ok.matches is.field-0-0.now (codes "check") rows shape (c.in-Ok.ensures.matches (ap is_simple shape)).1 is.ensures.name is.ensures.rows is.is-check,
     )
 
 pub returns-in-Some-audit-default-clause-says : goal.returns-in-Some-audit-default-clause-says
 returns-in-Some-audit-default-clause-says g c =
     let shape = c.in_ok-program.ensures.shape in
-    let words = map g.S.AsStr.text c.args.words.now in
     let is = c.in-Some-audit-default in
     let rows = rows_of (found_of is.field-0-1.now) in (
       rows,
-      ap (λ (a : App). subcommand_of a words) (sym shape) ∙ sym (c.in-Ok.ensures.matches (ap is_simple shape)).1
-          ∙ entered c.in-Ok.matches is.field-0-0.now rows is.ensures.name is.ensures.rows ∙ ap (λ (n : Text). Some (n, rows)) is.is-audit,
+      entered_as _ (map g.S.AsStr.text c.args.words.now) c.in-Ok.matches is.field-0-0.now (codes "audit") rows shape (c.in-Ok.ensures.matches (ap is_simple shape)).1 is.ensures.name is.ensures.rows is.is-audit,
+    )
+
+pub returns-in-Some-migrate-default-clause-says : goal.returns-in-Some-migrate-default-clause-says
+returns-in-Some-migrate-default-clause-says g c =
+    let shape = c.in_ok-program.ensures.shape in
+    let is = c.in-Some-migrate-default in
+    let rows = rows_of (found_of is.field-0-1.now) in (
+      rows,
+      entered_as _ (map g.S.AsStr.text c.args.words.now) c.in-Ok.matches is.field-0-0.now (codes "migrate") rows shape (c.in-Ok.ensures.matches (ap is_simple shape)).1 is.ensures.name is.ensures.rows is.is-migrate,
     )
 
 pub returns-in-Err-clause-only : goal.returns-in-Err-clause-only
@@ -53,3 +56,6 @@ returns-in-Some-check-default-clause-taken g c = taken _ (map g.S.AsStr.text c.a
 
 pub returns-in-Some-audit-default-clause-taken : goal.returns-in-Some-audit-default-clause-taken
 returns-in-Some-audit-default-clause-taken g c = taken _ (map g.S.AsStr.text c.args.words.now) c.in_ok-program.ensures.shape c.in-Ok.ensures.kinds
+
+pub returns-in-Some-migrate-default-clause-taken : goal.returns-in-Some-migrate-default-clause-taken
+returns-in-Some-migrate-default-clause-taken g c = taken _ (map g.S.AsStr.text c.args.words.now) c.in_ok-program.ensures.shape c.in-Ok.ensures.kinds
