@@ -72,14 +72,16 @@ fn a_top_in_between(rt: HostRuntime) -> Result<(), Fail> {
     let bytes = pattern(rt.alloc(), 0, 5_000)?;
     let mut work = Work::new(&rt);
     let mut hasher = Hasher::new(&Mode::hash());
-    let mut given = 0;
-    for end in [0usize, 1, 1024, 3072, 4096, 5_000] {
-        hasher.update(&bytes[given..end], &mut work);
-        given = end;
-        let wanted = hash(&Mode::hash(), &bytes[..end], &mut work);
+    let mut rest = bytes.as_slice();
+    for size in [0usize, 1, 1023, 2048, 1024, 904] {
+        let (piece, behind) = rest.split_at(size.min(rest.len()));
+        hasher.update(piece, &mut work);
+        rest = behind;
+        let given = bytes.len().saturating_sub(rest.len());
+        let wanted = hash(&Mode::hash(), &bytes[..given], &mut work);
         assert!(rt;
             hasher.top(&mut work).root32(&mut work) == wanted,
-            "{end} bytes"
+            "{given} bytes"
         );
     }
     Ok(())
