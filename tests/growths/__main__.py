@@ -3,10 +3,14 @@ first, the second, and so on, until a run meets none.
 
 Each run must end by itself: as if nothing had been refused, or with status 3 and `b3store: out of memory`. Then an engine that
 writes at its end has written nothing; `upload` may have told its refusal; and `run` has answered as the model does, but
-for commands that it refused with S14, from whose state it went on. The last line is `N passed, M failed`.
+for commands that it refused with S14, from whose state it went on.
+
+Then the same is done to the tests in modules `growths` of the repository's built test programs, crates/NAME/out/NAME_tests, where
+they stand, as `rt ci` and `rt test` leave them: each run must pass. The last line is `N passed, M failed`.
 
 The memory is refused by a small library that is preloaded (refusing.c), so it needs a C compiler, `cc`.
 """
+import glob
 import os
 import select
 import shutil
@@ -16,6 +20,7 @@ import tempfile
 
 sys.dont_write_bytecode = True
 HERE = os.path.dirname(os.path.abspath(__file__))
+TEST_PROGRAMS = os.path.join(os.path.dirname(os.path.dirname(HERE)), "crates", "*", "out", "*_tests")
 sys.path.insert(0, os.path.join(os.path.dirname(HERE), "second_reading"))
 from blake3 import address_of
 from script import answers_of, call_of, pattern
@@ -73,29 +78,44 @@ def wrote_nothing(answer):
     return answer == b""
 
 
+def never(_):
+    """Of a test, which passes however memory is refused."""
+    return False
+
+
 def told_a_refusal(answer):
     return answer in (b"", b"refused U5\n", b"refused U1 S14\n")
 
 
-def cases():
-    """The words, the input, and what may have been written where memory was refused."""
+def cases(program):
+    """The command, the input, and which output may come with status 3 where memory was refused."""
     journal = "".join(f"{entry}\n" for entry in answers_of(SCRIPT)[2].journal).encode()
     check = f"{ADDRESS}  object\n{ADDRESS}  absent\n{ADDRESS}  abc\n".encode()
-    yield ["sum"], OBJECT, wrote_nothing
-    yield ["sum", "--length", "100"], OBJECT, wrote_nothing
-    yield ["check"], check, wrote_nothing
-    yield ["audit"], journal, wrote_nothing
-    yield ["migrate"], journal, wrote_nothing
-    yield ["run"], SCRIPT.encode(), is_beginning_by_the_model
-    yield ["upload", "--workers", "1"], OBJECT, told_a_refusal
-    yield ["upload", "--workers", "3", "--part-chunks", "1"], OBJECT, told_a_refusal
+    yield [program, "sum"], OBJECT, wrote_nothing
+    yield [program, "sum", "--length", "100"], OBJECT, wrote_nothing
+    yield [program, "check"], check, wrote_nothing
+    yield [program, "audit"], journal, wrote_nothing
+    yield [program, "migrate"], journal, wrote_nothing
+    yield [program, "run"], SCRIPT.encode(), is_beginning_by_the_model
+    yield [program, "upload", "--workers", "1"], OBJECT, told_a_refusal
+    yield [program, "upload", "--workers", "3", "--part-chunks", "1"], OBJECT, told_a_refusal
+
+
+def tests():
+    """The same of each test of growths, of the test programs that stand there."""
+    for program in sorted(glob.glob(TEST_PROGRAMS)):
+        listed = subprocess.run([program, "--list"], capture_output=True, text=True, timeout=SECONDS).stdout
+        for line in listed.splitlines():
+            name = line.removesuffix(": test")
+            if name != line and "growths" in name.split("::")[:-1]:
+                yield [program, name], b"", never
 
 
 class Refusing:
-    """The program, one of whose growths is refused."""
+    """Runs programs, one of whose growths is refused."""
 
-    def __init__(self, program, folder):
-        self.program, self.folder = os.path.abspath(program), folder
+    def __init__(self, folder):
+        self.folder = folder
         self.library = os.path.join(folder, "refusing.so")
         subprocess.run(["cc", "-O2", "-shared", "-fPIC", "-o", self.library, os.path.join(HERE, "refusing.c")], check=True)
 
@@ -104,7 +124,7 @@ class Refusing:
         seen, told = os.pipe()
         changed = {"LD_PRELOAD": self.library, "GROWTH": str(growth), "GROWTH_TOLD": str(told)}
         run = subprocess.run(
-            [self.program] + words, input=data, capture_output=True, cwd=self.folder, timeout=SECONDS, pass_fds=[told],
+            words, input=data, capture_output=True, cwd=self.folder, timeout=SECONDS, pass_fds=[told],
             env={**os.environ, **changed},
         )
         os.close(told)
@@ -127,6 +147,8 @@ def growths_of(refusing, words, data, may_have_written):
     """How many runs did as they must, how many of these ended for want of memory, and what the others did."""
     undisturbed, _ = refusing.run(words, data, 0)
     whole = (undisturbed.returncode, undisturbed.stdout, undisturbed.stderr)
+    if may_have_written is never and undisturbed.returncode:
+        return 0, 0, [f"it fails where no growth is refused: {whole!r}"]
     passed, ended, failed = 0, 0, []
     for growth in range(1, MOST_GROWTHS):
         try:
@@ -157,12 +179,13 @@ def main():
         for name, content in {"object": OBJECT, "abc": b"abc"}.items():
             with open(os.path.join(folder, name), "wb") as file:
                 file.write(content)
-        refusing = Refusing(sys.argv[1], folder)
-        for words, data, may_have_written in cases():
+        refusing = Refusing(folder)
+        for words, data, may_have_written in [*cases(os.path.abspath(sys.argv[1])), *tests()]:
             passed, ended, failed = growths_of(refusing, words, data, may_have_written)
-            print(f"{' '.join(words)}: {passed + len(failed)} runs, of which {ended} ended for want of memory")
+            name = " ".join([os.path.basename(words[0]), *words[1:]])
+            print(f"{name}: {passed + len(failed)} runs, of which {ended} ended for want of memory")
             for found in failed:
-                print(f"FAILED {' '.join(words)}: {found}")
+                print(f"FAILED {name}: {found}")
             all_passed, all_failed = all_passed + passed, all_failed + len(failed)
     print(f"{all_passed} passed, {all_failed} failed")
     return 1 if all_failed else 0

@@ -30,15 +30,14 @@ fn a_stopped_board_draws_on(rt: HostRuntime) -> Result<(), Fail> {
     let (board, mut seats) = Board::new(rt.alloc(), 3, 2)?;
     let mut second = seats.pop().expect(&rt, "two seats");
     let mut first = seats.pop().expect(&rt, "two seats");
+    let drawn = board.claim(&mut first);
     let before = board.stopped(&mut first);
     board.stop(&mut second);
     let after = board.stopped(&mut first);
-    assert_eq!(rt;
-        (before, after, board.claim(&mut first)),
-        (false, true, Some(0))
-    );
+    assert_eq!(rt; (drawn, before, after), (Some(0), false, true));
+    assert_eq!(rt; board.claim(&mut first), Some(1));
     let drawn = board.close(vec![in rt.alloc(); first, second]?);
-    assert_eq!(rt; (drawn.handed, drawn.spent), (1, false));
+    assert_eq!(rt; (drawn.handed, drawn.spent), (2, false));
     Ok(())
 }
 

@@ -6,8 +6,8 @@ use std::sync::atomic::{AtomicBool, AtomicU64, Ordering};
 use std::thread;
 use store_shared::{Gate, GateStop};
 
-// How often a gate that waits for another thread looks before it gives up.
-const TURNS: u64 = 1 << 24;
+/// How often one who waits for another thread looks before it gives up.
+pub(crate) const TURNS: u64 = 1 << 24;
 
 /// Waits until a flag is set, for so many turns.
 pub(crate) fn is_set(flag: &AtomicBool) -> bool {
@@ -76,24 +76,75 @@ impl Gate for HoldFirst {
     }
 }
 
-/// Holds part 0 until the upload was aborted, or else fails with the code 1.
+/// Holds the parts of some numbers until they are let pass, or else fails with the code 1. At one part, if there is one of that
+/// number, it waits until no part was asked for in many turns, as when the queue is full; then it lets the others pass, and stops.
 #[derive(Drop)]
-pub(crate) struct HoldForAbort {
-    pub(crate) reached: AtomicBool,
-    pub(crate) aborted: AtomicBool,
+pub(crate) struct Hold {
+    pub(crate) first: u64,
+    pub(crate) last: u64,
+    pub(crate) stop: u64,
+    pub(crate) released: AtomicBool,
+    asked: AtomicU64,
 }
 
-impl Gate for HoldForAbort {
-    ghost may_stop = { λ gate part. ⊥ };
+// In how many turns no part was asked for where none will be.
+const STILL_TURNS: u64 = 2000;
 
-    ghost may_fault = { λ gate part code. (part ≡ 0) × (code ≡ 1) };
+impl Hold {
+    pub(crate) fn new(first: u64, last: u64, stop: u64) -> Hold {
+        Hold {
+            first,
+            last,
+            stop,
+            released: AtomicBool::new(false),
+            asked: AtomicU64::new(0),
+        }
+    }
+
+    /// Waits until a part was asked for, for so many turns.
+    pub(crate) fn is_reached(&self) -> bool {
+        for _ in 0..TURNS {
+            if self.asked.load(Ordering::SeqCst) > 0 {
+                return true;
+            }
+            thread::yield_now();
+        }
+        false
+    }
+
+    // Waits until no part is asked for any more.
+    fn wait_until_still(&self) {
+        let mut seen = 0u64;
+        let mut turns = 0u64;
+        for _ in 0..TURNS {
+            let asked = self.asked.load(Ordering::SeqCst);
+            turns = if asked == seen {
+                turns.saturating_add(1)
+            } else {
+                0
+            };
+            if turns > STILL_TURNS {
+                return;
+            }
+            seen = asked;
+            thread::yield_now();
+        }
+    }
+}
+
+impl Gate for Hold {
+    ghost may_stop = { λ gate part. part ≡ gate.stop };
+
+    ghost may_fault = { λ gate part code. code ≡ 1 };
 
     fn passed(&self, part: u64) -> Result<(), GateStop> {
-        if part != 0 {
-            return Ok(());
+        let _before = self.asked.fetch_add(1, Ordering::SeqCst);
+        if part == self.stop {
+            self.wait_until_still();
+            self.released.store(true, Ordering::SeqCst);
+            return Err(GateStop::Stop);
         }
-        self.reached.store(true, Ordering::SeqCst);
-        if is_set(&self.aborted) {
+        if part < self.first || part > self.last || is_set(&self.released) {
             return Ok(());
         }
         Err(GateStop::Fault(1))
@@ -125,6 +176,20 @@ impl Gate for FailBoth {
         } else {
             self.other_asked.store(true, Ordering::SeqCst);
         }
+        Err(GateStop::Fault(part))
+    }
+}
+
+/// Fails at all parts, with the part's number as code.
+#[derive(Drop)]
+pub(crate) struct FailAll;
+
+impl Gate for FailAll {
+    ghost may_stop = { λ gate part. ⊥ };
+
+    ghost may_fault = { λ gate part code. code ≡ part };
+
+    fn passed(&self, part: u64) -> Result<(), GateStop> {
         Err(GateStop::Fault(part))
     }
 }

@@ -12,11 +12,17 @@ mod faults;
 #[cfg(test)]
 mod gates;
 #[cfg(test)]
+mod growths;
+#[cfg(test)]
 mod hand_overs;
 #[cfg(test)]
 mod patterns;
 #[cfg(test)]
+mod reports;
+#[cfg(test)]
 mod shared_stores;
+#[cfg(test)]
+mod strangers;
 #[cfg(test)]
 mod uploads;
 #[cfg(test)]

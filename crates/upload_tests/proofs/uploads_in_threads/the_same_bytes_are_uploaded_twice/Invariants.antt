@@ -1,4 +1,4 @@
-use Rattle.upload_tests.proofs.uploads_in_threads.two_tenants_upload_the_same_bytes.Given as goal
+use Rattle.upload_tests.proofs.uploads_in_threads.the_same_bytes_are_uploaded_twice.Given as goal
 
 abbrev pub ghosts-uploaded_twice-B-Ledger : goal.ghosts-uploaded_twice-B-Ledger
 ghosts-uploaded_twice-B-Ledger g a = record { name = a.bytes.name; parts = a.bytes.parts }

@@ -1,0 +1,95 @@
+//! What an upload does where one growth of memory is refused. tests/growths runs each of these tests again and again, and
+//! refuses another growth of the process each time.
+//!
+//! The upload is sealed, or tells want of memory and is gone. Then the share settles, the journal leads to what the store holds,
+//! and the same upload is sealed. Where the growth is refused while the store is prepared or looked at, the whole is done
+//! again, which succeeds too, since no second growth is refused.
+ghost use Rattle.std.specs.Prelude.{◌≡◌, ◌^◌};
+
+use crate::patterns::pattern;
+use crate::uploads_in_threads::upload_row;
+use std::alloc::{AllocError, Global};
+use std::marker::Brand;
+use std::process::Abort;
+use std::sync::Wait;
+use std::sync::ledger::{Blank, Ledger};
+use std::test::Fail;
+use std::thread::Threads;
+use store_core::{Limits, Refusal, Store, replay};
+use store_shared::{PassAll, Shared, UploadFault, UploadFaultKind, lent_open_tenant};
+
+// Whether an upload has told want of memory and left nothing.
+fn is_want_of_memory(fault: UploadFault) -> bool {
+    let no_room = UploadFaultKind::Refused(Refusal::NoMemory);
+    (fault.kind == UploadFaultKind::NoMemory || fault.kind == no_room) && fault.left.is_none()
+}
+
+// Whether a store has so many objects and no upload, and its journal leads to that.
+fn has_objects(alloc: Global, store: &Store, objects: u64) -> Result<bool, AllocError> {
+    let totals = store.totals();
+    let Ok(replayed) = replay(alloc, store.journal()) else {
+        return Err(AllocError);
+    };
+    let is_empty = totals.uploads == 0 && totals.held_bytes == 0 && totals.parts == 0;
+    Ok(is_empty && totals.objects == objects && replayed.totals() == totals)
+}
+
+fn sealed_in_the_end<B: Ledger, C: Ledger, R: Threads + Wait + Sync + AllocGlobal + Abort>(
+    rt: &R,
+    bytes: Blank,
+    calls: Blank,
+    workers: u64,
+) -> Result<(), AllocError>
+    requires bytes { (bytes.name ≡ B.name) × (bytes.parts ≡ B.parts) × (bytes.parts ≡ 2 ^ 32) }
+    requires calls { (calls.name ≡ C.name) × (calls.parts ≡ C.parts) × (calls.parts ≡ 2 ^ 32) }
+{
+    let alloc = rt.alloc();
+    let input = pattern(alloc, 0, 2049)?;
+    let row = input.as_slice();
+    let (shared, share) = Shared::<B, C>::new(alloc, Limits::full(), bytes, calls);
+    let opened = lent_open_tenant(&mut *shared.lock(rt), 4098);
+    let tenant = opened.ok().ok_or(AllocError)?;
+    let (share, answer) = upload_row(rt, alloc, &shared, share, &PassAll, tenant, row, workers);
+    let put = share.bytes();
+    let mut share = share;
+    let mut is_sealed = answer.is_ok();
+    if let Err(fault) = answer {
+        assert!(rt; is_want_of_memory(fault), "{fault:?}");
+        let is_gone = has_objects(alloc, shared.lock(rt).store(), 0);
+        assert!(rt; is_gone?);
+        let (again, second) = upload_row(rt, alloc, &shared, share, &PassAll, tenant, row, workers);
+        assert_eq!(rt; again.bytes(), put.saturating_add(2049));
+        share = again;
+        is_sealed = second.is_ok();
+    }
+    let mut locked = shared.close();
+    let is_settled = locked.settle(&mut share).is_ok();
+    let is_filed = has_objects(alloc, locked.store(), 1)?;
+    assert!(rt; is_sealed && is_settled && is_filed);
+    Ok(())
+}
+
+// Whatever growth is refused, the upload is sealed in the end.
+fn is_sealed<R: Threads + Wait + Sync + AllocGlobal + Abort>(
+    rt: &R,
+    workers: u64,
+) -> Result<(), AllocError> {
+    let (bytes, calls) = (Blank::new(1 << 32), Blank::new(1 << 32));
+    sealed_in_the_end::<Brand, Brand, R>(rt, bytes, calls, workers)
+}
+
+#[test]
+fn upload_by_one_worker(rt: HostRuntime) -> Result<(), Fail> {
+    match is_sealed(&rt, 1) {
+        Ok(()) => Ok(()),
+        Err(_) => Ok(is_sealed(&rt, 1)?),
+    }
+}
+
+#[test]
+fn upload_by_three_workers(rt: HostRuntime) -> Result<(), Fail> {
+    match is_sealed(&rt, 3) {
+        Ok(()) => Ok(()),
+        Err(_) => Ok(is_sealed(&rt, 3)?),
+    }
+}

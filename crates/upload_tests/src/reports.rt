@@ -1,0 +1,65 @@
+// What an upload leaves, as text.
+
+use std::alloc::{AllocError, Global};
+use store_core::{Entry, Store};
+use store_ledger::Accepted;
+use store_shared::UploadFault;
+
+/// A fault, and the upload that it leaves.
+pub(crate) fn fault_text(alloc: Global, fault: &UploadFault) -> Result<String, AllocError> {
+    match fault.left {
+        Some(upload) => format!(in alloc; "{} left {upload}", fault.kind),
+        None => fault.kind.to_string(alloc),
+    }
+}
+
+// How many entries there are, and their lines in order.
+fn journal_text(alloc: Global, entries: &[Entry]) -> Result<String, AllocError> {
+    let mut text = format!(in alloc; "entries {}", entries.len())?;
+    let mut mark = ": ";
+    for entry in entries {
+        text.push_str(mark)?;
+        text.push_str(entry.to_string(alloc)?.as_str())?;
+        mark = " / ";
+    }
+    Ok(text)
+}
+
+/// What was accepted, what the store holds, and its journal.
+pub(crate) fn store_text(
+    alloc: Global,
+    accepted: Accepted,
+    store: &Store,
+) -> Result<String, AllocError> {
+    let Accepted { bytes, calls } = accepted;
+    let totals = store.totals();
+    let journal = journal_text(alloc, store.journal())?;
+    format!(in alloc; "accepted {bytes} {calls}, {totals}, {}", journal.as_str())
+}
+
+// Offset and length of a part of the pattern of 2049 bytes, cut into parts of one chunk.
+fn part_at(digit: u8) -> (u64, u64) {
+    match digit {
+        b'0' => (0, 1024),
+        b'1' => (1024, 1024),
+        _ => (2048, 1),
+    }
+}
+
+/// What an upload of the pattern of 2049 bytes in three parts leaves that failed and was aborted, after these parts were
+/// put in this order. Each is named by its digit.
+pub(crate) fn aborted_after(alloc: Global, fault: &str, parts: &str) -> Result<String, AllocError> {
+    let mut bytes = 0u64;
+    let mut puts = String::new(alloc);
+    for digit in parts.as_bytes() {
+        let (offset, len) = part_at(*digit);
+        bytes = bytes.saturating_add(len);
+        puts.push_str(format!(in alloc; "put 0 {offset} {len} / ")?.as_str())?;
+    }
+    let calls = parts.len() as u64;
+    let entries = calls.saturating_add(3);
+    let (nothing, puts) = ("objects 0 bytes 0 uploads 0 held 0 parts 0", puts.as_str());
+    format!(in alloc;
+        "{fault}, accepted {bytes} {calls}, {nothing}, entries {entries}: tenant 0 4098 / begin 0 0 2049 / {puts}abort 0"
+    )
+}
