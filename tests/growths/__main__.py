@@ -183,7 +183,8 @@ def main():
         for words, data, may_have_written in [*cases(os.path.abspath(sys.argv[1])), *tests()]:
             passed, ended, failed = growths_of(refusing, words, data, may_have_written)
             name = " ".join([os.path.basename(words[0]), *words[1:]])
-            print(f"{name}: {passed + len(failed)} runs, of which {ended} ended for want of memory")
+            told = f", of which {ended} ended for want of memory" if ended else ""
+            print(f"{name}: {passed + len(failed)} runs{told}")
             for found in failed:
                 print(f"FAILED {name}: {found}")
             all_passed, all_failed = all_passed + passed, all_failed + len(failed)

@@ -10,6 +10,8 @@ mod follows;
 #[cfg(test)]
 mod forests;
 #[cfg(test)]
+mod growths;
+#[cfg(test)]
 mod hashing;
 #[cfg(test)]
 mod outputs;
