@@ -1,11 +1,13 @@
 -- Test vectors, so that a wrong constant or step in the spec does not check.
-use Rattle.std.proofs.Common.{◌≡◌, ℕ, ◌%◌, List, [], ◌∷◌, codes, refl}
+use Rattle.std.proofs.Common.{◌≡◌, ℕ, ◌+◌, ◌-◌, ◌%◌, List, [], ◌∷◌, codes, refl}
 use Rattle.std.specs.Prelude.{map}
 use Rattle.std.specs.List.{range_with_len}
 use Rattle.b3_core.specs.Compression.{mix, columns, diagonals, message, rounds, compress_of}
 use Rattle.b3_core.specs.ExtendedOutput.{output_byte}
+use Rattle.b3_core.specs.Hashers.{kept_work}
 use Rattle.b3_core.specs.Modes.{digest_of, hash_mode, keyed_mode, derive_mode}
-use Rattle.b3_core.specs.Tree.{chain, chunk_top, parent_top, power_below, left_length, tree_top_within, tree_top}
+use Rattle.b3_core.specs.Tree.{Inputs, chain, chunk_top, parent_top, power_below, left_length, tree_top_within, tree_top}
+use Rattle.b3_core.specs.Work.{hash_work}
 
 -- the first n of the bytes 0, 1, .., 250, 0, 1, ..
 abbrev pub pattern : ℕ → List ℕ
@@ -55,3 +57,10 @@ pub derived_digest : digest_of [] (derive_mode (codes "BLAKE3 2019-12-27 16:29:5
     0x2c ∷ 0xc3 ∷ 0x97 ∷ 0x83 ∷ 0xc2 ∷ 0x23 ∷ 0x15 ∷ 0x4f ∷ 0xea ∷ 0x8d ∷ 0xfb ∷ 0x7c ∷ 0x1b ∷ 0x16 ∷ 0x60 ∷ 0xf2 ∷ 0xac ∷ 0x2d ∷ 0xcb ∷ 0xd1 ∷ 0xc1 ∷ 0xde ∷ 0x82 ∷ 0x77 ∷ 0xb0 ∷ 0xb0 ∷ 0xdd ∷ 0x39 ∷ 0xb7 ∷ 0xe5 ∷ 0x0d ∷ 0x7d ∷ []
 unfolding mix columns diagonals message rounds compress_of chain chunk_top parent_top power_below left_length tree_top_within tree_top output_byte digest_of
 derived_digest = refl
+
+-- the compressions behind the nodes of three whole chunks, one and two before it; the whole has one parent more
+pub work_of_three_chunks : (one two : Inputs) → kept_work ((0, one) ∷ (1, two) ∷ []) ≡ 15 + 32
+work_of_three_chunks one two = refl
+
+pub work_of_their_tree : hash_work 3072 - 1 ≡ 15 + 32 + 2
+work_of_their_tree = refl
