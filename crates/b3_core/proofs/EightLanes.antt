@@ -1,11 +1,13 @@
 -- Facts of each lane, of any number of them or of eight.
-use Rattle.std.proofs.Common.{◌≡◌, ℕ, zero, suc, ◌<◌, ◌≤◌, ◌+◌, ◌-◌, ◌*◌, ◌/◌, ◌%◌, ◌^◌, List, [], ◌∷◌, ◌++◌, length, take, drop, replicate, slice_index, slice_index_or, slice_set, bit_or, Fits, w32, arith, refl, ap, ◌∙◌}
-use Rattle.std.proofs.lemmas.List.{append-nil, length-drop, length-take-le, get_or-take, get_or-drop}
-use Rattle.b3_core.specs.Lanes.{chunk_bytes, transposed_lanes}
+use Rattle.std.proofs.Common.{◌≡◌, ℕ, zero, suc, ◌<◌, ◌≤◌, ◌+◌, ◌-◌, ◌*◌, ◌/◌, ◌%◌, ◌^◌, List, [], ◌∷◌, ◌++◌, length, take, drop, replicate, get_or, slice_index, slice_index_or, bit_or, Fits, w32, nat_lt, true, arith, refl, ap, sym, ◌∙◌}
+use Rattle.std.proofs.lemmas.Bool.Decides.{nat_tests}
+use Rattle.std.proofs.lemmas.List.{append-nil, length-map, length-drop, length-take-le, get_or-map, get_or-take, get_or-drop}
+use Rattle.b3_core.specs.Lanes.{lane, across, chunk_bytes}
 use Rattle.std.specs.Simd.Lanes.{Each1, zip2}
 use Rattle.std.proofs.lemmas.Simd.{below_from_Fits, Each1-get_or, get_or-zip2, get_or-replicate, length-replicate, length-zip2}
 use Rattle.b3_core.specs.Compression.{turned}
 use Rattle.b3_core.specs.Tree.{word_at, block, block_words_of}
+use Rattle.b3_core.proofs.Nodes.{eight}
 
 -- what holds of each of the eight lanes
 pub below_eight : (P : ℕ → Type 0) → P 0 → P 1 → P 2 → P 3 → P 4 → P 5 → P 6 → P 7 → (j : ℕ) → j < 8 → P j
@@ -49,15 +51,16 @@ eight_lanes P p (a ∷ b ∷ c ∷ d ∷ e ∷ f ∷ []) len = absurd (omega ari
 eight_lanes P p (a ∷ b ∷ c ∷ d ∷ e ∷ f ∷ g ∷ []) len = absurd (omega arith)
 eight_lanes P p (a ∷ b ∷ c ∷ d ∷ e ∷ f ∷ g ∷ h ∷ i ∷ xs) len = absurd (omega arith)
 
--- four vectors, set one after another
-pub set_four : (vs : List (List ℕ)) (a b c d : List ℕ) → length vs ≡ 4
-    → slice_set (slice_set (slice_set (slice_set vs 0 a) 1 b) 2 c) 3 d ≡ a ∷ b ∷ c ∷ d ∷ []
-set_four (u ∷ v ∷ w ∷ x ∷ []) a b c d len = refl
-set_four [] a b c d len = absurd (omega arith)
-set_four (u ∷ []) a b c d len = absurd (omega arith)
-set_four (u ∷ v ∷ []) a b c d len = absurd (omega arith)
-set_four (u ∷ v ∷ w ∷ []) a b c d len = absurd (omega arith)
-set_four (u ∷ v ∷ w ∷ x ∷ y ∷ vs) a b c d len = absurd (omega arith)
+-- the word of lane j in vector k of some
+pub lane_word : {V : Type 0} (word : V → ℕ → ℕ) (j : ℕ) (x : List V) (n : ℕ) → length x ≡ n → (k : ℕ) (d : V) → nat_lt k n ≡ true
+    → word (get_or x k d) j ≡ slice_index (lane word j x) k
+lane_word word j x n len k d below = sym (get_or-map (λ v. word v j) x k d 0 (grind (arith, nat_tests)))
+
+-- the words of a lane of eight vectors
+pub eight_words : {V : Type 0} (word : V → ℕ → ℕ) (j : ℕ) (x : List V) → length x ≡ 8
+    → slice_index (lane word j x) 0 ∷ slice_index (lane word j x) 1 ∷ slice_index (lane word j x) 2 ∷ slice_index (lane word j x) 3
+    ∷ slice_index (lane word j x) 4 ∷ slice_index (lane word j x) 5 ∷ slice_index (lane word j x) 6 ∷ slice_index (lane word j x) 7 ∷ [] ≡ lane word j x
+eight_words word j x len = eight (lane word j x) (length-map x (λ v. word v j) ∙ len)
 
 -- each lane is a word
 pub lane_below : (n : ℕ) (xs : List ℕ) → (length xs ≡ n) × Each1 (Fits w32) xs → (j : ℕ) → j < n → slice_index xs j < 2 ^ 32
@@ -145,10 +148,10 @@ TwoRows x a o =
     × ((i : ℕ) → i < 4 → slice_index a (i + 4) ≡ word_at x (o + 4096 + 4 * i))
 
 -- such words of eight chunks, transposed
-pub eight_words : (x a b c d : List ℕ) (o : ℕ) → TwoRows x a o → TwoRows x b (1024 + o) → TwoRows x c (2048 + o) → TwoRows x d (3072 + o)
-    → (i m : ℕ) → i < 4 → m ≡ o + 4 * i → (j : ℕ) → j < 8 → slice_index (transposed_lanes i a b c d) j ≡ word_at x (1024 * j + m)
-eight_words x a b c d o ra rb rc rd i m h at =
-    below_eight (λ j. slice_index (transposed_lanes i a b c d) j ≡ word_at x (1024 * j + m))
+pub words_across : (x a b c d : List ℕ) (o : ℕ) → TwoRows x a o → TwoRows x b (o + 1024) → TwoRows x c (o + 2048) → TwoRows x d (o + 3072)
+    → (i m : ℕ) → i < 4 → m ≡ o + 4 * i → (j : ℕ) → j < 8 → slice_index (across i a b c d ++ across (i + 4) a b c d) j ≡ word_at x (1024 * j + m)
+words_across x a b c d o ra rb rc rd i m h at =
+    below_eight (λ j. slice_index (across i a b c d ++ across (i + 4) a b c d) j ≡ word_at x (1024 * j + m))
     (ra.0 i h ∙ ap (word_at x) (omega arith))
     (rb.0 i h ∙ ap (word_at x) (omega arith))
     (rc.0 i h ∙ ap (word_at x) (omega arith))
@@ -189,13 +192,13 @@ block_from x y s a len same =
     ) refl
 
 -- the words of block k of chunk i
-pub block_words_in : (x : List ℕ) (i k : ℕ) → length x ≡ 8192 → i < 8 → k < 16
+pub block_words_in : (x : List ℕ) (i k : ℕ) → 1024 * i + 1024 ≤ length x → k < 16
     → let s = 1024 * i in let a = 64 * k in block_words_of (block (chunk_bytes x i) k)
     ≡ word_at x (s + a) ∷ word_at x (s + (a + 4)) ∷ word_at x (s + (a + 8)) ∷ word_at x (s + (a + 12))
     ∷ word_at x (s + (a + 16)) ∷ word_at x (s + (a + 16 + 4)) ∷ word_at x (s + (a + 16 + 8)) ∷ word_at x (s + (a + 16 + 12))
     ∷ word_at x (s + (a + 32)) ∷ word_at x (s + (a + 32 + 4)) ∷ word_at x (s + (a + 32 + 8)) ∷ word_at x (s + (a + 32 + 12))
     ∷ word_at x (s + (a + 48)) ∷ word_at x (s + (a + 48 + 4)) ∷ word_at x (s + (a + 48 + 8)) ∷ word_at x (s + (a + 48 + 12)) ∷ []
-block_words_in x i k len chunk_top block =
+block_words_in x i k within block =
     let rest = drop (1024 * i) x in
     let c = chunk_bytes x i in
     let rest_len : length rest ≡ length x - 1024 * i = length-drop (1024 * i) x in
@@ -203,8 +206,8 @@ block_words_in x i k len chunk_top block =
     let tail_len : length (drop (64 * k) c) ≡ length c - 64 * k = length-drop (64 * k) c in
     block_from x (take 64 (drop (64 * k) c)) (1024 * i) (64 * k)
     (length-take-le 64 (drop (64 * k) c) (omega arith))
-    (λ o within.
-    get_or-take 64 (drop (64 * k) c) o 0 within
+    (λ o inside.
+    get_or-take 64 (drop (64 * k) c) o 0 inside
     ∙ get_or-drop (64 * k) c o 0
     ∙ get_or-take 1024 rest (64 * k + o) 0 (omega arith)
     ∙ get_or-drop (1024 * i) x (64 * k + o) 0

@@ -1,5 +1,5 @@
--- The eighths of whole chunks, and the subtree that they are.
-use Rattle.std.proofs.Common.{take-take, ◌≡◌, ℕ, zero, suc, ◌+◌, ◌-◌, ◌*◌, ◌^◌, ◌<◌, ◌≤◌, ◌++◌, List, length, take, drop, arith, refl, ap, ap₂, sym, inl, inr, ◌∙◌}
+-- Groups of whole chunks, an eighth of some bytes or one chunk each, and the subtrees that they are.
+use Rattle.std.proofs.Common.{take-take, ◌≡◌, ℕ, suc, ◌+◌, ◌-◌, ◌*◌, ◌^◌, ◌<◌, ◌≤◌, ◌++◌, List, length, take, drop, arith, refl, ap, ap₂, sym, inl, inr, ◌∙◌}
 use Rattle.std.proofs.lemmas.List.{take_all, length-take-le, length-take, length-drop, drop-drop, drop-take}
 use Rattle.std.proofs.lemmas.Nat.{pow_pos}
 use Rattle.std.proofs.lemmas.Bool.{cases_lt}
@@ -7,7 +7,7 @@ use Rattle.std.proofs.Math.Nat.{two-pow-succ}
 use Rattle.std.proofs.Math.Pow.{pow_mono}
 use Rattle.std.proofs.Math.Seq.{take-add}
 use Rattle.b3_core.proofs.EightLanes.{below_four}
-use Rattle.b3_core.specs.Lanes.{chunk_at, eighth_top}
+use Rattle.b3_core.specs.Lanes.{chunk_at, group_top}
 use Rattle.b3_core.specs.Tree.{Keying, Inputs, parent_top, tree_top}
 use Rattle.b3_core.proofs.Nodes.{top_short, top_join}
 
@@ -42,110 +42,114 @@ inside a n m x within =
     let cut : drop a (take m x) ≡ take (m - a) (drop a x) = ap (λ i. drop a (take i x)) (sym rest) ∙ drop-take a (m - a) x in
     ap (take n) cut ∙ take-take n (m - a) (drop a x) (omega arith)
 
--- ---- eighths
+-- ---- groups of 2 ^ k chunks each, and eighths
 
--- two neighbouring eighths
-pair_joins : (y : List ℕ) (c k i : ℕ) (p : Keying) → length y ≡ 8192 * 2 ^ k → i ≤ 6
-    → parent_top (eighth_top (2 ^ k) y c p i) (eighth_top (2 ^ k) y c p (i + 1)) p
+-- two neighbouring groups
+pair_joins : (y : List ℕ) (c k i : ℕ) (p : Keying) → 1024 * 2 ^ k * i + 2048 * 2 ^ k ≤ length y
+    → parent_top (group_top (2 ^ k) y c p i) (group_top (2 ^ k) y c p (i + 1)) p
     ≡ tree_top (take (2048 * 2 ^ k) (drop (1024 * 2 ^ k * i) y)) (c + 2 ^ k * i) p
-pair_joins y c k i p len last =
+pair_joins y c k i p within =
     join_halves y (1024 * 2 ^ k * i) (1024 * 2 ^ k * (i + 1)) (c + 2 ^ k * i) (c + 2 ^ k * (i + 1)) k (1024 * 2 ^ k) (2048 * 2 ^ k) p
-    refl (omega arith) (omega arith) (omega arith) (fits i last)
-  where
-    fits : (i : ℕ) → i ≤ 6 → 1024 * 2 ^ k * i + 2048 * 2 ^ k ≤ length y
-    fits zero h = omega (arith, len)
-    fits (suc zero) h = omega (arith, len)
-    fits (suc (suc zero)) h = omega (arith, len)
-    fits (suc (suc (suc zero))) h = omega (arith, len)
-    fits (suc (suc (suc (suc zero)))) h = omega (arith, len)
-    fits (suc (suc (suc (suc (suc zero))))) h = omega (arith, len)
-    fits (suc (suc (suc (suc (suc (suc zero)))))) h = omega (arith, len)
-    fits (suc (suc (suc (suc (suc (suc (suc i))))))) h = absurd (omega arith)
+    refl (omega arith) (omega arith) (omega arith) within
 
 -- equal bytes, and equal numbers of the first chunk
 same_top : (u v : List ℕ) (n m c d : ℕ) (p : Keying) → take n u ≡ take m v → c ≡ d → tree_top (take n u) c p ≡ tree_top (take m v) d p
 same_top u v n m c d p bytes number = rw (bytes, number) refl
 
--- an eighth of one chunk
-pub eighth_one : (x : List ℕ) (c j : ℕ) (p : Keying) → chunk_at x c p j ≡ eighth_top 1 x c p j
+-- a group of one chunk
+pub eighth_one : (x : List ℕ) (c j : ℕ) (p : Keying) → chunk_at x c p j ≡ group_top 1 x c p j
 eighth_one x c j p = chunk_is_top x c j (1024 * 1 * j) (c + 1 * j) p (omega arith) (omega arith)
 
 -- two eighths of the first half of some bytes are one of their eighths
 pub front_pair : (x : List ℕ) (c k j : ℕ) (p : Keying) → length x ≡ 16384 * 2 ^ k → j < 4
-    → parent_top (eighth_top (2 ^ k) (take (8192 * 2 ^ k) x) c p (2 * j)) (eighth_top (2 ^ k) (take (8192 * 2 ^ k) x) c p (2 * j + 1)) p
-    ≡ eighth_top (2 * 2 ^ k) x c p j
+    → parent_top (group_top (2 ^ k) (take (8192 * 2 ^ k) x) c p (2 * j)) (group_top (2 ^ k) (take (8192 * 2 ^ k) x) c p (2 * j + 1)) p
+    ≡ group_top (2 * 2 ^ k) x c p j
 front_pair x c k j p len below =
     let y = take (8192 * 2 ^ k) x in
     let half : length y ≡ 8192 * 2 ^ k = length-take-le (8192 * 2 ^ k) x (omega arith) in
-    below_four (λ j. parent_top (eighth_top (2 ^ k) y c p (2 * j)) (eighth_top (2 ^ k) y c p (2 * j + 1)) p ≡ eighth_top (2 * 2 ^ k) x c p j)
-    (pair_joins y c k 0 p half (omega arith)
+    below_four (λ j. parent_top (group_top (2 ^ k) y c p (2 * j)) (group_top (2 ^ k) y c p (2 * j + 1)) p ≡ group_top (2 * 2 ^ k) x c p j)
+    (pair_joins y c k 0 p (omega (arith, half))
     ∙ same_top (drop (1024 * 2 ^ k * 0) y) (drop (1024 * (2 * 2 ^ k) * 0) x) _ _ _ _ p
     (inside (1024 * 2 ^ k * 0) (2048 * 2 ^ k) (8192 * 2 ^ k) x (omega arith) ∙ ap₂ (λ n a. take n (drop a x)) (omega arith) (omega arith)) (omega arith))
-    (pair_joins y c k 2 p half (omega arith)
+    (pair_joins y c k 2 p (omega (arith, half))
     ∙ same_top (drop (1024 * 2 ^ k * 2) y) (drop (1024 * (2 * 2 ^ k) * 1) x) _ _ _ _ p
     (inside (1024 * 2 ^ k * 2) (2048 * 2 ^ k) (8192 * 2 ^ k) x (omega arith) ∙ ap₂ (λ n a. take n (drop a x)) (omega arith) (omega arith)) (omega arith))
-    (pair_joins y c k 4 p half (omega arith)
+    (pair_joins y c k 4 p (omega (arith, half))
     ∙ same_top (drop (1024 * 2 ^ k * 4) y) (drop (1024 * (2 * 2 ^ k) * 2) x) _ _ _ _ p
     (inside (1024 * 2 ^ k * 4) (2048 * 2 ^ k) (8192 * 2 ^ k) x (omega arith) ∙ ap₂ (λ n a. take n (drop a x)) (omega arith) (omega arith)) (omega arith))
-    (pair_joins y c k 6 p half (omega arith)
+    (pair_joins y c k 6 p (omega (arith, half))
     ∙ same_top (drop (1024 * 2 ^ k * 6) y) (drop (1024 * (2 * 2 ^ k) * 3) x) _ _ _ _ p
     (inside (1024 * 2 ^ k * 6) (2048 * 2 ^ k) (8192 * 2 ^ k) x (omega arith) ∙ ap₂ (λ n a. take n (drop a x)) (omega arith) (omega arith)) (omega arith))
     j below
 
 -- and two of the second half
 pub back_pair : (x : List ℕ) (c k j : ℕ) (p : Keying) → length x ≡ 16384 * 2 ^ k → j < 4
-    → parent_top (eighth_top (2 ^ k) (drop (8192 * 2 ^ k) x) (c + 8 * 2 ^ k) p (2 * j)) (eighth_top (2 ^ k) (drop (8192 * 2 ^ k) x) (c + 8 * 2 ^ k) p (2 * j + 1)) p
-    ≡ eighth_top (2 * 2 ^ k) x c p (j + 4)
+    → parent_top (group_top (2 ^ k) (drop (8192 * 2 ^ k) x) (c + 8 * 2 ^ k) p (2 * j)) (group_top (2 ^ k) (drop (8192 * 2 ^ k) x) (c + 8 * 2 ^ k) p (2 * j + 1)) p
+    ≡ group_top (2 * 2 ^ k) x c p (j + 4)
 back_pair x c k j p len below =
     let y = drop (8192 * 2 ^ k) x in
     let d = c + 8 * 2 ^ k in
     let rest : length y ≡ length x - 8192 * 2 ^ k = length-drop (8192 * 2 ^ k) x in
     let half : length y ≡ 8192 * 2 ^ k = omega (arith, rest, len) in
-    below_four (λ j. parent_top (eighth_top (2 ^ k) y d p (2 * j)) (eighth_top (2 ^ k) y d p (2 * j + 1)) p ≡ eighth_top (2 * 2 ^ k) x c p (j + 4))
-    (pair_joins y d k 0 p half (omega arith)
+    below_four (λ j. parent_top (group_top (2 ^ k) y d p (2 * j)) (group_top (2 ^ k) y d p (2 * j + 1)) p ≡ group_top (2 * 2 ^ k) x c p (j + 4))
+    (pair_joins y d k 0 p (omega (arith, half))
     ∙ same_top (drop (1024 * 2 ^ k * 0) y) (drop (1024 * (2 * 2 ^ k) * 4) x) _ _ _ _ p
     (ap (take (2048 * 2 ^ k)) (drop-drop (1024 * 2 ^ k * 0) (8192 * 2 ^ k) x) ∙ ap₂ (λ n a. take n (drop a x)) (omega arith) (omega arith)) (omega arith))
-    (pair_joins y d k 2 p half (omega arith)
+    (pair_joins y d k 2 p (omega (arith, half))
     ∙ same_top (drop (1024 * 2 ^ k * 2) y) (drop (1024 * (2 * 2 ^ k) * 5) x) _ _ _ _ p
     (ap (take (2048 * 2 ^ k)) (drop-drop (1024 * 2 ^ k * 2) (8192 * 2 ^ k) x) ∙ ap₂ (λ n a. take n (drop a x)) (omega arith) (omega arith)) (omega arith))
-    (pair_joins y d k 4 p half (omega arith)
+    (pair_joins y d k 4 p (omega (arith, half))
     ∙ same_top (drop (1024 * 2 ^ k * 4) y) (drop (1024 * (2 * 2 ^ k) * 6) x) _ _ _ _ p
     (ap (take (2048 * 2 ^ k)) (drop-drop (1024 * 2 ^ k * 4) (8192 * 2 ^ k) x) ∙ ap₂ (λ n a. take n (drop a x)) (omega arith) (omega arith)) (omega arith))
-    (pair_joins y d k 6 p half (omega arith)
+    (pair_joins y d k 6 p (omega (arith, half))
     ∙ same_top (drop (1024 * 2 ^ k * 6) y) (drop (1024 * (2 * 2 ^ k) * 7) x) _ _ _ _ p
     (ap (take (2048 * 2 ^ k)) (drop-drop (1024 * 2 ^ k * 6) (8192 * 2 ^ k) x) ∙ ap₂ (λ n a. take n (drop a x)) (omega arith) (omega arith)) (omega arith))
     j below
 
+-- four neighbouring groups under their three parents
+four_join : (x : List ℕ) (c k i : ℕ) (p : Keying) → 1024 * 2 ^ k * i + 4096 * 2 ^ k ≤ length x
+    → let g = group_top (2 ^ k) x c p in
+    parent_top (parent_top (g i) (g (i + 1)) p) (parent_top (g (i + 2)) (g (i + 3)) p) p
+    ≡ tree_top (take (4096 * 2 ^ k) (drop (1024 * 2 ^ k * i) x)) (c + 2 ^ k * i) p
+four_join x c k i p within =
+    let w = 1024 * 2 ^ k in
+    let twice = two-pow-succ k in
+    let up = λ (l r : Inputs). parent_top l r p in
+    let next : i + 2 + 1 ≡ i + 3 = omega arith in
+    let last = rw next at (pair_joins x c k (i + 2) p (omega (arith, within))) in
+    ap₂ up (pair_joins x c k i p (omega (arith, within))) last
+    ∙ join_halves x (w * i) (w * (i + 2)) (c + 2 ^ k * i) (c + 2 ^ k * (i + 2)) (suc k) (2048 * 2 ^ k) (4096 * 2 ^ k) p
+    (omega (arith, twice)) (omega arith) (omega arith) (omega (arith, twice)) within
+
+-- all of some bytes, the first chunk having the number c
+all_top : (x : List ℕ) (c w k n : ℕ) (p : Keying) → length x ≡ n → tree_top (take n (drop (w * 0) x)) (c + k * 0) p ≡ tree_top x c p
+all_top x c w k n p len =
+    let none : w * 0 ≡ 0 = omega arith in
+    let first : c + k * 0 ≡ c = omega arith in
+    rw (none, first) (ap (λ (y : List ℕ). tree_top y c p) (take_all n x (omega (arith, len))))
+
+-- four chunks under their three parents
+pub four_chunks_join : (x : List ℕ) (c : ℕ) (p : Keying) → length x ≡ 4096
+    → parent_top (parent_top (chunk_at x c p 0) (chunk_at x c p 1) p) (parent_top (chunk_at x c p 2) (chunk_at x c p 3) p) p ≡ tree_top x c p
+four_chunks_join x c p len =
+    rw (eighth_one x c 0 p, eighth_one x c 1 p, eighth_one x c 2 p, eighth_one x c 3 p)
+    (four_join x c 0 0 p (omega (arith, len)) ∙ all_top x c 1024 1 4096 p len)
+
 -- eight eighths under their seven parents
 pub eighths_join : (x : List ℕ) (c k : ℕ) (p : Keying) → length x ≡ 8192 * 2 ^ k
-    → let e = eighth_top (2 ^ k) x c p in
+    → let e = group_top (2 ^ k) x c p in
     parent_top
     (parent_top (parent_top (e 0) (e 1) p) (parent_top (e 2) (e 3) p) p)
     (parent_top (parent_top (e 4) (e 5) p) (parent_top (e 6) (e 7) p) p) p
     ≡ tree_top x c p
 eighths_join x c k p len =
     let w = 1024 * 2 ^ k in
-    let n = 2048 * 2 ^ k in
-    let m = 4096 * 2 ^ k in
     let twice = two-pow-succ k in
     let again = two-pow-succ (suc k) in
-    let up = λ (l r : Inputs). parent_top l r p in
-    let left =
-    ap₂ up (pair_joins x c k 0 p len (omega arith)) (pair_joins x c k 2 p len (omega arith))
-    ∙ join_halves x (w * 0) (w * 2) (c + 2 ^ k * 0) (c + 2 ^ k * 2) (suc k) n m p
-    (omega (arith, twice)) (omega arith) (omega arith) (omega (arith, twice)) (omega (arith, len)) in
-    let right =
-    ap₂ up (pair_joins x c k 4 p len (omega arith)) (pair_joins x c k 6 p len (omega arith))
-    ∙ join_halves x (w * 4) (w * 6) (c + 2 ^ k * 4) (c + 2 ^ k * 6) (suc k) n m p
-    (omega (arith, twice)) (omega arith) (omega arith) (omega (arith, twice)) (omega (arith, len)) in
-    let none : w * 0 ≡ 0 = omega arith in
-    let all : take (8192 * 2 ^ k) (drop (w * 0) x) ≡ x =
-    ap (λ (a : ℕ). take (8192 * 2 ^ k) (drop a x)) none ∙ take_all (8192 * 2 ^ k) x (omega (arith, len)) in
-    let first : c + 2 ^ k * 0 ≡ c = omega arith in
-    ap₂ up left right
-    ∙ join_halves x (w * 0) (w * 4) (c + 2 ^ k * 0) (c + 2 ^ k * 4) (suc (suc k)) m (8192 * 2 ^ k) p
+    ap₂ (λ (l r : Inputs). parent_top l r p) (four_join x c k 0 p (omega (arith, len))) (four_join x c k 4 p (omega (arith, len)))
+    ∙ join_halves x (w * 0) (w * 4) (c + 2 ^ k * 0) (c + 2 ^ k * 4) (suc (suc k)) (4096 * 2 ^ k) (8192 * 2 ^ k) p
     (omega (arith, twice, again)) (omega arith) (omega arith) (omega (arith, twice, again)) (omega (arith, len))
-    ∙ ap₂ (λ (z : List ℕ) (d : ℕ). tree_top z d p) all first
+    ∙ all_top x c w (2 ^ k) (8192 * 2 ^ k) p len
 
 -- one level more is twice as many chunks
 pub level_up : (level : ℕ) → (level ≡ 0 → ⊥) → 2 ^ level ≡ 2 * 2 ^ (level - 1)

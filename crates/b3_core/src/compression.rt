@@ -5,7 +5,7 @@ ghost use Rattle.b3_core.specs.Compression.{columns, diagonals, round, permute, 
 ghost use Rattle.b3_core.specs.Rows.{state_of};
 ghost use Rattle.b3_core.specs.Work.{counted};
 
-use crate::vectors::{down_one, down_three, down_two, mix, turn, xor};
+use crate::vectors::{Words, down_one, down_three, down_two, mix};
 use crate::work::Work;
 use std::simd::u32x4;
 
@@ -55,7 +55,7 @@ fn columns(v: Rows, m: [u32; 16]) -> Rows
 {
     let even = u32x4::from_array([m[0], m[2], m[4], m[6]]);
     let odd = u32x4::from_array([m[1], m[3], m[5], m[7]]);
-    let [a, b, c, d] = mix([v.a, v.b, v.c, v.d], even, odd);
+    let (a, b, c, d) = mix(v.a, v.b, v.c, v.d, even, odd);
     Rows { a, b, c, d }
 }
 
@@ -69,7 +69,7 @@ fn diagonals(v: Rows, m: [u32; 16]) -> Rows
     let b0 = down_one(v.b);
     let c0 = down_two(v.c);
     let d0 = down_three(v.d);
-    let [a, b1, c1, d1] = mix([v.a, b0, c0, d0], even, odd);
+    let (a, b1, c1, d1) = mix(v.a, b0, c0, d0, even, odd);
     let b = down_three(b1);
     let c = down_two(c1);
     let d = down_one(d1);
@@ -118,7 +118,7 @@ fn start_rows(h: [u32; 8], counter: u64, block_len: u32, flags: u32) -> Rows
         a: u32x4::from_array([h[0], h[1], h[2], h[3]]),
         b: u32x4::from_array([h[4], h[5], h[6], h[7]]),
         c: u32x4::from_array([IV[0], IV[1], IV[2], IV[3]]),
-        d: turn(u32x4::from_array(last), 24),
+        d: u32x4::from_array(last).turn(24),
     }
 }
 
@@ -157,9 +157,9 @@ fn seven_rounds(
 fn low_words(v: Rows) -> [u32; 8]
     ensures { (h : List ℕ) → result ≡ take 8 (output_words h (state_of v)) }
 {
-    let d = turn(v.d, 8);
-    let [w0, w1, w2, w3] = xor(v.a, v.c).to_array();
-    let [w4, w5, w6, w7] = xor(v.b, d).to_array();
+    let d = v.d.turn(8);
+    let [w0, w1, w2, w3] = v.a.xor(v.c).to_array();
+    let [w4, w5, w6, w7] = v.b.xor(d).to_array();
     [w0, w1, w2, w3, w4, w5, w6, w7]
 }
 
@@ -170,7 +170,7 @@ fn output_words(h: [u32; 8], v: Rows) -> [u32; 16]
 {
     let [w0, w1, w2, w3, w4, w5, w6, w7] = low_words(v);
     let [c0, c1, c2, c3] = v.c.to_array();
-    let [d0, d1, d2, d3] = turn(v.d, 8).to_array();
+    let [d0, d1, d2, d3] = v.d.turn(8).to_array();
     [
         w0,
         w1,

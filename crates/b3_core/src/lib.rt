@@ -8,13 +8,14 @@
 //! - `Mode` is one of the three modes: hash, keyed hash, derive key.
 //! - `Top` is a node of the tree before it is known whether it is the root: of one chunk, of eight chunks at a
 //!   time, or the parent of two nodes.
-//! - `hash` is the hash in a mode by plain recursion. `hash_wide` is the same value by eight compressions at a time, and
-//!   `Top::of_input` the node from which it comes; `Top::of_subtree` is that of bytes within an input.
+//! - `hash` is the hash in a mode by plain recursion. `hash_wide` is the same value by eight or four compressions at
+//!   a time, and `Top::of_input` the node from which it comes; `Top::of_subtree` is that of bytes within an input.
 //! - `Hasher` gives that node of bytes that come in pieces, without having them all at once.
 //! - `OutputReader` reads the extended output.
 //! - `tree_laws` states the tree in the specification's own words.
 #![tactic(auto)]
 
+mod chunks;
 mod compression;
 mod hasher;
 mod lanes;

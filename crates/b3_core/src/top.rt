@@ -1,8 +1,8 @@
 // A node of the tree: one chunk, or the parent of two nodes.
 
-ghost use Rattle.std.specs.Prelude.{◌≡◌, ℕ, ◌+◌, ◌-◌, ◌*◌, ◌^◌, ◌<◌, ◌≤◌, length};
+ghost use Rattle.std.specs.Prelude.{◌≡◌, ℕ, ◌+◌, ◌-◌, ◌*◌, ◌^◌, ◌<◌, ◌≤◌, length, slice_index};
 ghost use Rattle.b3_core.specs.ExtendedOutput.{output_of, root_words_of};
-ghost use Rattle.b3_core.specs.Lanes.{half_lane, chunk_bytes, chunk_at, eight_chunks};
+ghost use Rattle.b3_core.specs.Lanes.{lane, chunk_bytes, chunk_at, eight_chunks};
 ghost use Rattle.b3_core.specs.Tree.{Inputs, chain, chunk_top, parent_top, chaining_value_of, start_flag};
 ghost use Rattle.b3_core.specs.Work.{counted, block_count};
 
@@ -83,7 +83,7 @@ impl Top {
         ensures nodes { result ≡ eight_chunks bytes.now number mode.now }
         ensures count { work.new ≡ counted work.old 120 }
     {
-        let values = chains(mode, bytes, number, work);
+        let values: [u32x8; 8] = chains(mode, bytes, number, work);
         let n0 = Top::of_lane(mode, bytes, number, &values, 0);
         let n1 = Top::of_lane(mode, bytes, number, &values, 1);
         let n2 = Top::of_lane(mode, bytes, number, &values, 2);
@@ -100,7 +100,7 @@ impl Top {
         requires eight { length bytes.now ≡ 8192 }
         requires index { i < 8 }
         requires number { number ≤ 2 ^ 64 - 8 }
-        ensures { half_lane i values.now ≡ chain (chunk_bytes bytes.now i) (number + i) mode.now 15
+        ensures { lane slice_index i values.now ≡ chain (chunk_bytes bytes.now i) (number + i) mode.now 15
             → result ≡ chunk_at bytes.now number mode.now i }
     {
         let at = CHUNK_LEN * i + 960;

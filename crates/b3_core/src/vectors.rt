@@ -1,91 +1,115 @@
-// Vectors of N words: the steps of the compression function, in each lane. The rows of one state have four lanes, the states
-// of eight compressions eight.
+// Vectors of words: the steps of the compression function, in each lane. The rows of one state have four lanes, the states
+// of some compressions side by side a lane for each.
 
-ghost use Rattle.std.specs.Prelude.{◌≡◌, ℕ, ◌<◌, [], ◌∷◌, slice_index, bit_xor};
+ghost use Rattle.std.specs.Prelude.{◌≡◌, ℕ, ◌^◌, ◌<◌, [], ◌∷◌, slice_index, bit_xor};
 ghost use Rattle.b3_core.specs.Compression.{add32, turned, xor_turn, mix};
-ghost use Rattle.b3_core.specs.Lanes.{lane_at};
 
 use std::simd::{Simd, u32x4};
 
-// The sum, with the carry dropped.
-#[inline(always)]
-fn add<const N: usize>(a: Simd<u32, N>, b: Simd<u32, N>) -> Simd<u32, N>
-    ensures { (j : ℕ) → j < N → slice_index result j ≡ add32 (slice_index a.entry j) (slice_index b.entry j) }
-{
-    a + b
+/// A vector of words, one in each lane.
+pub(crate) trait Words: Copy {
+    // How many lanes there are.
+    ghost LANES: { ℕ };
+
+    // The word of a lane.
+    ghost word: { Self → ℕ → ℕ };
+
+    const LANES: usize;
+
+    // The same word in each lane.
+    fn splat(x: u32) -> Self
+        ensures { (j : ℕ) → j < LANES → word result j ≡ x };
+
+    // The word of a lane.
+    fn get(self, i: usize) -> u32
+        requires { i < LANES }
+        ensures { result ≡ word self i };
+
+    // The sum, with the carry dropped.
+    fn add(self, other: Self) -> Self
+        ensures { (j : ℕ) → j < LANES → word result j ≡ add32 (word self j) (word other j) };
+
+    // The exclusive or.
+    fn xor(self, other: Self) -> Self
+        ensures { (j : ℕ) → j < LANES → word result j ≡ bit_xor (word self j) (word other j) };
+
+    // The words turned right. Each of them fits 32 bits.
+    fn turn(self, k: u32) -> Self
+        requires { (0 < k) × (k < 32) }
+        ensures turns { (j : ℕ) → j < LANES → word result j ≡ turned k (word self j) }
+        ensures fits { (j : ℕ) → j < LANES → word self j < 2 ^ 32 };
 }
 
-// The exclusive or.
-#[inline(always)]
-pub(crate) fn xor<const N: usize>(a: Simd<u32, N>, b: Simd<u32, N>) -> Simd<u32, N>
-    ensures { (j : ℕ) → j < N → slice_index result j ≡ bit_xor (slice_index a.entry j) (slice_index b.entry j) }
-{
-    a ^ b
-}
+impl<const N: usize> Words for Simd<u32, N> {
+    ghost LANES = { N };
 
-// The words turned right.
-#[inline(always)]
-pub(crate) fn turn<const N: usize>(x: Simd<u32, N>, k: u32) -> Simd<u32, N>
-    requires { (0 < k) × (k < 32) }
-    ensures { (j : ℕ) → j < N → slice_index result j ≡ turned k (slice_index x.entry j) }
-{
-    (x >> Simd::splat(k)) | (x << Simd::splat(32 - k))
+    ghost word = { λ v j. slice_index v j };
+
+    const LANES: usize = N;
+
+    #[inline(always)]
+    fn splat(x: u32) -> Self {
+        Simd::splat(x)
+    }
+
+    #[inline(always)]
+    fn get(self, i: usize) -> u32 {
+        self.to_array()[i]
+    }
+
+    #[inline(always)]
+    fn add(self, other: Self) -> Self {
+        self + other
+    }
+
+    #[inline(always)]
+    fn xor(self, other: Self) -> Self {
+        self ^ other
+    }
+
+    #[inline(always)]
+    fn turn(self, k: u32) -> Self {
+        (self >> Simd::splat(k)) | (self << Simd::splat(32 - k))
+    }
 }
 
 // The exclusive or, turned right.
 #[inline(always)]
-fn xor_turn<const N: usize>(a: Simd<u32, N>, b: Simd<u32, N>, k: u32) -> Simd<u32, N>
+fn xor_turn<V: Words>(a: V, b: V, k: u32) -> V
     requires { (0 < k) × (k < 32) }
-    ensures { (j : ℕ) → j < N → slice_index result j ≡ xor_turn (slice_index a.entry j) (slice_index b.entry j) k }
+    ensures { (j : ℕ) → j < V.LANES → V.word result j ≡ xor_turn (V.word a j) (V.word b j) k }
 {
-    turn(xor(a, b), k)
+    a.xor(b).turn(k)
 }
 
 // The first turn of G, of a word that comes as it was before G's last turn, by 8 bits: that turn and this one by 16 are then
 // one by 24.
 #[inline(always)]
-fn first_turn<const N: usize>(d: Simd<u32, N>, a: Simd<u32, N>) -> Simd<u32, N>
-    ensures { (j : ℕ) → j < N → slice_index result j ≡ xor_turn (turned 8 (slice_index d.entry j)) (slice_index a.entry j) 16 }
+fn first_turn<V: Words>(d: V, a: V) -> V
+    ensures { (j : ℕ) → j < V.LANES → V.word result j ≡ xor_turn (turned 8 (V.word d j)) (V.word a j) 16 }
 {
-    xor(turn(d, 24), turn(a, 16))
+    d.turn(24).xor(a.turn(16))
 }
 
 // G (section 2.2): mixes two message words into four words of the state. The last of the four comes and goes as it was
 // before its turn by 8 bits.
 #[inline(always)]
-pub(crate) fn mix<const N: usize>(
-    v: [Simd<u32, N>; 4],
-    x: Simd<u32, N>,
-    y: Simd<u32, N>,
-) -> [Simd<u32, N>; 4]
-    ensures { (j : ℕ) → j < N
-        → (lane_at result 0 j, lane_at result 1 j, lane_at result 2 j, turned 8 (lane_at result 3 j))
-        ≡ mix (lane_at v.entry 0 j) (lane_at v.entry 1 j) (lane_at v.entry 2 j) (turned 8 (lane_at v.entry 3 j)) (slice_index x.entry j) (slice_index y.entry j) }
+pub(crate) fn mix<V: Words>(a: V, b: V, c: V, d: V, x: V, y: V) -> (V, V, V, V)
+    ensures { (j : ℕ) → j < V.LANES
+        → (V.word result.0 j, V.word result.1 j, V.word result.2 j, turned 8 (V.word result.3 j))
+        ≡ mix (V.word a j) (V.word b j) (V.word c j) (turned 8 (V.word d j)) (V.word x j) (V.word y j) }
 {
-    let a0 = add(v[0], v[1]);
-    let a1 = add(a0, x);
-    let d1 = first_turn(v[3], a1);
-    let c1 = add(v[2], d1);
-    let b1 = xor_turn(v[1], c1, 12);
-    let a3 = add(a1, b1);
-    let a2 = add(a3, y);
-    let d2 = xor(d1, a2);
-    let c2 = add(c1, turn(d2, 8));
+    let a0 = a.add(b);
+    let a1 = a0.add(x);
+    let d1 = first_turn(d, a1);
+    let c1 = c.add(d1);
+    let b1 = xor_turn(b, c1, 12);
+    let a3 = a1.add(b1);
+    let a2 = a3.add(y);
+    let d2 = d1.xor(a2);
+    let c2 = c1.add(d2.turn(8));
     let b2 = xor_turn(b1, c2, 7);
-    let mut mixed = v;
-    mixed[0] = a2;
-    mixed[1] = b2;
-    mixed[2] = c2;
-    mixed[3] = d2;
-    mixed
-}
-
-// A word in each lane.
-#[inline(always)]
-pub(crate) fn splat<const N: usize>(x: u32) -> Simd<u32, N>
-    ensures { (j : ℕ) → j < N → slice_index result j ≡ x }
-{
-    Simd::splat(x)
+    (a2, b2, c2, d2)
 }
 
 // The words moved down by one lane, the first one to the end.

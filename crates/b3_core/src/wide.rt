@@ -1,7 +1,7 @@
-// The hash by eight compressions at a time, of chunks and of parents.
+// The hash by eight compressions at a time, of chunks and of parents, and by four chunks where no eight are left.
 
-ghost use Rattle.std.specs.Prelude.{◌≡◌, ℕ, ◌+◌, ◌-◌, ◌*◌, ◌/◌, ◌^◌, ◌<◌, ◌≤◌, IfSome, length};
-ghost use Rattle.b3_core.specs.Lanes.{half_lane, eighth_top};
+ghost use Rattle.std.specs.Prelude.{◌≡◌, ℕ, ◌+◌, ◌-◌, ◌*◌, ◌/◌, ◌^◌, ◌<◌, ◌≤◌, IfSome, length, slice_index};
+ghost use Rattle.b3_core.specs.Lanes.{lane, group_top};
 ghost use Rattle.b3_core.specs.Modes.{digest_of};
 ghost use Rattle.b3_core.specs.Tree.{Inputs, chaining_value_of, parent_top, tree_top};
 ghost use Rattle.b3_core.specs.Work.{counted, hash_work};
@@ -11,8 +11,9 @@ use crate::lanes::{chunk_values, lane_words, parent_values};
 use crate::mode::Mode;
 use crate::top::Top;
 use crate::tree::left_len;
+use crate::vectors::Words;
 use crate::work::Work;
-use std::simd::u32x8;
+use std::simd::{u32x4, u32x8};
 
 // The chaining value of the parent of two nodes with these chaining values.
 fn parent_value(mode: &Mode, left: [u32; 8], right: [u32; 8], work: &mut Work) -> [u32; 8]
@@ -24,9 +25,11 @@ fn parent_value(mode: &Mode, left: [u32; 8], right: [u32; 8], work: &mut Work) -
 }
 
 // The chaining value of the parent of the nodes in lanes `2 i` and `2 i + 1`.
-fn pair_value(mode: &Mode, values: &[u32x8; 8], i: usize, work: &mut Work) -> [u32; 8]
-    requires { i < 4 }
-    ensures value { (l r : Inputs) → half_lane (2 * i) values.now ≡ chaining_value_of l → half_lane (2 * i + 1) values.now ≡ chaining_value_of r
+#[inline(always)]
+fn pair_value<V: Words>(mode: &Mode, values: &[V; 8], i: usize, work: &mut Work) -> [u32; 8]
+    requires few { i < 4 }
+    requires lanes { 2 * i + 1 < V.LANES }
+    ensures value { (l r : Inputs) → lane V.word (2 * i) values.now ≡ chaining_value_of l → lane V.word (2 * i + 1) values.now ≡ chaining_value_of r
         → result ≡ chaining_value_of (parent_top l r mode.now) }
     ensures count { work.new ≡ counted work.old 1 }
 {
@@ -55,7 +58,7 @@ fn eighth_level(len: usize) -> Option<u32>
 fn eighth_values(mode: &Mode, bytes: &[u8], level: u32, number: u64, work: &mut Work) -> [u32x8; 8]
     requires len { length bytes.now ≡ 8192 * 2 ^ level }
     requires number { number + length bytes.now / 1024 < 2 ^ 64 }
-    ensures values { (j : ℕ) → j < 8 → half_lane j result ≡ chaining_value_of (eighth_top (2 ^ level) bytes.now number mode.now j) }
+    ensures values { (j : ℕ) → j < 8 → lane slice_index j result ≡ chaining_value_of (group_top (2 ^ level) bytes.now number mode.now j) }
     ensures count { work.new ≡ counted work.old (136 * 2 ^ level - 8) }
 {
     if level == 0 {
@@ -86,6 +89,19 @@ fn whole_top(mode: &Mode, bytes: &[u8], level: u32, number: u64, work: &mut Work
     Top::of_children(mode, left, right)
 }
 
+// The top of the tree over four whole chunks, the first with the given number.
+fn four_top(mode: &Mode, bytes: &[u8], number: u64, work: &mut Work) -> Top
+    requires len { length bytes.now ≡ 4096 }
+    requires number { number + 4 < 2 ^ 64 }
+    ensures node { result ≡ tree_top bytes.now number mode.now }
+    ensures count { work.new ≡ counted work.old 66 }
+{
+    let values: [u32x4; 8] = chunk_values(mode, bytes, number, work);
+    let left = pair_value(mode, &values, 0, work);
+    let right = pair_value(mode, &values, 1, work);
+    Top::of_children(mode, left, right)
+}
+
 // The top of the tree over bytes whose first chunk has the given number.
 fn wide_top(mode: &Mode, bytes: &[u8], number: u64, work: &mut Work) -> Top
     requires { number + length bytes.now / 1024 < 2 ^ 64 }
@@ -94,6 +110,9 @@ fn wide_top(mode: &Mode, bytes: &[u8], number: u64, work: &mut Work) -> Top
 {
     if bytes.len() <= CHUNK_LEN {
         return Top::of_chunk(mode, bytes, number, work);
+    }
+    if bytes.len() == 4 * CHUNK_LEN {
+        return four_top(mode, bytes, number, work);
     }
     if let Some(level) = eighth_level(bytes.len()) {
         return whole_top(mode, bytes, level, number, work);
@@ -106,8 +125,8 @@ fn wide_top(mode: &Mode, bytes: &[u8], number: u64, work: &mut Work) -> Top
 }
 
 impl Top {
-    /// The top of the tree over a whole input, by eight compressions side by side: the node whose `root32` is the
-    /// input's hash, and from which an `OutputReader` reads its extended output. It makes the compressions of the
+    /// The top of the tree over a whole input, by eight or four compressions side by side: the node whose `root32` is
+    /// the input's hash, and from which an `OutputReader` reads its extended output. It makes the compressions of the
     /// hash but the last one.
     pub fn of_input(mode: &Mode, bytes: &[u8], work: &mut Work) -> Top
         ensures node { result ≡ tree_top bytes.now 0 mode.now }
@@ -127,7 +146,8 @@ impl Top {
 }
 
 /// The hash of `bytes` in a mode, as [`hash`](crate::hash) gives it and with the same count of compressions: chunks
-/// and parents are compressed eight at a time, side by side, wherever 2^k whole chunks are a subtree, k at least 3.
+/// and parents are compressed eight at a time, side by side, wherever 2^k whole chunks are a subtree, k at least 3, and
+/// chunks four at a time where four are one.
 #[tactic(auto, unfolding(crate::specs::Modes::digest_of))]
 pub fn hash_wide(mode: &Mode, bytes: &[u8], work: &mut Work) -> [u8; 32]
     ensures bytes { result ≡ digest_of bytes.now mode.now }

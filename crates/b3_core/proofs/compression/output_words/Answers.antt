@@ -5,8 +5,8 @@ pub returns : goal.returns
 returns c =
     rw (
       c.low_words.ensures c.args.h,
-      c.turn.ensures 0 (omega arith),
-      c.turn.ensures 1 (omega arith),
-      c.turn.ensures 2 (omega arith),
-      c.turn.ensures 3 (omega arith),
+      c.turn.ensures.turns 0 (omega arith),
+      c.turn.ensures.turns 1 (omega arith),
+      c.turn.ensures.turns 2 (omega arith),
+      c.turn.ensures.turns 3 (omega arith),
     ) refl

@@ -6,12 +6,12 @@ use Rattle.b3_core.proofs.lanes.chains.Goals as goal
 
 pub blocks-2-init : goal.blocks-2-init
 unfolding chain
-blocks-2-init c = record { chained = λ j h. c.keys-h.ensures j h ∙ c.key.ensures; work = omega arith }
+blocks-2-init g c = record { chained = λ j h. c.keys-h.ensures j h ∙ c.key.ensures; work = omega arith }
 
 pub blocks-2-preserved : goal.blocks-2-preserved
-blocks-2-preserved c = record {
+blocks-2-preserved g c = record {
   chained = λ j h.
-      c.compress-next.ensures.values j (c.args.number + j) h (c.low_words-t_low.ensures j h) (c.high_words-t_high.ensures j h)
+      c.compress.ensures.values j (c.args.number + j) h (c.low_words-t_low.ensures j h) (c.high_words-t_high.ensures j h)
       ∙ chain_step (chunk_bytes c.args.bytes.now j) (c.args.number + j) c.args.mode.now c.blocks-2.k _ _ _ (c.blocks-2.invariant.chained j h)
       (c.blocks_at-m.ensures j h)
       (ap₂ (λ a b. a + b) c.flag.ensures.value c.start_flag.ensures);
@@ -19,6 +19,16 @@ blocks-2-preserved c = record {
 }
 
 pub returns-clause-values : goal.returns-clause-values
-returns-clause-values c j h =
+returns-clause-values g c j h =
     let done : c.blocks-2.k ≡ 15 = omega arith in
     rw done at (c.blocks-2.invariant.chained j h)
+
+pub blocks_at-m-requires : goal.blocks_at-m-requires
+blocks_at-m-requires g c =
+    let small = g.met.V.Chunks.is_small in
+    (omega arith, (c.requires.len, omega arith))
+
+pub compress-requires : goal.compress-requires
+compress-requires g c =
+    let small = g.met.V.Chunks.is_small in
+    (omega arith, omega arith)

@@ -5,12 +5,22 @@ use Rattle.b3_core.proofs.Nodes.{whole_chunk_value}
 use Rattle.b3_core.proofs.lanes.chunk_values.Goals as goal
 
 pub returns-clause-values : goal.returns-clause-values
-returns-clause-values c j h =
+returns-clause-values g c j h =
     let x = c.args.bytes.now in
     let rest = drop (1024 * j) x in
     let rest_len : length rest ≡ length x - 1024 * j = length-drop (1024 * j) x in
     let len : length (chunk_bytes x j) ≡ 1024 = length-take-le 1024 rest (omega arith) in
     c.compress.ensures.values j (c.args.number + j) h (c.low_words-t_low.ensures j h) (c.high_words-t_high.ensures j h)
-    ∙ whole_chunk_value (chunk_bytes x j) (c.args.number + j) c.args.mode.now _ _ _ len (c.chains-before_last.ensures.values j h)
+    ∙ whole_chunk_value (chunk_bytes x j) (c.args.number + j) c.args.mode.now _ _ _ len (c.chains-values.ensures.values j h)
     (c.blocks_at-last_block.ensures j h)
     (ap (λ n. n + 2) c.flag.ensures.value)
+
+pub blocks_at-last_block-requires : goal.blocks_at-last_block-requires
+blocks_at-last_block-requires g c =
+    let small = g.met.V.Chunks.is_small in
+    (omega arith, (c.requires.len, omega arith))
+
+pub compress-requires : goal.compress-requires
+compress-requires g c =
+    let small = g.met.V.Chunks.is_small in
+    (omega arith, omega arith)

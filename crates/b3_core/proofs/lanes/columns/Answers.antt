@@ -1,7 +1,15 @@
+use Rattle.std.proofs.Common.{arith}
 use Rattle.b3_core.specs.Compression.{columns}
+use Rattle.b3_core.proofs.EightLanes.{lane_word}
 use Rattle.b3_core.proofs.lanes.columns.Goals as goal
 
 pub returns : goal.returns
 unfolding columns
-returns c j h =
-    rw (← c.mix.ensures j h, ← c.mix-2.ensures j h, ← c.mix-3.ensures j h, ← c.mix-4.ensures j h)
+returns g c j h =
+    let v = lane_word g.V.Words.word j c.args.v 16 (omega arith) in
+    let m = lane_word g.V.Words.word j c.args.m 16 (omega arith) in
+    let q0 = simp (v, m) at (c.mix-v0.ensures j h) in
+    let q1 = simp (v, m) at (c.mix-v1.ensures j h) in
+    let q2 = simp (v, m) at (c.mix-v2.ensures j h) in
+    let q3 = simp (v, m) at (c.mix-v3.ensures j h) in
+    rw (← q0, ← q1, ← q2, ← q3)

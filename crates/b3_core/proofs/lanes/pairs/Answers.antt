@@ -1,9 +1,10 @@
-use Rattle.std.proofs.Common.{refl}
+use Rattle.std.proofs.Common.{◌+◌, ◌*◌, ◌++◌, slice_index, arith, ap₂}
+use Rattle.b3_core.proofs.EightLanes.{lane_word, eight_words}
 use Rattle.b3_core.proofs.lanes.pairs.Goals as goal
 
 pub returns-clause-front : goal.returns-clause-front
 returns-clause-front c j h =
-    rw (
+    simp (
       (c.parted.ensures.front j h).0,
       (c.parted.ensures.front j h).1,
       (c.parted-2.ensures.front j h).0,
@@ -20,11 +21,13 @@ returns-clause-front c j h =
       (c.parted-7.ensures.front j h).1,
       (c.parted-8.ensures.front j h).0,
       (c.parted-8.ensures.front j h).1,
-    ) refl
+      lane_word slice_index (2 * j) c.args.left 8 (omega arith),
+      lane_word slice_index (2 * j + 1) c.args.left 8 (omega arith),
+    ) (ap₂ (λ a b. a ++ b) (eight_words slice_index (2 * j) c.args.left (omega arith)) (eight_words slice_index (2 * j + 1) c.args.left (omega arith)))
 
 pub returns-clause-back : goal.returns-clause-back
 returns-clause-back c j h =
-    rw (
+    simp (
       (c.parted.ensures.back j h).0,
       (c.parted.ensures.back j h).1,
       (c.parted-2.ensures.back j h).0,
@@ -41,4 +44,6 @@ returns-clause-back c j h =
       (c.parted-7.ensures.back j h).1,
       (c.parted-8.ensures.back j h).0,
       (c.parted-8.ensures.back j h).1,
-    ) refl
+      lane_word slice_index (2 * j) c.args.right 8 (omega arith),
+      lane_word slice_index (2 * j + 1) c.args.right 8 (omega arith),
+    ) (ap₂ (λ a b. a ++ b) (eight_words slice_index (2 * j) c.args.right (omega arith)) (eight_words slice_index (2 * j + 1) c.args.right (omega arith)))

@@ -1,7 +1,7 @@
-use Rattle.std.proofs.Common.{◌≡◌, ℕ, ◌+◌, ◌-◌, ◌*◌, ◌/◌, ◌^◌, ◌<◌, List, length, take, drop, arith, ap, ap₂, sym, subst, ◌∙◌}
+use Rattle.std.proofs.Common.{◌≡◌, ℕ, ◌+◌, ◌-◌, ◌*◌, ◌/◌, ◌^◌, ◌<◌, List, length, take, drop, slice_index, arith, ap, ap₂, sym, subst, ◌∙◌}
 use Rattle.std.proofs.lemmas.List.{length-drop, length-take-le}
 use Rattle.std.proofs.lemmas.Nat.{pow_pos}
-use Rattle.b3_core.specs.Lanes.{half_lane, eighth_top}
+use Rattle.b3_core.specs.Lanes.{lane, group_top}
 use Rattle.b3_core.specs.Tree.{chaining_value_of}
 use Rattle.b3_core.proofs.EightLanes.{below_eight}
 use Rattle.b3_core.proofs.Eighths.{eighth_one, front_pair, back_pair, level_up}
@@ -11,7 +11,7 @@ pub returns-then-level-eq0-clause-values : goal.returns-then-level-eq0-clause-va
 returns-then-level-eq0-clause-values t c j h =
     let one : 2 ^ c.args.level ≡ 1 = ap (λ k. 2 ^ k) c.if-level-eq0.true in
     c.chunk_values.ensures.values j h
-    ∙ ap chaining_value_of (eighth_one c.args.bytes.now c.args.number j c.args.mode.now ∙ ap (λ k. eighth_top k c.args.bytes.now c.args.number c.args.mode.now j) (sym one))
+    ∙ ap chaining_value_of (eighth_one c.args.bytes.now c.args.number j c.args.mode.now ∙ ap (λ k. group_top k c.args.bytes.now c.args.number c.args.mode.now j) (sym one))
 
 pub eighth_values-left_values-requires : goal.eighth_values-left_values-requires
 eighth_values-left_values-requires t c =
@@ -41,15 +41,15 @@ returns-clause-values t c =
     let left : c.split_at.result.0.now ≡ take (8192 * 2 ^ k) x = c.split_at.ensures.front ∙ ap (λ i. take i x) middle in
     let right : c.split_at.result.1.now ≡ drop (8192 * 2 ^ k) x = c.split_at.ensures.back ∙ ap (λ i. drop i x) middle in
     let later : n + length x / 2 / 1024 ≡ n + 8 * 2 ^ k = omega (arith, len) in
-    let lq = λ (i : ℕ). eighth_top (2 ^ k) (take (8192 * 2 ^ k) x) n p i in
-    let rq = λ (i : ℕ). eighth_top (2 ^ k) (drop (8192 * 2 ^ k) x) (n + 8 * 2 ^ k) p i in
-    let ls = λ (i : ℕ) (h : i < 8). c.eighth_values-left_values.ensures.values i h ∙ ap (λ (y : List ℕ). chaining_value_of (eighth_top (2 ^ k) y n p i)) left in
-    let rs = λ (i : ℕ) (h : i < 8). c.eighth_values-right_values.ensures.values i h ∙ ap₂ (λ (y : List ℕ) (m : ℕ). chaining_value_of (eighth_top (2 ^ k) y m p i)) right later in
+    let lq = λ (i : ℕ). group_top (2 ^ k) (take (8192 * 2 ^ k) x) n p i in
+    let rq = λ (i : ℕ). group_top (2 ^ k) (drop (8192 * 2 ^ k) x) (n + 8 * 2 ^ k) p i in
+    let ls = λ (i : ℕ) (h : i < 8). c.eighth_values-left_values.ensures.values i h ∙ ap (λ (y : List ℕ). chaining_value_of (group_top (2 ^ k) y n p i)) left in
+    let rs = λ (i : ℕ) (h : i < 8). c.eighth_values-right_values.ensures.values i h ∙ ap₂ (λ (y : List ℕ) (m : ℕ). chaining_value_of (group_top (2 ^ k) y m p i)) right later in
     let front = λ (j : ℕ) (h : j < 4). c.parent_values.ensures.front j (lq (2 * j)) (lq (2 * j + 1)) h (ls (2 * j) (omega (arith, h))) (ls (2 * j + 1) (omega (arith, h)))
     ∙ ap chaining_value_of (front_pair x n k j p len h) in
     let back = λ (j : ℕ) (h : j < 4). c.parent_values.ensures.back j (rq (2 * j)) (rq (2 * j + 1)) h (rs (2 * j) (omega (arith, h))) (rs (2 * j + 1) (omega (arith, h)))
     ∙ ap chaining_value_of (back_pair x n k j p len h) in
-    subst (λ m. (j : ℕ) → j < 8 → half_lane j c.parent_values.result ≡ chaining_value_of (eighth_top m x n p j)) (sym twice)
+    subst (λ m. (j : ℕ) → j < 8 → lane slice_index j c.parent_values.result ≡ chaining_value_of (group_top m x n p j)) (sym twice)
     (below_eight _ (front 0 (omega arith)) (front 1 (omega arith)) (front 2 (omega arith)) (front 3 (omega arith))
     (back 0 (omega arith)) (back 1 (omega arith)) (back 2 (omega arith)) (back 3 (omega arith)))
 
