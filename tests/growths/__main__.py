@@ -23,6 +23,7 @@ HERE = os.path.dirname(os.path.abspath(__file__))
 TEST_PROGRAMS = os.path.join(os.path.dirname(os.path.dirname(HERE)), "crates", "*", "out", "*_tests")
 sys.path.insert(0, os.path.join(os.path.dirname(HERE), "second_reading"))
 from blake3 import address_of
+from journal import HEADER
 from script import answers_of, call_of, pattern
 from store import Refused, Store
 
@@ -38,8 +39,10 @@ put 0 1024 p:1024
 put 0 0 p:1024
 put 0 2048 p:1
 seal 0
-begin 1 2049
-put 1 0 p:2049
+open 1 4096
+put 1 0 p:2048
+fix 1 2049
+put 1 2048 p:1
 sealas 1 {ADDRESS}
 fetch 1 {ADDRESS}
 list 0
@@ -89,7 +92,8 @@ def told_a_refusal(answer):
 
 def cases(program):
     """The command, the input, and which output may come with status 3 where memory was refused."""
-    journal = "".join(f"{entry}\n" for entry in answers_of(SCRIPT)[2].journal).encode()
+    entries = "".join(f"{entry}\n" for entry in answers_of(SCRIPT)[2].journal).encode()
+    journal = HEADER + b"\n" + entries
     check = f"{ADDRESS}  object\n{ADDRESS}  absent\n{ADDRESS}  abc\n".encode()
     yield [program, "sum"], OBJECT, wrote_nothing
     yield [program, "sum", "--length", "100"], OBJECT, wrote_nothing

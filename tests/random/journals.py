@@ -2,7 +2,7 @@
 import re
 
 import scripts
-from journal import ANSWERS, HEADER
+from journal import ANSWERS, HEADER, entry_of
 
 
 def changed(chance, lines):
@@ -28,7 +28,10 @@ def changed(chance, lines):
 
 
 def case(chance):
-    lines = [HEADER.decode()] * chance.randrange(2) + scripts.journal_of(chance)
+    lines = scripts.journal_of(chance)
+    needs_header = any(entry_of(line.encode(), 1) is None for line in lines)
+    if chance.random() < (0.9 if needs_header else 0.5):
+        lines.insert(0, HEADER.decode())
     for _ in range(chance.choice((0, 1, 1, 2))):
         lines = changed(chance, lines)
     text = "\n".join(lines) + ("\n" if lines and chance.random() < 0.9 else "")

@@ -37,16 +37,32 @@ class Writer:
 
     def begin(self):
         lengths = self.lengths if self.chance.random() < 0.9 else LENGTHS + (1 << 44, (1 << 44) + 1)
-        return f"begin {self.tenant()} {self.chance.choice(lengths)}"
+        word = self.chance.choice(("begin", "open"))
+        return f"{word} {self.tenant()} {self.chance.choice(lengths)}"
 
-    def put(self):
+    def fix(self):
         number = self.upload()
         upload = self.store.uploads.get(number)
-        length = upload.length if upload else 2048
+        ends = list(LENGTHS)
+        if upload:
+            reached = upload.reached()
+            ends += [reached] * 20 + [upload.bound, upload.bound + 1, reached + 1, max(1, reached) - 1, upload.missing() or 0]
+        return f"fix {number} {self.chance.choice(ends)}"
+
+    def place_in(self, upload):
+        """Where a part may begin, and its length. Where the upload's length comes later, it often is in a free place and ragged."""
+        if upload and upload.has_open_plan and self.chance.random() < 0.3:
+            free = [offset for offset in range(0, min(upload.bound, 5120), 1024) if upload.overlap(offset, 1) is None]
+            return self.chance.choice(free or [0]), self.chance.choice((1, 1000, 1023, 1024))
+        length = upload.length() if upload else 2048
         offset = 1024 * self.chance.randrange(max(1, -(-length // 1024)))
         if upload and upload.missing() is not None and self.chance.random() < 0.5:
             offset = upload.missing()
-        most = min(length - offset, 1024 * self.chance.randrange(1, 6))
+        return offset, min(length - offset, 1024 * self.chance.randrange(1, 6))
+
+    def put(self):
+        number = self.upload()
+        offset, most = self.place_in(self.store.uploads.get(number))
         if self.chance.random() < 0.1:
             offset = self.chance.choice((offset, self.chance.randrange(4100)))
             most = self.chance.choice(LENGTHS + (33554432, 33554433))
@@ -59,6 +75,7 @@ class Writer:
             "tenant": lambda: f"tenant {self.chance.choice((0, 4096, 9000, 20000, 1 << 46))}",
             "limit": lambda: f"limit {self.tenant()} {self.chance.choice((0, 2048, 9000, 40000))}",
             "begin": self.begin,
+            "fix": self.fix,
             "put": self.put,
             "seal": lambda: f"seal {self.upload()}",
             "sealas": lambda: f"sealas {self.upload()} {self.address()}",
@@ -72,6 +89,7 @@ class Writer:
         }
         open_now = len(self.store.uploads)
         weights = {"begin": 16 if open_now < 2 else 2, "put": 8 * min(3, open_now), "seal": 2 * open_now, "abort": 1}
+        weights["fix"] = 1 + 2 * sum(upload.end is None for upload in self.store.uploads.values())
         word = self.chance.choices(list(kinds), [weights.get(kind, 2) for kind in kinds])[0]
         return kinds[word]()
 

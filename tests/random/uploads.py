@@ -23,5 +23,5 @@ def differs(told, wanted, data):
     calls = wanted.split()[-1]
     left = b"objects 1 bytes %d uploads 0 held 0 parts 0\naccepted %d %s\n" % (len(data), len(data), calls)
     last = text.split(b"\n")[-2] if text.endswith(b"\n") else b""
-    is_sealed = entry_of(last) == ("seal", 0, address_of(data).encode(), b"new")
+    is_sealed = entry_of(last, 2) == ("seal", 0, address_of(data).encode(), b"new")
     return not is_sealed or not text.startswith(HEADER + b"\n") or audit_answer(text) != (left, 0)

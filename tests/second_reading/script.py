@@ -8,6 +8,8 @@ FORMS = {
     "tenant": f"tenant {NUMBER}",
     "limit": f"limit {NUMBER} {NUMBER}",
     "begin": f"begin {NUMBER} {NUMBER}",
+    "open": f"open {NUMBER} {NUMBER}",
+    "fix": f"fix {NUMBER} {NUMBER}",
     "seal": f"seal {NUMBER}",
     "sealas": f"sealas {NUMBER} {ADDRESS}",
     "abort": f"abort {NUMBER}",

@@ -55,7 +55,7 @@ gap_from n a c (p ∷ ps) most aligned placed gap = elim (same_or p.offset a) [
       ] in
       gap_follows a p ps same ∙ elim (cases_lt 0 (length p.bytes % 1024)) [
         | inl ragged ↦
-            let end : end_of p ≡ n = placed.1.whole (λ none. omega (arith, none, ragged)) in
+            let end : end_of p ≡ n = placed.1.whole refl (λ none. omega (arith, none, ragged)) in
             let empty = nothing_behind n ps (subst (λ i. ArePlaced n i ps) end placed.2) in
             ap (first_gap (end_of p)) empty ∙ omega (arith, end, reached)
         | inr whole ↦ gap_from n (end_of p) c ps placed.1.within (omega (arith, whole, aligned, same)) placed.2 (record {
@@ -113,7 +113,7 @@ whole_from n a (p ∷ ps) most placed all = elim (same_or p.offset a) [
               let m = 1024 * i - a in
               chunk_here p ps i inside ∙ ap (λ j. take 1024 (drop j p.bytes)) place ∙ sym (elim (cases_lt 0 (length p.bytes % 1024)) [
                 | inl ragged ↦
-                    let end : end_of p ≡ n = placed.1.whole (λ none. omega (arith, none, ragged)) in
+                    let end : end_of p ≡ n = placed.1.whole refl (λ none. omega (arith, none, ragged)) in
                     let empty = nothing_behind n ps (subst (λ j. ArePlaced n j ps) end placed.2) in
                     ap (λ (l : List Part). take 1024 (drop m (p.bytes ++ content_of l))) empty ∙ ap (λ (b : List ℕ). take 1024 (drop m b)) (append-nil p.bytes)
                 | inr whole ↦ take_front 1024 m p.bytes (content_of ps) (omega (arith, same, inside.1, inside.0)) (omega (arith, same, inside.1, inside.0, whole, placed.1.aligned))

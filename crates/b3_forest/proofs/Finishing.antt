@@ -14,7 +14,7 @@ use Rattle.b3_core.specs.Tree.{tree_top}
 use Rattle.b3_forest.specs.Nodes.{Nodes, AreChunks, Keeps, is_held, node_of, over, piece_from, top_before, top_over}
 use Rattle.b3_forest.specs.Parts.{Part, chunk_in}
 use Rattle.b3_forest.specs.Pieces.{content_at, is_full, piece_at, pieces_of, root_level}
-use Rattle.b3_forest.specs.Uploads.{content_of, first_gap, first_missing}
+use Rattle.b3_forest.specs.Uploads.{content_of, first_gap, first_missing, upload_of}
 use Rattle.b3_forest.specs.declared.node.Node.{Node}
 use Rattle.b3_forest.specs.declared.piece.Piece.{Piece}
 use Rattle.b3_forest.proofs.Canonical.{AreSorted, forest_is_halved}
@@ -125,13 +125,13 @@ chunk_held_iff b i =
     )
 
 -- an upload of which nothing is missing
-pub nothing_missing : (n : ℕ) (ps : List Part) → first_missing (record { len = n; parts = ps }) ≡ None → n ≤ first_gap 0 ps
+pub nothing_missing : (n : ℕ) (ps : List Part) → first_missing (upload_of n ps) ≡ None → n ≤ first_gap 0 ps
 nothing_missing n ps none = elim (cases_lt (first_gap 0 ps) n) [
   | inr all ↦ all
-  | inl gap ↦ let test : nat_lt (first_gap 0 ps) n ≡ true = grind (arith, nat_tests, gap) in let some : first_missing (record { len = n; parts = ps }) ≡ Some (first_gap 0 ps) = rw test refl in cc
+  | inl gap ↦ let test : nat_lt (first_gap 0 ps) n ≡ true = grind (arith, nat_tests, gap) in let some : first_missing (upload_of n ps) ≡ Some (first_gap 0 ps) = rw test refl in cc
 ]
 
-pub whole_upload : (n : ℕ) (ps : List Part) (es : Nodes) → Keeps n ps es → first_missing (record { len = n; parts = ps }) ≡ None → IsWhole n 0 ps
+pub whole_upload : (n : ℕ) (ps : List Part) (es : Nodes) → Keeps n ps es → first_missing (upload_of n ps) ≡ None → IsWhole n 0 ps
 whole_upload n ps es keeps none = whole_from n 0 ps (omega arith) keeps.upload.placed (nothing_missing n ps none)
 
 values_are_nodes : (es : Nodes) → values_of es ≡ map node_of (map piece_from es)

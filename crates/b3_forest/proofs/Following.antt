@@ -6,10 +6,10 @@ use Rattle.std.proofs.lemmas.Bool.{cases_lt}
 use Rattle.std.proofs.lemmas.Bool.Decides.{nat_tests}
 use Rattle.std.proofs.lemmas.List.{drop-drop, drop_all, length-append, length-drop, length-take, take-append-drop}
 use Rattle.b3_forest.specs.Followed.{AllNoted, ArePartsOf, Followed, Follows, IsFirstNoted, IsFirstUnnoted, IsIn, IsNoted, IsNotedWith, NothingNoted, bytes_at, followed, has_chunk, noted_chunk, noting_merges, pieces_noted, range_of}
-use Rattle.b3_forest.specs.Nodes.{HasChunk, Keeps, Nodes, is_held, node_at}
-use Rattle.b3_forest.specs.Parts.{Part, chunk_in, chunks_of, end_of}
+use Rattle.b3_forest.specs.Nodes.{HasChunk, HaveRoom, Keeps, Nodes, is_held, node_at}
+use Rattle.b3_forest.specs.Parts.{Fits, Part, PlannedPart, UploadPlan, chunk_in, chunks_of, closed_plan, end_of}
 use Rattle.b3_forest.specs.Pieces.{is_full, piece_count, pieces_of, root_level}
-use Rattle.b3_forest.specs.Uploads.{ArePlaced, IsFirstMissing, IsFirstOverlap, IsHeldAt, Upload, content_of, first_gap, first_missing, merges_of, overlap_at, with_part}
+use Rattle.b3_forest.specs.Uploads.{ArePlaced, IsFirstMissing, IsFirstOverlap, IsHeldAt, Upload, content_of, first_gap, first_missing, merges_of, overlap_at, with_part, upload_of}
 use Rattle.b3_forest.specs.declared.node.Node.{Node}
 use Rattle.b3_forest.proofs.Canonical.{AreSorted, forest_count, head_at, in_tail, tail_at}
 use Rattle.b3_forest.proofs.Contents.{gap_follows, gap_here}
@@ -41,7 +41,7 @@ offset_of_chunk n a i (p ∷ ps) placed low held = elim (in_or_out p (i / 1024))
   | inl inside ↦ inl (
     omega (arith, inside.0),
     elim (cases_lt 0 (length p.bytes % 1024)) [
-      | inl ragged ↦ let end = placed.1.whole (λ none. omega (arith, none, ragged)) in omega (arith, end, low)
+      | inl ragged ↦ let end = placed.1.whole refl (λ none. omega (arith, none, ragged)) in omega (arith, end, low)
       | inr whole ↦ omega (arith, whole, placed.1.aligned, inside.1)
     ],
   )
@@ -99,9 +99,9 @@ held_of b ps es i keeps noted =
 
 -- ---- what is told
 
-pub told_missing : (b : List ℕ) (ps : List Part) (es : Nodes) (m : ℕ) → Keeps (length b) ps es → first_missing (record { len = length b; parts = ps }) ≡ Some m → IsFirstUnnoted (followed b es) m
+pub told_missing : (b : List ℕ) (ps : List Part) (es : Nodes) (m : ℕ) → Keeps (length b) ps es → first_missing (upload_of (length b) ps) ≡ Some m → IsFirstUnnoted (followed b es) m
 told_missing b ps es m keeps is =
-    let u : Upload = record { len = length b; parts = ps } in
+    let u : Upload = upload_of (length b) ps in
     let first = subst (λ o. IfSome o (IsFirstMissing u)) is (least_missing u keeps.upload).some in
     record {
       below = first.below;
@@ -109,15 +109,15 @@ told_missing b ps es m keeps is =
       least = λ i before. noted_of b ps es i keeps (first.least i before);
     }
 
-pub told_all : (b : List ℕ) (ps : List Part) (es : Nodes) → Keeps (length b) ps es → first_missing (record { len = length b; parts = ps }) ≡ None → AllNoted (followed b es)
+pub told_all : (b : List ℕ) (ps : List Part) (es : Nodes) → Keeps (length b) ps es → first_missing (upload_of (length b) ps) ≡ None → AllNoted (followed b es)
 told_all b ps es keeps is i low =
-    let u : Upload = record { len = length b; parts = ps } in
+    let u : Upload = upload_of (length b) ps in
     let all = subst (λ o. IfNone o ((j : ℕ) → j < length b → IsHeldAt ps j)) is (least_missing u keeps.upload).none in
     noted_of b ps es i keeps (all i low)
 
 pub told_overlap : (b : List ℕ) (ps : List Part) (es : Nodes) (p : Part) (at : ℕ) → Keeps (length b) ps es → 0 < length p.bytes → overlap_at p ps ≡ Some at → IsFirstNoted (followed b es) p at
 told_overlap b ps es p at keeps some is =
-    let u : Upload = record { len = length b; parts = ps } in
+    let u : Upload = upload_of (length b) ps in
     let first = subst (λ o. IfSome o (IsFirstOverlap p ps)) is (least_overlap u p keeps.upload some).some in
     record {
       inside = (first.after, first.before);
@@ -127,7 +127,7 @@ told_overlap b ps es p at keeps some is =
 
 pub told_apart : (b : List ℕ) (ps : List Part) (es : Nodes) (p : Part) → Keeps (length b) ps es → 0 < length p.bytes → overlap_at p ps ≡ None → NothingNoted (followed b es) p
 told_apart b ps es p keeps some is i inside noted =
-    let u : Upload = record { len = length b; parts = ps } in
+    let u : Upload = upload_of (length b) ps in
     let none = subst (λ o. IfNone o ((j : ℕ) → p.offset ≤ j → j < end_of p → IsHeldAt ps j → ⊥)) is (least_overlap u p keeps.upload some).none in
     none i inside.0 inside.1 (held_of b ps es i keeps noted)
 
@@ -179,6 +179,15 @@ parts_with b p (q ∷ qs) same all = elim (cases_lt p.offset q.offset) [
   | inr after ↦ subst (ArePartsOf b) (sym (with_part_later p q qs after)) (all.0, parts_with b p qs same all.1)
 ]
 
+-- the pieces have room for a part of the bytes' plan that overlaps no other
+pub room_of : (b : List ℕ) (es : Nodes) (w : Follows b es) (p : PlannedPart) → p.plan ≡ closed_plan (length b) → Fits p.plan p.part.offset (length p.part.bytes)
+    → None ≡ overlap_at p.part w.parts → HaveRoom (length b) w.parts p.part es
+room_of b es w p plan fits apart = record {
+  keeps = w.keeps;
+  fits = subst (λ (q : UploadPlan). Fits q p.part.offset (length p.part.bytes)) plan fits;
+  apart = sym apart;
+}
+
 -- ---- the content
 
 content_from : (b : List ℕ) (a : ℕ) (ps : List Part) → a ≤ length b → ArePlaced (length b) a ps → length b ≤ first_gap a ps → ArePartsOf b ps → content_of ps ≡ drop a b
@@ -193,7 +202,7 @@ content_from b a (p ∷ ps) most placed all same = elim (same_or p.offset a) [
       ap₂ (λ (l r : List ℕ). l ++ r) own (rest ∙ next) ∙ take-append-drop (length p.bytes) (drop a b)
 ]
 
-pub content_is : (b : List ℕ) (es : Nodes) (w : Follows b es) → first_missing (record { len = length b; parts = w.parts }) ≡ None → content_of w.parts ≡ b
+pub content_is : (b : List ℕ) (es : Nodes) (w : Follows b es) → first_missing (upload_of (length b) w.parts) ≡ None → content_of w.parts ≡ b
 content_is b es w none = content_from b 0 w.parts (omega arith) w.keeps.upload.placed (nothing_missing (length b) w.parts none) w.same
 
 -- ---- counts
@@ -270,7 +279,7 @@ pub nothing_noted : (b : List ℕ) (es : Nodes) → Keeps (length b) [] es → e
 nothing_noted b es keeps empty = sym (noted_count b [] es keeps) ∙ sym (forest_count (chunk_in []) es keeps.sorted keeps.forest) ∙ ap length empty
 
 pub merges_noted : (b : List ℕ) (ps : List Part) (es fs : Nodes) (p : Part) → Keeps (length b) ps es → Keeps (length b) (with_part p ps) fs
-    → merges_of (record { len = length b; parts = ps }) p ≡ noting_merges (followed b es) (followed b fs) p
+    → merges_of (upload_of (length b) ps) p ≡ noting_merges (followed b es) (followed b fs) p
 merges_noted b ps es fs p old new = ap₂ (λ i j. i + piece_count (chunks_of p) - j) (noted_count b ps es old) (noted_count b (with_part p ps) fs new)
 
 -- ---- answers
@@ -283,11 +292,11 @@ pub on_ok_by : {A E : Type 0} (r : Result A E) (P Q : Type 0) → (P → Q) → 
 on_ok_by (Ok a) P Q by holds = by holds
 on_ok_by (Err e) P Q by holds = tt
 
-pub told_some : (b : List ℕ) (ps : List Part) (es : Nodes) (o : Option ℕ) → Keeps (length b) ps es → o ≡ first_missing (record { len = length b; parts = ps }) → IfSome o (IsFirstUnnoted (followed b es))
+pub told_some : (b : List ℕ) (ps : List Part) (es : Nodes) (o : Option ℕ) → Keeps (length b) ps es → o ≡ first_missing (upload_of (length b) ps) → IfSome o (IsFirstUnnoted (followed b es))
 told_some b ps es None keeps is = tt
 told_some b ps es (Some m) keeps is = told_missing b ps es m keeps (sym is)
 
-pub told_none : (b : List ℕ) (ps : List Part) (es : Nodes) (o : Option ℕ) → Keeps (length b) ps es → o ≡ first_missing (record { len = length b; parts = ps }) → IfNone o (AllNoted (followed b es))
+pub told_none : (b : List ℕ) (ps : List Part) (es : Nodes) (o : Option ℕ) → Keeps (length b) ps es → o ≡ first_missing (upload_of (length b) ps) → IfNone o (AllNoted (followed b es))
 told_none b ps es None keeps is = told_all b ps es keeps (sym is)
 told_none b ps es (Some m) keeps is = tt
 

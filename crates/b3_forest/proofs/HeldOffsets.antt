@@ -4,7 +4,7 @@ use Rattle.std.specs.Prelude.{IfNone, IfSome, max}
 use Rattle.std.proofs.lemmas.Bool.Decides.{nat_tests}
 use Rattle.std.proofs.lemmas.Bool.{cases_lt}
 use Rattle.b3_forest.specs.Parts.{Part, end_of}
-use Rattle.b3_forest.specs.Uploads.{ArePlaced, IsFirstMissing, IsFirstOverlap, IsHeldAt, IsUpload, TellsMissing, TellsOverlap, Upload, first_gap, first_missing, overlap_at, overlaps}
+use Rattle.b3_forest.specs.Uploads.{ArePlaced, IsFirstMissing, IsFirstOverlap, IsHeldAt, IsUpload, TellsMissing, TellsOverlap, Upload, first_gap, first_missing, length_of, overlap_at, overlaps}
 use Rattle.b3_forest.proofs.Contents.{gap_follows, gap_here}
 use Rattle.b3_forest.proofs.HeldPlaces.{meets, overlap_here, overlap_later, meet}
 use Rattle.b3_forest.proofs.Maps.{same_or}
@@ -56,21 +56,21 @@ gap_offset n a (p ∷ ps) most placed = elim (same_or p.offset a) [
 
 pub least_missing : (u : Upload) → IsUpload u → TellsMissing u
 least_missing u lawful =
-    let gap = gap_offset u.len 0 u.parts (omega arith) lawful.placed in
-    elim (cases_lt (first_gap 0 u.parts) u.len) [
+    let gap = gap_offset (length_of u) 0 u.parts (omega arith) lawful.placed in
+    elim (cases_lt (first_gap 0 u.parts) (length_of u)) [
       | inl below ↦
-          let test : nat_lt (first_gap 0 u.parts) u.len ≡ true = grind (arith, nat_tests, below) in
+          let test : nat_lt (first_gap 0 u.parts) (length_of u) ≡ true = grind (arith, nat_tests, below) in
           let is : first_missing u ≡ Some (first_gap 0 u.parts) = rw test refl in
           record {
             some = subst (λ o. IfSome o (IsFirstMissing u)) (sym is) (record { below = below; missing = gap.missing; least = λ i before. gap.least i (omega arith) before });
-            none = subst (λ o. IfNone o ((i : ℕ) → i < u.len → IsHeldAt u.parts i)) (sym is) tt;
+            none = subst (λ o. IfNone o ((i : ℕ) → i < length_of u → IsHeldAt u.parts i)) (sym is) tt;
           }
       | inr all ↦
-          let test : nat_lt (first_gap 0 u.parts) u.len ≡ false = grind (arith, nat_tests, all) in
+          let test : nat_lt (first_gap 0 u.parts) (length_of u) ≡ false = grind (arith, nat_tests, all) in
           let is : first_missing u ≡ None = rw test refl in
           record {
             some = subst (λ o. IfSome o (IsFirstMissing u)) (sym is) tt;
-            none = subst (λ o. IfNone o ((i : ℕ) → i < u.len → IsHeldAt u.parts i)) (sym is) (λ i before. gap.least i (omega arith) (omega (arith, before, all)));
+            none = subst (λ o. IfNone o ((i : ℕ) → i < length_of u → IsHeldAt u.parts i)) (sym is) (λ i before. gap.least i (omega arith) (omega (arith, before, all)));
           }
     ]
 
@@ -122,5 +122,5 @@ overlap_from n a p (q ∷ qs) placed some = elim (bool_cases (overlaps p q)) [
 
 pub least_overlap : (u : Upload) (p : Part) → IsUpload u → 0 < length p.bytes → TellsOverlap p u.parts
 least_overlap u p lawful some =
-    let told = overlap_from u.len 0 p u.parts lawful.placed some in
+    let told = overlap_from (length_of u) 0 p u.parts lawful.placed some in
     record { some = told.some; none = told.none }

@@ -6,7 +6,7 @@ use Rattle.std.proofs.lemmas.Bool.{cases_lt}
 use Rattle.std.proofs.lemmas.List.{length-drop, length-take}
 use Rattle.std.proofs.lemmas.List.Sums.{sum_by-cons}
 use Rattle.b3_forest.specs.Nodes.{AreChunks, is_held}
-use Rattle.b3_forest.specs.Parts.{Part, Fits, chunk_in, chunks_of, end_of}
+use Rattle.b3_forest.specs.Parts.{Part, Fits, chunk_in, chunks_of, end_of, closed_plan}
 use Rattle.b3_forest.specs.Uploads.{ArePlaced, held_bytes, overlap_at, overlaps, with_part}
 use Rattle.b3_forest.proofs.Growing.{AreJoined}
 use Rattle.b3_forest.proofs.OneForest.{bool_cases}
@@ -93,9 +93,9 @@ placed_chunks n a (p ∷ ps) placed i held = elim (in_or_out p i) [
   | inr out ↦ ap length (chunk_there p ps i out) ∙ placed_chunks n (end_of p) ps placed.2 i (sym (held_there p ps i out) ∙ held)
 ]
   where
-    ends : (n : ℕ) (p : Part) (i : ℕ) → Fits n p.offset (length p.bytes) → BeginsIn p i → min 1024 (end_of p - 1024 * i) ≡ min 1024 (n - 1024 * i)
+    ends : (n : ℕ) (p : Part) (i : ℕ) → Fits (closed_plan n) p.offset (length p.bytes) → BeginsIn p i → min 1024 (end_of p - 1024 * i) ≡ min 1024 (n - 1024 * i)
     ends n p i fits inside = elim (cases_lt 0 (length p.bytes % 1024)) [
-      | inl ragged ↦ let end = fits.whole (λ none. omega (arith, none, ragged)) in omega (arith, end)
+      | inl ragged ↦ let end = fits.whole refl (λ none. omega (arith, none, ragged)) in omega (arith, end)
       | inr whole ↦ omega (arith, whole, fits.aligned, fits.within, inside.0, inside.1)
     ]
 
@@ -197,7 +197,7 @@ overlap_order p q some other apart = elim (cases_lt q.offset (end_of p)) [
   ]
 ]
 
-pub placed_more : (n a : ℕ) (p : Part) (ps : List Part) → a ≤ p.offset → Fits n p.offset (length p.bytes) → ArePlaced n a ps → overlap_at p ps ≡ None → ArePlaced n a (with_part p ps)
+pub placed_more : (n a : ℕ) (p : Part) (ps : List Part) → a ≤ p.offset → Fits (closed_plan n) p.offset (length p.bytes) → ArePlaced n a ps → overlap_at p ps ≡ None → ArePlaced n a (with_part p ps)
 unfolding with_part
 placed_more n a p [] from fits placed none = (from, fits, tt)
 placed_more n a p (q ∷ qs) from fits placed none =

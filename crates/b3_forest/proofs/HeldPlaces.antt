@@ -4,7 +4,7 @@ use Rattle.std.specs.Prelude.{max}
 use Rattle.std.proofs.lemmas.Bool.Decides.{nat_tests}
 use Rattle.std.proofs.lemmas.Bool.{cases_lt}
 use Rattle.b3_forest.specs.Nodes.{IsLeastHeld, NoneHeld, is_held}
-use Rattle.b3_forest.specs.Parts.{Part, Fits, chunk_in, end_of}
+use Rattle.b3_forest.specs.Parts.{Part, Fits, chunk_in, end_of, UploadPlan}
 use Rattle.b3_forest.specs.Uploads.{ArePlaced, overlap_at, overlaps}
 use Rattle.b3_forest.proofs.HeldParts.{none_held_in_nothing, BeginsOut, in_or_out, not_both, held_here, held_there, held_after}
 use Rattle.b3_forest.proofs.OneForest.{bool_cases}
@@ -52,10 +52,10 @@ meeting p q first second = elim (cases_lt p.offset q.offset) [
   | inr more ↦ (p.offset / 1024, omega (arith, first, more))
 ]
 
-pub overlap_none : (n a : ℕ) (p : Part) (ps : List Part) → Fits n p.offset (length p.bytes) → ArePlaced n a ps → NoneHeld (chunk_in ps) (p.offset / 1024) (chunk_end p) → overlap_at p ps ≡ None
+pub overlap_none : (plan : UploadPlan) (n a : ℕ) (p : Part) (ps : List Part) → Fits plan p.offset (length p.bytes) → ArePlaced n a ps → NoneHeld (chunk_in ps) (p.offset / 1024) (chunk_end p) → overlap_at p ps ≡ None
 unfolding overlap_at
-overlap_none n a p [] fits placed none = refl
-overlap_none n a p (q ∷ qs) fits placed none = elim (bool_cases (overlaps p q)) [
+overlap_none plan n a p [] fits placed none = refl
+overlap_none plan n a p (q ∷ qs) fits placed none = elim (bool_cases (overlaps p q)) [
   | inl both ↦
       let m = meets p q both in
       let at = meeting p q fits.aligned placed.1.aligned in
@@ -66,14 +66,14 @@ overlap_none n a p (q ∷ qs) fits placed none = elim (bool_cases (overlaps p q)
       let other : 1024 * i < end_of q = omega (arith, at.1, m.1, placed.1.some) in
       let out = (not_held_rest q qs i (none i (omega (arith, low)) (omega (arith, ends)))).0 in
       absurd (not_both q i (high, other) out)
-  | inr apart ↦ overlap_later p q qs apart ∙ overlap_none n (end_of q) p qs fits placed.2 (λ i after before. (not_held_rest q qs i (none i after before)).1)
+  | inr apart ↦ overlap_later p q qs apart ∙ overlap_none plan n (end_of q) p qs fits placed.2 (λ i after before. (not_held_rest q qs i (none i after before)).1)
 ]
 
-pub overlap_least : (n a c : ℕ) (p : Part) (ps : List Part) → Fits n p.offset (length p.bytes) → ArePlaced n a ps → IsLeastHeld (chunk_in ps) (p.offset / 1024) (chunk_end p) c
+pub overlap_least : (plan : UploadPlan) (n a c : ℕ) (p : Part) (ps : List Part) → Fits plan p.offset (length p.bytes) → ArePlaced n a ps → IsLeastHeld (chunk_in ps) (p.offset / 1024) (chunk_end p) c
     → overlap_at p ps ≡ Some (1024 * c)
 unfolding overlap_at
-overlap_least n a c p [] fits placed least = let held = least.held in let none = none_held_in_nothing c in cc
-overlap_least n a c p (q ∷ qs) fits placed least =
+overlap_least plan n a c p [] fits placed least = let held = least.held in let none = none_held_in_nothing c in cc
+overlap_least plan n a c p (q ∷ qs) fits placed least =
     let inside : p.offset ≤ 1024 * c = omega (arith, least.after, fits.aligned) in
     let below : 1024 * c < end_of p = omega (arith, least.before, fits.aligned) in
     elim (in_or_out q c) [
@@ -100,7 +100,7 @@ overlap_least n a c p (q ∷ qs) fits placed least =
                 let first = (not_held_rest q qs at.0 (least.least at.0 (omega (arith, at.1)) earlier)).0 in
                 absurd (not_both q at.0 (omega (arith, at.1), omega (arith, at.1, m.1, placed.1.some)) first)
           ] in
-          overlap_later p q qs apart ∙ overlap_least n (end_of q) c p qs fits placed.2 (record {
+          overlap_later p q qs apart ∙ overlap_least plan n (end_of q) c p qs fits placed.2 (record {
             after = least.after;
             before = least.before;
             held = held;

@@ -1,6 +1,6 @@
 -- What the pieces of an upload tell of its parts.
-use Rattle.std.proofs.Common.{◌≡◌, ℕ, ◌+◌, ◌-◌, ◌*◌, ◌<◌, ◌≤◌, List, [], ◌∷◌, length, map, Option, Some, None, nat_lt, true, false, arith, refl, ap, ap₂, subst, sym, ◌∙◌, inl, inr}
-use Rattle.std.specs.Prelude.{◌==◌, option_map, OnErr, Result, Ok, Err}
+use Rattle.std.proofs.Common.{◌≡◌, ℕ, ◌+◌, ◌-◌, ◌*◌, ◌<◌, ◌≤◌, List, [], ◌∷◌, length, map, Some, None, nat_lt, true, false, arith, refl, ap, ap₂, subst, sym, ◌∙◌, inl, inr}
+use Rattle.std.specs.Prelude.{OnErr, Result, Ok, Err}
 use Rattle.std.specs.List.Sorted.{IsStrictlySortedBy}
 use Rattle.std.specs.Map.{values_of}
 use Rattle.std.proofs.lemmas.Bool.Decides.{nat_tests}
@@ -9,12 +9,11 @@ use Rattle.b3_core.specs.Laws.{NeighboursJoin}
 use Rattle.b3_core.specs.Modes.{hash_mode}
 use Rattle.b3_core.specs.Tree.{Inputs, tree_top}
 use Rattle.b3_forest.specs.Forests.{IsForest}
-use Rattle.b3_forest.specs.Nodes.{Nodes, AreForest, AreFresh, IsFirstGap, Keeps, firsts, is_held, top_over, with_nodes}
-use Rattle.b3_forest.specs.Parts.{Fits, Part, PlannedPart, chunk_in, chunks_of, most_bytes}
+use Rattle.b3_forest.specs.Nodes.{Nodes, AreForest, AreFresh, HaveRoom, IsFirstGap, Keeps, firsts, is_held, top_over, with_nodes}
+use Rattle.b3_forest.specs.Parts.{Part, chunk_in, chunks_of, most_bytes}
 use Rattle.b3_forest.specs.Pieces.{most_chunks, piece_count, pieces_of, root_level}
-use Rattle.b3_forest.specs.Uploads.{ArePlaced, Upload, add_refusal, content_of, first_gap, first_missing, held_bytes, merges_of, overlap_at, part_of, with_part}
+use Rattle.b3_forest.specs.Uploads.{ArePlaced, IsUpload, content_of, first_gap, first_missing, held_bytes, merges_of, overlap_at, part_of, with_part, upload_of}
 use Rattle.b3_forest.specs.declared.segment.Segment.{Segment}
-use Rattle.b3_forest.specs.declared.add_refused.AddFault.TheVariants.{Overlap, WrongPlan}
 use Rattle.b3_forest.specs.declared.piece.Piece.{Piece}
 use Rattle.b3_forest.proofs.Canonical.{AreSorted, forest_count}
 use Rattle.b3_forest.proofs.Contents.{missing_at}
@@ -32,15 +31,15 @@ nothing_past n ps es keeps i high = elim (bool_cases (is_held (chunk_in ps) i)) 
   | inl held ↦ let low = (held_after n 0 i ps keeps.upload.placed held).1 in absurd (omega (arith, low, high, keeps.upload.most))
 ]
 
-pub missing_some : (n c : ℕ) (ps : List Part) (es : Nodes) → Keeps n ps es → IsFirstGap (chunk_in ps) c → 1024 * c < n → first_missing (record { len = n; parts = ps }) ≡ Some (1024 * c)
+pub missing_some : (n c : ℕ) (ps : List Part) (es : Nodes) → Keeps n ps es → IsFirstGap (chunk_in ps) c → 1024 * c < n → first_missing (upload_of n ps) ≡ Some (1024 * c)
 missing_some n c ps es keeps gap before =
     let is = missing_at n c ps keeps.upload.placed gap in
     let place : first_gap 0 ps ≡ 1024 * c = omega (arith, is, before) in
     let test : nat_lt (first_gap 0 ps) n ≡ true = grind (arith, nat_tests, place, before) in
-    let found : first_missing (record { len = n; parts = ps }) ≡ Some (first_gap 0 ps) = rw test refl in
+    let found : first_missing (upload_of n ps) ≡ Some (first_gap 0 ps) = rw test refl in
     found ∙ ap Some place
 
-pub missing_none : (n c : ℕ) (ps : List Part) (es : Nodes) → Keeps n ps es → IsFirstGap (chunk_in ps) c → n ≤ 1024 * c → first_missing (record { len = n; parts = ps }) ≡ None
+pub missing_none : (n c : ℕ) (ps : List Part) (es : Nodes) → Keeps n ps es → IsFirstGap (chunk_in ps) c → n ≤ 1024 * c → first_missing (upload_of n ps) ≡ None
 missing_none n c ps es keeps gap after =
     let is = missing_at n c ps keeps.upload.placed gap in
     let place : first_gap 0 ps ≡ n = omega (arith, is, after) in
@@ -74,16 +73,20 @@ pub put_fresh : (n : ℕ) (ps : List Part) (p : Part) (pieces : List Piece) (es 
     → pieces ≡ pieces_of (chunks_of p) root_level 0 → AreFresh pieces es
 put_fresh n ps p pieces es keeps none is = (is_put n ps p pieces es (with_nodes pieces es) keeps none is refl).fresh
 
-pub put_keeps : (n : ℕ) (ps : List Part) (p : Part) (es fs : Nodes) → Keeps n ps es → overlap_at p ps ≡ None → Fits n p.offset (length p.bytes)
-    → AreForest (chunk_in (with_part p ps)) [] fs → AreSorted fs → Keeps n (with_part p ps) fs
-put_keeps n ps p es fs keeps none fits forest sorted = record {
+-- parts that are placed are those of an upload of their length
+pub placed_upload : (n : ℕ) (ps : List Part) → n ≤ most_bytes → ArePlaced n 0 ps → IsUpload (upload_of n ps)
+placed_upload n ps most placed = record { most = most; within = omega arith; placed = placed; closed = λ _. refl; whole = λ none. cc }
+
+pub put_keeps : (n : ℕ) (ps : List Part) (p : Part) (es fs : Nodes) → HaveRoom n ps p es → AreForest (chunk_in (with_part p ps)) [] fs → AreSorted fs
+    → Keeps n (with_part p ps) fs
+put_keeps n ps p es fs room forest sorted = record {
   sorted = sorted;
-  upload = record { most = keeps.upload.most; placed = placed_more n 0 p ps (omega arith) fits keeps.upload.placed none };
+  upload = placed_upload n (with_part p ps) room.keeps.upload.most (placed_more n 0 p ps (omega arith) room.fits room.keeps.upload.placed room.apart);
   forest = forest;
 }
 
 pub put_merges : (n : ℕ) (ps : List Part) (p : Part) (es mid fs : Nodes) → Keeps n ps es → Keeps n (with_part p ps) fs
-    → length mid ≡ length es + piece_count (chunks_of p) → length mid - length fs ≡ merges_of (record { len = n; parts = ps }) p
+    → length mid ≡ length es + piece_count (chunks_of p) → length mid - length fs ≡ merges_of (upload_of n ps) p
 put_merges n ps p es mid fs old new len =
     let before = forest_count (chunk_in ps) es old.sorted old.forest in
     let after = forest_count (chunk_in (with_part p ps)) fs new.sorted new.forest in
@@ -98,7 +101,7 @@ no_bytes : (b : List ℕ) → length b ≡ 0 → b ≡ []
 no_bytes [] none = refl
 no_bytes (x ∷ b) none = absurd (omega (arith, none))
 
-pub finish_top : (n : ℕ) (ps : List Part) (es : Nodes) (top : Inputs) → NeighboursJoin → Keeps n ps es → first_missing (record { len = n; parts = ps }) ≡ None
+pub finish_top : (n : ℕ) (ps : List Part) (es : Nodes) (top : Inputs) → NeighboursJoin → Keeps n ps es → first_missing (upload_of n ps) ≡ None
     → Some top ≡ top_over (values_of es) → top ≡ tree_top (content_of ps) 0 hash_mode
 finish_top n ps es top join keeps none is =
     let whole = whole_upload n ps es keeps none in
@@ -107,7 +110,7 @@ finish_top n ps es top join keeps none is =
       | inr empty ↦ let bad = is ∙ empty_top n ps es keeps.sorted keeps whole (omega (arith, empty)) in cc
     ]
 
-pub finish_empty : (n : ℕ) (ps : List Part) (es : Nodes) → NeighboursJoin → Keeps n ps es → first_missing (record { len = n; parts = ps }) ≡ None
+pub finish_empty : (n : ℕ) (ps : List Part) (es : Nodes) → NeighboursJoin → Keeps n ps es → first_missing (upload_of n ps) ≡ None
     → None ≡ top_over (values_of es) → content_of ps ≡ []
 finish_empty n ps es join keeps none is =
     let whole = whole_upload n ps es keeps none in
@@ -116,7 +119,7 @@ finish_empty n ps es join keeps none is =
       | inr empty ↦ let sum = whole.len in no_bytes (content_of ps) (omega (arith, sum, empty))
     ]
 
-pub finish_length : (n : ℕ) (ps : List Part) (es : Nodes) → Keeps n ps es → first_missing (record { len = n; parts = ps }) ≡ None → length (content_of ps) ≡ n
+pub finish_length : (n : ℕ) (ps : List Part) (es : Nodes) → Keeps n ps es → first_missing (upload_of n ps) ≡ None → length (content_of ps) ≡ n
 finish_length n ps es keeps none = let sum = (whole_upload n ps es keeps none).len in omega (arith, sum)
 
 -- ---- a forest
@@ -124,7 +127,7 @@ finish_length n ps es keeps none = let sum = (whole_upload n ps es keeps none).l
 pub keeps_nothing : (n : ℕ) (ps : List Part) (es : Nodes) → n ≤ most_bytes → ps ≡ [] → es ≡ [] → Keeps n ps es
 unfolding chunk_in IsStrictlySortedBy
 keeps_nothing n ps es most no_parts no_nodes = subst (λ (qs : List Part). Keeps n qs es) (sym no_parts) (subst (Keeps n []) (sym no_nodes) (record {
-  upload = record { most = most; placed = tt };
+  upload = placed_upload n [] most tt;
   forest = record {
     pieces = record { lawful = λ s k is. cc; within = λ s k is. cc; apart = λ s t k l is_s is_t before. cc };
     all = λ i held low. cc;
@@ -132,27 +135,6 @@ keeps_nothing n ps es most no_parts no_nodes = subst (λ (qs : List Part). Keeps
   };
   sorted = tt;
 }))
-
--- a part that is not refused
-pub record IsAllowed (n : ℕ) (ps : List Part) (p : PlannedPart) (es : Nodes) : Type 0 where
-  pub plan : p.plan ≡ n
-  pub none : overlap_at p.part ps ≡ None
-  pub keeps : Keeps p.plan ps es
-
-pub allowed : (u : Upload) (n : ℕ) (ps : List Part) (p : PlannedPart) (es : Nodes) → record { len = n; parts = ps } ≡ u → None ≡ add_refusal u p → Keeps n ps es → IsAllowed n ps p es
-allowed u n ps p es seen free keeps =
-    let refusal : add_refusal (record { len = n; parts = ps }) p ≡ None = ap (λ (v : Upload). add_refusal v p) seen ∙ sym free in
-    elim (bool_cases (p.plan == n)) [
-      | inr other ↦ let wrong : add_refusal (record { len = n; parts = ps }) p ≡ Some WrongPlan = rw other refl in let bad = sym refusal ∙ wrong in cc
-      | inl same ↦
-          let plan : p.plan ≡ n = grind (arith, nat_tests, same) in
-          let at : option_map Overlap (overlap_at p.part ps) ≡ None = sym (rw same refl) ∙ refusal in
-          record { plan = plan; none = no_overlap_at (overlap_at p.part ps) at; keeps = subst (λ i. Keeps i ps es) (sym plan) keeps }
-    ]
-  where
-    no_overlap_at : (o : Option ℕ) → option_map Overlap o ≡ None → o ≡ None
-    no_overlap_at None none = refl
-    no_overlap_at (Some i) none = cc
 
 -- what a forest holds with a part more
 pub held_with : (h len : ℕ) (ps : List Part) (p : Part) (qs : List Part) → qs ≡ with_part p ps → h ≡ held_bytes ps → len ≡ length p.bytes → h + len ≡ held_bytes qs

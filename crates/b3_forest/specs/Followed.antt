@@ -1,9 +1,9 @@
 -- Parts that are noted over the bytes that they are to be of.
 use Rattle.std.specs.Prelude.{◌≡◌, ◌≢◌, ◌↔◌, ℕ, ◌+◌, ◌-◌, ◌*◌, ◌^◌, ◌<◌, ◌≤◌, ◌⊎◌, ◌/◌, ◌&&◌, ◌||◌, Bool, true, false, nat_le, nat_lt, if◌then◌else◌, List, [], ◌∷◌, length, map, take, drop}
 use Rattle.b3_forest.specs.Nodes.{Keeps, Nodes}
-use Rattle.b3_forest.specs.Parts.{Part, PlannedPart, chunks_of, end_of}
+use Rattle.b3_forest.specs.Parts.{Part, PlannedPart, chunks_of, closed_plan, end_of}
 use Rattle.b3_forest.specs.Pieces.{piece_count}
-use Rattle.b3_forest.specs.Uploads.{IsHeldAt, IsUpload, Upload, pieces_held}
+use Rattle.b3_forest.specs.Uploads.{IsHeldAt, IsUpload, Upload, length_of, pieces_held}
 use Rattle.b3_forest.specs.declared.note_fault.NoteFault.{NoteFault}
 use Rattle.b3_forest.specs.declared.note_fault.NoteFault.TheVariants.{NoMemory, Overlap, Stranger, WrongPlan}
 
@@ -31,7 +31,7 @@ pieces_noted f = piece_count (noted_chunk f)
 
 -- they are as many as those of an upload that holds the same offsets
 abbrev pub NotedAsHeld : Type 0
-NotedAsHeld = (f : Followed) (u : Upload) → IsUpload u → u.len ≡ length f.bytes → ((i : ℕ) → IsNoted f i ↔ IsHeldAt u.parts i)
+NotedAsHeld = (f : Followed) (u : Upload) → IsUpload u → length_of u ≡ length f.bytes → ((i : ℕ) → IsNoted f i ↔ IsHeldAt u.parts i)
     → pieces_noted f ≡ pieces_held u
 
 -- offset i is in the part
@@ -55,15 +55,15 @@ pub record IsFirstNoted (f : Followed) (p : Part) (at : ℕ) : Type 0 where
 
 -- a part that may be noted: it is for these bytes, nothing of it was noted, and it has the bytes at its offset
 pub record MayNote (f : Followed) (p : PlannedPart) : Type 0 where
-  pub plan : p.plan ≡ length f.bytes
+  pub plan : p.plan ≡ closed_plan (length f.bytes)
   pub apart : NothingNoted f p.part
   pub same : p.part.bytes ≡ bytes_at f.bytes p.part
 
 -- what a refusal says of a part
 abbrev pub IsRefused : Followed → PlannedPart → NoteFault → Type 0
-IsRefused f p WrongPlan = p.plan ≢ length f.bytes
-IsRefused f p (Overlap at) = (p.plan ≡ length f.bytes) × IsFirstNoted f p.part at
-IsRefused f p Stranger = (p.plan ≡ length f.bytes) × NothingNoted f p.part × (p.part.bytes ≢ bytes_at f.bytes p.part)
+IsRefused f p WrongPlan = p.plan ≢ closed_plan (length f.bytes)
+IsRefused f p (Overlap at) = (p.plan ≡ closed_plan (length f.bytes)) × IsFirstNoted f p.part at
+IsRefused f p Stranger = (p.plan ≡ closed_plan (length f.bytes)) × NothingNoted f p.part × (p.part.bytes ≢ bytes_at f.bytes p.part)
 IsRefused f p NoMemory = MayNote f p
 
 -- what noting a part leaves

@@ -7,9 +7,9 @@ use Rattle.std.specs.Ordering.{nat_cmp}
 use Rattle.b3_core.specs.Modes.{hash_mode}
 use Rattle.b3_core.specs.Tree.{Inputs, parent_top}
 use Rattle.b3_forest.specs.Forests.{IsForest, IsPiece}
-use Rattle.b3_forest.specs.Parts.{Part, PlannedPart, chunk_in}
+use Rattle.b3_forest.specs.Parts.{Fits, Part, chunk_in, closed_plan}
 use Rattle.b3_forest.specs.Pieces.{most_chunks, root_level}
-use Rattle.b3_forest.specs.Uploads.{IsUpload, overlap_at}
+use Rattle.b3_forest.specs.Uploads.{IsUpload, overlap_at, upload_of}
 use Rattle.b3_forest.specs.declared.halves.Halves.{Halves}
 use Rattle.b3_forest.specs.declared.node.Node.{Node}
 use Rattle.b3_forest.specs.declared.piece.Piece.{Piece}
@@ -147,7 +147,7 @@ AreFresh (p ∷ ps) es = (node_at es p.first ≡ None) × AreFresh ps (insert_en
 
 -- the nodes are those of an upload of n bytes that holds these parts
 pub record Keeps (n : ℕ) (ps : List Part) (es : Nodes) : Type 0 where
-  pub upload : IsUpload (record { len = n; parts = ps })
+  pub upload : IsUpload (upload_of n ps)
   pub forest : AreForest (chunk_in ps) [] es
   pub sorted : IsStrictlySortedBy nat_cmp (keys_of es)
 
@@ -159,9 +159,11 @@ KeptIsForest = (n : ℕ) (ps : List Part) (es : Nodes) → Keeps n ps es → IsF
 abbrev pub AreOfUpload : ℕ → Nodes → Type 0
 AreOfUpload n es = (ps : List Part) × Keeps n ps es
 
--- and none of these parts has an offset of this one
-abbrev pub HaveRoom : PlannedPart → Nodes → Type 0
-HaveRoom p es = (ps : List Part) × Keeps p.plan ps es × (overlap_at p.part ps ≡ None)
+-- and this one fits the upload, and none of its offsets is held
+pub record HaveRoom (n : ℕ) (ps : List Part) (p : Part) (es : Nodes) : Type 0 where
+  pub keeps : Keeps n ps es
+  pub fits : Fits (closed_plan n) p.offset (length p.bytes)
+  pub apart : overlap_at p ps ≡ None
 
 -- ---- halves
 

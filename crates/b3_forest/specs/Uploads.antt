@@ -1,26 +1,58 @@
--- Uploads: the parts that are held, and what they leave missing.
-use Rattle.std.specs.Prelude.{◌≡◌, ℕ, ◌<◌, ◌+◌, ◌-◌, ◌*◌, ◌≤◌, ◌==◌, ◌&&◌, ◌⊎◌, Bool, IfSome, IfNone, nat_lt, true, false, if◌then◌else◌, List, [], ◌∷◌, ◌++◌, Option, Some, None, option_map, length, max, sum_by}
+-- Uploads: the parts that are held, where they end, and what they leave missing.
+use Rattle.std.specs.Prelude.{◌≡◌, ℕ, ◌<◌, ◌+◌, ◌-◌, ◌*◌, ◌≤◌, ◌==◌, ◌&&◌, ◌||◌, ◌⊎◌, Bool, IfSome, IfNone, IsSome, is_some, not, nat_lt, true, false, if◌then◌else◌, List, [], ◌∷◌, ◌++◌, Option, Some, None, option_map, unwrap_or, length, max, sum_by}
 use Rattle.std.specs.Arc.{arc_value}
-use Rattle.b3_forest.specs.Parts.{Part, PlannedPart, Fits, end_of, chunk_in, chunks_of, most_bytes}
+use Rattle.std.specs.List.{AllByRecursion}
+use Rattle.std.specs.Option.{option_or}
+use Rattle.b3_forest.specs.Parts.{Part, PlannedPart, UploadPlan, Fits, closed_plan, end_of, chunk_in, chunks_of, is_ragged, most_bytes, same_plan}
 use Rattle.b3_forest.specs.Pieces.{piece_count}
 use Rattle.b3_forest.specs.declared.segment.Segment.{Segment}
 use Rattle.b3_forest.specs.declared.add_refused.AddFault.{AddFault}
-use Rattle.b3_forest.specs.declared.add_refused.AddFault.TheVariants.{WrongPlan, Overlap}
+use Rattle.b3_forest.specs.declared.add_refused.AddFault.TheVariants.{WrongPlan, Overlap, PastLast}
+use Rattle.b3_forest.specs.declared.finish_fault.FinishFault.{FinishFault}
+use Rattle.b3_forest.specs.declared.finish_fault.FinishFault.TheVariants.{NotFixed, Incomplete}
+use Rattle.b3_forest.specs.declared.fix_fault.FixFault.{FixFault}
+use Rattle.b3_forest.specs.declared.fix_fault.FixFault.TheVariants as fix
 
--- an upload: its length, and the parts that it holds, by offset
+-- an upload: its plan, its end once that is fixed, and the parts that it holds, by offset
 pub record Upload : Type 0 where
-  pub len : ℕ
+  pub plan : UploadPlan
+  pub end : Option ℕ
   pub parts : List Part
+
+-- an upload's length is its end where that is fixed, and else its bound
+abbrev pub length_of : Upload → ℕ
+length_of u = unwrap_or u.end u.plan.bound
+
+-- an upload of n bytes that holds these parts
+abbrev pub upload_of : ℕ → List Part → Upload
+upload_of n ps = record { plan = closed_plan n; end = Some n; parts = ps }
+
+-- an upload of that plan that holds nothing: a closed plan has its end
+abbrev pub new_upload : UploadPlan → Upload
+new_upload plan = record { plan = plan; end = if plan.is_open then None else Some plan.bound; parts = [] }
 
 -- parts that fit an upload of n bytes, in order and disjoint, the first at offset a or later
 abbrev pub ArePlaced : ℕ → ℕ → List Part → Type 0
 ArePlaced n a [] = Unit {0}
-ArePlaced n a (p ∷ ps) = (a ≤ p.offset) × Fits n p.offset (length p.bytes) × ArePlaced n (end_of p) ps
+ArePlaced n a (p ∷ ps) = (a ≤ p.offset) × Fits (closed_plan n) p.offset (length p.bytes) × ArePlaced n (end_of p) ps
 
--- a lawful upload: no longer than may be, and parts that fit, in order and disjoint
+-- a lawful upload: no longer than may be, and parts that fit, in order and disjoint; a closed plan fixes its end, and
+-- one that isn't fixed holds whole chunks alone
 pub record IsUpload (u : Upload) : Type 0 where
-  pub most : u.len ≤ most_bytes
-  pub placed : ArePlaced u.len 0 u.parts
+  pub most : u.plan.bound ≤ most_bytes
+  pub within : length_of u ≤ u.plan.bound
+  pub placed : ArePlaced (length_of u) 0 u.parts
+  pub closed : u.plan.is_open ≡ false → u.end ≡ Some u.plan.bound
+  pub whole : u.end ≡ None → AllByRecursion (λ p. is_ragged p ≡ false) u.parts
+
+-- the greatest end of parts
+unfoldable pub last_end : List Part → ℕ
+last_end [] = 0
+last_end (p ∷ ps) = max (end_of p) (last_end ps)
+
+-- how far an upload reaches: to its end where that is fixed, and else to the greatest end of its parts
+abbrev pub reached : Upload → ℕ
+reached u = unwrap_or u.end (last_end u.parts)
 
 -- the part that a segment is
 abbrev pub part_of : Segment → Part
@@ -33,8 +65,12 @@ unfoldable pub with_part : Part → List Part → List Part
 with_part p [] = p ∷ []
 with_part p (q ∷ qs) = elim (nat_lt p.offset q.offset) [ true ↦ p ∷ q ∷ qs | false ↦ q ∷ with_part p qs ]
 
+-- where an upload ends with a part more: a ragged one fixes the end
+abbrev pub end_with : Upload → Part → Option ℕ
+end_with u p = option_or u.end (if is_ragged p then Some (end_of p) else None)
+
 abbrev pub with_more : Upload → Part → Upload
-with_more u p = record u { parts = with_part p u.parts }
+with_more u p = record u { end = end_with u p; parts = with_part p u.parts }
 
 -- whether two parts have an offset in common
 abbrev pub overlaps : Part → Part → Bool
@@ -45,9 +81,32 @@ unfoldable pub overlap_at : Part → List Part → Option ℕ
 overlap_at p [] = None
 overlap_at p (q ∷ qs) = elim (overlaps p q) [ true ↦ Some (max p.offset q.offset) | false ↦ overlap_at p qs ]
 
--- why a part is not added to an upload: its plan has another length, or one of its offsets is held
+-- how far the upload reaches, where a part would end past its end, or would end it where it doesn't end
+abbrev pub past_last : Upload → Part → Option ℕ
+past_last u p =
+    if (is_some u.end && nat_lt (reached u) (end_of p)) || (is_ragged p && nat_lt (end_of p) (reached u)) then Some (reached u) else None
+
+-- why a part is not added to an upload: it has another plan, or one of its offsets is held, or it is past the last
 abbrev pub add_refusal : Upload → PlannedPart → Option AddFault
-add_refusal u p = if p.plan == u.len then option_map Overlap (overlap_at p.part u.parts) else Some WrongPlan
+add_refusal u p =
+    if same_plan p.plan u.plan then option_or (option_map Overlap (overlap_at p.part u.parts)) (option_map PastLast (past_last u p.part))
+    else Some WrongPlan
+
+-- ---- the end
+
+-- whether an upload can't end there: it has another end, or holds a part that ends behind it
+abbrev pub ends_elsewhere : Upload → ℕ → Bool
+ends_elsewhere u len = if is_some u.end then not (len == reached u) else nat_lt len (reached u)
+
+-- why an end is not fixed
+abbrev pub fix_refusal : Upload → ℕ → Option FixFault
+fix_refusal u len =
+    if nat_lt u.plan.bound len then Some fix.TooLong
+    else if ends_elsewhere u len then Some (fix.PastLast (reached u))
+    else None
+
+abbrev pub fixed_at : Upload → ℕ → Upload
+fixed_at u len = record u { end = Some len }
 
 -- ---- what is held, and what is missing
 
@@ -62,11 +121,15 @@ first_gap a (p ∷ ps) = elim (p.offset == a) [ true ↦ first_gap (end_of p) ps
 
 -- the least offset below the upload's length that is not held
 abbrev pub first_missing : Upload → Option ℕ
-first_missing u = if nat_lt (first_gap 0 u.parts) u.len then Some (first_gap 0 u.parts) else None
+first_missing u = if nat_lt (first_gap 0 u.parts) (length_of u) then Some (first_gap 0 u.parts) else None
 
--- every offset below the upload's length is held
+-- the upload has its end, and every offset below it is held
 abbrev pub IsComplete : Upload → Type 0
-IsComplete u = first_missing u ≡ None
+IsComplete u = IsSome u.end × (first_missing u ≡ None)
+
+-- why an upload has no top yet
+abbrev pub finish_refusal : Upload → Option FinishFault
+finish_refusal u = if is_some u.end then option_map Incomplete (first_missing u) else Some NotFixed
 
 -- offset i is in one of the parts
 abbrev pub IsHeldAt : List Part → ℕ → Type 0
@@ -75,14 +138,14 @@ IsHeldAt (p ∷ ps) i = ((p.offset ≤ i) × (i < end_of p)) ⊎ IsHeldAt ps i
 
 -- the least offset of an upload that is not held
 pub record IsFirstMissing (u : Upload) (m : ℕ) : Type 0 where
-  pub below : m < u.len
+  pub below : m < length_of u
   pub missing : IsHeldAt u.parts m → ⊥
   pub least : (i : ℕ) → i < m → IsHeldAt u.parts i
 
 -- what is told to be missing is the least offset that is not held, and where nothing is, all offsets are held
 pub record TellsMissing (u : Upload) : Type 0 where
   pub some : IfSome (first_missing u) (IsFirstMissing u)
-  pub none : IfNone (first_missing u) ((i : ℕ) → i < u.len → IsHeldAt u.parts i)
+  pub none : IfNone (first_missing u) ((i : ℕ) → i < length_of u → IsHeldAt u.parts i)
 
 abbrev pub LeastMissing : Type 0
 LeastMissing = (u : Upload) → IsUpload u → TellsMissing u

@@ -4,7 +4,7 @@ ghost use Rattle.std.specs.Prelude.{◌≡◌, ◌≢◌, ℕ, ◌*◌, ◌-◌,
 ghost use Rattle.b3_core.specs.Modes.{hash_mode};
 ghost use Rattle.b3_core.specs.Tree.{tree_top};
 ghost use Rattle.b3_core.specs.Work.{counted};
-ghost use Rattle.b3_forest.specs.Parts.{most_bytes};
+ghost use Rattle.b3_forest.specs.Parts.{closed_plan, most_bytes};
 ghost use Rattle.b3_forest.specs.Followed.{AllNoted, IsFirstUnnoted, IsNoted, IsNotedWith, IsRefused, MayNote, bytes_at, noting_merges, pieces_noted};
 
 use crate::held;
@@ -46,15 +46,15 @@ impl<'a> Follow<'a> {
         ensures too_long { IsErr result ↔ most_bytes < length bytes.now }
     {
         let plan = Plan::new(bytes.len() as u64)?;
-        let _most = plan.length();
+        let _most = plan.bound();
         let nodes = BTreeMap::new(alloc);
         Ok(Follow { bytes, nodes })
     }
 
     /// Notes a part, and answers how many merges that took, of two compressions each.
     ///
-    /// Refusals leave what was noted and make no compression: F7 the part was made for a plan of another length, F8
-    /// some offset of the part was noted already, F11 the part's bytes are not the lent bytes at its offset. Want of
+    /// Refusals leave what was noted and make no compression: F7 the part was made for another plan, F8 some
+    /// offset of the part was noted already, F11 the part's bytes are not the lent bytes at its offset. Want of
     /// memory is F9.
     pub fn note(&mut self, part: &Prepared, work: &mut Work) -> Result<u64, NoteFault>
         ensures noted { OnOk result (IsNotedWith self.old self.new part.now.part) }
@@ -65,7 +65,7 @@ impl<'a> Follow<'a> {
         ensures unchanged { OnErr result (self.new ≡ self.old) }
         ensures uncounted { OnErr result (work.new ≡ work.old) }
     {
-        if part.plan().length() != self.bytes.len() as u64 {
+        if !part.plan().is_of(self.bytes.len() as u64) {
             return Err(NoteFault::WrongPlan);
         }
         if let Some(at) = held::overlap(&self.nodes, part) {
@@ -103,7 +103,7 @@ impl<'a> Follow<'a> {
 
 // Whether a part has the bytes that stand where it is.
 fn has_bytes(bytes: &[u8], part: &Prepared) -> bool
-    requires plan { part.now.plan ≡ length bytes.now }
+    requires plan { part.now.plan ≡ closed_plan (length bytes.now) }
     ensures yes { result ≡ true → part.now.part.bytes ≡ bytes_at bytes.now part.now.part }
     ensures no { result ≡ false → part.now.part.bytes ≢ bytes_at bytes.now part.now.part }
 {

@@ -1,13 +1,15 @@
 // The parts that an upload holds, as a forest of pieces.
 
-ghost use Rattle.std.specs.Prelude.{◌≡◌, [], IfErr, IfOk, OnErr, OnOk, None, Some, length, map, unwrap_or};
+ghost use Rattle.std.specs.Prelude.{◌≡◌, ◌≤◌, [], IfErr, IfOk, OnErr, OnOk, None, Some, length, map, unwrap_or};
 ghost use Rattle.b3_core.specs.Modes.{hash_mode};
 ghost use Rattle.b3_core.specs.Tree.{tree_top};
 ghost use Rattle.b3_core.specs.Work.{counted};
-ghost use Rattle.b3_forest.specs.Uploads.{ArePlaced, IsComplete, IsUpload, add_refusal, content_of, finish_work, first_missing, held_bytes, merges_of, part_of, put_work, with_more};
+ghost use Rattle.b3_forest.specs.Uploads.{ArePlaced, IsComplete, IsUpload, add_refusal, content_of, end_with, finish_refusal, finish_work, first_missing, fix_refusal, fixed_at, held_bytes, length_of, merges_of, new_upload, part_of, past_last, put_work, reached, with_more};
 ghost use Rattle.b3_forest.specs.declared.add_refused.AddFault.TheVariants.{NoMemory};
 
 use crate::add_refused::{AddFault, AddRefused};
+use crate::finish_fault::FinishFault;
+use crate::fix_fault::FixFault;
 use crate::held;
 use crate::incomplete::Incomplete;
 use crate::node::Node;
@@ -24,6 +26,7 @@ use std::marker::Model;
 #[derive(Drop)]
 pub struct Forest {
     plan: Plan,
+    end: Option<u64>,
     segments: Vec<Segment>,
     nodes: BTreeMap<u64, Node>,
     held: u64,
@@ -32,56 +35,155 @@ pub struct Forest {
 impl Model for Forest {
     ghost use Rattle.std.specs.Prelude.{◌≡◌, map};
     ghost use Rattle.b3_forest.specs.Nodes.{Keeps};
-    ghost use Rattle.b3_forest.specs.Uploads.{Upload, held_bytes, part_of};
+    ghost use Rattle.b3_forest.specs.Uploads.{IsUpload, Upload, held_bytes, length_of, part_of};
 
     ghost Value = { Upload };
 
-    ghost view = { λ f. record { len = f.plan; parts = map part_of f.segments.items } };
+    ghost view = { λ f. record { plan = f.plan; end = f.end; parts = map part_of f.segments.items } };
 
-    ghost invariant = { λ f. Keeps f.plan (map part_of f.segments.items) f.nodes.entries × (f.held ≡ held_bytes (map part_of f.segments.items)) };
+    ghost invariant = { λ f. IsUpload (record { plan = f.plan; end = f.end; parts = map part_of f.segments.items })
+        × Keeps (length_of (record { plan = f.plan; end = f.end; parts = map part_of f.segments.items })) (map part_of f.segments.items) f.nodes.entries
+        × (f.held ≡ held_bytes (map part_of f.segments.items)) };
 }
 
 impl Forest {
     /// A forest that holds nothing. It takes no memory.
     pub fn new(alloc: Global, plan: Plan) -> Forest
-        ensures { result ≡ record { len = plan; parts = [] } }
+        ensures { result ≡ new_upload plan }
     {
-        let _most = plan.length();
+        let _most = plan.bound();
+        let end = plan.end();
         Forest {
             plan,
+            end,
             segments: Vec::new(alloc),
             nodes: BTreeMap::new(alloc),
             held: 0,
         }
     }
 
-    /// The plan of the upload.
+    /// The plan of the upload, which never changes.
     pub fn plan(&self) -> Plan
-        ensures value { result ≡ self.now.len }
+        ensures value { result ≡ self.now.plan }
         ensures lawful { IsUpload self.now }
     {
         let Forest { plan, .. } = self;
         *plan
     }
 
-    /// Why a part would not be added, want of memory aside: the first that applies of F7, the part was made for a plan
-    /// of another length, and F8, some offset of the part is held already.
-    pub fn refusal_of(&self, part: &Prepared) -> Option<AddFault>
-        ensures { result ≡ add_refusal self.now part.now }
+    /// Where the upload ends, once that is fixed: from the start under a plan that is not open.
+    pub fn end(&self) -> Option<u64>
+        ensures { result ≡ self.now.end }
     {
-        if part.plan().length() != self.plan.length() {
-            return Some(AddFault::WrongPlan);
+        let Forest { end, .. } = self;
+        *end
+    }
+
+    /// The upload's length: its end where that is fixed, else the plan's bound.
+    pub fn length(&self) -> u64
+        ensures value { result ≡ length_of self.now }
+        ensures within { result ≤ self.now.plan.bound }
+    {
+        self.end.unwrap_or(self.plan.bound())
+    }
+
+    // How far the upload reaches: to its end, or while there is none to the greatest end of a part.
+    fn reached(&self) -> u64
+        ensures { result ≡ reached self.now }
+    {
+        match (self.end, self.segments.as_slice().last()) {
+            (Some(end), _) => end,
+            (None, Some(last)) => last.offset + last.bytes.as_slice().len() as u64,
+            (None, None) => 0,
         }
-        match held::overlap(&self.nodes, part) {
-            Some(at) => Some(AddFault::Overlap { at }),
+    }
+
+    // How far the upload reaches, where the part would end past its end, or would end it where it doesn't end.
+    fn past_last(&self, part: &Prepared) -> Option<u64>
+        ensures { result ≡ past_last self.now part.now.part }
+    {
+        let reached = self.reached();
+        let end = part.end();
+        let is_behind = self.end.is_some() && end > reached;
+        let is_before = part.is_ragged() && end < reached;
+        if is_behind || is_before {
+            Some(reached)
+        } else {
+            None
+        }
+    }
+
+    // Where the upload ends with the part.
+    fn end_with(&self, part: &Prepared) -> Option<u64>
+        ensures { result ≡ end_with self.now part.now.part }
+    {
+        match self.end {
+            Some(end) => Some(end),
+            None if part.is_ragged() => Some(part.end()),
             None => None,
         }
     }
 
-    /// Adds a part, and answers how many merges that took, of two compressions each.
+    /// Why a part would not be added, want of memory aside: the first that applies of F7, the part was made for another
+    /// plan, F8, some offset of the part is held already, and F12, it ends past the upload's end, or its length is not a
+    /// multiple of 1024 and it ends before what the upload reaches.
+    pub fn refusal_of(&self, part: &Prepared) -> Option<AddFault>
+        ensures { result ≡ add_refusal self.now part.now }
+    {
+        if !part.plan().is_same(&self.plan) {
+            return Some(AddFault::WrongPlan);
+        }
+        if let Some(at) = held::overlap(&self.nodes, part) {
+            return Some(AddFault::Overlap { at });
+        }
+        match self.past_last(part) {
+            Some(end) => Some(AddFault::PastLast { end }),
+            None => None,
+        }
+    }
+
+    /// Why the upload would not be ended there: the first that applies of F1, that is above the plan's bound, and F12, it
+    /// has another end, or holds a part that ends behind.
+    pub fn fix_refusal_of(&self, len: u64) -> Option<FixFault>
+        ensures { result ≡ fix_refusal self.now len }
+    {
+        if len > self.plan.bound() {
+            return Some(FixFault::TooLong);
+        }
+        let end = self.reached();
+        let is_elsewhere = if self.end.is_some() {
+            len != end
+        } else {
+            len < end
+        };
+        if is_elsewhere {
+            Some(FixFault::PastLast { end })
+        } else {
+            None
+        }
+    }
+
+    /// Fixes the upload's end. F1 where it is above the plan's bound, F12 where the upload has another end, or holds a
+    /// part that ends behind. It takes no memory.
+    pub fn fix(&mut self, len: u64) -> Result<(), FixFault>
+        ensures fixed { OnOk result (self.new ≡ fixed_at self.old len) }
+        ensures allowed { OnOk result (fix_refusal self.old len ≡ None) }
+        ensures fault { IfErr result (λ fault. fix_refusal self.old len ≡ Some fault) }
+        ensures unchanged { OnErr result (self.new ≡ self.old) }
+    {
+        if let Some(fault) = self.fix_refusal_of(len) {
+            return Err(fault);
+        }
+        self.end = Some(len);
+        Ok(())
+    }
+
+    /// Adds a part, and answers how many merges that took, of two compressions each. A part whose length is not a
+    /// multiple of 1024 fixes the upload's end at its own, where there was none.
     ///
-    /// Refusals hand the part back, leave the forest as it was and make no compression: F7 the part was made for a plan
-    /// of another length, F8 some offset of the part is held already. Want of memory is F9.
+    /// Refusals hand the part back, leave the forest as it was and make no compression: F7 the part was made for another
+    /// plan, F8 some offset of the part is held already, F12 it ends past the upload's end, or its length is not a
+    /// multiple of 1024 and it ends before what the upload reaches. Want of memory is F9.
     pub fn add(&mut self, part: Prepared, work: &mut Work) -> Result<u64, AddRefused>
         ensures added { OnOk result (self.new ≡ with_more self.old part.part) }
         ensures allowed { OnOk result (add_refusal self.old part ≡ None) }
@@ -95,6 +197,8 @@ impl Forest {
         if let Some(fault) = self.refusal_of(&part) {
             return Err(AddRefused { fault, part });
         }
+        let end = self.end_with(&part);
+        let len = part.fitting().len() as u64;
         let Ok(()) = self.segments.reserve(1) else {
             let fault = AddFault::NoMemory;
             return Err(AddRefused { fault, part });
@@ -103,7 +207,8 @@ impl Forest {
             let fault = AddFault::NoMemory;
             return Err(AddRefused { fault, part });
         };
-        self.held += part.bytes().len() as u64;
+        self.end = end;
+        self.held += len;
         put_segment(&mut self.segments, part.into_segment());
         Ok(merges)
     }
@@ -120,7 +225,7 @@ impl Forest {
     pub fn first_missing(&self) -> Option<u64>
         ensures { result ≡ first_missing self.now }
     {
-        held::first_missing(&self.nodes, self.plan.length())
+        held::first_missing(&self.nodes, self.length())
     }
 
     /// How many parts are held.
@@ -133,21 +238,27 @@ impl Forest {
     /// The parts, in order of offset.
     pub fn segments(&self) -> &[Segment]
         ensures parts { map part_of result.now ≡ self.now.parts }
-        ensures in_order { ArePlaced self.now.len 0 (map part_of result.now) }
+        ensures in_order { ArePlaced (length_of self.now) 0 (map part_of result.now) }
     {
         self.segments.as_slice()
     }
 
-    /// The top of the tree over the whole content, or F10 with the least offset that is not held. It makes two
-    /// compressions for each piece after the first, and none where the upload is not whole.
-    pub fn finish(&self, work: &mut Work) -> Result<Top, Incomplete>
-        ensures missing { IfErr result (λ r. first_missing self.now ≡ Some r.missing) }
+    /// The top of the tree over the whole content, or F13 where the upload's end is not fixed, or F10 with the least
+    /// offset that is not held. It makes two compressions for each piece after the first, and none where it is refused.
+    pub fn finish(&self, work: &mut Work) -> Result<Top, FinishFault>
+        ensures fault { IfErr result (λ fault. finish_refusal self.now ≡ Some fault) }
         ensures complete { OnOk result (IsComplete self.now) }
         ensures top { IfOk result (λ top. top ≡ tree_top (content_of self.now.parts) 0 hash_mode) }
-        ensures len { OnOk result (length (content_of self.now.parts) ≡ self.now.len) }
+        ensures len { OnOk result (length (content_of self.now.parts) ≡ length_of self.now) }
         ensures count { OnOk result (work.new ≡ counted work.old (finish_work self.now)) }
         ensures uncounted { OnErr result (work.new ≡ work.old) }
     {
-        held::finish(&self.nodes, self.plan.length(), work)
+        let Some(end) = self.end else {
+            return Err(FinishFault::NotFixed);
+        };
+        match held::finish(&self.nodes, end, work) {
+            Ok(top) => Ok(top),
+            Err(Incomplete { missing }) => Err(FinishFault::Incomplete { missing }),
+        }
     }
 }

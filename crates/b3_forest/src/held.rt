@@ -1,12 +1,12 @@
 // What the pieces of an upload tell of its parts.
 
-ghost use Rattle.std.specs.Prelude.{◌≡◌, ◌+◌, ◌*◌, ◌^◌, ◌≤◌, List, [], IfErr, IfOk, OnErr, OnOk, None, Some, length};
+ghost use Rattle.std.specs.Prelude.{◌≡◌, ℕ, ◌+◌, ◌*◌, ◌^◌, ◌≤◌, List, [], IfErr, IfOk, OnErr, OnOk, None, Some, length};
 ghost use Rattle.b3_core.specs.Modes.{hash_mode};
 ghost use Rattle.b3_core.specs.Tree.{tree_top};
 ghost use Rattle.b3_core.specs.Work.{counted};
 ghost use Rattle.b3_forest.specs.Nodes.{AreOfUpload, HaveRoom, Keeps};
 ghost use Rattle.b3_forest.specs.Parts.{Fits, Part};
-ghost use Rattle.b3_forest.specs.Uploads.{content_of, finish_work, first_missing as first_missing_of, merges_of, overlap_at, put_work, with_part};
+ghost use Rattle.b3_forest.specs.Uploads.{content_of, finish_work, first_missing as first_missing_of, merges_of, overlap_at, upload_of, with_part};
 
 use crate::incomplete::Incomplete;
 use crate::node::Node;
@@ -20,8 +20,8 @@ const CHUNK_LEN: u64 = 1024;
 
 /// The least offset of a part that is held already.
 pub(crate) fn overlap(nodes: &BTreeMap<u64, Node>, part: &Prepared) -> Option<u64>
-    requires { AreOfUpload part.now.plan nodes.now.entries }
-    ensures at { (ps : List Part) → Keeps part.now.plan ps nodes.now.entries → result ≡ overlap_at part.now.part ps }
+    requires { (n : ℕ) × AreOfUpload n nodes.now.entries }
+    ensures at { (n : ℕ) (ps : List Part) → Keeps n ps nodes.now.entries → result ≡ overlap_at part.now.part ps }
     ensures fits { Fits part.now.plan part.now.part.offset (length part.now.part.bytes) }
 {
     let bytes = part.fitting();
@@ -36,7 +36,7 @@ pub(crate) fn overlap(nodes: &BTreeMap<u64, Node>, part: &Prepared) -> Option<u6
 /// The least offset of an upload of `len` bytes that is not held.
 pub(crate) fn first_missing(nodes: &BTreeMap<u64, Node>, len: u64) -> Option<u64>
     requires { AreOfUpload len nodes.now.entries }
-    ensures { (ps : List Part) → Keeps len ps nodes.now.entries → result ≡ first_missing_of (record { len = len; parts = ps }) }
+    ensures { (ps : List Part) → Keeps len ps nodes.now.entries → result ≡ first_missing_of (upload_of len ps) }
 {
     let offset = first_gap(nodes, 0) * CHUNK_LEN;
     if offset < len { Some(offset) } else { None }
@@ -48,13 +48,13 @@ pub(crate) fn add(
     part: &Prepared,
     work: &mut Work,
 ) -> Result<u64, AllocError>
-    requires { HaveRoom part.now nodes.old.entries }
-    ensures kept { (ps : List Part) → Keeps part.now.plan ps nodes.old.entries → overlap_at part.now.part ps ≡ None
-        → OnOk result (Keeps part.now.plan (with_part part.now.part ps) nodes.new.entries) }
-    ensures merges { (ps : List Part) → Keeps part.now.plan ps nodes.old.entries → overlap_at part.now.part ps ≡ None
-        → IfOk result (λ n. n ≡ merges_of (record { len = part.now.plan; parts = ps }) part.now.part) }
+    requires { (n : ℕ) × (ps : List Part) × HaveRoom n ps part.now.part nodes.old.entries }
+    ensures kept { (n : ℕ) (ps : List Part) → HaveRoom n ps part.now.part nodes.old.entries
+        → OnOk result (Keeps n (with_part part.now.part ps) nodes.new.entries) }
+    ensures merges { (n : ℕ) (ps : List Part) → HaveRoom n ps part.now.part nodes.old.entries
+        → IfOk result (λ m. m ≡ merges_of (upload_of n ps) part.now.part) }
     ensures count { IfOk result (λ n. work.new ≡ counted work.old (2 * n)) }
-    ensures unchanged { (ps : List Part) → Keeps part.now.plan ps nodes.old.entries → overlap_at part.now.part ps ≡ None
+    ensures unchanged { (n : ℕ) (ps : List Part) → HaveRoom n ps part.now.part nodes.old.entries
         → OnErr result (nodes.new.entries ≡ nodes.old.entries) }
     ensures uncounted { OnErr result (work.new ≡ work.old) }
 {
@@ -73,14 +73,14 @@ pub(crate) fn finish(
 ) -> Result<Top, Incomplete>
     requires { AreOfUpload len nodes.now.entries }
     ensures missing { (ps : List Part) → Keeps len ps nodes.now.entries
-        → IfErr result (λ r. first_missing_of (record { len = len; parts = ps }) ≡ Some r.missing) }
+        → IfErr result (λ r. first_missing_of (upload_of len ps) ≡ Some r.missing) }
     ensures complete { (ps : List Part) → Keeps len ps nodes.now.entries
-        → OnOk result (first_missing_of (record { len = len; parts = ps }) ≡ None) }
+        → OnOk result (first_missing_of (upload_of len ps) ≡ None) }
     ensures top { (ps : List Part) → Keeps len ps nodes.now.entries
         → IfOk result (λ top. top ≡ tree_top (content_of ps) 0 hash_mode) }
     ensures len { (ps : List Part) → Keeps len ps nodes.now.entries → OnOk result (length (content_of ps) ≡ len) }
     ensures count { (ps : List Part) → Keeps len ps nodes.now.entries
-        → OnOk result (work.new ≡ counted work.old (finish_work (record { len = len; parts = ps }))) }
+        → OnOk result (work.new ≡ counted work.old (finish_work (upload_of len ps))) }
     ensures uncounted { OnErr result (work.new ≡ work.old) }
 {
     tree_laws();

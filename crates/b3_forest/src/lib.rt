@@ -1,6 +1,6 @@
 //! The parts of an upload, hashed alone and in any order (hash mode).
 //!
-//! A `Plan` is the length of an upload. `Prepared::make` takes one part of it and hashes it, with no other part at
+//! A `Plan` is the length of an upload, or the most that it may have where its length is fixed later. `Prepared::make` takes one part of it and hashes it, with no other part at
 //! hand: it keeps the part's pieces, which are complete subtrees of the tree over the whole upload.
 //!
 //! A `Forest` holds the parts of one upload. `Forest::add` puts a part's pieces among the others, and merges those that
@@ -15,6 +15,8 @@
 
 mod add_refused;
 mod cutting;
+mod finish_fault;
+mod fix_fault;
 mod follow;
 mod forest;
 mod halves;
@@ -31,6 +33,8 @@ mod refusal;
 mod segment;
 
 pub use add_refused::{AddFault, AddRefused};
+pub use finish_fault::FinishFault;
+pub use fix_fault::FixFault;
 pub use follow::Follow;
 pub use forest::Forest;
 pub use incomplete::Incomplete;

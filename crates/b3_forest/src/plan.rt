@@ -1,7 +1,8 @@
-// The plan of an upload.
+// Plans of uploads.
 
-ghost use Rattle.std.specs.Prelude.{◌≡◌, ℕ, ◌<◌, ◌≤◌, ◌↔◌, IfOk, IsErr};
-ghost use Rattle.b3_forest.specs.Parts.{most_bytes};
+ghost use Rattle.std.specs.Prelude.{◌≡◌, ◌≢◌, ◌<◌, ◌≤◌, ◌↔◌, IfOk, IsErr, false, true};
+ghost use Rattle.b3_forest.specs.Parts.{closed_plan, most_bytes, open_plan, same_plan};
+ghost use Rattle.b3_forest.specs.Uploads.{new_upload};
 
 use std::marker::Model;
 
@@ -17,39 +18,91 @@ pub(crate) const ROOT_LEVEL: u32 = 34;
 #[derive(Clone, Copy, PartialEq, Eq, Debug)]
 pub struct PlanTooLong;
 
-/// The length of an upload, in bytes, at most 2^44.
+/// The plan of an upload: its length in bytes, or, of an open plan, the most that it may have where its length is fixed
+/// later. At most 2^44.
 #[derive(Clone, Copy, PartialEq, Eq, Debug)]
 pub struct Plan {
-    len: u64,
+    bound: u64,
+    is_open: bool,
 }
 
 impl Model for Plan {
-    ghost Value = { ℕ };
+    ghost use Rattle.std.specs.Prelude.{◌≤◌};
+    ghost use Rattle.b3_forest.specs.Parts.{UploadPlan, most_bytes};
 
-    ghost view = { λ p. p.len };
+    ghost Value = { UploadPlan };
 
-    ghost inverse = { λ n. record { len = n } };
+    ghost view = { λ p. record { bound = p.bound; is_open = p.is_open } };
 
-    ghost invariant = { λ p. p.len ≤ most_bytes };
+    ghost inverse = { λ p. record { bound = p.bound; is_open = p.is_open } };
+
+    ghost invariant = { λ p. p.bound ≤ most_bytes };
 }
 
 impl Plan {
     /// The plan of an upload of `len` bytes. F1 where that is above 2^44.
     pub fn new(len: u64) -> Result<Plan, PlanTooLong>
-        ensures plan { IfOk result (λ plan. plan ≡ len) }
+        ensures plan { IfOk result (λ plan. plan ≡ closed_plan len) }
         ensures too_long { IsErr result ↔ most_bytes < len }
     {
         if len > MOST_BYTES {
             return Err(PlanTooLong);
         }
-        Ok(Plan { len })
+        Ok(Plan {
+            bound: len,
+            is_open: false,
+        })
     }
 
-    /// The upload's length.
-    pub fn length(&self) -> u64
-        ensures value { result ≡ self.now }
+    /// The plan of an upload of at most so many bytes, whose length is fixed later. F1 where that is above 2^44.
+    pub fn open(at_most: u64) -> Result<Plan, PlanTooLong>
+        ensures plan { IfOk result (λ plan. plan ≡ open_plan at_most) }
+        ensures too_long { IsErr result ↔ most_bytes < at_most }
+    {
+        if at_most > MOST_BYTES {
+            return Err(PlanTooLong);
+        }
+        Ok(Plan {
+            bound: at_most,
+            is_open: true,
+        })
+    }
+
+    /// The most bytes that the upload may have; of a plan that is not open, its length.
+    pub fn bound(&self) -> u64
+        ensures value { result ≡ self.now.bound }
         ensures most { result ≤ most_bytes }
     {
-        self.len
+        self.bound
+    }
+
+    /// Whether the upload's length is fixed later.
+    pub fn is_open(&self) -> bool
+        ensures { result ≡ self.now.is_open }
+    {
+        self.is_open
+    }
+
+    /// Where an upload of the plan ends from the start.
+    pub(crate) fn end(&self) -> Option<u64>
+        ensures { result ≡ (new_upload self.now).end }
+    {
+        if self.is_open { None } else { Some(self.bound) }
+    }
+
+    /// Whether it is the plan of an upload of that length.
+    pub(crate) fn is_of(&self, len: u64) -> bool
+        ensures yes { result ≡ true → self.now ≡ closed_plan len }
+        ensures no { result ≡ false → self.now ≢ closed_plan len }
+    {
+        !self.is_open && self.bound == len
+    }
+
+    /// Whether two plans are one: of one number and of one kind.
+    pub(crate) fn is_same(&self, other: &Plan) -> bool
+        ensures { result ≡ same_plan self.now other.now }
+    {
+        let Plan { bound, is_open } = *other;
+        bound == self.bound && is_open == self.is_open
     }
 }

@@ -4,7 +4,7 @@ ghost use Rattle.std.specs.Prelude.{◌≡◌, ◌+◌, ◌≤◌, IfErr, IfOk, 
 ghost use Rattle.std.specs.Arc.{arc_value};
 ghost use Rattle.b3_core.specs.Work.{counted};
 ghost use Rattle.b3_forest.specs.PartRefusals.{part_refusal};
-ghost use Rattle.b3_forest.specs.Parts.{Fits, PlannedPart, chunks_of, most_bytes, planned};
+ghost use Rattle.b3_forest.specs.Parts.{Fits, PlannedPart, chunks_of, end_of, is_ragged, most_bytes, planned};
 ghost use Rattle.b3_forest.specs.Uploads.{part_of};
 ghost use Rattle.b3_forest.specs.Pieces.{IsPrepared, part_work, piece_count, pieces_of, root_level};
 
@@ -40,9 +40,11 @@ impl Prepared {
     /// Hashes a part of an upload, `bytes` at an offset.
     ///
     /// Refusals hand the bytes back, the first that applies: F2 no bytes, F3 the offset is not a multiple of 1024, F4
-    /// the part ends past the plan, F5 its length is not a multiple of 1024 and it does not end with the plan, F6 above
-    /// 2^24 bytes. Want of memory is F9. For each chunk it makes as many compressions as the chunk has blocks less one,
-    /// and two for each chunk beyond the number of pieces; none where F2 to F6 apply.
+    /// the part ends past the plan's bound, F5 its length is not a multiple of 1024 and it does not end with the plan
+    /// (not under an open plan), F6 above 2^24 bytes. Want of memory is F9.
+    ///
+    /// For each chunk it makes as many compressions as the chunk has blocks less one, and two for each chunk beyond the
+    /// number of pieces; none where F2 to F6 apply.
     pub fn make(
         alloc: Global,
         plan: &Plan,
@@ -103,6 +105,21 @@ impl Prepared {
         self.bytes.as_slice()
     }
 
+    /// Where the part ends in its upload.
+    pub(crate) fn end(&self) -> u64
+        ensures { result ≡ end_of self.now.part }
+    {
+        let start = self.offset();
+        start + self.fitting().len() as u64
+    }
+
+    /// Whether its length is not a multiple of 1024.
+    pub(crate) fn is_ragged(&self) -> bool
+        ensures { result ≡ is_ragged self.now.part }
+    {
+        self.bytes().len() % 1024 != 0
+    }
+
     /// The plan that the part was made for.
     pub fn plan(&self) -> Plan
         ensures { result ≡ self.now.plan }
@@ -115,9 +132,9 @@ impl Prepared {
     pub(crate) fn fitting(&self) -> &[u8]
         ensures bytes { result.now ≡ self.now.part.bytes }
         ensures fits { Fits self.now.plan self.now.part.offset (length self.now.part.bytes) }
-        ensures most { self.now.plan ≤ most_bytes }
+        ensures most { self.now.plan.bound ≤ most_bytes }
     {
-        let _most = self.plan.length();
+        let _most = self.plan.bound();
         self.bytes()
     }
 

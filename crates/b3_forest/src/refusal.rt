@@ -19,9 +19,9 @@ pub enum PartFault {
     EmptyPart,
     /// F3: the offset is not a multiple of 1024.
     OffAlign,
-    /// F4: offset plus length, as an exact sum, is above the plan's length.
+    /// F4: offset plus length, as an exact sum, is above the plan's bound.
     PastEnd,
-    /// F5: the length is not a multiple of 1024, and the part does not end with the upload.
+    /// F5: the length is not a multiple of 1024, and the part does not end with the upload; not under an open plan.
     Ragged,
     /// F6: above 2^24 bytes.
     PartTooLong,
@@ -56,9 +56,9 @@ pub struct PartRefused {
 pub(crate) fn fault_of(plan: &Plan, offset: u64, len: u64) -> Option<PartFault>
     ensures fault { result ≡ part_refusal plan.now offset len }
     ensures fits { IfNone result (Fits plan.now offset len) }
-    ensures most { plan.now ≤ most_bytes }
+    ensures most { plan.now.bound ≤ most_bytes }
 {
-    let most = plan.length();
+    let most = plan.bound();
     if len == 0 {
         return Some(PartFault::EmptyPart);
     }
@@ -68,7 +68,9 @@ pub(crate) fn fault_of(plan: &Plan, offset: u64, len: u64) -> Option<PartFault>
     match offset.checked_add(len) {
         None => Some(PartFault::PastEnd),
         Some(end) if end > most => Some(PartFault::PastEnd),
-        Some(end) if len % CHUNK_LEN != 0 && end != most => Some(PartFault::Ragged),
+        Some(end) if !plan.is_open() && len % CHUNK_LEN != 0 && end != most => {
+            Some(PartFault::Ragged)
+        }
         Some(_) if len > MOST_PART_BYTES => Some(PartFault::PartTooLong),
         Some(_) => None,
     }

@@ -1,5 +1,5 @@
 use crate::digests::digest;
-use crate::patterns::{part_of_pattern, pattern};
+use crate::patterns::{open_plan, part_of_pattern, pattern, planned_part};
 use crate::vectors::COUNTS;
 use b3_core::Work;
 use b3_forest::{Follow, Incomplete, NoteFault};
@@ -120,6 +120,20 @@ fn parts_of_another_plan_are_refused(rt: HostRuntime) -> Result<(), Fail> {
     assert_eq!(rt;
         refused(&rt, &mut follow, 8192, 0, 1024)?,
         NoteFault::WrongPlan
+    );
+    Ok(())
+}
+
+// A plan of the same number, under which the length is fixed later.
+#[test]
+fn parts_of_open_plans_are_refused(rt: HostRuntime) -> Result<(), Fail> {
+    let bytes = pattern(rt.alloc(), 0, 2049)?;
+    let (mut follow, _) = followed(&rt, bytes.as_slice(), &[])?;
+    let mut work = Work::new(&rt);
+    let part = planned_part(rt.alloc(), &open_plan(2049)?, 0, 1024, &mut work)?;
+    assert_eq!(rt;
+        follow.note(&part, &mut work).err(),
+        Some(NoteFault::WrongPlan)
     );
     Ok(())
 }

@@ -1,25 +1,24 @@
 use crate::digests::digest;
-use crate::patterns::{part_of_pattern, pattern};
+use crate::patterns::{closed_plan, part_of_pattern, pattern, planned_part};
 use crate::vectors::COUNTS;
 use b3_core::{Mode, Top, Work, hash};
-use b3_forest::{AddFault, Forest, Incomplete, Plan};
+use b3_forest::{AddFault, FinishFault, Forest, Plan};
 use std::process::Abort;
 use std::test::Fail;
 
 fn forest(rt: &impl AllocGlobal, len: u64) -> Result<Forest, Fail> {
-    let plan = Plan::new(len).ok().ok_or("no plan")?;
-    Ok(Forest::new(rt.alloc(), plan))
+    Ok(Forest::new(rt.alloc(), closed_plan(len)?))
 }
 
-// Adds a part of a pattern, and answers the merges, and the compressions in the forest.
-fn added(
+/// Adds a part of a pattern, and answers the merges, and the compressions in the forest.
+pub(crate) fn added(
     rt: &impl AllocGlobal,
     forest: &mut Forest,
     offset: u64,
     size: u64,
 ) -> Result<(u64, u64), Fail> {
-    let len = forest.plan().length();
-    let part = part_of_pattern(rt.alloc(), len, offset, size, &mut Work::new(rt))?;
+    let plan = forest.plan();
+    let part = planned_part(rt.alloc(), &plan, offset, size, &mut Work::new(rt))?;
     let mut work = Work::new(rt);
     let merges = forest.add(part, &mut work).ok().ok_or("refused")?;
     Ok((merges, work.count()))
@@ -31,8 +30,8 @@ fn top_of(rt: &impl AllocGlobal, forest: &Forest) -> Result<Top, Fail> {
     Ok(top.ok().ok_or("not whole")?)
 }
 
-// The root's hash, and the compressions that it takes.
-fn root(rt: &impl AllocGlobal, forest: &Forest) -> Result<([u8; 32], u64), Fail> {
+/// The root's hash, and the compressions that it takes.
+pub(crate) fn root(rt: &impl AllocGlobal, forest: &Forest) -> Result<([u8; 32], u64), Fail> {
     let mut work = Work::new(rt);
     let top = forest.finish(&mut work).ok().ok_or("not whole")?;
     Ok((top.root32(&mut work), work.count()))
@@ -44,13 +43,13 @@ fn hash_of_pattern(rt: &impl AllocGlobal, len: u64) -> Result<[u8; 32], Fail> {
     Ok(hash(&Mode::hash(), bytes.as_slice(), &mut Work::new(rt)))
 }
 
-// A forest of parts of a pattern, which come in this order, and the compressions of each.
-fn forest_of(
+/// A forest of parts of a pattern, which come in this order, and the compressions of each.
+pub(crate) fn forest_of(
     rt: &impl AllocGlobal,
-    len: u64,
+    plan: Plan,
     parts: &[(u64, u64)],
 ) -> Result<(Forest, Vec<u64>), Fail> {
-    let mut forest = forest(rt, len)?;
+    let mut forest = Forest::new(rt.alloc(), plan);
     let mut counts = Vec::new(rt.alloc());
     for (offset, size) in parts {
         let (merges, count) = added(rt, &mut forest, *offset, *size)?;
@@ -66,7 +65,7 @@ fn forest_of(
 #[test]
 fn four_chunks_from_the_middle(rt: HostRuntime) -> Result<(), Fail> {
     let parts = [(1024, 2048), (0, 1024), (3072, 1024)];
-    let (forest, counts) = forest_of(&rt, 4096, &parts)?;
+    let (forest, counts) = forest_of(&rt, closed_plan(4096)?, &parts)?;
     assert!(rt; counts.as_slice() == [0, 2, 4].as_slice());
     assert_eq!(rt; root(&rt, &forest)?, (hash_of_pattern(&rt, 4096)?, 1));
     Ok(())
@@ -79,10 +78,10 @@ fn held(forest: &Forest) -> (Option<u64>, u64, usize) {
 
 #[test]
 fn what_is_missing_is_told(rt: HostRuntime) -> Result<(), Fail> {
-    let (forest, _) = forest_of(&rt, 4096, &[(1024, 2048), (0, 1024)])?;
+    let (forest, _) = forest_of(&rt, closed_plan(4096)?, &[(1024, 2048), (0, 1024)])?;
     assert_eq!(rt; held(&forest), (Some(3072), 3072, 2));
     let incomplete = forest.finish(&mut Work::new(&rt)).err();
-    assert_eq!(rt; incomplete, Some(Incomplete { missing: 3072 }));
+    assert_eq!(rt; incomplete, Some(FinishFault::Incomplete { missing: 3072 }));
     Ok(())
 }
 
@@ -95,7 +94,7 @@ fn nothing_is_held_at_first(rt: HostRuntime) -> Result<(), Fail> {
 
 #[test]
 fn nothing_is_missing_where_all_is_held(rt: HostRuntime) -> Result<(), Fail> {
-    let (forest, _) = forest_of(&rt, 4096, &[(0, 4096)])?;
+    let (forest, _) = forest_of(&rt, closed_plan(4096)?, &[(0, 4096)])?;
     assert_eq!(rt; held(&forest), (None, 4096, 1));
     Ok(())
 }
@@ -150,16 +149,16 @@ fn no_bytes_are_whole(rt: HostRuntime) -> Result<(), Fail> {
     Ok(())
 }
 
-// The refusal of a part, which comes back.
-fn refused<R: AllocGlobal + Abort>(
+/// The refusal of a part, which comes back.
+pub(crate) fn refused<R: AllocGlobal + Abort>(
     rt: &R,
     forest: &mut Forest,
-    len: u64,
+    plan: &Plan,
     offset: u64,
     size: u64,
 ) -> Result<AddFault, Fail> {
     let mut work = Work::new(rt);
-    let part = part_of_pattern(rt.alloc(), len, offset, size, &mut work)?;
+    let part = planned_part(rt.alloc(), plan, offset, size, &mut work)?;
     let told = forest.refusal_of(&part);
     let refused = forest.add(part, &mut work).err().ok_or("added")?;
     assert_eq!(rt;
@@ -171,10 +170,11 @@ fn refused<R: AllocGlobal + Abort>(
 
 #[test]
 fn overlaps_are_refused(rt: HostRuntime) -> Result<(), Fail> {
-    let (mut forest, _) = forest_of(&rt, 4096, &[(1024, 1024)])?;
+    let plan = closed_plan(4096)?;
+    let (mut forest, _) = forest_of(&rt, plan, &[(1024, 1024)])?;
     let overlap = AddFault::Overlap { at: 1024 };
     for offset in [0, 1024] {
-        assert_eq!(rt; refused(&rt, &mut forest, 4096, offset, 2048)?, overlap);
+        assert_eq!(rt; refused(&rt, &mut forest, &plan, offset, 2048)?, overlap);
     }
     Ok(())
 }
@@ -183,7 +183,7 @@ fn overlaps_are_refused(rt: HostRuntime) -> Result<(), Fail> {
 fn parts_of_another_plan_are_refused(rt: HostRuntime) -> Result<(), Fail> {
     let mut forest = forest(&rt, 4096)?;
     assert_eq!(rt;
-        refused(&rt, &mut forest, 8192, 1024, 1024)?,
+        refused(&rt, &mut forest, &closed_plan(8192)?, 1024, 1024)?,
         AddFault::WrongPlan
     );
     Ok(())
@@ -195,7 +195,7 @@ fn even_chunks_first(rt: HostRuntime) -> Result<(), Fail> {
     for chunk in [0u64, 2, 4, 6, 8, 10, 12, 14, 15, 13, 11, 9, 7, 5, 3, 1] {
         parts.push((1024 * chunk, 1024u64))?;
     }
-    let (forest, counts) = forest_of(&rt, 16_384, parts.as_slice())?;
+    let (forest, counts) = forest_of(&rt, closed_plan(16_384)?, parts.as_slice())?;
     let wanted = [0, 0, 0, 0, 0, 0, 0, 0, 2, 4, 2, 6, 2, 4, 2, 8];
     assert!(rt; counts.as_slice() == wanted.as_slice());
     assert_eq!(rt; root(&rt, &forest)?.1, 1);
@@ -204,7 +204,7 @@ fn even_chunks_first(rt: HostRuntime) -> Result<(), Fail> {
 
 #[test]
 fn one_long_part(rt: HostRuntime) -> Result<(), Fail> {
-    let (forest, counts) = forest_of(&rt, 16_777_216, &[(0, 16_777_216)])?;
+    let (forest, counts) = forest_of(&rt, closed_plan(16_777_216)?, &[(0, 16_777_216)])?;
     assert!(rt; counts.as_slice() == [0].as_slice());
     assert_eq!(rt; root(&rt, &forest)?.1, 1);
     Ok(())

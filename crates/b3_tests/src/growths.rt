@@ -5,6 +5,8 @@
 //! in comes back, and the same call succeeds. Where the growth is refused while the state is prepared or looked at, the whole is
 //! done again, which succeeds too, since no second growth is refused. So a call that always tells want of memory fails.
 
+ghost use Rattle.std.specs.Prelude.{◌<◌};
+
 use crate::check_lines::THREE_LINES;
 use crate::patterns::pattern;
 use b3_check::{CheckFile, NameFault, Names, verify};
@@ -19,10 +21,20 @@ fn plan<R: Abort>(rt: &R) -> Plan {
     Plan::new(4096).ok().expect(rt, "a plan")
 }
 
-// A part of the pattern of four chunks.
-fn part<R: AllocGlobal + Abort>(rt: &R, offset: u64, size: u64) -> Result<Prepared, AllocError> {
+// An upload of at most so many bytes.
+fn open_plan<R: Abort>(rt: &R) -> Plan {
+    Plan::open(4096).ok().expect(rt, "a plan")
+}
+
+// A part of the pattern.
+fn part<R: AllocGlobal + Abort>(
+    rt: &R,
+    plan: &Plan,
+    offset: u64,
+    size: u64,
+) -> Result<Prepared, AllocError> {
     let bytes = pattern(rt.alloc(), offset, size)?;
-    match Prepared::make(rt.alloc(), &plan(rt), offset, bytes, &mut Work::new(rt)) {
+    match Prepared::make(rt.alloc(), plan, offset, bytes, &mut Work::new(rt)) {
         Ok(part) => Ok(part),
         Err(refused) => {
             assert_eq!(rt; refused.fault, PartFault::NoMemory);
@@ -68,6 +80,16 @@ fn make(rt: HostRuntime) -> Result<(), Fail> {
     }
 }
 
+// What is held: the bytes, the parts, the first offset that is missing, and the end.
+fn held(forest: &Forest) -> (u64, usize, Option<u64>, Option<u64>) {
+    (
+        forest.held(),
+        forest.parts(),
+        forest.first_missing(),
+        forest.end(),
+    )
+}
+
 // Adds a part, which is handed back where it is refused, and then once more. Answers the merges.
 fn added<R: AllocGlobal + Abort>(
     rt: &R,
@@ -75,40 +97,48 @@ fn added<R: AllocGlobal + Abort>(
     offset: u64,
     size: u64,
 ) -> Result<u64, AllocError> {
-    let part = part(rt, offset, size)?;
-    let before = (forest.held(), forest.parts(), forest.first_missing());
+    let part = part(rt, &forest.plan(), offset, size)?;
+    let before = held(forest);
     match forest.add(part, &mut Work::new(rt)) {
         Ok(merges) => Ok(merges),
         Err(refused) => {
             assert_eq!(rt; refused.fault, AddFault::NoMemory);
             let is_back = is_part(rt, &refused.part, offset, size)?;
             assert!(rt; is_back);
-            let after = (forest.held(), forest.parts(), forest.first_missing());
-            assert_eq!(rt; after, before);
+            assert_eq!(rt; held(forest), before);
             let again = forest.add(refused.part, &mut Work::new(rt));
             again.ok().ok_or(AllocError)
         }
     }
 }
 
-fn parts_added<R: AllocGlobal + Abort>(rt: &R, forest: &mut Forest) -> Result<(), AllocError> {
-    assert_eq!(rt; added(rt, forest, 0, 1024)?, 0);
-    assert_eq!(rt; added(rt, forest, 3072, 1024)?, 0);
-    assert_eq!(rt; added(rt, forest, 1024, 2048)?, 3);
-    assert_eq!(rt;
-        (forest.held(), forest.parts(), forest.first_missing()),
-        (4096, 3, None)
-    );
+// The third part has two pieces, and merges three times.
+fn parts_added<R: AllocGlobal + Abort>(rt: &R, plan: Plan, len: u64) -> Result<(), AllocError>
+    requires { 3072 < len }
+{
+    let mut forest = Forest::new(rt.alloc(), plan);
+    assert_eq!(rt; added(rt, &mut forest, 0, 1024)?, 0);
+    assert_eq!(rt; added(rt, &mut forest, 3072, len - 3072)?, 0);
+    assert_eq!(rt; added(rt, &mut forest, 1024, 2048)?, 3);
+    assert_eq!(rt; held(&forest), (len, 3, None, Some(len)));
     assert!(rt; forest.finish(&mut Work::new(rt)).is_ok());
     Ok(())
 }
 
-// The third part has two pieces, and merges three times.
 #[test]
 fn add(rt: HostRuntime) -> Result<(), Fail> {
-    match parts_added(&rt, &mut Forest::new(rt.alloc(), plan(&rt))) {
+    match parts_added(&rt, plan(&rt), 4096) {
         Ok(()) => Ok(()),
-        Err(_) => Ok(parts_added(&rt, &mut Forest::new(rt.alloc(), plan(&rt)))?),
+        Err(_) => Ok(parts_added(&rt, plan(&rt), 4096)?),
+    }
+}
+
+// The second part fixes the end, which a refused one must not.
+#[test]
+fn add_to_an_open_upload(rt: HostRuntime) -> Result<(), Fail> {
+    match parts_added(&rt, open_plan(&rt), 3172) {
+        Ok(()) => Ok(()),
+        Err(_) => Ok(parts_added(&rt, open_plan(&rt), 3172)?),
     }
 }
 
@@ -119,7 +149,7 @@ fn noted<R: AllocGlobal + Abort>(
     offset: u64,
     size: u64,
 ) -> Result<u64, AllocError> {
-    let part = part(rt, offset, size)?;
+    let part = part(rt, &plan(rt), offset, size)?;
     let before = follow.first_missing();
     match follow.note(&part, &mut Work::new(rt)) {
         Ok(merges) => Ok(merges),

@@ -14,6 +14,8 @@ mod growths;
 #[cfg(test)]
 mod hashing;
 #[cfg(test)]
+mod open_forests;
+#[cfg(test)]
 mod outputs;
 #[cfg(test)]
 mod parts;

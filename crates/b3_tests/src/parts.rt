@@ -1,4 +1,4 @@
-use crate::patterns::{part_of_pattern, pattern};
+use crate::patterns::{closed_plan, open_plan, part_of_pattern, pattern, planned_part};
 use b3_core::Work;
 use b3_forest::{PartFault, PartRefused, Plan, PlanTooLong, Prepared};
 use std::test::Fail;
@@ -6,7 +6,7 @@ use std::test::Fail;
 #[test]
 fn a_part_tells_what_it_is(rt: HostRuntime) -> Result<(), Fail> {
     let part = part_of_pattern(rt.alloc(), 4096, 1024, 2048, &mut Work::new(&rt))?;
-    assert_eq!(rt; (part.offset(), part.plan().length()), (1024, 4096));
+    assert_eq!(rt; (part.offset(), part.plan().bound()), (1024, 4096));
     let bytes = pattern(rt.alloc(), 1024, 2048)?;
     assert!(rt; part.bytes() == bytes.as_slice());
     Ok(())
@@ -41,12 +41,33 @@ fn the_longest_part(rt: HostRuntime) -> Result<(), Fail> {
     Ok(())
 }
 
+// A part need not end with its upload there.
+#[test]
+fn parts_of_any_length_under_an_open_plan(rt: HostRuntime) -> Result<(), Fail> {
+    let plan = open_plan(4096)?;
+    for (offset, len, pieces, count) in [(0, 1500, 1, 24), (1024, 1, 1, 0), (1024, 2049, 2, 32)] {
+        let mut work = Work::new(&rt);
+        let part = planned_part(rt.alloc(), &plan, offset, len, &mut work)?;
+        assert_eq!(rt; (part.pieces(), work.count()), (pieces, count));
+    }
+    Ok(())
+}
+
 // The refusal of a part.
-fn refused(rt: &impl AllocGlobal, plan: u64, offset: u64, len: u64) -> Result<PartRefused, Fail> {
-    let plan = Plan::new(plan).ok().ok_or("no plan")?;
+fn refused_under(
+    rt: &impl AllocGlobal,
+    plan: &Plan,
+    offset: u64,
+    len: u64,
+) -> Result<PartRefused, Fail> {
     let bytes = pattern(rt.alloc(), offset, len)?;
-    let part = Prepared::make(rt.alloc(), &plan, offset, bytes, &mut Work::new(rt));
+    let part = Prepared::make(rt.alloc(), plan, offset, bytes, &mut Work::new(rt));
     Ok(part.err().ok_or("the part was made")?)
+}
+
+// The refusal of a part of an upload of `plan` bytes.
+fn refused(rt: &impl AllocGlobal, plan: u64, offset: u64, len: u64) -> Result<PartRefused, Fail> {
+    refused_under(rt, &closed_plan(plan)?, offset, len)
 }
 
 #[test]
@@ -87,9 +108,24 @@ fn refusals_in_their_order(rt: HostRuntime) -> Result<(), Fail> {
 }
 
 #[test]
-fn plans_up_to_two_to_the_forty(rt: HostRuntime) -> Result<(), Fail> {
+fn parts_past_the_bound_of_an_open_plan(rt: HostRuntime) -> Result<(), Fail> {
+    let refused = refused_under(&rt, &open_plan(2048)?, 1024, 1025)?;
+    assert_eq!(rt; refused.fault, PartFault::PastEnd);
+    Ok(())
+}
+
+#[test]
+fn plans_up_to_two_to_the_forty_four(rt: HostRuntime) -> Result<(), Fail> {
     assert_eq!(rt; Plan::new(17_592_186_044_417), Err(PlanTooLong));
-    let plan = Plan::new(17_592_186_044_416).ok().ok_or("no plan")?;
-    assert_eq!(rt; plan.length(), 17_592_186_044_416);
+    let plan = closed_plan(17_592_186_044_416)?;
+    assert_eq!(rt; (plan.bound(), plan.is_open()), (17_592_186_044_416, false));
+    Ok(())
+}
+
+#[test]
+fn open_plans_up_to_two_to_the_forty_four(rt: HostRuntime) -> Result<(), Fail> {
+    assert_eq!(rt; Plan::open(17_592_186_044_417), Err(PlanTooLong));
+    let plan = open_plan(17_592_186_044_416)?;
+    assert_eq!(rt; (plan.bound(), plan.is_open()), (17_592_186_044_416, true));
     Ok(())
 }

@@ -1,5 +1,6 @@
 //! The crates as a library: a small backup tool. It reads standard input, puts it into a store in parts, the last part
-//! first, seals it, and writes its address, what the store says of itself, and the bytes that the store gives back.
+//! first, and seals it; then it does so again, from the first part on, as of a stream whose length is known at its end. It
+//! writes the address, what the store says of itself, and the bytes that the store gives back.
 #![tactic(auto)]
 
 mod failure;
@@ -14,6 +15,9 @@ use store_core::{Address, Limits, Sealed, Store, TenantId, UploadId};
 
 // The bytes of a part. All parts but the last are whole chunks of 1024 bytes.
 const PART_LEN: usize = 1024;
+
+// The most bytes of a stream; a part behind them is refused.
+const MOST_LEN: u64 = 1 << 30;
 
 // Hashes one part, which needs no store, and puts it to its upload.
 fn put(
@@ -52,6 +56,32 @@ fn back_up(
     Ok(store.seal(upload, work)?)
 }
 
+// Files for a tenant what a reader gives, which is as long as it turns out to be, and answers its address.
+fn back_up_stream<R: Read>(
+    alloc: Global,
+    store: &mut Store,
+    tenant: TenantId,
+    reader: &mut R,
+    work: &mut Work,
+) -> Result<Sealed, Failure> {
+    let (upload, plan) = store.begin_open(tenant, MOST_LEN)?;
+    let mut len = 0;
+    for _ in 0..u64::MAX {
+        let mut bytes = Vec::new(alloc);
+        reader
+            .by_ref()
+            .take(PART_LEN as u64)
+            .read_to_end(&mut bytes)?;
+        if bytes.is_empty() {
+            break;
+        }
+        let part = Prepared::make(alloc, &plan, len, bytes, work)?;
+        len = store.put(upload, part, work)?.held;
+    }
+    store.fix(upload, len)?;
+    Ok(store.seal(upload, work)?)
+}
+
 // Writes the bytes of an object that a tenant holds.
 fn give_back<W: Write>(
     store: &Store,
@@ -75,6 +105,8 @@ fn run(rt: &HostRuntime) -> Result<(), Failure> {
     let mut store = Store::new(alloc, Limits::full());
     let tenant = store.open_tenant(1 << 40)?;
     let sealed = back_up(alloc, &mut store, tenant, input.as_slice(), &mut work)?;
+    let mut stream = input.as_slice();
+    let _known = back_up_stream(alloc, &mut store, tenant, &mut stream, &mut work)?;
     let totals = store.totals();
     println!(rt; "{}", sealed.address)?;
     println!(rt;

@@ -5,19 +5,19 @@ use Rattle.b3_core.specs.Compression.{mix, columns, diagonals, message, rounds, 
 use Rattle.b3_core.specs.ExtendedOutput.{output_byte}
 use Rattle.b3_core.specs.Modes.{digest_of}
 use Rattle.b3_core.specs.Tree.{chain, chunk_top, parent_top, power_below, left_length, tree_top_within, tree_top}
-use Rattle.b3_forest.specs.Parts.{planned}
-use Rattle.b3_forest.specs.Uploads.{content_of, first_gap, overlap_at, with_part}
+use Rattle.b3_forest.specs.Parts.{closed_plan, open_plan, planned}
+use Rattle.b3_forest.specs.Uploads.{content_of, first_gap, last_end, overlap_at, with_part}
 use Rattle.store_core.specs.declared.held.Held.{Held}
 use Rattle.store_journal.specs.declared.totals.Totals.{Totals}
 use Rattle.store_core.specs.declared.usage.Usage.{Usage}
 use Rattle.store_core.specs.declared.refusal.Refusal.{Refusal}
-use Rattle.store_core.specs.declared.refusal.Refusal.TheVariants.{BelowUse, Incomplete, LimitTooLarge, NoTenant, NoUpload, NotHeld, OverQuota, Overlap, TooLong, WrongAddress}
-use Rattle.store_core.specs.Commands.{Acceptance, abort_in, begin_in, forget_in, list_in, open_tenant_in, put_in, seal_as_in, seal_in, set_limit_in, usage_in}
+use Rattle.store_core.specs.declared.refusal.Refusal.TheVariants.{BelowUse, Incomplete, LimitTooLarge, NoTenant, NoUpload, NotFixed, NotHeld, OverQuota, Overlap, PastLast, TooLong, WrongAddress, WrongPlan}
+use Rattle.store_core.specs.Commands.{Acceptance, abort_in, begin_in, begin_open_in, fix_in, forget_in, list_in, open_tenant_in, put_in, seal_as_in, seal_in, set_limit_in, usage_in}
 use Rattle.store_core.specs.Model.{ModelStore, totals_of}
 use Rattle.store_journal.specs.Replay.{with_holder, without_holder}
 
 unfoldable on_literals : ⊤
-unfolding content_of first_gap overlap_at with_part with_holder without_holder
+unfolding content_of first_gap last_end overlap_at with_part with_holder without_holder
 on_literals = tt
 
 unfoldable on_hashes : ⊤
@@ -71,17 +71,17 @@ abbrev wide : ModelStore
 wide = next one (begin_in one 0 2048)
 
 abbrev wide_put : ModelStore
-wide_put = next wide (put_in wide 0 (planned 2048 1024 (bytes 1024)))
+wide_put = next wide (put_in wide 0 (planned (closed_plan 2048) 1024 (bytes 1024)))
 
-second_half : reply (put_in wide 0 (planned 2048 1024 (bytes 1024))) ≡ held_but 1024 0
+second_half : reply (put_in wide 0 (planned (closed_plan 2048) 1024 (bytes 1024))) ≡ held_but 1024 0
 unfolding on_literals
 second_half = refl
 
-whole_refused : reply (put_in wide_put 0 (planned 2048 0 (bytes 2048))) ≡ Err (Overlap 1024)
+whole_refused : reply (put_in wide_put 0 (planned (closed_plan 2048) 0 (bytes 2048))) ≡ Err (Overlap 1024)
 unfolding on_literals
 whole_refused = refl
 
-again_refused : reply (put_in wide_put 0 (planned 2048 1024 (bytes 1024))) ≡ Err (Overlap 1024)
+again_refused : reply (put_in wide_put 0 (planned (closed_plan 2048) 1024 (bytes 1024))) ≡ Err (Overlap 1024)
 unfolding on_literals
 again_refused = refl
 
@@ -92,6 +92,85 @@ not_complete = refl
 wide_totals : totals_of wide_put ≡ sums 0 0 1 1024 1
 unfolding on_literals
 wide_totals = refl
+
+-- ---- an upload whose end a ragged part fixes
+
+abbrev opened : ModelStore
+opened = next one (begin_open_in one 0 4096)
+
+abbrev ended : ModelStore
+ended = next opened (put_in opened 0 (planned (open_plan 4096) 1024 (bytes 1)))
+
+ragged_first : reply (put_in opened 0 (planned (open_plan 4096) 1024 (bytes 1))) ≡ held_but 1 0
+unfolding on_literals
+ragged_first = refl
+
+ended_reserved : usage_in ended 0 ≡ uses 0 1025 4096
+unfolding on_literals
+ended_reserved = refl
+
+past_end : reply (put_in ended 0 (planned (open_plan 4096) 2048 (bytes 1024))) ≡ Err (PastLast 1025)
+unfolding on_literals
+past_end = refl
+
+ended_not_complete : reply (seal_in ended 0) ≡ Err (Incomplete 0)
+unfolding on_literals
+ended_not_complete = refl
+
+ended_whole : reply (put_in ended 0 (planned (open_plan 4096) 0 (bytes 1024))) ≡ held 1025
+unfolding on_literals
+ended_whole = refl
+
+other_kind : reply (put_in opened 0 (planned (closed_plan 4096) 0 (bytes 4096))) ≡ Err WrongPlan
+unfolding on_literals
+other_kind = refl
+
+-- ---- an upload whose end is fixed by a command
+
+opened_over : reply (begin_in opened 0 1) ≡ Err (OverQuota 0)
+unfolding on_literals
+opened_over = refl
+
+abbrev half : ModelStore
+half = next opened (put_in opened 0 (planned (open_plan 4096) 1024 (bytes 1024)))
+
+whole_first : reply (put_in opened 0 (planned (open_plan 4096) 1024 (bytes 1024))) ≡ held_but 1024 0
+unfolding on_literals
+whole_first = refl
+
+ragged_below : reply (put_in half 0 (planned (open_plan 4096) 0 (bytes 1))) ≡ Err (PastLast 2048)
+unfolding on_literals
+ragged_below = refl
+
+half_not_fixed : reply (seal_in half 0) ≡ Err NotFixed
+unfolding on_literals
+half_not_fixed = refl
+
+abbrev both : ModelStore
+both = next half (put_in half 0 (planned (open_plan 4096) 0 (bytes 1024)))
+
+both_held : reply (put_in half 0 (planned (open_plan 4096) 0 (bytes 1024))) ≡ held_but 2048 2048
+unfolding on_literals
+both_held = refl
+
+fix_below : reply (fix_in both 0 1024) ≡ Err (PastLast 2048)
+unfolding on_literals
+fix_below = refl
+
+fix_above : reply (fix_in both 0 4097) ≡ Err TooLong
+unfolding on_literals
+fix_above = refl
+
+abbrev fixed : ModelStore
+fixed = next both (fix_in both 0 2048)
+
+fix_again : reply (fix_in fixed 0 2048) ≡ Ok tt
+unfolding on_literals
+fix_again = refl
+
+room_again : reply (begin_in fixed 0 1) ≡ Ok (1, closed_plan 1)
+unfolding on_literals
+room_again = refl
 
 -- ---- what is reserved is free again after an abort
 
@@ -107,7 +186,7 @@ narrow_aborted = next narrow_begun (abort_in narrow_begun 0)
 over_quota : reply (begin_in narrow_begun 0 1) ≡ Err (OverQuota 0)
 over_quota = refl
 
-free_again : reply (begin_in narrow_aborted 0 1) ≡ Ok (1, 1)
+free_again : reply (begin_in narrow_aborted 0 1) ≡ Ok (1, closed_plan 1)
 free_again = refl
 
 -- ---- two tenants hold one object
@@ -119,7 +198,7 @@ abbrev begun_twice : ModelStore
 begun_twice = next (next two (begin_in two 0 1)) (begin_in (next two (begin_in two 0 1)) 1 1)
 
 abbrev put_twice : ModelStore
-put_twice = next (next begun_twice (put_in begun_twice 0 (planned 1 0 (0 ∷ [])))) (put_in (next begun_twice (put_in begun_twice 0 (planned 1 0 (0 ∷ [])))) 1 (planned 1 0 (0 ∷ [])))
+put_twice = next (next begun_twice (put_in begun_twice 0 (planned (closed_plan 1) 0 (0 ∷ [])))) (put_in (next begun_twice (put_in begun_twice 0 (planned (closed_plan 1) 0 (0 ∷ [])))) 1 (planned (closed_plan 1) 0 (0 ∷ [])))
 
 abbrev zero_hash : List ℕ
 zero_hash =
@@ -179,7 +258,7 @@ large = next start (open_tenant_in start 70368744177664)
 too_long : reply (begin_in large 0 17592186044417) ≡ Err TooLong
 too_long = refl
 
-longest : reply (begin_in large 0 17592186044416) ≡ Ok (0, 17592186044416)
+longest : reply (begin_in large 0 17592186044416) ≡ Ok (0, closed_plan 17592186044416)
 longest = refl
 
 abbrev large_begun : ModelStore

@@ -1,18 +1,18 @@
 -- The commands and questions of the model: each is a function of the store, with its refusals in order.
-use Rattle.std.specs.Prelude.{◌≡◌, ◌+◌, ◌-◌, ◌*◌, ◌^◌, ◌==◌, ◌&&◌, ℕ, Bool, true, false, not, List, [], ◌∷◌, ◌++◌, Option, Some, None, Result, Ok, Err, length, if◌then◌else◌, nat_lt, nat_le, map, filter, slice_set}
+use Rattle.std.specs.Prelude.{◌≡◌, ◌+◌, ◌-◌, ◌*◌, ◌^◌, ◌==◌, ◌&&◌, ℕ, Bool, true, false, not, is_some, List, [], ◌∷◌, ◌++◌, Option, Some, None, Result, Ok, Err, length, if◌then◌else◌, nat_lt, nat_le, map, filter, slice_set}
 use Rattle.std.specs.Map.{remove_entry, set_value, values_of}
 use Rattle.std.specs.Option.{option_map_or}
 use Rattle.std.specs.Str.{bytes_eq}
 use Rattle.b3_core.specs.Modes.{hash_of}
-use Rattle.b3_forest.specs.Parts.{PlannedPart, most_bytes}
-use Rattle.b3_forest.specs.Uploads.{Upload, first_missing, held_bytes, overlap_at, pieces_held, put_work, with_more}
+use Rattle.b3_forest.specs.Parts.{PlannedPart, UploadPlan, closed_plan, most_bytes, open_plan, same_plan}
+use Rattle.b3_forest.specs.Uploads.{Upload, ends_elsewhere, first_missing, fixed_at, held_bytes, length_of, new_upload, overlap_at, past_last, pieces_held, put_work, reached, with_more}
 use Rattle.store_journal.specs.declared.entry.Entry.{Entry}
 use Rattle.store_journal.specs.declared.entry.Entry.TheVariants as entry
 use Rattle.store_core.specs.declared.held.Held.{Held}
 use Rattle.store_core.specs.declared.put_refused.PutRefused.{PutRefused}
 use Rattle.store_core.specs.declared.usage.Usage.{Usage}
 use Rattle.store_core.specs.declared.refusal.Refusal.{Refusal}
-use Rattle.store_core.specs.declared.refusal.Refusal.TheVariants.{BelowUse, Incomplete, JournalFull, LimitTooLarge, NoMemory, NoTenant, NoUpload, NotHeld, OverQuota, Overlap, TenantsFull, TooLong, WrongAddress, WrongPlan}
+use Rattle.store_core.specs.declared.refusal.Refusal.TheVariants.{BelowUse, Incomplete, JournalFull, LimitTooLarge, NoMemory, NoTenant, NoUpload, NotFixed, NotHeld, OverQuota, Overlap, PastLast, TenantsFull, TooLong, WrongAddress, WrongPlan}
 use Rattle.store_core.specs.Model.{ModelObject, ModelStore, ModelUpload, Shown, addressed, content, free_of, in_use, is_held_by, limit_of, object_at, reserved_of, upload_at, use_of}
 use Rattle.store_journal.specs.Replay.{is_number, with_holder, without_holder}
 
@@ -122,25 +122,36 @@ set_limit_in s tenant limit =
 
 -- ---- uploads
 
+-- the entry of a new upload: by its kind of plan
+abbrev pub begin_entry : ℕ → ℕ → UploadPlan → Entry
+begin_entry number tenant plan = if plan.is_open then entry.Open number tenant plan.bound else entry.Begin number tenant plan.bound
+
 -- the reply is the upload's number and its plan
-abbrev pub begun : ModelStore → ℕ → ℕ → Acceptance (ℕ × ℕ)
-begun s tenant len = record {
-  reply = (s.begun, len);
+abbrev pub begun : ModelStore → ℕ → UploadPlan → Acceptance (ℕ × UploadPlan)
+begun s tenant plan = record {
+  reply = (s.begun, plan);
   state = record s {
     begun = s.begun + 1;
-    uploads = s.uploads ++ (s.begun, record { tenant = tenant; upload = record { len = len; parts = [] } }) ∷ [];
+    uploads = s.uploads ++ (s.begun, record { tenant = tenant; upload = new_upload plan }) ∷ [];
     accepted = s.accepted + 1;
   };
-  entry = entry.Begin s.begun tenant len;
+  entry = begin_entry s.begun tenant plan;
 }
 
-abbrev pub begin_in : ModelStore → ℕ → ℕ → Result (Acceptance (ℕ × ℕ)) Refusal
-begin_in s tenant len =
+-- an upload of that plan is begun: its bound is reserved
+abbrev pub begin_plan_in : ModelStore → ℕ → UploadPlan → Result (Acceptance (ℕ × UploadPlan)) Refusal
+begin_plan_in s tenant plan =
     refuse_if (is_absent s tenant) NoTenant
-    (refuse_if (nat_lt most_bytes len) TooLong
-    (refuse_if (nat_lt (limit_of s tenant) (in_use s tenant + len)) (OverQuota (free_of s tenant))
+    (refuse_if (nat_lt most_bytes plan.bound) TooLong
+    (refuse_if (nat_lt (limit_of s tenant) (in_use s tenant + plan.bound)) (OverQuota (free_of s tenant))
     (refuse_if (is_full s) JournalFull
-    (Ok (begun s tenant len)))))
+    (Ok (begun s tenant plan)))))
+
+abbrev pub begin_in : ModelStore → ℕ → ℕ → Result (Acceptance (ℕ × UploadPlan)) Refusal
+begin_in s tenant len = begin_plan_in s tenant (closed_plan len)
+
+abbrev pub begin_open_in : ModelStore → ℕ → ℕ → Result (Acceptance (ℕ × UploadPlan)) Refusal
+begin_open_in s tenant at_most = begin_plan_in s tenant (open_plan at_most)
 
 -- how many bytes are held, and the least offset that is not held
 abbrev pub held_of : Upload → Held
@@ -156,15 +167,37 @@ was_put s number part u = record {
   entry = entry.Put number part.part.offset (length part.part.bytes);
 }
 
--- the upload, where it is open, has the length of the part's plan, and holds none of the part's offsets
+-- the upload, where it is open, has the part's plan, holds none of the part's offsets, and may have the part's end
 abbrev pub allowed_in : ModelStore → ℕ → PlannedPart → Result ModelUpload Refusal
 allowed_in s number part = on_upload s number (λ u.
-    refuse_if (not (part.plan == u.upload.len)) WrongPlan
+    refuse_if (not (same_plan part.plan u.upload.plan)) WrongPlan
     (refuse_at Overlap (overlap_at part.part u.upload.parts)
-    (Ok u)))
+    (refuse_at PastLast (past_last u.upload part.part)
+    (Ok u))))
 
 abbrev pub put_in : ModelStore → ℕ → PlannedPart → Result (Acceptance Held) Refusal
 put_in s number part = then_on (allowed_in s number part) (λ u. refuse_if (is_full s) JournalFull (Ok (was_put s number part u)))
+
+-- the upload's end is fixed, and so what it reserves
+abbrev pub was_fixed : ModelStore → ℕ → ℕ → ModelUpload → Acceptance (Unit {0})
+was_fixed s number len u = record {
+  reply = tt;
+  state = record s {
+    uploads = set_value (is_number number) s.uploads (record u { upload = fixed_at u.upload len });
+    accepted = s.accepted + 1;
+  };
+  entry = entry.Fix number len;
+}
+
+-- the upload, where it is open, and may end there
+abbrev pub fixable_in : ModelStore → ℕ → ℕ → Result ModelUpload Refusal
+fixable_in s number len = on_upload s number (λ u.
+    refuse_if (nat_lt u.upload.plan.bound len) TooLong
+    (refuse_if (ends_elsewhere u.upload len) (PastLast (reached u.upload))
+    (Ok u)))
+
+abbrev pub fix_in : ModelStore → ℕ → ℕ → Result (Acceptance (Unit {0})) Refusal
+fix_in s number len = then_on (fixable_in s number len) (λ u. refuse_if (is_full s) JournalFull (Ok (was_fixed s number len u)))
 
 abbrev pub without_upload : ModelStore → ℕ → List (ℕ × ModelUpload)
 without_upload s number = remove_entry (is_number number) s.uploads
@@ -193,9 +226,12 @@ pub record ModelSealed : Type 0 where
   pub new : Bool
   pub bytes : List ℕ
 
--- the upload, where it is open and complete
+-- the upload, where it is open, has its end and is complete
 abbrev pub ready_in : ModelStore → ℕ → Result ModelUpload Refusal
-ready_in s number = on_upload s number (λ u. refuse_at Incomplete (first_missing u.upload) (Ok u))
+ready_in s number = on_upload s number (λ u.
+    refuse_if (not (is_some u.upload.end)) NotFixed
+    (refuse_at Incomplete (first_missing u.upload)
+    (Ok u)))
 
 -- the content is filed last, and the upload goes
 abbrev pub filed : ModelStore → ℕ → ModelUpload → Acceptance ModelSealed
@@ -223,7 +259,7 @@ joined s number u object = record {
 
 -- the filed object is not held by the tenant yet, and has more bytes than the upload's length and what is free
 abbrev pub is_over : ModelStore → ModelUpload → ModelObject → Bool
-is_over s u object = not (is_held_by u.tenant object) && nat_lt (u.upload.len + free_of s u.tenant) (length object.bytes)
+is_over s u object = not (is_held_by u.tenant object) && nat_lt (length_of u.upload + free_of s u.tenant) (length object.bytes)
 
 -- a complete upload, sealed where this is filed under its content's address
 abbrev pub file_at : ModelStore → ℕ → ModelUpload → Option ModelObject → Result (Acceptance ModelSealed) Refusal
@@ -261,9 +297,9 @@ forget_in s tenant address =
 abbrev pub usage_in : ModelStore → ℕ → Result Usage Refusal
 usage_in s tenant = refuse_if (is_absent s tenant) NoTenant (Ok (record { used = use_of s tenant; reserved = reserved_of s tenant; limit = limit_of s tenant }))
 
--- the plan of an open upload, which is its length
-abbrev pub plan_in : ModelStore → ℕ → Result ℕ Refusal
-plan_in s number = on_upload s number (λ u. Ok u.upload.len)
+-- the plan of an open upload, which never changes
+abbrev pub plan_in : ModelStore → ℕ → Result UploadPlan Refusal
+plan_in s number = on_upload s number (λ u. Ok u.upload.plan)
 
 -- the bytes of the object
 abbrev pub fetch_in : ModelStore → ℕ → List ℕ → Result (List ℕ) Refusal

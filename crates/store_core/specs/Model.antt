@@ -4,12 +4,12 @@ use Rattle.std.specs.List.{list_any, slice_index_or}
 use Rattle.std.specs.Map.{lookup, values_of}
 use Rattle.std.specs.Str.{bytes_eq}
 use Rattle.b3_core.specs.Modes.{hash_of}
-use Rattle.b3_forest.specs.Uploads.{Upload, content_of, held_bytes}
+use Rattle.b3_forest.specs.Uploads.{Upload, content_of, held_bytes, length_of}
 use Rattle.store_journal.specs.declared.entry.Entry.{Entry}
 use Rattle.store_journal.specs.declared.totals.Totals.{Totals}
 use Rattle.store_journal.specs.Replay.{is_number}
 
--- an open upload: its tenant, its length and its parts
+-- an open upload: its tenant, and its plan, its end and its parts
 pub record ModelUpload : Type 0 where
   pub tenant : ℕ
   pub upload : Upload
@@ -78,7 +78,7 @@ abbrev pub use_by : ℕ → ModelObject → ℕ
 use_by tenant object = if is_held_by tenant object then length object.bytes else 0
 
 abbrev pub reserved_by : ℕ → ModelUpload → ℕ
-reserved_by tenant upload = if upload.tenant == tenant then upload.upload.len else 0
+reserved_by tenant upload = if upload.tenant == tenant then length_of upload.upload else 0
 
 -- the sum of the lengths of the objects that the tenant holds, and of its open uploads
 abbrev pub use_of : ModelStore → ℕ → ℕ

@@ -3,7 +3,7 @@ use Rattle.std.specs.Prelude.{ℕ, List, ◌++◌, codes}
 use Rattle.std.specs.Fmt.{decimal}
 use Rattle.hex.specs.Hex.{encode_lower}
 use Rattle.store_core.specs.declared.refusal.Refusal.{Refusal}
-use Rattle.store_core.specs.declared.refusal.Refusal.TheVariants.{BelowUse, Incomplete, JournalFull, LimitTooLarge, NoMemory, NoTenant, NoUpload, NotHeld, OverQuota, Overlap, TenantsFull, TooLong, WrongAddress, WrongPlan}
+use Rattle.store_core.specs.declared.refusal.Refusal.TheVariants.{BelowUse, Incomplete, JournalFull, LimitTooLarge, NoMemory, NoTenant, NoUpload, NotFixed, NotHeld, OverQuota, Overlap, PastLast, TenantsFull, TooLong, WrongAddress, WrongPlan}
 
 -- the number of a refusal, and what it carries
 abbrev pub refusal_text : Refusal → List ℕ
@@ -21,3 +21,5 @@ refusal_text (WrongAddress found) = codes "S11 found " ++ encode_lower found
 refusal_text NotHeld = codes "S12"
 refusal_text JournalFull = codes "S13"
 refusal_text NoMemory = codes "S14"
+refusal_text (PastLast end) = codes "S15 end " ++ decimal end
+refusal_text NotFixed = codes "S16"

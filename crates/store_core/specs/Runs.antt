@@ -1,12 +1,12 @@
 -- Runs of the model store: commands and questions along a list, with their replies.
 use Rattle.std.specs.Prelude.{◌≡◌, ℕ, List, [], ◌∷◌, Result, Ok, Err}
-use Rattle.b3_forest.specs.Parts.{PlannedPart}
+use Rattle.b3_forest.specs.Parts.{PlannedPart, UploadPlan}
 use Rattle.store_journal.specs.declared.entry.Entry.{Entry}
 use Rattle.store_core.specs.declared.held.Held.{Held}
 use Rattle.store_core.specs.declared.refusal.Refusal.{Refusal}
 use Rattle.store_journal.specs.declared.totals.Totals.{Totals}
 use Rattle.store_core.specs.declared.usage.Usage.{Usage}
-use Rattle.store_core.specs.Commands.{Acceptance, Answers, ModelSealed, Tells, abort_in, as_is, begin_in, fetch_in, forget_in, list_in, open_tenant_in, plan_in, put_in, seal_as_in, seal_in, set_limit_in, usage_in}
+use Rattle.store_core.specs.Commands.{Acceptance, Answers, ModelSealed, Tells, abort_in, as_is, begin_in, begin_open_in, fetch_in, fix_in, forget_in, list_in, open_tenant_in, plan_in, put_in, seal_as_in, seal_in, set_limit_in, usage_in}
 use Rattle.store_core.specs.Model.{Shown, totals_of}
 
 -- a command or a question of the store, with its arguments
@@ -14,6 +14,8 @@ pub data Command : Type 0 where
   open_tenant : ℕ → Command
   set_limit : ℕ → ℕ → Command
   begin : ℕ → ℕ → Command
+  begin_open : ℕ → ℕ → Command
+  fix : ℕ → ℕ → Command
   put : ℕ → PlannedPart → Command
   seal : ℕ → Command
   seal_as : ℕ → List ℕ → Command
@@ -30,13 +32,13 @@ pub data Command : Type 0 where
 pub data Reply : Type 0 where
   -- the new tenant's number; the new upload's number and its plan
   opened_tenant : ℕ → Reply
-  begun_upload : ℕ → ℕ → Reply
+  begun_upload : ℕ → UploadPlan → Reply
   now_held : Held → Reply
   now_sealed : ModelSealed → Reply
   done : Reply
   the_bytes : List ℕ → Reply
   the_usage : Usage → Reply
-  the_plan : ℕ → Reply
+  the_plan : UploadPlan → Reply
   the_list : List (List ℕ × ℕ) → Reply
   the_totals : Totals → Reply
   the_journal : List Entry → Reply
@@ -57,6 +59,8 @@ abbrev pub Step : Shown → Command → Result Reply Refusal → Shown → Type 
 Step old (open_tenant limit) reply new = Answers as_is (replied opened_tenant (open_tenant_in old.state limit)) old reply new
 Step old (set_limit tenant limit) reply new = Answers as_is (replied (λ _. done) (set_limit_in old.state tenant limit)) old reply new
 Step old (begin tenant len) reply new = Answers as_is (replied (λ r. begun_upload r.0 r.1) (begin_in old.state tenant len)) old reply new
+Step old (begin_open tenant at_most) reply new = Answers as_is (replied (λ r. begun_upload r.0 r.1) (begin_open_in old.state tenant at_most)) old reply new
+Step old (fix upload len) reply new = Answers as_is (replied (λ _. done) (fix_in old.state upload len)) old reply new
 Step old (put upload part) reply new = Answers as_is (replied now_held (put_in old.state upload part)) old reply new
 Step old (seal upload) reply new = Answers as_is (replied now_sealed (seal_in old.state upload)) old reply new
 Step old (seal_as upload address) reply new = Answers as_is (replied now_sealed (seal_as_in old.state upload address)) old reply new

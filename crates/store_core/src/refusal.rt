@@ -17,13 +17,13 @@ pub enum Refusal {
     LimitTooLarge,
     /// S4: the new limit is below the tenant's use and reservation together, in bytes.
     BelowUse { in_use: u64 },
-    /// S5: the upload's length is above 2^44 bytes.
+    /// S5: the upload's length is above 2^44 bytes, or its end above its plan's bound.
     TooLong,
     /// S6: the tenant has too few bytes left; `free` is its limit less its use and its reservation.
     OverQuota { free: u64 },
     /// S7: no open upload has this number.
     NoUpload,
-    /// S8: the part was made for an upload of another length.
+    /// S8: the part was made for another plan.
     WrongPlan,
     /// S9: the least offset of the part that the upload holds already.
     Overlap { at: u64 },
@@ -37,10 +37,15 @@ pub enum Refusal {
     JournalFull,
     /// S14: memory was refused.
     NoMemory,
+    /// S15: the part or the end lies past the last byte, or before one that is held: `end` is the upload's end, or while
+    /// there is none the greatest end of a part that it holds.
+    PastLast { end: u64 },
+    /// S16: the upload's end is not fixed.
+    NotFixed,
 }
 
-/// The refusal's name with what it carries: `S4 use N`, `S6 free N`, `S9 at N`, `S10 missing N`, `S11 found ADDRESS`, and the
-/// name alone for all others.
+/// The refusal's name with what it carries: `S4 use N`, `S6 free N`, `S9 at N`, `S10 missing N`, `S11 found ADDRESS`, `S15 end N`,
+/// and the name alone for all others.
 impl fmt::Display for Refusal {
     ghost output = { λ refusal. Some (refusal_text refusal) };
 
@@ -60,6 +65,8 @@ impl fmt::Display for Refusal {
             Refusal::NotHeld => write!(f, "S12"),
             Refusal::JournalFull => write!(f, "S13"),
             Refusal::NoMemory => write!(f, "S14"),
+            Refusal::PastLast { end } => write!(f, "S15 end {end}"),
+            Refusal::NotFixed => write!(f, "S16"),
         }
     }
 }

@@ -1,5 +1,5 @@
 //! Tenants.
-ghost use Rattle.std.specs.Prelude.{◌≡◌, ◌<◌, length, slice_set};
+ghost use Rattle.std.specs.Prelude.{◌≡◌, ◌-◌, ◌<◌, ◌≤◌, length, slice_set};
 ghost use Rattle.std.specs.List.{slice_index_or};
 ghost use Rattle.store_core.specs.Lawful.{model_limits, no_tenant};
 
@@ -20,6 +20,21 @@ pub(crate) fn set_sums(tenants: &mut Vec<Tenant>, number: u64, used: u64, reserv
     let tenant = &mut tenants[number as usize];
     tenant.used = used;
     tenant.reserved = reserved;
+}
+
+/// A tenant reserves so much less.
+pub(crate) fn release(tenants: &mut Vec<Tenant>, number: u64, len: u64)
+    requires there { number < length tenants.old.items }
+    requires reserved { len ≤ (slice_index_or tenants.old.items number no_tenant).reserved }
+    ensures sums { tenants.new.items ≡ slice_set tenants.old.items number (record {
+      limit = (slice_index_or tenants.old.items number no_tenant).limit;
+      used = (slice_index_or tenants.old.items number no_tenant).used;
+      reserved = (slice_index_or tenants.old.items number no_tenant).reserved - len;
+    }) }
+    ensures limits { model_limits tenants.new.items ≡ model_limits tenants.old.items }
+{
+    let found = tenants[number as usize];
+    set_sums(tenants, number, found.used, found.reserved - len);
 }
 
 /// Gives a tenant another limit.

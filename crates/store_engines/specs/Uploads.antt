@@ -3,7 +3,8 @@ use Rattle.std.specs.Prelude.{◌≡◌, ℕ, Bool, true, false, List, ◌++◌,
 use Rattle.std.specs.Io.KnownBytes.{Appends}
 use Rattle.b3_check.specs.Lines.{written_line}
 use Rattle.b3_core.specs.Modes.{hash_of}
-use Rattle.store_journal.specs.Journal.{Two, journal_text}
+use Rattle.store_journal.specs.Journal.{journal_text}
+use Rattle.store_journal.specs.declared.version.Version.TheVariants.{Two}
 use Rattle.store_core.specs.Model.{Shown}
 use Rattle.store_core.specs.declared.refusal.Refusal.TheVariants as refusals
 use Rattle.store_journal.specs.Replay.{Kept, accepted_of, replay_of}

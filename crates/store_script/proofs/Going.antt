@@ -7,7 +7,7 @@ use Rattle.std.specs.Io.KnownBytes.{Appends, IsAtEnd}
 use Rattle.std.proofs.lemmas.Bool.{lt-ltb}
 use Rattle.std.proofs.lemmas.List.{append-nil}
 use Rattle.std.proofs.lemmas.List.Concat.{flat_map-append}
-use Rattle.b3_forest.specs.Parts.{PlannedPart, planned}
+use Rattle.b3_forest.specs.Parts.{PlannedPart, UploadPlan, planned}
 use Rattle.b3_forest.specs.PartRefusals.{part_refusal}
 use Rattle.b3_forest.specs.declared.refusal.PartFault.{PartFault}
 use Rattle.store_core.specs.declared.refusal.Refusal.{Refusal}
@@ -79,9 +79,9 @@ came_makes : (old new : Shown) (upload : ℕ) (part : PlannedPart) (refused : Op
 came_makes old new upload part (Some fault) turn h = subst (λ (t : Turn). Came old t new) (sym h.0) h.1
 came_makes old new upload part None turn h = came_puts old new upload part turn h
 
-came_put : (old new : Shown) (upload offset : ℕ) (bytes : List ℕ) (length_is : Result ℕ Refusal) (turn : Turn) → PutsBy old upload offset bytes length_is turn new → Came old turn new
+came_put : (old new : Shown) (upload offset : ℕ) (bytes : List ℕ) (made_by : Result UploadPlan Refusal) (turn : Turn) → PutsBy old upload offset bytes made_by turn new → Came old turn new
 came_put old new upload offset bytes (Err refusal) turn h = came_takes old new (plan upload) turn h
-came_put old new upload offset bytes (Ok len) turn h = came_makes old new upload (planned len offset bytes) (part_refusal len offset (length bytes)) turn h
+came_put old new upload offset bytes (Ok made_for) turn h = came_makes old new upload (planned made_for offset bytes) (part_refusal made_for offset (length bytes)) turn h
 
 came_does : (old new : Shown) (command : Option ScriptCommand) (turn : Turn) → Does old command turn new → Came old turn new
 came_does old new None turn h = subst (λ (t : Turn). Came old t new) (sym h.0) h.1

@@ -1,8 +1,7 @@
 -- Digits of bytes and of segments.
-use Rattle.std.proofs.Common.{◌≡◌, ◌∙◌, ◌+◌, ◌<◌, ◌≤◌, ◌/◌, ◌%◌, ℕ, List, [], ◌∷◌, ◌++◌, refl, ap, sym, length, get_or, drop, append_assoc, map, arith, codes}
+use Rattle.std.proofs.Common.{◌≡◌, ◌<◌, ◌/◌, ◌%◌, ℕ, List, [], ◌∷◌, ◌++◌, refl, ap, length, append_assoc, map, arith, codes}
 use Rattle.std.specs.Arc.{arc_value}
 use Rattle.std.specs.Prelude.{slice_index}
-use Rattle.std.proofs.lemmas.List.{append-nil, at_drop_all, at_drop_more}
 use Rattle.b3_forest.specs.declared.segment.Segment.{Segment}
 use Rattle.b3_forest.specs.Uploads.{content_of, part_of}
 use Rattle.store_script.specs.Texts.{digits_text}

@@ -8,10 +8,10 @@ use Rattle.std.proofs.lemmas.Slice.Eq.{bytes_eq-Decides}
 use Rattle.hex.specs.Hex.{decode_of, decode_sized}
 use Rattle.hex.specs.declared.error.FromHexError.{FromHexError}
 use Rattle.store_journal.specs.Entries.{cut_at, number_at, space, three_fields, two_fields, two_numbers_at}
-use Rattle.store_core.specs.Runs.{Command, abort, begin, fetch, forget, journal, list, open_tenant, plan, put, seal, seal_as, set_limit, totals, usage}
+use Rattle.store_core.specs.Runs.{Command, abort, begin, begin_open, fetch, fix, forget, journal, list, open_tenant, plan, put, seal, seal_as, set_limit, totals, usage}
 use Rattle.store_journal.proofs.Fields.{bind_is, bind_some, chosen, cut_again, cut_found, decimal_spaceless, none_some, number_again, some_is, two_again, two_found}
 use Rattle.store_journal.proofs.Numbers.{read_back}
-use Rattle.store_script.specs.Grammar.{ScriptCommand, abort_at, address_in, asks, asks_of_kind, begin_at, bytes_at, bytes_of_kind, colon, command_at, cut_line_at, decoded, fetch_at, forget_at, held_at, list_at, most_pattern, open_tenant_at, pattern_at, pattern_of, puts, puts_at, seal_as_at, seal_at, set_limit_at, usage_at, word_at}
+use Rattle.store_script.specs.Grammar.{ScriptCommand, abort_at, address_in, asks, asks_of_kind, begin_at, begin_open_at, bytes_at, bytes_of_kind, colon, command_at, cut_line_at, decoded, fetch_at, fix_at, forget_at, held_at, list_at, most_pattern, open_tenant_at, pattern_at, pattern_of, puts, puts_at, seal_as_at, seal_at, set_limit_at, usage_at, word_at}
 use Rattle.store_script.specs.Spelling.{IsAsked, IsPart, IsSpelled}
 
 -- ---- fields
@@ -103,6 +103,12 @@ limit_found fields command h = two_numbers_found (codes "limit ") fields set_lim
 begin_found : (fields : List ℕ) (command : Command) → begin_at fields ≡ Some command → IsBy (codes "begin") fields command
 begin_found fields command h = two_numbers_found (codes "begin ") fields begin command (λ a b k. k) (bind_some (two_numbers_at fields) _ command h)
 
+open_found : (fields : List ℕ) (command : Command) → begin_open_at fields ≡ Some command → IsBy (codes "open") fields command
+open_found fields command h = two_numbers_found (codes "open ") fields begin_open command (λ a b k. k) (bind_some (two_numbers_at fields) _ command h)
+
+fix_found : (fields : List ℕ) (command : Command) → fix_at fields ≡ Some command → IsBy (codes "fix") fields command
+fix_found fields command h = two_numbers_found (codes "fix ") fields fix command (λ a b k. k) (bind_some (two_numbers_at fields) _ command h)
+
 sealas_found : (fields : List ℕ) (command : Command) → seal_as_at fields ≡ Some command → IsBy (codes "sealas") fields command
 sealas_found fields command h = held_command_found (codes "sealas ") fields seal_as command (λ n a k. k) (bind_some (held_at fields) _ command h)
 
@@ -118,6 +124,8 @@ asks_found kind fields command =
     by_kind kind (codes "tenant") fields _ _ command (tenant_found fields command)
     (by_kind kind (codes "limit") fields _ _ command (limit_found fields command)
     (by_kind kind (codes "begin") fields _ _ command (begin_found fields command)
+    (by_kind kind (codes "open") fields _ _ command (open_found fields command)
+    (by_kind kind (codes "fix") fields _ _ command (fix_found fields command)
     (by_kind kind (codes "seal") fields _ _ command (seal_found fields command)
     (by_kind kind (codes "sealas") fields _ _ command (sealas_found fields command)
     (by_kind kind (codes "abort") fields _ _ command (abort_found fields command)
@@ -125,7 +133,7 @@ asks_found kind fields command =
     (by_kind kind (codes "fetch") fields _ _ command (fetch_found fields command)
     (by_kind kind (codes "usage") fields _ _ command (usage_found fields command)
     (by_kind kind (codes "list") fields _ _ command (list_found fields command)
-    (λ h. absurd (none_some command h)))))))))))
+    (λ h. absurd (none_some command h)))))))))))))
 
 word_found : (word : List ℕ) (command : Command) → word_at word ≡ Some command → IsAsked word command
 word_found word command h =
@@ -234,6 +242,8 @@ unfolding cut_line_at asks_of_kind
 asked_again line (open_tenant n) h = ap command_at h.0 ∙ ap (option_map asks) (bind_is (number_at (decimal n)) _ n (number_again n h.1))
 asked_again line (set_limit a b) h = ap command_at h.0 ∙ ap (option_map asks) (bind_is (two_numbers_at (two_fields (decimal a) (decimal b))) _ (a, b) (two_again a b h.1 h.2))
 asked_again line (begin a b) h = ap command_at h.0 ∙ ap (option_map asks) (bind_is (two_numbers_at (two_fields (decimal a) (decimal b))) _ (a, b) (two_again a b h.1 h.2))
+asked_again line (begin_open a b) h = ap command_at h.0 ∙ ap (option_map asks) (bind_is (two_numbers_at (two_fields (decimal a) (decimal b))) _ (a, b) (two_again a b h.1 h.2))
+asked_again line (fix a b) h = ap command_at h.0 ∙ ap (option_map asks) (bind_is (two_numbers_at (two_fields (decimal a) (decimal b))) _ (a, b) (two_again a b h.1 h.2))
 asked_again line (put upload part) h = absurd h
 asked_again line (seal n) h = ap command_at h.0 ∙ ap (option_map asks) (bind_is (number_at (decimal n)) _ n (number_again n h.1))
 asked_again line (seal_as n a) h = ap command_at h.1 ∙ ap (option_map asks) (bind_is (held_at (two_fields (decimal n) h.0)) _ (n, a) (held_again n h.0 a h.2 h.3))

@@ -6,7 +6,7 @@ use Rattle.hex.proofs.OnLiterals.{hex_on_literals}
 use Rattle.b3_forest.specs.declared.refusal.PartFault.TheVariants as faults
 use Rattle.store_core.specs.declared.refusal.Refusal.TheVariants as refusals
 use Rattle.store_journal.specs.Journal.{lines_of}
-use Rattle.store_core.specs.Runs.{begin, now_held, now_sealed, open_tenant, opened_tenant, seal_as, set_limit, the_bytes, the_list, totals}
+use Rattle.store_core.specs.Runs.{begin, begin_open, fix, now_held, now_sealed, open_tenant, opened_tenant, seal_as, set_limit, the_bytes, the_list, totals}
 use Rattle.store_script.specs.Grammar.{ScriptCommand, address_in, asks, asks_of_kind, bytes_of_kind, command_at, cut_line_at, pattern_of, puts}
 use Rattle.store_script.specs.Script.{bad, ending_of, skipped, took, turn_text, unmade}
 use Rattle.store_script.specs.Texts.{answer_text}
@@ -35,6 +35,14 @@ opens = refl
 begins : command_at (codes "begin 0 18446744073709551615") ≡ Some (asks (begin 0 18446744073709551615))
 unfolding on_literals
 begins = refl
+
+begins_open : command_at (codes "open 0 4096") ≡ Some (asks (begin_open 0 4096))
+unfolding on_literals
+begins_open = refl
+
+fixes : command_at (codes "fix 3 2048") ≡ Some (asks (fix 3 2048))
+unfolding on_literals
+fixes = refl
 
 limits : command_at (codes "limit 3 0") ≡ Some (asks (set_limit 3 0))
 unfolding on_literals

@@ -1,7 +1,7 @@
 -- What a line comes to.
 use Rattle.std.proofs.Common.{◌≡◌, ◌<◌, ℕ, List, [], ◌∷◌, Some, None, Ok, Err, Result, refl, ap, sym, subst, arith, length}
 use Rattle.std.specs.Prelude.{Option, IfOk, unwrap_or, codes}
-use Rattle.b3_forest.specs.Parts.{PlannedPart, planned}
+use Rattle.b3_forest.specs.Parts.{PlannedPart, UploadPlan, planned}
 use Rattle.b3_forest.specs.PartRefusals.{part_refusal}
 use Rattle.b3_forest.specs.declared.refusal.PartFault.{PartFault}
 use Rattle.b3_forest.specs.declared.refusal.PartFault.TheVariants as faults
@@ -51,7 +51,7 @@ by_part r Made Is f h = answered r (Answered Made) Is f h
 abbrev pub PutTurn : Shown → ℕ → ℕ → List ℕ → Shown → Turn → Type 0
 PutTurn old upload offset bytes new turn = PutsBy old upload offset bytes (plan_in old.state upload) turn new
 
-by_plan : (old new : Shown) (upload offset : ℕ) (bytes : List ℕ) (turn : Turn) (planned : Result ℕ Refusal) → planned ≡ plan_in old.state upload → PutsBy old upload offset bytes planned turn new → PutTurn old upload offset bytes new turn
+by_plan : (old new : Shown) (upload offset : ℕ) (bytes : List ℕ) (turn : Turn) (planned : Result UploadPlan Refusal) → planned ≡ plan_in old.state upload → PutsBy old upload offset bytes planned turn new → PutTurn old upload offset bytes new turn
 by_plan old new upload offset bytes turn planned is h = subst (λ r. PutsBy old upload offset bytes r turn new) is h
 
 -- S7
@@ -68,22 +68,22 @@ fault_is old upload part (Some first) fault is = (ap unmade is, refl)
 fault_is old upload part None fault is = (is, refl)
 
 -- F2 to F6, or want of memory
-pub no_part : (old : Shown) (upload offset len : ℕ) (bytes : List ℕ) (fault : PartFault) (text : List ℕ) (ending : Ending) → Ok len ≡ plan_in old.state upload → fault ≡ unwrap_or (part_refusal len offset (length bytes)) faults.NoMemory
+pub no_part : (old : Shown) (upload offset : ℕ) (made_for : UploadPlan) (bytes : List ℕ) (fault : PartFault) (text : List ℕ) (ending : Ending) → Ok made_for ≡ plan_in old.state upload → fault ≡ unwrap_or (part_refusal made_for offset (length bytes)) faults.NoMemory
     → SaysFault fault text ending → Answered (PutTurn old upload offset bytes old) text ending
-no_part old upload offset len bytes fault text ending is refused says = record {
+no_part old upload offset made_for bytes fault text ending is refused says = record {
   turn = unmade fault;
-  is = by_plan old old upload offset bytes (unmade fault) (Ok len) is (fault_is old upload (planned len offset bytes) (part_refusal len offset (length bytes)) fault refused);
+  is = by_plan old old upload offset bytes (unmade fault) (Ok made_for) is (fault_is old upload (planned made_for offset bytes) (part_refusal made_for offset (length bytes)) fault refused);
   text_is = says.0;
   ending_is = says.1;
 }
 
 -- the step
-pub made : (old new : Shown) (upload offset len : ℕ) (bytes : List ℕ) (part : PlannedPart) (reply : Result Reply Refusal) (text : List ℕ) (ending : Ending) → Ok len ≡ plan_in old.state upload → part_refusal len offset (length bytes) ≡ None
-    → part ≡ planned len offset bytes → Step old (put upload part) reply new → Says reply text ending → Answered (PutTurn old upload offset bytes new) text ending
-made old new upload offset len bytes part reply text ending is fits part_is step says = record {
-  turn = took (put upload (planned len offset bytes)) reply;
-  is = by_plan old new upload offset bytes (took (put upload (planned len offset bytes)) reply) (Ok len) is
-      (subst (λ (o : Option PartFault). Makes old upload (planned len offset bytes) o (took (put upload (planned len offset bytes)) reply) new) (sym fits)
+pub made : (old new : Shown) (upload offset : ℕ) (made_for : UploadPlan) (bytes : List ℕ) (part : PlannedPart) (reply : Result Reply Refusal) (text : List ℕ) (ending : Ending) → Ok made_for ≡ plan_in old.state upload → part_refusal made_for offset (length bytes) ≡ None
+    → part ≡ planned made_for offset bytes → Step old (put upload part) reply new → Says reply text ending → Answered (PutTurn old upload offset bytes new) text ending
+made old new upload offset made_for bytes part reply text ending is fits part_is step says = record {
+  turn = took (put upload (planned made_for offset bytes)) reply;
+  is = by_plan old new upload offset bytes (took (put upload (planned made_for offset bytes)) reply) (Ok made_for) is
+      (subst (λ (o : Option PartFault). Makes old upload (planned made_for offset bytes) o (took (put upload (planned made_for offset bytes)) reply) new) (sym fits)
       (refl, subst (λ (p : PlannedPart). Step old (put upload p) reply new) part_is step));
   text_is = says.0;
   ending_is = says.1;

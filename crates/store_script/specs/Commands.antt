@@ -2,7 +2,7 @@
 use Rattle.std.specs.Arc.{arc_value}
 use Rattle.store_core.specs.Lawful.{sealed_seen}
 use Rattle.store_core.specs.Model.{Shown}
-use Rattle.store_core.specs.Runs.{Command, Reply, abort, begin, begun_upload, done, fetch, forget, journal, list, now_held, now_sealed, open_tenant, opened_tenant, seal, seal_as, set_limit, the_bytes, the_journal, the_list, the_totals, the_usage, totals, usage}
+use Rattle.store_core.specs.Runs.{Command, Reply, abort, begin, begin_open, begun_upload, done, fetch, fix, forget, journal, list, now_held, now_sealed, open_tenant, opened_tenant, seal, seal_as, set_limit, the_bytes, the_journal, the_list, the_totals, the_usage, totals, usage}
 use Rattle.store_script.specs.declared.command.Command.{Command as CodeCommand}
 use Rattle.store_script.specs.declared.command.Command.TheVariants as code
 use Rattle.store_script.specs.declared.command.ScriptCommand.{ScriptCommand as CodeScriptCommand}
@@ -16,6 +16,8 @@ abbrev pub command_seen : CodeCommand → Command
 command_seen (code.OpenTenant limit) = open_tenant limit
 command_seen (code.SetLimit tenant limit) = set_limit tenant limit
 command_seen (code.Begin tenant len) = begin tenant len
+command_seen (code.BeginOpen tenant at_most) = begin_open tenant at_most
+command_seen (code.Fix upload len) = fix upload len
 command_seen (code.Seal upload) = seal upload
 command_seen (code.SealAs upload address) = seal_as upload address
 command_seen (code.Abort upload) = abort upload

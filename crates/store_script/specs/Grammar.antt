@@ -4,7 +4,7 @@ use Rattle.std.specs.Str.{bytes_eq}
 use Rattle.hex.specs.Hex.{decode_of, decode_sized}
 use Rattle.hex.specs.declared.error.FromHexError.{FromHexError}
 use Rattle.store_journal.specs.Entries.{◌>>=◌, cut_at, number_at, space, two_numbers_at}
-use Rattle.store_core.specs.Runs.{Command, abort, begin, fetch, forget, journal, list, open_tenant, seal, seal_as, set_limit, totals, usage}
+use Rattle.store_core.specs.Runs.{Command, abort, begin, begin_open, fetch, fix, forget, journal, list, open_tenant, seal, seal_as, set_limit, totals, usage}
 
 -- a command or a question of the store; or a part's upload, offset and bytes: before it is put, the upload's plan is asked for
 pub data ScriptCommand : Type 0 where
@@ -88,6 +88,16 @@ begin_at fields = do
   numbers ← two_numbers_at fields
   Some (begin numbers.0 numbers.1)
 
+abbrev pub begin_open_at : List ℕ → Option Command
+begin_open_at fields = do
+  numbers ← two_numbers_at fields
+  Some (begin_open numbers.0 numbers.1)
+
+abbrev pub fix_at : List ℕ → Option Command
+fix_at fields = do
+  numbers ← two_numbers_at fields
+  Some (fix numbers.0 numbers.1)
+
 abbrev pub seal_at : List ℕ → Option Command
 seal_at fields = do
   upload ← number_at fields
@@ -129,6 +139,8 @@ asks_of_kind kind fields =
     if bytes_eq kind (codes "tenant") then open_tenant_at fields
     else if bytes_eq kind (codes "limit") then set_limit_at fields
     else if bytes_eq kind (codes "begin") then begin_at fields
+    else if bytes_eq kind (codes "open") then begin_open_at fields
+    else if bytes_eq kind (codes "fix") then fix_at fields
     else if bytes_eq kind (codes "seal") then seal_at fields
     else if bytes_eq kind (codes "sealas") then seal_as_at fields
     else if bytes_eq kind (codes "abort") then abort_at fields

@@ -2,7 +2,7 @@
 use Rattle.std.specs.Prelude.{◌≡◌, ◌≢◌, ◌^◌, ℕ, List, [], ◌∷◌, ◌++◌, Option, Some, None, Result, Ok, Err, length, codes}
 use Rattle.std.specs.Io.KnownBytes.{Appends}
 use Rattle.std.specs.List.{flat_map}
-use Rattle.b3_forest.specs.Parts.{PlannedPart, planned}
+use Rattle.b3_forest.specs.Parts.{PlannedPart, UploadPlan, planned}
 use Rattle.b3_forest.specs.PartRefusals.{part_refusal}
 use Rattle.b3_forest.specs.declared.refusal.PartFault.{PartFault}
 use Rattle.b3_forest.specs.declared.refusal.PartFault.TheVariants as faults
@@ -72,9 +72,9 @@ Makes old upload part (Some fault) turn new = (turn ≡ unmade fault) × (new �
 Makes old upload part None turn new = Puts old upload part turn new
 
 -- first the upload's plan is asked for
-abbrev pub PutsBy : Shown → ℕ → ℕ → List ℕ → Result ℕ Refusal → Turn → Shown → Type 0
+abbrev pub PutsBy : Shown → ℕ → ℕ → List ℕ → Result UploadPlan Refusal → Turn → Shown → Type 0
 PutsBy old upload offset bytes (Err refusal) turn new = Takes old (plan upload) turn new
-PutsBy old upload offset bytes (Ok len) turn new = Makes old upload (planned len offset bytes) (part_refusal len offset (length bytes)) turn new
+PutsBy old upload offset bytes (Ok made_for) turn new = Makes old upload (planned made_for offset bytes) (part_refusal made_for offset (length bytes)) turn new
 
 abbrev pub Does : Shown → Option ScriptCommand → Turn → Shown → Type 0
 Does old None turn new = (turn ≡ bad) × (new ≡ old)

@@ -3,7 +3,7 @@ use Rattle.std.specs.Prelude.{◌≡◌, ◌+◌, ◌%◌, ◌<◌, ◌≤◌, �
 use Rattle.std.specs.Fmt.{decimal}
 use Rattle.hex.specs.Hex.{decode_of, decode_sized}
 use Rattle.store_journal.specs.Entries.{three_fields, two_fields}
-use Rattle.store_core.specs.Runs.{Command, abort, begin, fetch, forget, journal, list, open_tenant, plan, put, seal, seal_as, set_limit, totals, usage}
+use Rattle.store_core.specs.Runs.{Command, abort, begin, begin_open, fetch, fix, forget, journal, list, open_tenant, plan, put, seal, seal_as, set_limit, totals, usage}
 use Rattle.store_script.specs.Grammar.{ScriptCommand, asks, command_at, most_pattern, pattern_of, puts}
 
 -- a word, a number, and an address in 64 digits of either case
@@ -15,6 +15,8 @@ abbrev pub IsAsked : List ℕ → Command → Type 0
 IsAsked line (open_tenant limit) = (line ≡ codes "tenant " ++ decimal limit) × (limit < 2 ^ 64)
 IsAsked line (set_limit tenant limit) = (line ≡ codes "limit " ++ two_fields (decimal tenant) (decimal limit)) × (tenant < 2 ^ 64) × (limit < 2 ^ 64)
 IsAsked line (begin tenant len) = (line ≡ codes "begin " ++ two_fields (decimal tenant) (decimal len)) × (tenant < 2 ^ 64) × (len < 2 ^ 64)
+IsAsked line (begin_open tenant at_most) = (line ≡ codes "open " ++ two_fields (decimal tenant) (decimal at_most)) × (tenant < 2 ^ 64) × (at_most < 2 ^ 64)
+IsAsked line (fix upload len) = (line ≡ codes "fix " ++ two_fields (decimal upload) (decimal len)) × (upload < 2 ^ 64) × (len < 2 ^ 64)
 IsAsked line (put upload part) = ⊥
 IsAsked line (seal upload) = (line ≡ codes "seal " ++ decimal upload) × (upload < 2 ^ 64)
 IsAsked line (seal_as upload address) = IsNumberAndAddress line (codes "sealas ") upload address

@@ -8,6 +8,8 @@ pub(crate) enum Command {
     OpenTenant { limit: u64 },
     SetLimit { tenant: TenantId, limit: u64 },
     Begin { tenant: TenantId, len: u64 },
+    BeginOpen { tenant: TenantId, at_most: u64 },
+    Fix { upload: UploadId, len: u64 },
     Seal { upload: UploadId },
     SealAs { upload: UploadId, address: Address },
     Abort { upload: UploadId },

@@ -12,6 +12,8 @@
 //! | `tenant LIMIT` | `tenant T`, the new tenant's number |
 //! | `limit T LIMIT` | `ok` |
 //! | `begin T LEN` | `upload U`, the new upload's number |
+//! | `open T ATMOST` | `upload U`, the number of a new upload of at most so many bytes, whose length is fixed later |
+//! | `fix U LEN` | `ok` |
 //! | `put U OFFSET DATA` | `held BYTES missing M`, or `held BYTES all` |
 //! | `seal U`, `sealas U ADDRESS` | `new ADDRESS LEN` or `known ADDRESS LEN`, of the filed object |
 //! | `abort U` | `ok` |
@@ -27,7 +29,8 @@
 //! it; want of memory where the part is made is S14.
 //!
 //! What is refused answers `refused` and the refusal's name, with what it carries: `refused S4 use N`, `refused S6 free N`,
-//! `refused S9 at N`, `refused S10 missing N`, `refused S11 found ADDRESS`, and the name alone for all others.
+//! `refused S9 at N`, `refused S10 missing N`, `refused S11 found ADDRESS`, `refused S15 end N`, and the
+//! name alone for all others.
 //!
 //! Contracts see a script by `specs/Script.antt`: what each line comes to, in order, from the empty store, and that the
 //! steps among these are a run of the store. `specs/Grammar.antt` says what a line asks for, `specs/Texts.antt` what its

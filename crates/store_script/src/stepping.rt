@@ -2,7 +2,7 @@
 ghost use Rattle.std.specs.Prelude.{◌≡◌};
 ghost use Rattle.b3_forest.specs.Parts.{planned};
 ghost use Rattle.store_core.specs.Commands.{reply_seen};
-ghost use Rattle.store_core.specs.Runs.{Step, abort, begin, fetch, forget, list, open_tenant, put, seal, seal_as, set_limit, usage};
+ghost use Rattle.store_core.specs.Runs.{Step, abort, begin, begin_open, fetch, fix, forget, list, open_tenant, put, seal, seal_as, set_limit, usage};
 ghost use Rattle.store_script.specs.Commands.{command_seen, reply_of};
 
 use crate::command::Command;
@@ -19,6 +19,8 @@ pub(crate) fn step(store: &mut Store, command: Command, work: &mut Work) -> Resu
         Command::OpenTenant { limit } => open_tenant(store, limit),
         Command::SetLimit { tenant, limit } => set_limit(store, tenant, limit),
         Command::Begin { tenant, len } => begin(store, tenant, len),
+        Command::BeginOpen { tenant, at_most } => begin_open(store, tenant, at_most),
+        Command::Fix { upload, len } => fix(store, upload, len),
         Command::Seal { upload } => seal(store, upload, work),
         Command::SealAs { upload, address } => seal_as(store, upload, address, work),
         Command::Abort { upload } => abort(store, upload),
@@ -54,6 +56,24 @@ fn begin(store: &mut Store, tenant: TenantId, len: u64) -> Result<Reply, Refusal
 {
     match store.begin(tenant, len) {
         Ok((upload, plan)) => Ok(Reply::Upload(upload, plan)),
+        Err(refusal) => Err(refusal),
+    }
+}
+
+fn begin_open(store: &mut Store, tenant: TenantId, at_most: u64) -> Result<Reply, Refusal>
+    ensures { Step store.old (begin_open tenant at_most) (reply_seen (reply_of store.new) result) store.new }
+{
+    match store.begin_open(tenant, at_most) {
+        Ok((upload, plan)) => Ok(Reply::Upload(upload, plan)),
+        Err(refusal) => Err(refusal),
+    }
+}
+
+fn fix(store: &mut Store, upload: UploadId, len: u64) -> Result<Reply, Refusal>
+    ensures { Step store.old (fix upload len) (reply_seen (reply_of store.new) result) store.new }
+{
+    match store.fix(upload, len) {
+        Ok(()) => Ok(Reply::Done),
         Err(refusal) => Err(refusal),
     }
 }

@@ -1,6 +1,6 @@
 //! How an upload's bytes are cut into parts.
 ghost use Rattle.std.specs.Prelude.{◌≡◌, ◌*◌, ◌-◌, ◌<◌, ◌≤◌, ◌^◌, IfErr, IfOk, IfSome, length, min, true};
-ghost use Rattle.b3_forest.specs.Parts.{most_bytes};
+ghost use Rattle.b3_forest.specs.Parts.{closed_plan, most_bytes};
 ghost use Rattle.store_shared.specs.Cuts.{part_at};
 ghost use Rattle.store_shared.specs.Uploading.{IsPlaceOf, count_of};
 ghost use Rattle.store_shared.specs.declared.fault.UploadFaultKind.TheVariants.{NoMemory};
@@ -27,14 +27,14 @@ pub(crate) struct Cut<'a> {
 
 impl<'a> Model for Cut<'a> {
     ghost use Rattle.std.specs.Prelude.{◌≡◌, ◌<◌, ◌≤◌, length};
-    ghost use Rattle.b3_forest.specs.Parts.{most_bytes};
+    ghost use Rattle.b3_forest.specs.Parts.{closed_plan, most_bytes};
     ghost use Rattle.store_shared.specs.Uploading.{Cutting};
 
     ghost Value = { Cutting };
 
     ghost view = { λ c. record { bytes = c.bytes.now; part_chunks = c.part_chunks } };
 
-    ghost invariant = { λ c. (c.plan ≡ length c.bytes.now) × (length c.bytes.now ≤ most_bytes) × (0 < c.part_chunks) × (c.part_chunks ≤ 16384) };
+    ghost invariant = { λ c. (c.plan ≡ closed_plan (length c.bytes.now)) × (length c.bytes.now ≤ most_bytes) × (0 < c.part_chunks) × (c.part_chunks ≤ 16384) };
 }
 
 impl<'a> Cut<'a> {
@@ -95,7 +95,7 @@ impl<'a> Cut<'a> {
         work: &mut Work,
     ) -> Result<Prepared, UploadFaultKind>
         requires { number < count_of self.now }
-        ensures part { IfOk result (λ p. p ≡ record { plan = length self.now.bytes; part = part_at self.now.bytes self.now.part_chunks number }) }
+        ensures part { IfOk result (λ p. p ≡ record { plan = closed_plan (length self.now.bytes); part = part_at self.now.bytes self.now.part_chunks number }) }
         ensures fault { IfErr result (λ kind. kind ≡ NoMemory) }
     {
         let bytes = self.bytes();

@@ -131,7 +131,7 @@ fn begin<B: Ledger, C: Ledger, R: Wait>(
     match lent_begin(&mut *shared.lock(rt), tenant, len) {
         Ok(begun) => {
             let (upload, plan) = begun;
-            let _most = plan.length();
+            let _most = plan.bound();
             Ok(upload)
         }
         Err(refusal) => Err(UploadFaultKind::Refused(refusal)),

@@ -12,7 +12,7 @@ use std::process::Abort;
 use std::test::Fail;
 use store_core::{
     Address, Entry, Limits, ReadError, Refusal, ReplayError, Store, TenantId, UploadId,
-    entry_lines, read_journal, replay,
+    read_journal, replay, write_journal,
 };
 
 // The hash of the pattern of one byte.
@@ -32,6 +32,8 @@ enum Call {
     OpenTenant,
     SetLimit,
     Begin,
+    BeginOpen,
+    Fix,
     Put,
     Seal,
     SealAs,
@@ -109,7 +111,7 @@ impl Fixture {
         }
     }
 
-    // Files one byte by upload 0, leaves upload 1 without its first part, and upload 2 complete.
+    // Files one byte by upload 0, leaves upload 1 without its first part, upload 2 complete, and upload 3 without an end.
     fn fill(&mut self) -> Result<(), Refusal> {
         let tenant = self.store.open_tenant(8192)?;
         let _first = self.store.begin(tenant, 1)?;
@@ -120,9 +122,12 @@ impl Fixture {
         self.put(1, 2048, 1)?;
         let _third = self.store.begin(tenant, 1024)?;
         self.put(2, 0, 1024)?;
+        let _fourth = self.store.begin_open(tenant, 1024)?;
         self.part = Some(self.make(UploadId::new(1), 0, 1024)?);
-        self.journal = entry_lines(self.alloc, self.store.journal()).map_err(no_memory)?;
-        Ok(())
+        match write_journal(self.store.journal(), &mut self.journal) {
+            Ok(()) => Ok(()),
+            Err(_) => Err(Refusal::NoMemory),
+        }
     }
 
     // Puts the part, which is handed back where it is refused.
@@ -245,6 +250,13 @@ fn answer(on: &mut Fixture, call: Call) -> Result<Option<String>, Refusal> {
             };
             Ok(Some(format!(in alloc; "{begun}").map_err(no_memory)?))
         }
+        Call::BeginOpen => {
+            let Some((begun, _)) = unless_refused(on.store.begin_open(tenant, 5))? else {
+                return Ok(None);
+            };
+            Ok(Some(format!(in alloc; "{begun}").map_err(no_memory)?))
+        }
+        Call::Fix => done_text(alloc, on.store.fix(UploadId::new(3), 512)),
         Call::SetLimit => done_text(alloc, on.store.set_limit(tenant, 5000)),
         Call::Put => on.put_part(),
         Call::Seal => on.seal(None),
@@ -309,7 +321,17 @@ fn set_limit(rt: HostRuntime) -> Result<(), Fail> {
 
 #[test]
 fn begin(rt: HostRuntime) -> Result<(), Fail> {
-    answers(&rt, Call::Begin, "3")
+    answers(&rt, Call::Begin, "4")
+}
+
+#[test]
+fn begin_open(rt: HostRuntime) -> Result<(), Fail> {
+    answers(&rt, Call::BeginOpen, "4")
+}
+
+#[test]
+fn fix(rt: HostRuntime) -> Result<(), Fail> {
+    answers(&rt, Call::Fix, "ok")
 }
 
 #[test]

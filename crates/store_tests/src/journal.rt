@@ -15,12 +15,15 @@ const NOTHING: &str = "af1349b9f5f9a1a6a0404dea36dcc9499bcb25c9adc112b7cc9a93cae
 
 const ZERO: &str = "2d3adedff11b61f14c886e35afa036736dcd87a74d27b5c1510225d0f592e213";
 
-// An entry of each kind, and a seal of either word.
+// An entry of each kind that both versions have, and a seal of either word.
 const EIGHT_LINES: &str =
     "tenant 0 4096\nlimit 3 18446744073709551615\nbegin 0 0 1\nput 0 1024 1\nseal 0 2d3adedff11b61f14c886e35afa036736dcd87a74d27b5c1510225d0f592e213 new\nseal 4 af1349b9f5f9a1a6a0404dea36dcc9499bcb25c9adc112b7cc9a93cae41f3262 known\nabort 12\nforget 0 2d3adedff11b61f14c886e35afa036736dcd87a74d27b5c1510225d0f592e213\n";
 
-fn headed(alloc: Global) -> Result<String, AllocError> {
-    format!(in alloc; "b3store-journal 2\n{EIGHT_LINES}")
+// The entries that have lines in version 2 alone.
+const LATER_LINES: &str = "open 5 3 2048\nfix 5 1025\n";
+
+fn headed(alloc: Global, lines: &str) -> Result<String, AllocError> {
+    format!(in alloc; "b3store-journal 2\n{lines}")
 }
 
 fn address(digits: &str) -> Result<Address, Fail> {
@@ -88,6 +91,18 @@ fn eight_entries() -> Result<[Entry; 8], Fail> {
     ])
 }
 
+fn later_entries() -> [Entry; 2] {
+    let upload = UploadId::new(5);
+    [
+        Entry::Open {
+            upload,
+            tenant: TenantId::new(3),
+            at_most: 2048,
+        },
+        Entry::Fix { upload, len: 1025 },
+    ]
+}
+
 #[test]
 fn an_address_gives_back_its_bytes(rt: HostRuntime) -> Result<(), Fail> {
     let bytes = <[u8; 32]>::from_hex(ZERO)?;
@@ -117,7 +132,7 @@ fn a_journal_is_written(rt: HostRuntime) -> Result<(), Fail> {
     );
     let mut written = Vec::new(alloc);
     write_journal(&entries, &mut written)?;
-    assert_eq!(rt; written.as_slice(), headed(alloc)?.as_bytes());
+    assert_eq!(rt; written.as_slice(), headed(alloc, EIGHT_LINES)?.as_bytes());
     let mut lines = Vec::new(alloc);
     for entry in &entries {
         write_entry(entry, &mut lines)?;
@@ -132,15 +147,33 @@ fn a_journal_is_read(rt: HostRuntime) -> Result<(), Fail> {
     let entries = eight_entries()?;
     let read = read_journal(alloc, EIGHT_LINES.as_bytes())?;
     assert_eq!(rt; read.as_slice(), entries.as_slice());
-    let read = read_journal(alloc, headed(alloc)?.as_bytes())?;
+    let read = read_journal(alloc, headed(alloc, EIGHT_LINES)?.as_bytes())?;
     assert_eq!(rt; read.as_slice(), entries.as_slice());
     assert_eq!(rt; read_journal(alloc, b"")?.len(), 0);
     Ok(())
 }
 
 #[test]
+fn later_entries_are_written_and_read(rt: HostRuntime) -> Result<(), Fail> {
+    let alloc = rt.alloc();
+    let entries = later_entries();
+    let lines = entry_lines(alloc, &entries)?;
+    assert_eq!(rt; lines.as_slice(), LATER_LINES.as_bytes());
+    let mut written = Vec::new(alloc);
+    write_journal(&entries, &mut written)?;
+    assert_eq!(rt; written.as_slice(), headed(alloc, LATER_LINES)?.as_bytes());
+    let read = read_journal(alloc, written.as_slice())?;
+    assert_eq!(rt; read.as_slice(), entries.as_slice());
+    Ok(())
+}
+
+#[test]
 fn an_entry_is_read_back(rt: HostRuntime) -> Result<(), Fail> {
     for entry in &eight_entries()? {
+        let line = entry.to_string(rt.alloc())?;
+        assert_eq!(rt; read_entry(line.as_bytes()), Ok(*entry));
+    }
+    for entry in &later_entries() {
         let line = entry.to_string(rt.alloc())?;
         assert_eq!(rt; read_entry(line.as_bytes()), Ok(*entry));
     }
@@ -160,6 +193,8 @@ fn a_line_outside_the_grammar_is_told(rt: HostRuntime) {
         refusal(alloc, b"abort 1\nabort 1\nabort 01\n"),
         Some(third)
     );
+    let first = ReadError::BadText(BadText { line: 1 });
+    assert_eq!(rt; refusal(alloc, LATER_LINES.as_bytes()), Some(first));
 }
 
 #[test]

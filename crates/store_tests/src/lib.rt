@@ -6,6 +6,8 @@ mod growths;
 #[cfg(test)]
 mod journal;
 #[cfg(test)]
+mod open_uploads;
+#[cfg(test)]
 mod replay;
 #[cfg(test)]
 mod store;

@@ -44,7 +44,8 @@ fn open_uploads_are_listed(rt: HostRuntime) -> Result<(), Fail> {
     };
     assert_eq!(rt; upload.upload(), UploadId::new(2));
     assert_eq!(rt; upload.tenant(), TenantId::new(1));
-    assert_eq!(rt; upload.length(), 2049);
+    assert_eq!(rt; upload.bound(), 2049);
+    assert_eq!(rt; upload.end(), Some(2049));
     let first = HeldPart {
         offset: 0,
         len: 1024,
@@ -54,6 +55,23 @@ fn open_uploads_are_listed(rt: HostRuntime) -> Result<(), Fail> {
         len: 1,
     };
     assert_eq!(rt; upload.parts(), [first, last].as_slice());
+    Ok(())
+}
+
+// An upload without an end, and one whose end is fixed below its bound.
+#[test]
+fn bounds_and_ends_are_told(rt: HostRuntime) -> Result<(), Fail> {
+    let alloc = rt.alloc();
+    let text = b"b3store-journal 2\ntenant 0 5000\nopen 0 0 2048\nopen 1 0 2049\nfix 1 1025\n";
+    let entries = read_journal(alloc, text)?;
+    let replayed = replay(alloc, entries.as_slice())?;
+    let [open, fixed] = replayed.uploads() else {
+        panic!(rt; "two uploads");
+    };
+    assert_eq!(rt; open.bound(), 2048);
+    assert_eq!(rt; open.end(), None);
+    assert_eq!(rt; fixed.bound(), 2049);
+    assert_eq!(rt; fixed.end(), Some(1025));
     Ok(())
 }
 

@@ -7,6 +7,7 @@ use std::process::Abort;
 use std::test::Fail;
 use store_core::{
     Address, BadLimits, Held, Limits, PutRefused, Refusal, Sealed, Store, TenantId, UploadId,
+    entry_lines,
 };
 
 // The address of no bytes.
@@ -14,14 +15,14 @@ const HASH_0: &str = "af1349b9f5f9a1a6a0404dea36dcc9499bcb25c9adc112b7cc9a93cae4
 
 // A store with one tenant, the compressions of making its parts, and its own. Its calls answer as texts.
 #[derive(Drop)]
-struct Fixture {
+pub(crate) struct Fixture {
     alloc: Global,
     store: Store,
     making: Work,
     work: Work,
 }
 
-fn store_with<R: AllocGlobal>(rt: &R, limits: Limits) -> Fixture {
+pub(crate) fn store_with<R: AllocGlobal>(rt: &R, limits: Limits) -> Fixture {
     Fixture {
         alloc: rt.alloc(),
         store: Store::new(rt.alloc(), limits),
@@ -70,22 +71,37 @@ fn sealed_text(alloc: Global, answer: Result<Sealed, Refusal>) -> Result<String,
 }
 
 impl Fixture {
-    fn open_tenant(&mut self, limit: u64) -> Result<String, AllocError> {
+    pub(crate) fn open_tenant(&mut self, limit: u64) -> Result<String, AllocError> {
         match self.store.open_tenant(limit) {
             Ok(tenant) => format!(in self.alloc; "tenant {tenant}"),
             Err(refusal) => format!(in self.alloc; "{refusal}"),
         }
     }
 
-    fn begin(&mut self, len: u64) -> Result<String, AllocError> {
+    pub(crate) fn begin(&mut self, len: u64) -> Result<String, AllocError> {
         match self.store.begin(tenant(), len) {
-            Ok((upload, plan)) => format!(in self.alloc; "upload {upload} of {}", plan.length()),
+            Ok((upload, plan)) => format!(in self.alloc; "upload {upload} of {}", plan.bound()),
             Err(refusal) => format!(in self.alloc; "{refusal}"),
         }
     }
 
+    pub(crate) fn begin_open(&mut self, at_most: u64) -> Result<String, AllocError> {
+        match self.store.begin_open(tenant(), at_most) {
+            Ok((upload, plan)) => {
+                let (bound, is_open) = (plan.bound(), plan.is_open());
+                format!(in self.alloc; "upload {upload} of {bound} open {is_open}")
+            }
+            Err(refusal) => format!(in self.alloc; "{refusal}"),
+        }
+    }
+
+    // Fixes the length of the first upload.
+    pub(crate) fn fix(&mut self, len: u64) -> Result<String, AllocError> {
+        done_text(self.alloc, self.store.fix(UploadId::new(0), len))
+    }
+
     // Puts a part of the pattern to the first upload.
-    fn put(&mut self, offset: u64, len: u64) -> Result<String, Fail> {
+    pub(crate) fn put(&mut self, offset: u64, len: u64) -> Result<String, Fail> {
         let upload = UploadId::new(0);
         let plan = self.store.plan(upload)?;
         let bytes = pattern(self.alloc, offset, len)?;
@@ -93,14 +109,14 @@ impl Fixture {
         Ok(held_text(self.alloc, self.store.put(upload, part, &mut self.work))?)
     }
 
-    fn seal(&mut self) -> Result<String, AllocError> {
+    pub(crate) fn seal(&mut self) -> Result<String, AllocError> {
         sealed_text(
             self.alloc,
             self.store.seal(UploadId::new(0), &mut self.work),
         )
     }
 
-    fn seal_as(&mut self, address: Address) -> Result<String, AllocError> {
+    pub(crate) fn seal_as(&mut self, address: Address) -> Result<String, AllocError> {
         sealed_text(
             self.alloc,
             self.store
@@ -112,7 +128,7 @@ impl Fixture {
         done_text(self.alloc, self.store.set_limit(tenant(), limit))
     }
 
-    fn abort(&mut self, upload: u64) -> Result<String, AllocError> {
+    pub(crate) fn abort(&mut self, upload: u64) -> Result<String, AllocError> {
         let aborted = self.store.abort(UploadId::new(upload));
         done_text(self.alloc, aborted.map(|_| ()))
     }
@@ -133,14 +149,24 @@ impl Fixture {
         Ok(*address)
     }
 
-    fn usage(&self) -> Result<String, Fail> {
+    pub(crate) fn usage(&self) -> Result<String, Fail> {
         let usage = self.store.usage(tenant())?;
         Ok(format!(in self.alloc; "{} {} {}", usage.used, usage.reserved, usage.limit)?)
     }
 
-    fn state(&self) -> Result<String, AllocError> {
+    pub(crate) fn state(&self) -> Result<String, AllocError> {
         let (totals, entries) = (self.store.totals(), self.store.journal().len());
         format!(in self.alloc; "{totals} journal {entries}")
+    }
+
+    // The compressions of the store.
+    pub(crate) fn count(&self) -> u64 {
+        self.work.count()
+    }
+
+    // The journal's lines.
+    pub(crate) fn lines(&self) -> Result<Vec<u8>, AllocError> {
+        entry_lines(self.alloc, self.store.journal())
     }
 }
 
@@ -297,14 +323,12 @@ fn the_greatest_part_is_one_piece(rt: HostRuntime) -> Result<(), Fail> {
     greatest_part_sealed(&rt, &mut store_with(&rt, Limits::full()))
 }
 
-// Puts a part of another upload's plan, and tells what comes back.
-fn put_a_stranger(on: &mut Fixture) -> Result<String, Fail> {
-    let _first = on.begin(2048)?;
-    let _second = on.begin(1024)?;
-    let plan = on.store.plan(UploadId::new(1))?;
+/// Puts a part of another upload's plan, and tells what comes back.
+pub(crate) fn put_a_stranger(on: &mut Fixture, to: u64, planned_by: u64) -> Result<String, Fail> {
+    let plan = on.store.plan(UploadId::new(planned_by))?;
     let bytes = pattern(on.alloc, 0, 1024)?;
     let part = Prepared::make(on.alloc, &plan, 0, bytes, &mut on.making)?;
-    match on.store.put(UploadId::new(0), part, &mut on.work) {
+    match on.store.put(UploadId::new(to), part, &mut on.work) {
         Ok(_) => Ok(format!(in on.alloc; "held")?),
         Err(PutRefused { refusal, part }) => {
             let (offset, bytes) = (part.offset(), part.bytes().len());
@@ -315,7 +339,9 @@ fn put_a_stranger(on: &mut Fixture) -> Result<String, Fail> {
 
 fn stranger_refused<R: AllocGlobal + Abort>(rt: &R, on: &mut Fixture) -> Result<(), Fail> {
     let _tenant = on.open_tenant(4096)?;
-    assert_eq!(rt; put_a_stranger(on)?.as_str(), "S8, back 0 1024");
+    let _first = on.begin(2048)?;
+    let _second = on.begin(1024)?;
+    assert_eq!(rt; put_a_stranger(on, 0, 1)?.as_str(), "S8, back 0 1024");
     Ok(())
 }
 

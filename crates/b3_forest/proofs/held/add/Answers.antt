@@ -8,45 +8,44 @@ use Rattle.b3_forest.proofs.Holding.{is_put, on_err, put_fresh, put_keeps, put_m
 use Rattle.b3_forest.proofs.held.add.Goals as goal
 
 pub returns-in_err-put_in-clause-unchanged : goal.returns-in_err-put_in-clause-unchanged
-returns-in_err-put_in-clause-unchanged c ps keeps none =
-    let p = c.args.part.now in
-    let fresh = put_fresh p.plan ps p.part c.piece_list.result.now c.args.nodes.now.entries keeps none c.piece_list.ensures.pieces in
+returns-in_err-put_in-clause-unchanged c n ps room =
+    let p = c.args.part.now.part in
+    let fresh = put_fresh n ps p c.piece_list.result.now c.args.nodes.now.entries room.keeps room.apart c.piece_list.ensures.pieces in
     on_err c.from_residual.result _ (c.in_err-put_in.ensures.back fresh)
 
 pub settle_all-requires : goal.settle_all-requires
 settle_all-requires c =
-    let p = c.args.part.now in
+    let p = c.args.part.now.part in
     let es = c.args.nodes.now.entries in
-    let ps = c.requires.0 in
-    let keeps = c.requires.1 in
-    let none = c.requires.2 in
-    let put = is_put p.plan ps p.part c.piece_list.result.now es c.put_in.new.nodes.entries keeps none c.piece_list.ensures.pieces c.in_ok-put_in.ensures.put in
+    let n = c.requires.0 in
+    let ps = c.requires.1 in
+    let room = c.requires.2 in
+    let put = is_put n ps p c.piece_list.result.now es c.put_in.new.nodes.entries room.keeps room.apart c.piece_list.ensures.pieces c.in_ok-put_in.ensures.put in
     let same = c.piece_list.ensures.pieces ∙ sym c.piece_list-2.ensures.pieces in
     record {
-      len = p.plan;
-      chunks = chunk_in (with_part p.part ps);
-      whole = placed_chunks p.plan 0 (with_part p.part ps) (placed_more p.plan 0 p.part ps (omega arith) c.piece_list.ensures.fits keeps.upload.placed none);
-      forest = subst (λ (l : List Piece). AreForest (chunk_in (with_part p.part ps)) (firsts l) c.put_in.new.nodes.entries) same put.forest;
+      len = n;
+      chunks = chunk_in (with_part p ps);
+      whole = placed_chunks n 0 (with_part p ps) (placed_more n 0 p ps (omega arith) room.fits room.keeps.upload.placed room.apart);
+      forest = subst (λ (l : List Piece). AreForest (chunk_in (with_part p ps)) (firsts l) c.put_in.new.nodes.entries) same put.forest;
     }
 
 pub returns-clause-kept : goal.returns-clause-kept
-returns-clause-kept c ps keeps none =
-    let p = c.args.part.now in
+returns-clause-kept c n ps room =
+    let p = c.args.part.now.part in
     let es = c.args.nodes.now.entries in
-    let put = is_put p.plan ps p.part c.piece_list.result.now es c.put_in.new.nodes.entries keeps none c.piece_list.ensures.pieces c.in_ok-put_in.ensures.put in
-    let fits = c.piece_list.ensures.fits in
-    let chunks = placed_chunks p.plan 0 (with_part p.part ps) (placed_more p.plan 0 p.part ps (omega arith) fits keeps.upload.placed none) in
+    let put = is_put n ps p c.piece_list.result.now es c.put_in.new.nodes.entries room.keeps room.apart c.piece_list.ensures.pieces c.in_ok-put_in.ensures.put in
+    let chunks = placed_chunks n 0 (with_part p ps) (placed_more n 0 p ps (omega arith) room.fits room.keeps.upload.placed room.apart) in
     let same = c.piece_list.ensures.pieces ∙ sym c.piece_list-2.ensures.pieces in
-    let forest = c.settle_all.ensures.forest p.plan (chunk_in (with_part p.part ps)) chunks
-    (subst (λ (l : List Piece). AreForest (chunk_in (with_part p.part ps)) (firsts l) c.put_in.new.nodes.entries) same put.forest) in
-    put_keeps p.plan ps p.part es c.settle_all.new.nodes.entries keeps none fits forest c.len.ensures.ordered
+    let forest = c.settle_all.ensures.forest n (chunk_in (with_part p ps)) chunks
+    (subst (λ (l : List Piece). AreForest (chunk_in (with_part p ps)) (firsts l) c.put_in.new.nodes.entries) same put.forest) in
+    put_keeps n ps p es c.settle_all.new.nodes.entries room forest c.len.ensures.ordered
 
 pub returns-clause-merges : goal.returns-clause-merges
-returns-clause-merges c ps keeps none =
-    let p = c.args.part.now in
+returns-clause-merges c n ps room =
+    let p = c.args.part.now.part in
     let es = c.args.nodes.now.entries in
     let fs = c.settle_all.new.nodes.entries in
-    let put = is_put p.plan ps p.part c.piece_list.result.now es c.put_in.new.nodes.entries keeps none c.piece_list.ensures.pieces c.in_ok-put_in.ensures.put in
-    let kept = returns-clause-kept c ps keeps none in
+    let put = is_put n ps p c.piece_list.result.now es c.put_in.new.nodes.entries room.keeps room.apart c.piece_list.ensures.pieces c.in_ok-put_in.ensures.put in
+    let kept = returns-clause-kept c n ps room in
     ap₂ (λ i j. i - j) c.len-before.ensures.len c.len.ensures.len
-    ∙ put_merges p.plan ps p.part es c.put_in.new.nodes.entries fs keeps kept put.len
+    ∙ put_merges n ps p es c.put_in.new.nodes.entries fs room.keeps kept put.len

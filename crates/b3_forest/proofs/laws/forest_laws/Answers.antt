@@ -5,6 +5,7 @@ use Rattle.b3_forest.proofs.OneForest.{one_forest}
 use Rattle.b3_forest.proofs.PiecesAreForest.{pieces_are_forest}
 use Rattle.b3_forest.specs.Parts.{chunk_in}
 use Rattle.b3_forest.specs.Pieces.{root_level}
+use Rattle.b3_forest.specs.Uploads.{length_of}
 use Rattle.b3_forest.proofs.laws.forest_laws.Goals as goal
 
 pub returns : goal.returns
@@ -12,5 +13,5 @@ returns c = record {
   kept = λ n ps es keeps. forest_is_canonical (chunk_in ps) es keeps.sorted keeps.forest;
   forest = λ x. pieces_are_forest x root_level 0 0 (omega arith);
   one = λ x ps forest. one_forest x root_level 0 0 ps (omega arith) forest;
-  noted = λ f u lawful len same. noted_pieces f u.len u.parts len lawful.placed same;
+  noted = λ f u lawful len same. noted_pieces f (length_of u) u.parts len lawful.placed same;
 }

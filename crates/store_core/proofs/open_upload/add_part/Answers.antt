@@ -3,7 +3,7 @@ use Rattle.std.specs.Prelude.{option_map, Result, Ok, Err, OnOk, IfOk}
 use Rattle.std.specs.Map.{lookup, set_value}
 use Rattle.std.proofs.lemmas.Result.{on_err_weaker, on_ok_weaker}
 use Rattle.b3_core.specs.Work.{counted}
-use Rattle.b3_forest.specs.Uploads.{IsUpload, Upload, put_work, with_more}
+use Rattle.b3_forest.specs.Uploads.{IsUpload, Upload, length_of, put_work, with_more}
 use Rattle.store_core.specs.Commands.{held_of}
 use Rattle.store_core.specs.Lawful.{model_upload, model_uploads}
 use Rattle.store_core.specs.Model.{ModelUpload}
@@ -42,7 +42,7 @@ if_and_ok (Ok x) f p q = f x p q
 if_and_ok (Err e) f p q = tt
 
 pub returns-clause-held : goal.returns-clause-held
-returns-clause-held c = if_and_ok c.add.result (λ h added held x is. held ∙ ap held_of (added ∙ ap (λ (u : Upload). with_more u c.args.part.part) (same c x is))) c.add.ensures.added c.add.ensures.held
+returns-clause-held c = if_and_ok c.add.result (λ h added held x is. held ∙ ap (λ (u : Upload). (held_of u, length_of u)) (added ∙ ap (λ (u : Upload). with_more u c.args.part.part) (same c x is))) c.add.ensures.added c.add.ensures.held
 
 pub returns-clause-count : goal.returns-clause-count
 returns-clause-count c = on_ok_weaker c.add.result (λ count x is. count ∙ ap (λ (u : Upload). counted c.args.work.now (put_work u c.args.part.part)) (same c x is)) c.add.ensures.count

@@ -1,5 +1,6 @@
-use Rattle.std.proofs.Common.{[], arith, refl, length}
+use Rattle.std.proofs.Common.{[], ap, arith, refl, length}
 use Rattle.b3_forest.specs.Nodes.{Keeps}
+use Rattle.b3_forest.specs.Parts.{UploadPlan}
 use Rattle.b3_forest.proofs.Following.{nothing_noted}
 use Rattle.b3_forest.proofs.Holding.{keeps_nothing}
 use Rattle.b3_forest.proofs.follow.Follow.new.Goals as goal
@@ -8,12 +9,12 @@ pub returns-clause-no_pieces : goal.returns-clause-no_pieces
 returns-clause-no_pieces c =
     let b = c.args.bytes.now in
     let es = c.new-nodes.result.entries in
-    let keeps : Keeps (length b) [] es = keeps_nothing (length b) [] es (omega (arith, c.length-most.ensures.value, c.length-most.ensures.most, c.in_ok-plan.ensures.plan)) refl c.new-nodes.ensures.empty in
+    let keeps : Keeps (length b) [] es = keeps_nothing (length b) [] es (omega (arith, c.bound-most.ensures.value, c.bound-most.ensures.most, ap (λ (q : UploadPlan). q.bound) c.in_ok-plan.ensures.plan)) refl c.new-nodes.ensures.empty in
     nothing_noted b es keeps c.new-nodes.ensures.empty
 
 pub invariant_of-result : goal.invariant_of-result
 invariant_of-result c = record {
   parts = [];
-  keeps = keeps_nothing (length c.args.bytes.now) [] c.new-nodes.result.entries (omega (arith, c.length-most.ensures.value, c.length-most.ensures.most, c.in_ok-plan.ensures.plan)) refl c.new-nodes.ensures.empty;
+  keeps = keeps_nothing (length c.args.bytes.now) [] c.new-nodes.result.entries (omega (arith, c.bound-most.ensures.value, c.bound-most.ensures.most, ap (λ (q : UploadPlan). q.bound) c.in_ok-plan.ensures.plan)) refl c.new-nodes.ensures.empty;
   same = tt;
 }

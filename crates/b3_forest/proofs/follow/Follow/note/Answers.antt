@@ -1,9 +1,9 @@
-use Rattle.std.proofs.Common.{◌≡◌, length, ap, refl, sym, subst, ◌∙◌}
+use Rattle.std.proofs.Common.{◌≡◌, length, refl, sym, subst, ◌∙◌}
 use Rattle.b3_forest.specs.Followed.{Followed, IsFirstNoted, IsNotedWith, MayNote, NothingNoted, bytes_at, followed, noting_merges}
 use Rattle.std.specs.Prelude.{◌≢◌}
-use Rattle.b3_forest.specs.Nodes.{Keeps}
-use Rattle.b3_forest.specs.Uploads.{merges_of, with_part}
-use Rattle.b3_forest.proofs.Following.{merges_noted, noted_with, parts_with, told_apart, told_overlap}
+use Rattle.b3_forest.specs.Parts.{closed_plan}
+use Rattle.b3_forest.specs.Uploads.{with_part}
+use Rattle.b3_forest.proofs.Following.{merges_noted, noted_with, parts_with, room_of, told_apart, told_overlap}
 use Rattle.b3_forest.proofs.follow.Follow.note.Goals as goal
 
 pub returns-in-Some-clause-fault : goal.returns-in-Some-clause-fault
@@ -12,11 +12,10 @@ returns-in-Some-clause-fault c =
     let b = c.self.inside.bytes.now in
     let es = c.self.inside.nodes.entries in
     let p = c.args.part.now in
-    let plan : p.plan ≡ length b = sym (c.length.ensures.value ∙ c.plan.ensures) ∙ c.if-length-self.false in
-    let keeps : Keeps p.plan w.parts es = subst (λ n. Keeps n w.parts es) (sym plan) w.keeps in
+    let plan = sym c.plan.ensures ∙ c.if-not-is_of.ensures.yes refl in
     let fits = c.overlap.ensures.fits in
-    subst (λ (f : Followed). (p.plan ≡ length f.bytes) × IsFirstNoted f p.part c.in-Some.at) c.self.view_is
-    (plan, told_overlap b w.parts es p.part c.in-Some.at w.keeps fits.some (sym (c.in-Some.ensures.at w.parts keeps)))
+    subst (λ (f : Followed). (p.plan ≡ closed_plan (length f.bytes)) × IsFirstNoted f p.part c.in-Some.at) c.self.view_is
+    (plan, told_overlap b w.parts es p.part c.in-Some.at w.keeps fits.some (sym (c.in-Some.ensures.at (length b) w.parts w.keeps)))
 
 pub returns-then-not-has_bytes-clause-fault : goal.returns-then-not-has_bytes-clause-fault
 returns-then-not-has_bytes-clause-fault c =
@@ -24,11 +23,10 @@ returns-then-not-has_bytes-clause-fault c =
     let b = c.self.inside.bytes.now in
     let es = c.self.inside.nodes.entries in
     let p = c.args.part.now in
-    let plan : p.plan ≡ length b = sym (c.length.ensures.value ∙ c.plan.ensures) ∙ c.if-length-self.false in
-    let keeps : Keeps p.plan w.parts es = subst (λ n. Keeps n w.parts es) (sym plan) w.keeps in
+    let plan = sym c.plan.ensures ∙ c.if-not-is_of.ensures.yes refl in
     let fits = c.overlap.ensures.fits in
-    subst (λ (f : Followed). (p.plan ≡ length f.bytes) × NothingNoted f p.part × (p.part.bytes ≢ bytes_at f.bytes p.part)) c.self.view_is
-    (plan, told_apart b w.parts es p.part w.keeps fits.some (sym (c.in_default.ensures.at w.parts keeps)), c.if-not-has_bytes.ensures.no refl)
+    subst (λ (f : Followed). (p.plan ≡ closed_plan (length f.bytes)) × NothingNoted f p.part × (p.part.bytes ≢ bytes_at f.bytes p.part)) c.self.view_is
+    (plan, told_apart b w.parts es p.part w.keeps fits.some (sym (c.in_default.ensures.at (length b) w.parts w.keeps)), c.if-not-has_bytes.ensures.no refl)
 
 pub returns-in_default-add-clause-fault : goal.returns-in_default-add-clause-fault
 returns-in_default-add-clause-fault c =
@@ -36,11 +34,10 @@ returns-in_default-add-clause-fault c =
     let b = c.self.inside.bytes.now in
     let es = c.self.inside.nodes.entries in
     let p = c.args.part.now in
-    let plan : p.plan ≡ length b = sym (c.length.ensures.value ∙ c.plan.ensures) ∙ c.if-length-self.false in
-    let keeps : Keeps p.plan w.parts es = subst (λ n. Keeps n w.parts es) (sym plan) w.keeps in
+    let plan = sym c.plan.ensures ∙ c.if-not-is_of.ensures.yes refl in
     let fits = c.overlap.ensures.fits in
     subst (λ (f : Followed). MayNote f p) c.self.view_is
-    (record { plan = plan; apart = told_apart b w.parts es p.part w.keeps fits.some (sym (c.in_default.ensures.at w.parts keeps)); same = c.if-not-has_bytes.ensures.yes refl })
+    (record { plan = plan; apart = told_apart b w.parts es p.part w.keeps fits.some (sym (c.in_default.ensures.at (length b) w.parts w.keeps)); same = c.if-not-has_bytes.ensures.yes refl })
 
 pub invariant_of-self-2 : goal.invariant_of-self-2
 invariant_of-self-2 c =
@@ -48,11 +45,9 @@ invariant_of-self-2 c =
     let b = c.self.inside.bytes.now in
     let es = c.self.inside.nodes.entries in
     let p = c.args.part.now in
-    let plan : p.plan ≡ length b = sym (c.length.ensures.value ∙ c.plan.ensures) ∙ c.if-length-self.false in
-    let keeps : Keeps p.plan w.parts es = subst (λ n. Keeps n w.parts es) (sym plan) w.keeps in
-    let none = sym (c.in_default.ensures.at w.parts keeps) in
-    let kept = c.in-Ok.ensures.kept w.parts keeps none in
-    record { parts = with_part p.part w.parts; keeps = subst (λ n. Keeps n (with_part p.part w.parts) c.add.new.nodes.entries) plan kept; same = parts_with b p.part w.parts (c.if-not-has_bytes.ensures.yes refl) w.same }
+    let plan = sym c.plan.ensures ∙ c.if-not-is_of.ensures.yes refl in
+    let room = room_of b es w p plan c.overlap.ensures.fits (c.in_default.ensures.at (length b) w.parts w.keeps) in
+    record { parts = with_part p.part w.parts; keeps = c.in-Ok.ensures.kept (length b) w.parts room; same = parts_with b p.part w.parts (c.if-not-has_bytes.ensures.yes refl) w.same }
 
 pub returns-clause-noted : goal.returns-clause-noted
 returns-clause-noted c =
@@ -60,10 +55,9 @@ returns-clause-noted c =
     let b = c.self.inside.bytes.now in
     let es = c.self.inside.nodes.entries in
     let p = c.args.part.now in
-    let plan : p.plan ≡ length b = sym (c.length.ensures.value ∙ c.plan.ensures) ∙ c.if-length-self.false in
-    let keeps : Keeps p.plan w.parts es = subst (λ n. Keeps n w.parts es) (sym plan) w.keeps in
-    let none = sym (c.in_default.ensures.at w.parts keeps) in
-    let kept = subst (λ n. Keeps n (with_part p.part w.parts) c.add.new.nodes.entries) plan (c.in-Ok.ensures.kept w.parts keeps none) in
+    let plan = sym c.plan.ensures ∙ c.if-not-is_of.ensures.yes refl in
+    let room = room_of b es w p plan c.overlap.ensures.fits (c.in_default.ensures.at (length b) w.parts w.keeps) in
+    let kept = c.in-Ok.ensures.kept (length b) w.parts room in
     subst (λ (f : Followed). IsNotedWith f (followed b c.add.new.nodes.entries) p.part) c.self.view_is (noted_with b w.parts es c.add.new.nodes.entries p.part w.keeps kept)
 
 pub returns-clause-allowed : goal.returns-clause-allowed
@@ -72,11 +66,10 @@ returns-clause-allowed c =
     let b = c.self.inside.bytes.now in
     let es = c.self.inside.nodes.entries in
     let p = c.args.part.now in
-    let plan : p.plan ≡ length b = sym (c.length.ensures.value ∙ c.plan.ensures) ∙ c.if-length-self.false in
-    let keeps : Keeps p.plan w.parts es = subst (λ n. Keeps n w.parts es) (sym plan) w.keeps in
+    let plan = sym c.plan.ensures ∙ c.if-not-is_of.ensures.yes refl in
     let fits = c.overlap.ensures.fits in
     subst (λ (f : Followed). MayNote f p) c.self.view_is
-    (record { plan = plan; apart = told_apart b w.parts es p.part w.keeps fits.some (sym (c.in_default.ensures.at w.parts keeps)); same = c.if-not-has_bytes.ensures.yes refl })
+    (record { plan = plan; apart = told_apart b w.parts es p.part w.keeps fits.some (sym (c.in_default.ensures.at (length b) w.parts w.keeps)); same = c.if-not-has_bytes.ensures.yes refl })
 
 pub returns-clause-merges : goal.returns-clause-merges
 returns-clause-merges c =
@@ -84,10 +77,9 @@ returns-clause-merges c =
     let b = c.self.inside.bytes.now in
     let es = c.self.inside.nodes.entries in
     let p = c.args.part.now in
-    let plan : p.plan ≡ length b = sym (c.length.ensures.value ∙ c.plan.ensures) ∙ c.if-length-self.false in
-    let keeps : Keeps p.plan w.parts es = subst (λ n. Keeps n w.parts es) (sym plan) w.keeps in
-    let none = sym (c.in_default.ensures.at w.parts keeps) in
-    let kept = subst (λ n. Keeps n (with_part p.part w.parts) c.add.new.nodes.entries) plan (c.in-Ok.ensures.kept w.parts keeps none) in
+    let plan = sym c.plan.ensures ∙ c.if-not-is_of.ensures.yes refl in
+    let room = room_of b es w p plan c.overlap.ensures.fits (c.in_default.ensures.at (length b) w.parts w.keeps) in
+    let kept = c.in-Ok.ensures.kept (length b) w.parts room in
     let told : c.in-Ok.merges ≡ noting_merges (followed b es) (followed b c.add.new.nodes.entries) p.part =
-    c.in-Ok.ensures.merges w.parts keeps none ∙ ap (λ n. merges_of (record { len = n; parts = w.parts }) p.part) plan ∙ merges_noted b w.parts es c.add.new.nodes.entries p.part w.keeps kept in
+    c.in-Ok.ensures.merges (length b) w.parts room ∙ merges_noted b w.parts es c.add.new.nodes.entries p.part w.keeps kept in
     subst (λ (f : Followed). c.in-Ok.merges ≡ noting_merges f (followed b c.add.new.nodes.entries) p.part) c.self.view_is told

@@ -1,9 +1,19 @@
-use Rattle.std.proofs.Common.{map, arith, ap, sym}
-use Rattle.b3_forest.specs.Uploads.{held_bytes, part_of}
+use Rattle.std.proofs.Common.{◌≡◌, ℕ, [], List, Option, map, arith, ap, subst, sym, unwrap_or}
+use Rattle.b3_forest.specs.Nodes.{Keeps}
+use Rattle.b3_forest.specs.Parts.{Part}
+use Rattle.b3_forest.specs.Uploads.{IsUpload, held_bytes, part_of}
+use Rattle.b3_forest.proofs.Ends.{nothing_held, upload_with}
 use Rattle.b3_forest.proofs.Holding.{keeps_nothing}
 use Rattle.b3_forest.proofs.forest.Forest.new.Goals as goal
 
 pub invariant_of-result : goal.invariant_of-result
 invariant_of-result c =
+    let plan = c.args.plan in
     let parts = ap (map part_of) c.new.ensures.items in
-    (keeps_nothing c.args.plan (map part_of c.new.result.items) c.new-2.result.entries (omega (arith, c.length-most.ensures.value, c.length-most.ensures.most)) parts c.new-2.ensures.empty, sym (ap held_bytes parts))
+    let most = c.bound-most.ensures in
+    let nothing = nothing_held plan (omega (arith, most.value, most.most)) in
+    let es = c.new-2.result.entries in
+    let Is : Option ℕ → List Part → Type 0 = λ e qs. IsUpload (upload_with plan e qs) × (unwrap_or e plan.bound ≡ plan.bound) in
+    let is = subst (Is c.end-end.result) (sym parts) (subst (λ (e : Option ℕ). Is e []) (sym c.end-end.ensures) nothing) in
+    let keeps = keeps_nothing plan.bound (map part_of c.new.result.items) es (omega (arith, most.value, most.most)) parts c.new-2.ensures.empty in
+    (is.0, subst (λ n. Keeps n (map part_of c.new.result.items) es) (sym is.1) keeps, sym (ap held_bytes parts))
