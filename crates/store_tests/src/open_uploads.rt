@@ -1,4 +1,4 @@
-//! Uploads whose length is fixed later: by a call, or by a part. Scripts of them stand in tests/cases.
+//! Uploads whose length is fixed later, by a call or by a part.
 
 use crate::store::{Fixture, put_a_stranger, store_with};
 use std::process::Abort;
