@@ -4,6 +4,8 @@ pub mod Carrying
 pub mod Catalogs
 pub mod Filings
 pub mod HolderSearch
+pub mod HoldingRows
+pub mod Holdings
 pub mod Keeping
 pub mod Leaving
 pub mod Listed

@@ -1,9 +1,8 @@
 -- Holders of an object, by number.
-use Rattle.std.proofs.Common.{◌≡◌, ◌≢◌, ◌∙◌, ◌+◌, ◌<◌, ◌≤◌, ℕ, suc, Bool, true, false, List, [], ◌∷◌, ◌++◌, refl, ap, sym, arith, append_assoc, cond, drop, drop-cons, get_or, length, take}
-use Rattle.std.specs.Prelude.{nat_le, nat_lt, ◌==◌, ◌||◌, ◌&&◌, filter, insert, not}
+use Rattle.std.proofs.Common.{◌≡◌, ◌≢◌, ◌∙◌, ◌+◌, ◌<◌, ◌≤◌, ℕ, Bool, true, false, List, [], ◌∷◌, refl, ap, sym, arith, inl, inr, length}
+use Rattle.std.specs.Prelude.{nat_le, nat_lt, ◌==◌, ◌||◌, ◌&&◌, not}
 use Rattle.std.specs.List.{AllByRecursion, list_any}
-use Rattle.std.proofs.lemmas.Bool.{eqb-true, eqb-false, ltb-true, ltb-false, ne_eqb, eq-eqb, leb-true, le-ltb, lt-ltb, or_parts}
-use Rattle.std.proofs.lemmas.List.{drop_all, take-append-drop, take_more}
+use Rattle.std.proofs.lemmas.Bool.{cases_eq, eqb-true, eqb-false, ltb-true, ltb-false, ne_eqb, eq-eqb, leb-true, le-ltb, lt-ltb}
 use Rattle.store_journal.specs.Replay.{with_holder, without_holder}
 use Rattle.store_core.specs.Sound.{IsRisingFrom}
 use Rattle.store_core.proofs.Listed.{either}
@@ -67,7 +66,7 @@ rising_with m t (x ∷ hs) le h = rising_step m t x hs (with_holder t hs) (nat_l
 -- ---- with one less
 
 -- a row that begins above a number doesn't have it
-not_below : (n m : ℕ) (hs : List ℕ) → n < m → IsRisingFrom m hs → has n hs ≡ false
+pub not_below : (n m : ℕ) (hs : List ℕ) → n < m → IsRisingFrom m hs → has n hs ≡ false
 not_below n m [] lt h = refl
 not_below n m (x ∷ hs) lt h =
     let apart : x ≢ n = λ e. omega (arith, e, h.0) in
@@ -104,6 +103,15 @@ unfolding without_holder
 has_without t n m [] h = refl
 has_without t n m (x ∷ hs) h = without_step t x n hs (without_holder t hs) (t == x) refl h.1 (has_without t n (x + 1) hs h.1)
 
+other_step : (t h u : ℕ) (hs less : List ℕ) (same : Bool) → (t == h) ≡ same → t ≢ u → has u less ≡ has u hs → has u (either same hs (h ∷ less)) ≡ ((h == u) || has u hs)
+other_step t h u hs less true is apart rest = let other : h ≢ u = λ e. apart (eqb-true t h is ∙ e) in rw (ne_eqb h u other) refl
+other_step t h u hs less false is apart rest = ap (λ (b : Bool). (h == u) || b) rest
+
+pub other_without : (t u : ℕ) (hs : List ℕ) → t ≢ u → has u (without_holder t hs) ≡ has u hs
+unfolding without_holder
+other_without t u [] apart = refl
+other_without t u (h ∷ hs) apart = other_step t h u hs (without_holder t hs) (t == h) refl apart (other_without t u hs apart)
+
 below_less_step : (n h : ℕ) (hs less : List ℕ) (same : Bool) → h < n → AllByRecursion (λ x. x < n) hs → AllByRecursion (λ x. x < n) less → AllByRecursion (λ x. x < n) (either same hs (h ∷ less))
 below_less_step n h hs less true here rest l = rest
 below_less_step n h hs less false here rest l = (here, l)
@@ -130,7 +138,7 @@ turned_step a b false false p q = refl
 turned_step a b true false p q = absurd (eqb-false b a q (sym (eqb-true a b p)))
 turned_step a b false true p q = absurd (eqb-false a b p (sym (eqb-true b a q)))
 
-eqb_turned : (a b : ℕ) → (a == b) ≡ (b == a)
+pub eqb_turned : (a b : ℕ) → (a == b) ≡ (b == a)
 eqb_turned a b = turned_step a b (a == b) (b == a) refl refl
 
 more_step : (t h : ℕ) (hs more : List ℕ) (before same : Bool) → 0 < length (either before (t ∷ h ∷ hs) (either same (h ∷ hs) (h ∷ more)))
@@ -153,6 +161,13 @@ unfolding without_holder
 alone_without t [] one held = refl
 alone_without t (h ∷ []) one held = let turned : ((t == h) || false) ≡ true = rw (eqb_turned t h) held in alone_step t h (t == h) turned
 alone_without t (h ∷ i ∷ hs) one held = absurd (let two : length (h ∷ i ∷ hs) ≤ 1 = leb-true (length (h ∷ i ∷ hs)) 1 one in omega arith)
+
+pub other_alone : (t u : ℕ) (hs : List ℕ) → nat_le (length hs) 1 ≡ true → has t hs ≡ true → t ≢ u → has u hs ≡ false
+other_alone t u [] one held apart = refl
+other_alone t u (h ∷ []) one held apart =
+    let other : h ≢ u = λ e. apart (elim (cases_eq h t) [ inl same ↦ sym same ∙ e | inr differ ↦ absurd (let never = rw (ne_eqb h t differ) at held in cc) ]) in
+    rw (ne_eqb h u other) refl
+other_alone t u (h ∷ i ∷ hs) one held apart = absurd (let two : length (h ∷ i ∷ hs) ≤ 1 = leb-true (length (h ∷ i ∷ hs)) 1 one in omega arith)
 
 several_step : (h i : ℕ) (hs less : List ℕ) (same : Bool) → 0 < length (either same (i ∷ hs) (h ∷ less))
 several_step h i hs less true = omega arith
@@ -196,44 +211,22 @@ pub with_none : (t : ℕ) → with_holder t [] ≡ t ∷ []
 unfolding with_holder
 with_none t = refl
 
--- all below: the first i are below the tenant
-pub passed_by : (t : ℕ) (hs : List ℕ) (i : ℕ) → i < length hs → get_or hs i 0 < t → with_holder t hs ≡ take i hs ++ with_holder t (drop i hs) → with_holder t hs ≡ take (i + 1) hs ++ with_holder t (drop (i + 1) hs)
-passed_by t hs i lt below so_far =
-    let next : suc i ≡ i + 1 = omega arith in
-    let here : drop i hs ≡ get_or hs i 0 ∷ drop (i + 1) hs = drop-cons hs i 0 lt ∙ ap (λ (n : ℕ). get_or hs i 0 ∷ drop n hs) next in
-    let first : take (i + 1) hs ≡ take i hs ++ get_or hs i 0 ∷ [] = take_more hs i 0 lt in
-    let step : with_holder t (get_or hs i 0 ∷ drop (i + 1) hs) ≡ get_or hs i 0 ∷ with_holder t (drop (i + 1) hs) = with_later t (get_or hs i 0) (drop (i + 1) hs) (omega (arith, below)) (λ e. omega (arith, e, below)) in
-    so_far ∙ ap (λ (xs : List ℕ). take i hs ++ with_holder t xs) here ∙ ap (λ (xs : List ℕ). take i hs ++ xs) step ∙ sym (append_assoc (take i hs) (get_or hs i 0 ∷ []) (with_holder t (drop (i + 1) hs))) ∙ ap (λ (xs : List ℕ). xs ++ with_holder t (drop (i + 1) hs)) (sym first)
+here_less : (t h : ℕ) (hs less : List ℕ) (same : Bool) → same ≡ true → either same hs (h ∷ less) ≡ hs
+here_less t h hs less true is = refl
+here_less t h hs less false is = absurd (cc)
 
-pub placed_before : (t : ℕ) (hs : List ℕ) (i : ℕ) → i < length hs → t < get_or hs i 0 → with_holder t hs ≡ take i hs ++ with_holder t (drop i hs) → with_holder t hs ≡ insert hs i t
-placed_before t hs i lt above so_far =
-    let next : suc i ≡ i + 1 = omega arith in
-    let here : drop i hs ≡ get_or hs i 0 ∷ drop (i + 1) hs = drop-cons hs i 0 lt ∙ ap (λ (n : ℕ). get_or hs i 0 ∷ drop n hs) next in
-    so_far ∙ ap (λ (xs : List ℕ). take i hs ++ with_holder t xs) here ∙ ap (λ (xs : List ℕ). take i hs ++ xs) (with_before t (get_or hs i 0) (drop (i + 1) hs) above) ∙ ap (λ (xs : List ℕ). take i hs ++ t ∷ xs) (sym here)
-
-pub placed_there : (t : ℕ) (hs : List ℕ) (i : ℕ) → i < length hs → t ≡ get_or hs i 0 → with_holder t hs ≡ take i hs ++ with_holder t (drop i hs) → with_holder t hs ≡ hs
-placed_there t hs i lt same so_far =
-    let next : suc i ≡ i + 1 = omega arith in
-    let here : drop i hs ≡ get_or hs i 0 ∷ drop (i + 1) hs = drop-cons hs i 0 lt ∙ ap (λ (n : ℕ). get_or hs i 0 ∷ drop n hs) next in
-    so_far ∙ ap (λ (xs : List ℕ). take i hs ++ with_holder t xs) here ∙ ap (λ (xs : List ℕ). take i hs ++ xs) (with_here t (get_or hs i 0) (drop (i + 1) hs) (omega (arith, same)) same ∙ sym here) ∙ take-append-drop i hs
-
-pub placed_last : (t : ℕ) (hs : List ℕ) (i : ℕ) → i ≡ length hs → with_holder t hs ≡ take i hs ++ with_holder t (drop i hs) → with_holder t hs ≡ insert hs i t
-placed_last t hs i all so_far =
-    let none : drop i hs ≡ [] = drop_all i hs (omega (arith, all)) in
-    so_far ∙ ap (λ (xs : List ℕ). take i hs ++ with_holder t xs) none ∙ ap (λ (xs : List ℕ). take i hs ++ xs) (with_none t) ∙ ap (λ (xs : List ℕ). take i hs ++ t ∷ xs) (sym none)
-
--- taken away wherever it stands
-none_filtered : (t : ℕ) (hs : List ℕ) → has t hs ≡ false → filter (λ h. not (h == t)) hs ≡ hs
-none_filtered t [] none = refl
-none_filtered t (h ∷ hs) none = let parts = or_parts (h == t) (has t hs) none in rw parts.0 (ap (λ xs. h ∷ xs) (none_filtered t hs parts.1))
-
-filtered_step : (t h : ℕ) (hs kept less : List ℕ) (same : Bool) → (same ≡ true → kept ≡ hs) → kept ≡ less → cond (not same) (h ∷ kept) kept ≡ either same hs (h ∷ less)
-filtered_step t h hs kept less true all rest = all refl
-filtered_step t h hs kept less false all rest = ap (λ xs. h ∷ xs) rest
-
-pub filtered : (t m : ℕ) (hs : List ℕ) → IsRisingFrom m hs → filter (λ h. not (h == t)) hs ≡ without_holder t hs
+pub without_here : (t h : ℕ) (hs : List ℕ) → t ≡ h → without_holder t (h ∷ hs) ≡ hs
 unfolding without_holder
-filtered t m [] rising = refl
-filtered t m (h ∷ hs) rising =
-    rw (eqb_turned h t) (filtered_step t h hs (filter (λ x. not (x == t)) hs) (without_holder t hs) (t == h)
-    (λ e. none_filtered t hs (not_below t (h + 1) hs (omega (arith, eqb-true t h e)) rising.1)) (filtered t (h + 1) hs rising.1))
+without_here t h hs e = here_less t h hs (without_holder t hs) (t == h) (eq-eqb t h e)
+
+later_less : (t h : ℕ) (hs less : List ℕ) (same : Bool) → same ≡ false → either same hs (h ∷ less) ≡ h ∷ less
+later_less t h hs less true is = absurd (cc)
+later_less t h hs less false is = refl
+
+pub without_later : (t h : ℕ) (hs : List ℕ) → t ≢ h → without_holder t (h ∷ hs) ≡ h ∷ without_holder t hs
+unfolding without_holder
+without_later t h hs apart = later_less t h hs (without_holder t hs) (t == h) (ne_eqb t h apart)
+
+pub without_none : (t : ℕ) → without_holder t [] ≡ []
+unfolding without_holder
+without_none t = refl

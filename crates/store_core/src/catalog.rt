@@ -1,5 +1,5 @@
-//! Filed objects in filing order, which their addresses lead to.
-ghost use Rattle.std.specs.Prelude.{◌≡◌, ◌+◌, ◌<◌, ◌^◌, ◌∷◌, ◌++◌, [], ℕ, List, None, Some, IfNone, IfOk, IfSome, IsSome, OnErr, OnOk, length, nat_le, true};
+//! Filed objects in filing order, which their addresses lead to, and who holds which.
+ghost use Rattle.std.specs.Prelude.{◌≡◌, ◌+◌, ◌<◌, ◌^◌, ◌∷◌, ◌++◌, [], false, ℕ, List, None, Some, IfNone, IfOk, IfSome, IsSome, OnErr, OnOk, length, nat_le, true};
 ghost use Rattle.std.specs.Arc.{arc_value};
 ghost use Rattle.std.specs.BTreeMap.{WritesThrough, get};
 ghost use Rattle.std.specs.HashMap.{get as number_in};
@@ -17,17 +17,19 @@ use crate::known::Known;
 use crate::object::Object;
 use indexmap::IndexMap;
 use std::alloc::{AllocError, Global};
-use std::collections::BTreeMap;
+use std::collections::{BTreeMap, BTreeSet};
 use std::marker::Model;
 use std::sync::Arc;
 use store_journal::Address;
 
-// Each object stands under the number of its filing, and that number under the object's address.
+// Each object stands under the number of its filing, and that number under the object's address, and beside each tenant
+// that holds it.
 #[derive(Drop)]
 pub(crate) struct Catalog {
     numbers: IndexMap<Address, u64>,
     filed: BTreeMap<u64, Filed>,
     filings: u64,
+    held: BTreeSet<(u64, u64)>,
 }
 
 // Contracts see it as the objects in filing order, and how many filings there were.
@@ -35,14 +37,14 @@ impl Model for Catalog {
     ghost use Rattle.std.specs.HashMap.{get};
     ghost use Rattle.std.specs.Map.{values_of};
     ghost use Rattle.std.specs.Str.{bytes_eq};
-    ghost use Rattle.store_core.specs.Catalog.{AreCatalogued};
+    ghost use Rattle.store_core.specs.Catalog.{AreCatalogued, AreHoldings};
     ghost use Rattle.store_core.specs.Model.{ModelCatalog};
 
     ghost Value = { ModelCatalog };
 
     ghost view = { λ c. record { objects = values_of (values_of c.filed.entries); filings = c.filings } };
 
-    ghost invariant = { λ c. AreCatalogued c.filings c.filed (get bytes_eq c.numbers) };
+    ghost invariant = { λ c. AreCatalogued c.filings c.filed (get bytes_eq c.numbers) × AreHoldings c.filed c.held };
 }
 
 impl Catalog {
@@ -54,6 +56,7 @@ impl Catalog {
             numbers: IndexMap::new(alloc),
             filed: BTreeMap::new(alloc),
             filings: 0,
+            held: BTreeSet::new(alloc),
         }
     }
 
@@ -104,16 +107,19 @@ impl Catalog {
     pub(crate) fn list(&self, alloc: Global, tenant: u64) -> Result<Vec<(Address, u64)>, AllocError>
         ensures { IfOk result (λ list. list.items ≡ listed tenant self.now.objects) }
     {
+        let objects = &self.filed;
         let mut list = Vec::new(alloc);
-        for filed in self.filed.values() {
-            if filed.is_held_by(tenant) {
-                list.push((filed.address(), filed.length()))?;
-            }
+        for pair in self.held.range((tenant, 0)..(tenant, self.filings)) {
+            let (_, number) = *pair;
+            let Some(filed) = objects.get(&number) else {
+                unreachable!();
+            };
+            list.push((filed.address(), filed.length()))?;
         }
         Ok(list)
     }
 
-    /// Files an object of one tenant last. Room for its address is made first, so that a refusal leaves all as it was.
+    /// Files an object of one tenant last. A refusal leaves all as it was.
     pub(crate) fn file_last(
         &mut self,
         alloc: Global,
@@ -129,7 +135,11 @@ impl Catalog {
     {
         let filed = Filed::new(alloc, object, tenant)?;
         self.numbers.reserve(1)?;
+        let Ok(_new) = self.held.insert((tenant, self.filings)) else {
+            return Err(AllocError);
+        };
         let Ok(_none) = self.filed.insert(self.filings, filed) else {
+            let _undone = self.held.remove(&(tenant, self.filings));
             return Err(AllocError);
         };
         let Ok(_none) = self.numbers.insert(address, self.filings) else {
@@ -149,7 +159,16 @@ impl Catalog {
         let Some(number) = number_of(&self.numbers, address) else {
             unreachable!();
         };
-        add_at(&mut self.filed, number, tenant)
+        let Ok(is_new) = self.held.insert((tenant, number)) else {
+            return Err(AllocError);
+        };
+        let Err(refused) = add_at(&mut self.filed, number, tenant) else {
+            return Ok(());
+        };
+        if is_new {
+            let _undone = self.held.remove(&(tenant, number));
+        }
+        Err(refused)
     }
 
     /// Takes a holder from the object of the address, and the object away where it has no other.
@@ -159,25 +178,16 @@ impl Catalog {
         ensures { (o : Item) → object_among self.old.objects address ≡ Some o
             → self.new ≡ record self.old { objects = with_holders self.old.objects address o (without_holder tenant o.holders) } }
     {
-        if is_alone {
-            self.remove(address);
-            return;
-        }
         let Some(number) = number_of(&self.numbers, address) else {
             unreachable!();
         };
+        let _was = self.held.remove(&(tenant, number));
+        if is_alone {
+            let _number = self.numbers.swap_remove(&address);
+            let _gone = self.filed.remove(&number);
+            return;
+        }
         leave_at(&mut self.filed, number, tenant);
-    }
-
-    // Takes the object of the address away.
-    fn remove(&mut self, address: Address)
-        requires { IsSome (object_among self.old.objects address) }
-        ensures { (o : Item) → self.new ≡ record self.old { objects = with_holders self.old.objects address o [] } }
-    {
-        let Some(number) = self.numbers.swap_remove(&address) else {
-            unreachable!();
-        };
-        let _gone = self.filed.remove(&number);
     }
 }
 
@@ -203,7 +213,8 @@ fn add_at(filed: &mut BTreeMap<u64, Filed>, number: u64, tenant: u64) -> Result<
 // Takes a holder from the object of the number.
 fn leave_at(filed: &mut BTreeMap<u64, Filed>, number: u64, tenant: u64)
     requires { IsSome (get nat_cmp filed.old number) }
-    ensures { (f : List ℕ × Item) → get nat_cmp filed.old number ≡ Some f → WritesThrough nat_cmp (nat_cmp number) filed.old (f.0, record f.1 { holders = without_holder tenant f.1.holders }) filed.new }
+    ensures left { (f : List ℕ × Item) → get nat_cmp filed.old number ≡ Some f → WritesThrough nat_cmp (nat_cmp number) filed.old (f.0, record f.1 { holders = without_holder tenant f.1.holders }) filed.new }
+    ensures gone { (f : List ℕ × Item) → get nat_cmp filed.old number ≡ Some f → is_held_by tenant (record f.1 { holders = without_holder tenant f.1.holders }) ≡ false }
 {
     match filed.get_mut(&number) {
         Some(found) => found.leave(tenant),

@@ -1,5 +1,5 @@
 //! Filed objects.
-ghost use Rattle.std.specs.Prelude.{◌≡◌, ◌∷◌, [], IfOk, OnErr, OnOk, length, nat_le};
+ghost use Rattle.std.specs.Prelude.{◌≡◌, ◌∷◌, [], false, IfOk, OnErr, OnOk, length, nat_le};
 ghost use Rattle.std.specs.Arc.{arc_value};
 ghost use Rattle.b3_core.specs.Modes.{hash_of};
 ghost use Rattle.store_core.specs.Model.{is_held_by as is_held_by_in};
@@ -89,7 +89,8 @@ impl Filed {
 
     /// The tenant is no holder from here on.
     pub(crate) fn leave(&mut self, tenant: u64)
-        ensures { self.new ≡ (self.old.0, record self.old.1 { holders = without_holder tenant self.old.1.holders }) }
+        ensures holders { self.new ≡ (self.old.0, record self.old.1 { holders = without_holder tenant self.old.1.holders }) }
+        ensures gone { is_held_by_in tenant (record self.old.1 { holders = without_holder tenant self.old.1.holders }) ≡ false }
     {
         holders::leave(&mut self.holders, tenant);
     }

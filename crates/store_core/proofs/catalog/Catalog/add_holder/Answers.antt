@@ -1,33 +1,49 @@
 use Rattle.std.proofs.Common.{refl, sym}
+use Rattle.std.specs.BTreeSet.{contains}
 use Rattle.std.specs.HashMap.{get}
 use Rattle.std.specs.Str.{bytes_eq}
-use Rattle.std.proofs.lemmas.Result.{on_ok_weaker}
+use Rattle.store_core.specs.Catalog.{pair_cmp}
 use Rattle.store_journal.specs.Replay.{with_holder}
 use Rattle.store_core.proofs.Catalogs.{catalog_after, catalogued_after, catalogued_still, is_numbered}
-use Rattle.store_journal.proofs.Options.{either_way}
+use Rattle.store_core.proofs.Holdings.{holdings_still, holdings_with, undone, was_absent}
 use Rattle.store_core.proofs.RisingHolders.{some_with}
+use Rattle.store_journal.proofs.Maps.{is_there}
 use Rattle.store_core.proofs.catalog.Catalog.add_holder.Goals as goal
 
 pub unreachable-requires : goal.unreachable-requires
 unreachable-requires c =
     let all = c.self.inside in
-    is_numbered all.filings all.filed (get bytes_eq all.numbers) c.args.self.now c.self.invariant c.self.view_is c.args.address c.requires (sym c.in_default.ensures)
+    is_numbered all.filings all.filed (get bytes_eq all.numbers) c.args.self.now c.self.invariant.0 c.self.view_is c.args.address c.requires (sym c.in_default.ensures)
 
-pub invariant_of-self : goal.invariant_of-self
-invariant_of-self c =
+pub invariant_of-self-in_default-add_at : goal.invariant_of-self-in_default-add_at
+invariant_of-self-in_default-add_at c =
     let all = c.self.inside in
     let a = c.args.address in
-    let p = get bytes_eq all.numbers in
+    let k = c.in-Some.number in
+    let n = c.add_at.new.filed in
     let number = sym c.in-Some.ensures in
-    let there = c.self.invariant.filed.there a c.in-Some.number number in
+    let there = c.self.invariant.0.filed.there a k number in
     let o = there.0 in
-    either_way c.add_at.result c.add_at.ensures.added c.add_at.ensures.unchanged
-    (λ writes. catalogued_after all.filings all.filed c.add_at.new.filed p a c.in-Some.number o (with_holder c.args.tenant o.holders) number there.1 (writes (a, o) there.1) c.self.invariant)
-    (λ same. catalogued_still all.filings all.filed c.add_at.new.filed p p same (λ b. refl) c.self.invariant)
+    let writes = c.in_default-add_at.ensures.added (a, o) there.1 in (
+      catalogued_after all.filings all.filed n (get bytes_eq all.numbers) a k o (with_holder c.args.tenant o.holders) number there.1 writes c.self.invariant.0,
+      holdings_with all.filed n all.held c.insert.new.self c.args.tenant k a c.insert.ensures.ordered c.self.invariant.1 o there.1 c.in-Ok.ensures.updates.0 (writes.3 (is_there there.1)).0,
+    )
 
-pub returns-clause-objects : goal.returns-clause-objects
-returns-clause-objects c = on_ok_weaker c.add_at.result (λ writes o is.
+pub invariant_of-self-then-is_new : goal.invariant_of-self-then-is_new
+invariant_of-self-then-is_new c =
     let all = c.self.inside in
-    catalog_after all.filings all.filed c.add_at.new.filed (get bytes_eq all.numbers) c.args.self.now c.self.invariant c.self.view_is c.args.address c.in-Some.number (sym c.in-Some.ensures) o (with_holder c.args.tenant o.holders)
-    (some_with c.args.tenant o.holders) is (writes (c.args.address, o)))
-    c.add_at.ensures.added
+    let t = c.args.tenant in
+    let k = c.in-Some.number in
+    let n = c.add_at.new.filed in
+    let p = get bytes_eq all.numbers in
+    let same = c.in-Err.ensures.unchanged in (
+      catalogued_still all.filings all.filed n p p same (λ b. refl) c.self.invariant.0,
+      holdings_still all.filed n all.held c.remove-undone.new.self same c.remove-undone.ensures.ordered
+          (undone t k all.held c.insert.new.self c.remove-undone.new.self (was_absent c.in-Ok.is_new (contains pair_cmp all.held (t, k)) c.in-Ok.ensures.added c.if-is_new.true) c.in-Ok.ensures.updates.0 c.remove-undone.ensures.updates.0) c.self.invariant.1,
+    )
+
+pub returns-in_default-add_at-clause-objects : goal.returns-in_default-add_at-clause-objects
+returns-in_default-add_at-clause-objects c = λ o is.
+    let all = c.self.inside in
+    catalog_after all.filings all.filed c.add_at.new.filed (get bytes_eq all.numbers) c.args.self.now c.self.invariant.0 c.self.view_is c.args.address c.in-Some.number (sym c.in-Some.ensures) o (with_holder c.args.tenant o.holders)
+    (some_with c.args.tenant o.holders) is (c.in_default-add_at.ensures.added (c.args.address, o))
