@@ -1,7 +1,7 @@
 mod StandardFacts
-pub mod EightLanes
-pub mod Eighths
+pub mod EachLane
+pub mod WholeChunks
 pub mod Hashings
 pub mod Nodes
 pub mod OutputBytes
-pub mod Turns
+pub mod WordTurns

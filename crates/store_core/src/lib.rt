@@ -34,7 +34,7 @@ pub use refusal::Refusal;
 pub use sealed::Sealed;
 pub use store::Store;
 pub use store_journal::{
-    Accepted, Address, BadText, Entry, FiledObject, HeldPart, IllegalEntry, LeftUpload, ReadError,
+    AcceptedPuts, Address, BadText, Entry, FiledObject, HeldPart, IllegalEntry, LeftUpload, ReadError,
     ReplayError, Replayed, TenantId, Totals, UploadId, cut_at, entry_laws, entry_lines,
     journal_laws, number, read_entry, read_journal, replay, two_numbers, write_entry,
     write_journal,

@@ -1,14 +1,10 @@
 //! How much a store takes.
 ghost use Rattle.std.specs.Prelude.{◌≡◌, ◌<◌, ◌≤◌, ◌^◌, ◌⊎◌, ◌↔◌, IfOk, IsErr};
 
-/// The most tenants of a store, 2^16.
-pub const MOST_TENANTS: u64 = 1 << 16;
+use store_journal::{MOST_ENTRIES, MOST_TENANTS};
 
-/// The most entries of a journal, 2^32.
-pub const MOST_ENTRIES: u64 = 1 << 32;
-
-/// The most workers of an upload.
-pub const MOST_WORKERS: u64 = 16;
+// The most workers of an upload.
+const MOST_WORKERS: u64 = 16;
 
 /// S0: a limit is zero, or above 2^16 tenants, 2^32 entries or 16 workers.
 #[derive(Clone, Copy, Debug, PartialEq, Eq)]

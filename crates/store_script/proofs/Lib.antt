@@ -1,6 +1,6 @@
-pub mod Going
+pub mod ScriptSteps
 pub mod Joining
 pub mod Patterns
 pub mod Read
 pub mod Rows
-pub mod Turns
+pub mod LineOutcomes

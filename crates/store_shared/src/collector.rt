@@ -108,16 +108,16 @@ fn put_all<B: Ledger, C: Ledger, R: Wait>(
 fn take_some<R: Wait>(
     rt: &R,
     alloc: Global,
-    line: &HandOver,
+    hand_over: &HandOver,
     pass: &mut TakePass,
 ) -> Result<Vec<Prepared>, UploadFaultKind>
-    requires { IsTakerOf line.now pass.old }
-    ensures same { IsTakerOf line.now pass.new }
+    requires { IsTakerOf hand_over.now pass.old }
+    ensures same { IsTakerOf hand_over.now pass.new }
     ensures fault { IfErr result IsOwnFault }
 {
     let mut parts = Vec::new(alloc);
     for _ in 0..MOST_IN_HAND {
-        let Some(Taken { giver: _, part }) = line.take(rt, pass) else {
+        let Some(Taken { giver: _, part }) = hand_over.take(rt, pass) else {
             break;
         };
         if parts.push(part).is_err() {
@@ -129,7 +129,7 @@ fn take_some<R: Wait>(
 
 impl<'a, B: Ledger, C: Ledger> Collector<'a, B, C> {
     // Notes parts, and puts them.
-    fn file<R: Wait>(
+    fn note_and_put<R: Wait>(
         &mut self,
         rt: &R,
         cut: &Cut<'_>,
@@ -153,7 +153,7 @@ impl<'a, B: Ledger, C: Ledger> Collector<'a, B, C> {
         Ok(())
     }
 
-    // Takes what there is, and files it; once something failed, drops it. Answers whether there was something.
+    // Takes what there is, notes and puts it; once something failed, drops it. Answers whether there was something.
     fn collect_some<G: Gate, R: Wait>(
         &mut self,
         rt: &R,
@@ -162,18 +162,18 @@ impl<'a, B: Ledger, C: Ledger> Collector<'a, B, C> {
         shared: &Shared<B, C>,
         pass: &mut TakePass,
     ) -> bool
-        requires taker { IsTakerOf job.now.line pass.old }
+        requires taker { IsTakerOf job.now.hand_over pass.old }
         requires bytes { self.old.follow.bytes ≡ job.now.cut.bytes }
         requires own { IfSome self.old.fault IsOwnFault }
-        ensures taker { IsTakerOf job.now.line pass.new }
+        ensures taker { IsTakerOf job.now.hand_over pass.new }
         ensures bytes { self.new.follow.bytes ≡ job.now.cut.bytes }
         ensures own { IfSome self.new.fault IsOwnFault }
         ensures kept { (start : Holding) → IsCollecting job.now.cut start self.old.follow self.old.share self.old.fault → IsCollecting job.now.cut start self.new.follow self.new.share self.new.fault }
     {
         if self.fault.is_some() {
-            return job.line.take(rt, pass).is_some();
+            return job.hand_over.take(rt, pass).is_some();
         }
-        let parts = match take_some(rt, alloc, &job.line, pass) {
+        let parts = match take_some(rt, alloc, &job.hand_over, pass) {
             Ok(parts) => parts,
             Err(kind) => {
                 self.fault = Some(kind);
@@ -183,7 +183,7 @@ impl<'a, B: Ledger, C: Ledger> Collector<'a, B, C> {
         if parts.is_empty() {
             return false;
         }
-        if let Err(kind) = self.file(rt, &job.cut, shared, parts) {
+        if let Err(kind) = self.note_and_put(rt, &job.cut, shared, parts) {
             self.fault = Some(kind);
         }
         true
@@ -199,7 +199,7 @@ impl<'a, B: Ledger, C: Ledger> Collector<'a, B, C> {
         started: u64,
         pass: TakePass,
     )
-        requires taker { IsTakerOf job.now.line pass }
+        requires taker { IsTakerOf job.now.hand_over pass }
         requires bytes { self.old.follow.bytes ≡ job.now.cut.bytes }
         requires own { IfSome self.old.fault IsOwnFault }
         ensures bytes { self.new.follow.bytes ≡ job.now.cut.bytes }

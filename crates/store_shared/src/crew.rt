@@ -26,8 +26,8 @@ pub(crate) fn workers_of<G: Gate, R: Alloc>(
     passes: Vec<GivePass>,
 ) -> Result<Vec<Worker>, AllocError>
     requires seats { All (λ s. IsSeatOf job.now.board s) seats.items }
-    requires passes { All (λ p. IsGiverOf job.now.line p) passes.items }
-    ensures { IfOk result (λ v. All (λ w. IsSeatOf job.now.board w.seat × IsGiverOf job.now.line w.pass) v.items) }
+    requires passes { All (λ p. IsGiverOf job.now.hand_over p) passes.items }
+    ensures { IfOk result (λ v. All (λ w. IsSeatOf job.now.board w.seat × IsGiverOf job.now.hand_over w.pass) v.items) }
 {
     let mut seats = seats;
     let mut passes = passes;
@@ -57,14 +57,14 @@ pub(crate) fn start_all<'s, E, G: Gate + Sync, R: Wait + Sync>(
     Vec<PromisedHandle<Option<UploadFaultKind>, FaultOf<'s, G>>>,
     Option<UploadFaultKind>,
 )
-    requires { All (λ w. IsSeatOf job.now.board w.seat × IsGiverOf job.now.line w.pass) workers.items }
+    requires { All (λ w. IsSeatOf job.now.board w.seat × IsGiverOf job.now.hand_over w.pass) workers.items }
     ensures handles { All (λ h. (h.promise.bytes.now ≡ job.now.cut.bytes) × (h.promise.part_chunks ≡ job.now.cut.part_chunks) × (h.promise.gate.now ≡ job.now.gate.now)) result.0.items }
     ensures fault { IfSome result.1 IsOwnFault }
 {
     let bytes = job.cut.bytes();
     let part_chunks = job.cut.part_chunks();
     let gate = job.gate;
-    let (board, line, progress) = (&job.board, &job.line, &job.progress);
+    let (board, hand_over, progress) = (&job.board, &job.hand_over, &job.progress);
     let mut handles = Vec::new(alloc);
     let mut workers = workers;
     while let Some(worker) = workers.pop() {
@@ -78,7 +78,7 @@ pub(crate) fn start_all<'s, E, G: Gate + Sync, R: Wait + Sync>(
                 gate,
             },
             move || -> Option<UploadFaultKind>
-                requires { IsSeatOf board.now worker.seat × IsGiverOf line.now worker.pass × (parts_of board.now ≡ part_count (length bytes.now) part_chunks) × (length bytes.now ≤ most_bytes) × (0 < part_chunks) × (part_chunks ≤ 16384) }
+                requires { IsSeatOf board.now worker.seat × IsGiverOf hand_over.now worker.pass × (parts_of board.now ≡ part_count (length bytes.now) part_chunks) × (length bytes.now ≤ most_bytes) × (0 < part_chunks) × (part_chunks ≤ 16384) }
                 ensures { IfSome result (IsFaultOf (G.may_stop gate.entry.now) (G.may_fault gate.entry.now) (part_count (length bytes.entry.now) part_chunks)) }
             {
                 run(
@@ -88,7 +88,7 @@ pub(crate) fn start_all<'s, E, G: Gate + Sync, R: Wait + Sync>(
                     part_chunks,
                     gate,
                     board,
-                    line,
+                    hand_over,
                     progress,
                     worker,
                 )

@@ -14,7 +14,7 @@ use store_board::{Board, HandOver};
 pub(crate) struct Job<'a, G: Gate> {
     pub(crate) cut: Cut<'a>,
     pub(crate) board: Board,
-    pub(crate) line: HandOver,
+    pub(crate) hand_over: HandOver,
     pub(crate) gate: &'a G,
     pub(crate) progress: Progress,
     ghost parts: { parts_of board ≡ count_of cut },

@@ -186,7 +186,7 @@ fn put_parts<B: Ledger, C: Ledger, G: Gate + Sync, R: Threads + Wait + Sync + Al
     let Ok((board, seats)) = Board::new(alloc, cut.parts(), workers) else {
         return (share, no_memory);
     };
-    let Ok((line, passes, take_pass)) = HandOver::new(alloc, 2 * workers as usize, workers) else {
+    let Ok((hand_over, passes, take_pass)) = HandOver::new(alloc, 2 * workers as usize, workers) else {
         return (share, no_memory);
     };
     let Ok(follow) = Follow::new(alloc, cut.bytes()) else {
@@ -195,7 +195,7 @@ fn put_parts<B: Ledger, C: Ledger, G: Gate + Sync, R: Threads + Wait + Sync + Al
     let job = Job {
         cut,
         board,
-        line,
+        hand_over,
         gate,
         progress: Progress::new(),
     };
@@ -223,8 +223,8 @@ fn work_together<B: Ledger, C: Ledger, G: Gate + Sync, R: Threads + Wait + Sync>
     collector: Collector<'_, B, C>,
 ) -> (Share<B, C>, Result<Address, UploadFaultKind>)
     requires some { 0 < job.now.cut.part_chunks }
-    requires workers { All (λ w. IsSeatOf job.now.board w.seat × IsGiverOf job.now.line w.pass) workers.items }
-    requires taker { IsTakerOf job.now.line take_pass }
+    requires workers { All (λ w. IsSeatOf job.now.board w.seat × IsGiverOf job.now.hand_over w.pass) workers.items }
+    requires taker { IsTakerOf job.now.hand_over take_pass }
     requires fresh { AreNoted job.now.cut collector.follow [] }
     ensures { IsCollected (G.may_stop job.now.gate.now) (G.may_fault job.now.gate.now) job.now.cut collector.entry.share result.0 result.1 }
 {
@@ -232,7 +232,7 @@ fn work_together<B: Ledger, C: Ledger, G: Gate + Sync, R: Threads + Wait + Sync>
         thread::scope_env(),
         rt,
         move |scope| -> (Share<B, C>, Result<Address, UploadFaultKind>)
-            requires { (0 < job.now.cut.part_chunks) × All (λ w. IsSeatOf job.now.board w.seat × IsGiverOf job.now.line w.pass) workers.items × IsTakerOf job.now.line take_pass × AreNoted job.now.cut collector.follow [] }
+            requires { (0 < job.now.cut.part_chunks) × All (λ w. IsSeatOf job.now.board w.seat × IsGiverOf job.now.hand_over w.pass) workers.items × IsTakerOf job.now.hand_over take_pass × AreNoted job.now.cut collector.follow [] }
             ensures { IsCollected (G.may_stop job.entry.now.gate.now) (G.may_fault job.entry.now.gate.now) job.entry.now.cut collector.entry.share result.0 result.1 }
         {
             let (handles, unstarted) = start_all(scope, rt, alloc, job, workers);
@@ -257,7 +257,7 @@ fn gather<'s, B: Ledger, C: Ledger, G: Gate, R: Threads + Wait>(
     requires some { 0 < job.now.cut.part_chunks }
     requires handles { All (λ h. (h.promise.bytes.now ≡ job.now.cut.bytes) × (h.promise.part_chunks ≡ job.now.cut.part_chunks) × (h.promise.gate.now ≡ job.now.gate.now)) handles.items }
     requires own { IfSome unstarted IsOwnFault }
-    requires taker { IsTakerOf job.now.line take_pass }
+    requires taker { IsTakerOf job.now.hand_over take_pass }
     requires fresh { AreNoted job.now.cut collector.follow [] }
     ensures { IsCollected (G.may_stop job.now.gate.now) (G.may_fault job.now.gate.now) job.now.cut collector.entry.share result.0 result.1 }
 {

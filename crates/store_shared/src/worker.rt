@@ -58,21 +58,21 @@ fn is_over(board: &Board, progress: &Progress, seat: &mut BoardSeat) -> bool
 }
 
 // Hands a part over, or drops it once no more are wanted while the queue is full. Answers whether it was handed over.
-fn hand_over<R: Wait>(
+fn hand_part<R: Wait>(
     rt: &R,
     board: &Board,
-    line: &HandOver,
+    hand_over: &HandOver,
     progress: &Progress,
     worker: &mut Worker,
     part: Prepared,
 ) -> bool
-    requires { IsSeatOf board.now worker.old.seat × IsGiverOf line.now worker.old.pass }
-    ensures { IsSeatOf board.now worker.new.seat × IsGiverOf line.now worker.new.pass }
+    requires { IsSeatOf board.now worker.old.seat × IsGiverOf hand_over.now worker.old.pass }
+    ensures { IsSeatOf board.now worker.new.seat × IsGiverOf hand_over.now worker.new.pass }
 {
     let mut part = part;
     let mut backoff = Backoff::new();
     for _ in rt.forever() {
-        match line.give(rt, &mut worker.pass, part) {
+        match hand_over.give(rt, &mut worker.pass, part) {
             Ok(()) => return true,
             Err(back) => part = back,
         }
@@ -91,13 +91,13 @@ fn make_parts<G: Gate, R: Wait>(
     cut: &Cut<'_>,
     gate: &G,
     board: &Board,
-    line: &HandOver,
+    hand_over: &HandOver,
     progress: &Progress,
     worker: &mut Worker,
 ) -> Result<(), UploadFaultKind>
-    requires own { IsSeatOf board.now worker.old.seat × IsGiverOf line.now worker.old.pass }
+    requires own { IsSeatOf board.now worker.old.seat × IsGiverOf hand_over.now worker.old.pass }
     requires parts { parts_of board.now ≡ count_of cut.now }
-    ensures own { IsSeatOf board.now worker.new.seat × IsGiverOf line.now worker.new.pass }
+    ensures own { IsSeatOf board.now worker.new.seat × IsGiverOf hand_over.now worker.new.pass }
     ensures fault { IfErr result (IsFaultOf (G.may_stop gate.now) (G.may_fault gate.now) (count_of cut.now)) }
 {
     for _ in rt.forever() {
@@ -111,7 +111,7 @@ fn make_parts<G: Gate, R: Wait>(
         if let Err(answer) = gate.passed(number) {
             return Err(fault_at(number, answer));
         }
-        if !hand_over(rt, board, line, progress, worker, part) {
+        if !hand_part(rt, board, hand_over, progress, worker, part) {
             return Ok(());
         }
     }
@@ -126,11 +126,11 @@ pub(crate) fn run<G: Gate, R: Wait>(
     part_chunks: u64,
     gate: &G,
     board: &Board,
-    line: &HandOver,
+    hand_over: &HandOver,
     progress: &Progress,
     worker: Worker,
 ) -> Option<UploadFaultKind>
-    requires own { IsSeatOf board.now worker.seat × IsGiverOf line.now worker.pass }
+    requires own { IsSeatOf board.now worker.seat × IsGiverOf hand_over.now worker.pass }
     requires parts { parts_of board.now ≡ part_count (length bytes.now) part_chunks }
     requires bytes { length bytes.now ≤ most_bytes }
     requires some { 0 < part_chunks }
@@ -139,7 +139,7 @@ pub(crate) fn run<G: Gate, R: Wait>(
 {
     let cut = Cut::new(bytes, part_chunks);
     let mut worker = worker;
-    let fault = make_parts(rt, alloc, &cut, gate, board, line, progress, &mut worker).err();
+    let fault = make_parts(rt, alloc, &cut, gate, board, hand_over, progress, &mut worker).err();
     if fault.is_some() {
         board.stop(&mut worker.seat);
     }

@@ -3,7 +3,7 @@
 use std::alloc::Global;
 use std::test::Fail;
 use store_journal::{
-    Accepted, Address, Entry, HeldPart, ReplayError, Replayed, TenantId, Totals, UploadId,
+    AcceptedPuts, Address, Entry, HeldPart, ReplayError, Replayed, TenantId, Totals, UploadId,
     read_journal, replay,
 };
 
@@ -86,7 +86,7 @@ fn sums_are_told(rt: HostRuntime) -> Result<(), Fail> {
         parts: 2,
     };
     assert_eq!(rt; replayed.totals(), totals);
-    let accepted = Accepted {
+    let accepted = AcceptedPuts {
         bytes: 1035,
         calls: 4,
     };

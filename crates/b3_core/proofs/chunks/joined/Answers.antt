@@ -1,4 +1,4 @@
-use Rattle.b3_core.proofs.EightLanes.{joined_lanes}
+use Rattle.b3_core.proofs.EachLane.{joined_lanes}
 use Rattle.b3_core.proofs.chunks.joined.Goals as goal
 
 pub returns-clause-front : goal.returns-clause-front

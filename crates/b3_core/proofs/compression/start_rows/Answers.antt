@@ -1,6 +1,6 @@
 use Rattle.std.proofs.Common.{◌≡◌, ◌∙◌, ◌/◌, ◌%◌, ◌^◌, arith, refl, ap, slice_index}
 use Rattle.b3_core.specs.Compression.{turned}
-use Rattle.b3_core.proofs.Turns.{turned_whole}
+use Rattle.b3_core.proofs.WordTurns.{turned_whole}
 use Rattle.b3_core.proofs.compression.start_rows.Goals as goal
 
 pub returns : goal.returns

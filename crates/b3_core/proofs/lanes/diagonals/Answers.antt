@@ -1,6 +1,6 @@
 use Rattle.std.proofs.Common.{arith}
 use Rattle.b3_core.specs.Compression.{diagonals}
-use Rattle.b3_core.proofs.EightLanes.{lane_word}
+use Rattle.b3_core.proofs.EachLane.{lane_word}
 use Rattle.b3_core.proofs.lanes.diagonals.Goals as goal
 
 pub returns : goal.returns

@@ -1,5 +1,5 @@
 use Rattle.std.proofs.Common.{arith}
-use Rattle.b3_core.proofs.EightLanes.{lane_word}
+use Rattle.b3_core.proofs.EachLane.{lane_word}
 use Rattle.b3_core.proofs.lanes.halves.Goals as goal
 
 pub returns : goal.returns

@@ -1,4 +1,4 @@
-use Rattle.b3_core.proofs.EightLanes.{lane_word, eight_words}
+use Rattle.b3_core.proofs.EachLane.{lane_word, eight_words}
 use Rattle.b3_core.proofs.lanes.lane_words.Goals as goal
 
 pub returns : goal.returns

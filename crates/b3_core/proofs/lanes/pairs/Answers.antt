@@ -1,5 +1,5 @@
 use Rattle.std.proofs.Common.{◌+◌, ◌*◌, ◌++◌, slice_index, arith, ap₂}
-use Rattle.b3_core.proofs.EightLanes.{lane_word, eight_words}
+use Rattle.b3_core.proofs.EachLane.{lane_word, eight_words}
 use Rattle.b3_core.proofs.lanes.pairs.Goals as goal
 
 pub returns-clause-front : goal.returns-clause-front

@@ -1,4 +1,4 @@
-use Rattle.b3_core.proofs.EightLanes.{parted_lanes}
+use Rattle.b3_core.proofs.EachLane.{parted_lanes}
 use Rattle.b3_core.proofs.lanes.parted.Goals as goal
 
 pub returns-clause-front : goal.returns-clause-front

@@ -1,5 +1,5 @@
 use Rattle.std.proofs.Common.{◌≡◌, [], ◌∷◌, ◌++◌, slice_index, slice_index_or, refl}
-use Rattle.b3_core.proofs.EightLanes.{four_lanes}
+use Rattle.b3_core.proofs.EachLane.{four_lanes}
 use Rattle.b3_core.proofs.vectors.down_two.Goals as goal
 
 pub returns : goal.returns

@@ -1,5 +1,5 @@
 use Rattle.std.proofs.Common.{◌∙◌, ap₂, bit_xor}
-use Rattle.b3_core.proofs.Turns.{turned_late}
+use Rattle.b3_core.proofs.WordTurns.{turned_late}
 use Rattle.b3_core.proofs.vectors.first_turn.Goals as goal
 
 pub returns : goal.returns

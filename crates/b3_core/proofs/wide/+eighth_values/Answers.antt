@@ -3,8 +3,8 @@ use Rattle.std.proofs.lemmas.List.{length-drop, length-take-le}
 use Rattle.std.proofs.lemmas.Nat.{pow_pos}
 use Rattle.b3_core.specs.Lanes.{lane, group_top}
 use Rattle.b3_core.specs.Tree.{chaining_value_of}
-use Rattle.b3_core.proofs.EightLanes.{below_eight}
-use Rattle.b3_core.proofs.Eighths.{eighth_one, front_pair, back_pair, level_up}
+use Rattle.b3_core.proofs.EachLane.{below_eight}
+use Rattle.b3_core.proofs.WholeChunks.{eighth_one, front_pair, back_pair, level_up}
 use Rattle.b3_core.proofs.wide.+eighth_values.Goals as goal
 
 pub returns-then-level-eq0-clause-values : goal.returns-then-level-eq0-clause-values

@@ -1,5 +1,5 @@
 use Rattle.std.proofs.Common.{arith}
-use Rattle.b3_core.proofs.Eighths.{level_fits}
+use Rattle.b3_core.proofs.WholeChunks.{level_fits}
 use Rattle.b3_core.proofs.wide.eighth_level.Goals as goal
 
 pub overflow_add-level : goal.overflow_add-level

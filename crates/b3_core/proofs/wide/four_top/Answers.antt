@@ -1,6 +1,6 @@
 use Rattle.std.proofs.Common.{◌∙◌, arith}
 use Rattle.b3_core.specs.Lanes.{chunk_at}
-use Rattle.b3_core.proofs.Eighths.{four_chunks_join}
+use Rattle.b3_core.proofs.WholeChunks.{four_chunks_join}
 use Rattle.b3_core.proofs.wide.four_top.Goals as goal
 
 pub returns-clause-node : goal.returns-clause-node

@@ -2,7 +2,7 @@ use Rattle.std.proofs.Common.{rules, ◌≡◌, ◌<◌, None, Some, length}
 use Rattle.store_core.specs.Commands.{reply_seen}
 use Rattle.store_script.specs.Commands.{command_seen, reply_of}
 use Rattle.store_script.specs.Grammar.{asks, command_at}
-use Rattle.store_script.proofs.Turns.{LineTurn, asked, by_bad, by_reply, no_command, nothing}
+use Rattle.store_script.proofs.LineOutcomes.{LineTurn, asked, by_bad, by_reply, no_command, nothing}
 use Rattle.store_script.proofs.answer.answer_line.Goals as goal
 
 pub returns-then-is_empty : goal.returns-then-is_empty

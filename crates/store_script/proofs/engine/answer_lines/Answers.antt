@@ -3,7 +3,7 @@ use Rattle.std.specs.Io.BufRead.{strip_last}
 use Rattle.std.specs.Io.KnownBytes.{Appends, IsAtEnd}
 use Rattle.store_script.specs.Script.{first_cause, worse}
 use Rattle.store_script.specs.declared.outcome.Stop.TheVariants as stops
-use Rattle.store_script.proofs.Going.{at_end, at_stop, begun, has_memory, turned}
+use Rattle.store_script.proofs.ScriptSteps.{at_end, at_stop, begun, has_memory, turned}
 use Rattle.store_script.proofs.engine.answer_lines.Goals as goal
 
 pub loop-init : goal.loop-init

@@ -1,5 +1,5 @@
 use Rattle.std.specs.Prelude.{IfSome}
-use Rattle.store_script.proofs.Going.{IsUnder}
+use Rattle.store_script.proofs.ScriptSteps.{IsUnder}
 use Rattle.store_script.proofs.engine.answer_lines.Given as goal
 
 abbrev pub invariant-loop : goal.invariant-loop

@@ -1,5 +1,5 @@
 use Rattle.std.proofs.Common.{◌≡◌, ℕ, ◌+◌, ◌<◌, ◌/◌, ◌^◌, ◌∙◌, slice_index, arith}
-use Rattle.b3_core.proofs.EightLanes.{below_eight}
+use Rattle.b3_core.proofs.EachLane.{below_eight}
 use Rattle.b3_core.proofs.chunks.U32x8Chunks.high_words.Goals as goal
 
 pub returns : goal.returns

@@ -1,5 +1,5 @@
 use Rattle.std.proofs.Common.{◌∙◌, ap, arith, List, ℕ, slice_index}
-use Rattle.b3_core.proofs.EightLanes.{words_across}
+use Rattle.b3_core.proofs.EachLane.{words_across}
 use Rattle.b3_core.proofs.chunks.U32x8Chunks.words_at.Goals as goal
 
 pub returns-clause-first : goal.returns-clause-first

@@ -1,6 +1,6 @@
 use Rattle.std.proofs.lemmas.Simd.{shifts_fit_splat}
 use Rattle.std.proofs.Common.{◌-◌, arith}
-use Rattle.b3_core.proofs.EightLanes.{shifts_turn}
+use Rattle.b3_core.proofs.EachLane.{shifts_turn}
 use Rattle.b3_core.proofs.vectors.SimdU32Words.turn.Goals as goal
 
 pub overflow_shr-result : goal.overflow_shr-result

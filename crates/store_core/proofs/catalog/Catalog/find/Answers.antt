@@ -4,7 +4,7 @@ use Rattle.std.specs.Option.{option_map}
 use Rattle.std.specs.Str.{bytes_eq}
 use Rattle.store_core.specs.Model.{ModelCatalog, object_among}
 use Rattle.store_core.proofs.Catalogs.{numbered, unnumbered}
-use Rattle.store_journal.proofs.Filing.{lent}
+use Rattle.store_journal.proofs.ObjectsByNumber.{lent}
 use Rattle.store_core.proofs.catalog.Catalog.find.Goals as goal
 
 pub returns-in-Some : goal.returns-in-Some

@@ -23,7 +23,7 @@ use Rattle.store_script.specs.declared.outcome.Ending.{Ending}
 use Rattle.store_script.specs.declared.outcome.Ending.TheVariants as endings
 use Rattle.store_script.specs.declared.outcome.Stop.{Stop}
 use Rattle.store_script.specs.declared.outcome.Stop.TheVariants as stops
-use Rattle.store_script.proofs.Turns.{LineTurn}
+use Rattle.store_script.proofs.LineOutcomes.{LineTurn}
 
 -- ---- a line more
 

@@ -1,6 +1,0 @@
-use Rattle.store_board.specs.Passes.{IsGiverOf}
-use Rattle.store_board.specs.Seats.{IsSeatOf}
-use Rattle.store_shared.proofs.worker.hand_over.Given as goal
-
-abbrev pub invariant-loop : goal.invariant-loop
-invariant-loop g l = IsSeatOf l.board l.worker.seat × IsGiverOf l.line l.worker.pass
