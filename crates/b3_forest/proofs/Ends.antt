@@ -1,15 +1,14 @@
 -- Where an upload ends: what a part more and a fixed end leave of it.
-use Rattle.std.proofs.Common.{◌≡◌, ℕ, zero, suc, ◌+◌, ◌-◌, ◌%◌, ◌<◌, ◌≤◌, List, [], ◌∷◌, length, map, Option, Some, None, nat_lt, true, false, arith, refl, ap, ap₂, subst, sym, ◌∙◌, inl, inr}
-use Rattle.std.specs.Prelude.{◌==◌, ◌&&◌, ◌||◌, Bool, not, max, if◌then◌else◌, option_map, slice_get, unwrap_or}
+use Rattle.std.proofs.Common.{◌≡◌, ℕ, ◌%◌, ◌≤◌, List, [], ◌∷◌, length, Option, Some, None, nat_lt, true, false, arith, refl, ap, ap₂, subst, sym, ◌∙◌, inl, inr}
+use Rattle.std.specs.Prelude.{◌==◌, ◌&&◌, ◌||◌, Bool, not, max, if◌then◌else◌, option_map, unwrap_or}
 use Rattle.std.specs.List.{AllByRecursion}
 use Rattle.std.specs.Option.{option_or}
 use Rattle.std.proofs.lemmas.Bool.Decides.{nat_tests}
 use Rattle.b3_forest.specs.Nodes.{HaveRoom, Keeps, Nodes}
 use Rattle.b3_forest.specs.Parts.{Fits, Part, PlannedPart, UploadPlan, closed_plan, end_of, is_ragged, most_bytes, same_plan}
-use Rattle.b3_forest.specs.Uploads.{ArePlaced, IsUpload, Upload, add_refusal, ends_elsewhere, fix_refusal, fixed_at, last_end, length_of, new_upload, overlap_at, part_of, past_last, reached, with_more, with_part}
+use Rattle.b3_forest.specs.Uploads.{ArePlaced, IsUpload, Upload, add_refusal, ends_elsewhere, fix_refusal, fixed_at, last_end, length_of, new_upload, overlap_at, past_last, reached, with_more, with_part}
 use Rattle.b3_forest.specs.declared.add_refused.AddFault.TheVariants.{Overlap, PastLast, WrongPlan}
 use Rattle.b3_forest.specs.declared.fix_fault.FixFault.TheVariants as fix
-use Rattle.b3_forest.specs.declared.segment.Segment.{Segment}
 use Rattle.b3_forest.proofs.HeldParts.{placed_more, with_part_first, with_part_later}
 use Rattle.b3_forest.proofs.Holding.{placed_upload}
 use Rattle.b3_forest.proofs.OneForest.{bool_cases}
@@ -47,40 +46,21 @@ last_of : (p : Part) (ps : List Part) → last_end (p ∷ ps) ≡ max (end_of p)
 unfolding last_end
 last_of p ps = refl
 
-last_of_none : last_end [] ≡ 0
+pub last_of_none : last_end [] ≡ 0
 unfolding last_end
 last_of_none = refl
 
--- the last of placed parts ends last
-last_at : (n a j : ℕ) (ss : List Segment) (s : Segment) → ArePlaced n a (map part_of ss) → slice_get ss j ≡ Some s → j + 1 ≡ length ss
-    → last_end (map part_of ss) ≡ end_of (part_of s)
-last_at n a j [] s placed is all = absurd (omega (arith, all))
-last_at n a zero (t ∷ []) s placed is all =
-    let none = last_of_none in
-    ap (λ (x : Segment). last_end (part_of x ∷ [])) (some_is t s is) ∙ last_of (part_of s) [] ∙ omega (arith, none)
-  where
-    some_is : (t s : Segment) → Some t ≡ Some s → t ≡ s
-    some_is t s same = cc
-last_at n a (suc j) (t ∷ []) s placed is all = absurd (omega (arith, all))
-last_at n a zero (t ∷ u ∷ ss) s placed is all = absurd (omega (arith, all))
-last_at n a (suc j) (t ∷ u ∷ ss) s placed is all =
-    let rest = last_at n (end_of (part_of t)) j (u ∷ ss) s placed.2 is (omega (arith, all)) in
-    let one = last_of (part_of t) (map part_of (u ∷ ss)) in
-    let two = last_of (part_of u) (map part_of ss) in
-    omega (arith, rest, one, two, placed.2.0)
-
-pub last_is : (n : ℕ) (ss : List Segment) (s : Segment) → ArePlaced n 0 (map part_of ss) → slice_get ss (length ss - 1) ≡ Some s → last_end (map part_of ss) ≡ end_of (part_of s)
-last_is n [] s placed is = cc
-last_is n (t ∷ ss) s placed is = last_at n 0 (length (t ∷ ss) - 1) (t ∷ ss) s placed is (omega arith)
-
-pub last_is_none : (ss : List Segment) → slice_get ss (length ss - 1) ≡ None → last_end (map part_of ss) ≡ 0
-last_is_none [] none = last_of_none
-last_is_none (t ∷ ss) none = absurd (there (t ∷ ss) (length (t ∷ ss) - 1) (omega arith) none)
-  where
-    there : (ss : List Segment) (i : ℕ) → i < length ss → slice_get ss i ≡ None → ⊥
-    there [] i low none = omega (arith, low)
-    there (t ∷ ss) zero low none = cc
-    there (t ∷ ss) (suc i) low none = there ss i (omega (arith, low)) none
+pub last_with : (p : Part) (ps : List Part) → last_end (with_part p ps) ≡ max (last_end ps) (end_of p)
+unfolding with_part
+last_with p [] = let one = last_of p [] in let none = last_of_none in omega (arith, one, none)
+last_with p (q ∷ qs) = elim (cases_lt p.offset q.offset) [
+  | inl before ↦ let one = last_of p (q ∷ qs) in ap last_end (with_part_first p q qs before) ∙ omega (arith, one)
+  | inr after ↦
+      let rest = last_with p qs in
+      let one = last_of q (with_part p qs) in
+      let other = last_of q qs in
+      ap last_end (with_part_later p q qs after) ∙ omega (arith, rest, one, other)
+]
 
 pub last_within : (n a : ℕ) (ps : List Part) → ArePlaced n a ps → last_end ps ≤ n
 last_within n a [] placed = let none = last_of_none in omega (arith, none)

@@ -1,10 +1,11 @@
 -- What the parts of an upload hold, chunk by chunk.
 use Rattle.std.proofs.Common.{◌≡◌, ℕ, ◌+◌, ◌-◌, ◌*◌, ◌%◌, ◌<◌, ◌≤◌, ◌⊎◌, List, [], ◌∷◌, length, take, drop, Some, None, nat_lt, true, false, arith, refl, ap, subst, sym, ◌∙◌, inl, inr}
-use Rattle.std.specs.Prelude.{Bool, nat_le, min, max}
+use Rattle.std.specs.Prelude.{◌≢◌, ◌==◌, Bool, nat_le, min, max}
 use Rattle.std.proofs.lemmas.Bool.Decides.{nat_tests}
 use Rattle.std.proofs.lemmas.Bool.{cases_lt}
 use Rattle.std.proofs.lemmas.List.{length-drop, length-take}
 use Rattle.std.proofs.lemmas.List.Sums.{sum_by-cons}
+use Rattle.b3_forest.specs.Kept.{IsNew, without}
 use Rattle.b3_forest.specs.Nodes.{AreChunks, is_held}
 use Rattle.b3_forest.specs.Parts.{Part, Fits, chunk_in, chunks_of, end_of, closed_plan}
 use Rattle.b3_forest.specs.Uploads.{ArePlaced, held_bytes, overlap_at, overlaps, with_part}
@@ -195,6 +196,29 @@ overlap_order p q some other apart = elim (cases_lt q.offset (end_of p)) [
         let both : overlaps p q ≡ true = rw (first, second) refl in
         cc
   ]
+]
+
+-- no other part begins where a part does that overlaps none
+pub new_offset : (n a : ℕ) (p : Part) (ps : List Part) → 0 < length p.bytes → ArePlaced n a ps → overlap_at p ps ≡ None → IsNew p.offset ps
+new_offset n a p [] some placed none = tt
+new_offset n a p (q ∷ qs) some placed none =
+    let apart = no_overlap p q qs none in
+    let differ : q.offset ≢ p.offset = λ same. elim (overlap_order p q some placed.1.some apart.0) [ inl before ↦ omega (arith, same, before, some) | inr after ↦ omega (arith, same, after, placed.1.some) ] in
+    (differ, new_offset n (end_of q) p qs some placed.2 apart.1)
+
+-- a part more, taken out again
+pub without_with : (p : Part) (ps : List Part) → IsNew p.offset ps → without p.offset (with_part p ps) ≡ ps
+unfolding with_part without
+without_with p [] new = let test : (p.offset == p.offset) ≡ true = grind (arith, nat_tests) in rw (test, without) refl
+without_with p (q ∷ qs) new = elim (cases_lt p.offset q.offset) [
+  | inl before ↦
+      let test : (p.offset == p.offset) ≡ true = grind (arith, nat_tests) in
+      ap (without p.offset) (with_part_first p q qs before) ∙ rw (test, without) refl
+  | inr after ↦
+      let apart = new.0 in
+      let test : (q.offset == p.offset) ≡ false = grind (arith, nat_tests, apart) in
+      let rest = without_with p qs new.1 in
+      ap (without p.offset) (with_part_later p q qs after) ∙ rw (test, without) (ap (λ (l : List Part). q ∷ l) rest)
 ]
 
 pub placed_more : (n a : ℕ) (p : Part) (ps : List Part) → a ≤ p.offset → Fits (closed_plan n) p.offset (length p.bytes) → ArePlaced n a ps → overlap_at p ps ≡ None → ArePlaced n a (with_part p ps)

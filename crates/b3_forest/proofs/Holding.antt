@@ -1,5 +1,5 @@
 -- What the pieces of an upload tell of its parts.
-use Rattle.std.proofs.Common.{◌≡◌, ℕ, ◌+◌, ◌-◌, ◌*◌, ◌<◌, ◌≤◌, List, [], ◌∷◌, length, map, Some, None, nat_lt, true, false, arith, refl, ap, ap₂, subst, sym, ◌∙◌, inl, inr}
+use Rattle.std.proofs.Common.{◌≡◌, ℕ, ◌+◌, ◌-◌, ◌*◌, ◌<◌, ◌≤◌, List, [], ◌∷◌, length, Some, None, nat_lt, true, false, arith, refl, ap, ap₂, subst, sym, ◌∙◌, inl, inr}
 use Rattle.std.specs.Prelude.{OnErr, Result, Ok, Err}
 use Rattle.std.specs.List.Sorted.{IsStrictlySortedBy}
 use Rattle.std.specs.Map.{values_of}
@@ -9,17 +9,17 @@ use Rattle.b3_core.specs.Laws.{NeighboursJoin}
 use Rattle.b3_core.specs.Modes.{hash_mode}
 use Rattle.b3_core.specs.Tree.{Inputs, tree_top}
 use Rattle.b3_forest.specs.Forests.{IsForest}
+use Rattle.b3_forest.specs.Kept.{IsNew, without}
 use Rattle.b3_forest.specs.Nodes.{Nodes, AreForest, AreFresh, HaveRoom, IsFirstGap, Keeps, firsts, is_held, top_over, with_nodes}
 use Rattle.b3_forest.specs.Parts.{Part, chunk_in, chunks_of, most_bytes}
 use Rattle.b3_forest.specs.Pieces.{most_chunks, piece_count, pieces_of, root_level}
-use Rattle.b3_forest.specs.Uploads.{ArePlaced, IsUpload, content_of, first_gap, first_missing, held_bytes, merges_of, overlap_at, part_of, with_part, upload_of}
-use Rattle.b3_forest.specs.declared.segment.Segment.{Segment}
+use Rattle.b3_forest.specs.Uploads.{ArePlaced, IsUpload, content_of, first_gap, first_missing, held_bytes, merges_of, overlap_at, with_part, upload_of}
 use Rattle.b3_forest.specs.declared.piece.Piece.{Piece}
 use Rattle.b3_forest.proofs.Canonical.{AreSorted, forest_count}
 use Rattle.b3_forest.proofs.Contents.{missing_at}
 use Rattle.b3_forest.proofs.Finishing.{empty_top, whole_top, whole_upload}
 use Rattle.b3_forest.proofs.Growing.{grown_forest}
-use Rattle.b3_forest.proofs.HeldParts.{held_after, held_more, held_most, parts_joined, placed_more}
+use Rattle.b3_forest.proofs.HeldParts.{held_after, held_more, held_most, new_offset, parts_joined, placed_more, without_with}
 use Rattle.b3_forest.proofs.OneForest.{bool_cases}
 use Rattle.b3_forest.proofs.PiecesAreForest.{pieces_are_forest}
 
@@ -146,8 +146,15 @@ held_fits n p ps es keeps =
     let most = held_most n 0 (with_part p ps) (omega arith) keeps.upload.placed in
     omega (arith, more, most, keeps.upload.most)
 
-pub segments_more : (n : ℕ) (p : Part) (old room new : List Segment) (s : Segment) → ArePlaced n 0 (map part_of old) → room ≡ old → part_of s ≡ p
-    → (ArePlaced n 0 (map part_of room) → map part_of new ≡ with_part (part_of s) (map part_of room)) → map part_of new ≡ with_part p (map part_of old)
-segments_more n p old room new s placed same part put =
-    let parts = ap (map part_of) same in
-    put (subst (ArePlaced n 0) (sym parts) placed) ∙ ap₂ with_part part parts
+-- ---- what segments hold with a part more
+
+-- the part lies among the others, where no other begins
+pub put_among : (n : ℕ) (ps qs : List Part) (p : Part) (es : Nodes) → HaveRoom n ps p es → ((m : ℕ) → ArePlaced m 0 ps → IsNew p.offset ps → qs ≡ with_part p ps) → qs ≡ with_part p ps
+put_among n ps qs p es room put = put n room.keeps.upload.placed (new_offset n 0 p ps room.fits.some room.keeps.upload.placed room.apart)
+
+-- and taken out again it leaves them as they were
+pub put_and_out : (n : ℕ) (ps qs rs : List Part) (p : Part) (es : Nodes) → HaveRoom n ps p es → ((m : ℕ) → ArePlaced m 0 ps → IsNew p.offset ps → qs ≡ with_part p ps)
+    → rs ≡ without p.offset qs → rs ≡ ps
+put_and_out n ps qs rs p es room put out =
+    let new = new_offset n 0 p ps room.fits.some room.keeps.upload.placed room.apart in
+    out ∙ ap (without p.offset) (put_among n ps qs p es room put) ∙ without_with p ps new

@@ -1,5 +1,6 @@
 pub mod Followed
 pub mod Forests
+pub mod Kept
 pub mod Nodes
 pub mod PartRefusals
 pub mod Parts

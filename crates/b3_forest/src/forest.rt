@@ -8,55 +8,65 @@ ghost use Rattle.b3_forest.specs.Uploads.{ArePlaced, IsComplete, IsUpload, add_r
 ghost use Rattle.b3_forest.specs.declared.add_refused.AddFault.TheVariants.{NoMemory};
 
 use crate::add_refused::{AddFault, AddRefused};
+use crate::by_offset::ByOffset;
 use crate::finish_fault::FinishFault;
 use crate::fix_fault::FixFault;
 use crate::held;
 use crate::incomplete::Incomplete;
+use crate::kept::{Segments, put_part};
 use crate::node::Node;
 use crate::plan::Plan;
 use crate::prepared::Prepared;
-use crate::segment::{Segment, put_segment};
+use crate::segment::Segment;
 use b3_core::{Top, Work};
-use std::alloc::Global;
+use std::alloc::{AllocError, Global};
 use std::collections::BTreeMap;
 use std::marker::Model;
 
 /// The parts that an upload holds. It keeps their bytes by offset, and the pieces of all of them: neighbours that are
 /// the halves of one aligned range are merged, so that a run of held chunks has at most two pieces of each width.
 #[derive(Drop)]
-pub struct Forest {
+pub struct ForestOf<S: Segments> {
     plan: Plan,
     end: Option<u64>,
-    segments: Vec<Segment>,
+    greatest_end: u64,
+    segments: S,
     nodes: BTreeMap<u64, Node>,
     held: u64,
 }
 
-impl Model for Forest {
-    ghost use Rattle.std.specs.Prelude.{◌≡◌, map};
+/// A forest that shows its parts as a slice. A part that is added before others moves their entries, of 16 bytes each.
+pub type Forest = ForestOf<Vec<Segment>>;
+
+/// A forest that keeps its parts in an ordered map: one is added among n others in the time of log n, wherever it lies.
+pub type MappedForest = ForestOf<ByOffset>;
+
+impl<S: Segments> Model for ForestOf<S> {
+    ghost use Rattle.std.specs.Prelude.{◌≡◌};
     ghost use Rattle.b3_forest.specs.Nodes.{Keeps};
-    ghost use Rattle.b3_forest.specs.Uploads.{IsUpload, Upload, held_bytes, length_of, part_of};
+    ghost use Rattle.b3_forest.specs.Uploads.{IsUpload, Upload, held_bytes, last_end, length_of};
 
     ghost Value = { Upload };
 
-    ghost view = { λ f. record { plan = f.plan; end = f.end; parts = map part_of f.segments.items } };
+    ghost view = { λ f. record { plan = f.plan; end = f.end; parts = S.parts f.segments } };
 
-    ghost invariant = { λ f. IsUpload (record { plan = f.plan; end = f.end; parts = map part_of f.segments.items })
-        × Keeps (length_of (record { plan = f.plan; end = f.end; parts = map part_of f.segments.items })) (map part_of f.segments.items) f.nodes.entries
-        × (f.held ≡ held_bytes (map part_of f.segments.items)) };
+    ghost invariant = { λ f. IsUpload (record { plan = f.plan; end = f.end; parts = S.parts f.segments })
+        × Keeps (length_of (record { plan = f.plan; end = f.end; parts = S.parts f.segments })) (S.parts f.segments) f.nodes.entries
+        × (f.held ≡ held_bytes (S.parts f.segments)) × (f.greatest_end ≡ last_end (S.parts f.segments)) };
 }
 
-impl Forest {
+impl<S: Segments> ForestOf<S> {
     /// A forest that holds nothing. It takes no memory.
-    pub fn new(alloc: Global, plan: Plan) -> Forest
+    pub fn new(alloc: Global, plan: Plan) -> ForestOf<S>
         ensures { result ≡ new_upload plan }
     {
         let _most = plan.bound();
         let end = plan.end();
-        Forest {
+        ForestOf {
             plan,
             end,
-            segments: Vec::new(alloc),
+            greatest_end: 0,
+            segments: S::new(alloc),
             nodes: BTreeMap::new(alloc),
             held: 0,
         }
@@ -67,7 +77,7 @@ impl Forest {
         ensures value { result ≡ self.now.plan }
         ensures lawful { IsUpload self.now }
     {
-        let Forest { plan, .. } = self;
+        let ForestOf { plan, .. } = self;
         *plan
     }
 
@@ -75,7 +85,7 @@ impl Forest {
     pub fn end(&self) -> Option<u64>
         ensures { result ≡ self.now.end }
     {
-        let Forest { end, .. } = self;
+        let ForestOf { end, .. } = self;
         *end
     }
 
@@ -91,11 +101,7 @@ impl Forest {
     fn reached(&self) -> u64
         ensures { result ≡ reached self.now }
     {
-        match (self.end, self.segments.as_slice().last()) {
-            (Some(end), _) => end,
-            (None, Some(last)) => last.offset + last.bytes.as_slice().len() as u64,
-            (None, None) => 0,
-        }
+        self.end.unwrap_or(self.greatest_end)
     }
 
     // How far the upload reaches, where the part would end past its end, or would end it where it doesn't end.
@@ -199,17 +205,18 @@ impl Forest {
         }
         let end = self.end_with(&part);
         let len = part.fitting().len() as u64;
-        let Ok(()) = self.segments.reserve(1) else {
+        let Ok(()) = put_part(&mut self.segments, &part) else {
             let fault = AddFault::NoMemory;
             return Err(AddRefused { fault, part });
         };
         let Ok(merges) = held::add(&mut self.nodes, &part, work) else {
+            self.segments.take_out(part.offset());
             let fault = AddFault::NoMemory;
             return Err(AddRefused { fault, part });
         };
         self.end = end;
+        self.greatest_end = self.greatest_end.max(part.end());
         self.held += len;
-        put_segment(&mut self.segments, part.into_segment());
         Ok(merges)
     }
 
@@ -217,7 +224,7 @@ impl Forest {
     pub fn held(&self) -> u64
         ensures { result ≡ held_bytes self.now.parts }
     {
-        let Forest { held, .. } = self;
+        let ForestOf { held, .. } = self;
         *held
     }
 
@@ -232,15 +239,7 @@ impl Forest {
     pub fn parts(&self) -> usize
         ensures { result ≡ length self.now.parts }
     {
-        self.segments.len()
-    }
-
-    /// The parts, in order of offset.
-    pub fn segments(&self) -> &[Segment]
-        ensures parts { map part_of result.now ≡ self.now.parts }
-        ensures in_order { ArePlaced (length_of self.now) 0 (map part_of result.now) }
-    {
-        self.segments.as_slice()
+        self.segments.count()
     }
 
     /// The top of the tree over the whole content, or F13 where the upload's end is not fixed, or F10 with the least
@@ -260,5 +259,24 @@ impl Forest {
             Ok(top) => Ok(top),
             Err(Incomplete { missing }) => Err(FinishFault::Incomplete { missing }),
         }
+    }
+}
+
+impl Forest {
+    /// The parts, in order of offset.
+    pub fn segments(&self) -> &[Segment]
+        ensures parts { map part_of result.now ≡ self.now.parts }
+        ensures in_order { ArePlaced (length_of self.now) 0 (map part_of result.now) }
+    {
+        self.segments.as_slice()
+    }
+}
+
+impl MappedForest {
+    /// The parts, in order of offset; their bytes are shared.
+    pub fn shared_segments(&self, alloc: Global) -> Result<Vec<Segment>, AllocError>
+        ensures { IfOk result (λ segments. map part_of segments.items ≡ self.now.parts) }
+    {
+        self.segments.copied(alloc)
     }
 }

@@ -14,6 +14,7 @@
 #![tactic(auto)]
 
 mod add_refused;
+mod by_offset;
 mod cutting;
 mod finish_fault;
 mod fix_fault;
@@ -22,6 +23,7 @@ mod forest;
 mod halves;
 mod held;
 mod incomplete;
+mod kept;
 mod laws;
 mod node;
 mod nodes;
@@ -36,7 +38,7 @@ pub use add_refused::{AddFault, AddRefused};
 pub use finish_fault::FinishFault;
 pub use fix_fault::FixFault;
 pub use follow::Follow;
-pub use forest::Forest;
+pub use forest::{Forest, MappedForest};
 pub use incomplete::Incomplete;
 pub use laws::{forest_laws, upload_laws};
 pub use note_fault::NoteFault;

@@ -14,7 +14,7 @@ use crate::plan::{MOST_CHUNKS, Plan, ROOT_LEVEL};
 use crate::refusal::{PartFault, PartRefused, fault_of};
 use crate::segment::Segment;
 use b3_core::Work;
-use std::alloc::Global;
+use std::alloc::{AllocError, Global};
 use std::marker::Model;
 use std::sync::Arc;
 
@@ -146,14 +146,11 @@ impl Prepared {
         self.pieces.as_slice()
     }
 
-    /// The part's bytes and where they begin, without its pieces.
-    pub(crate) fn into_segment(self) -> Segment
-        ensures { part_of result ≡ self.part }
+    /// The part's bytes, shared, and where they begin.
+    pub(crate) fn segment(&self) -> Result<Segment, AllocError>
+        ensures { IfOk result (λ segment. part_of segment ≡ self.now.part) }
     {
-        Segment {
-            offset: self.offset,
-            bytes: self.bytes,
-        }
+        Segment::sharing(self.offset, &self.bytes)
     }
 
     /// How many pieces the part has.

@@ -1,9 +1,11 @@
 // A part's bytes, as an upload keeps them.
 
-ghost use Rattle.std.specs.Prelude.{◌≡◌, ℕ, ◌<◌, map, vec_capacity, vec_len};
+ghost use Rattle.std.specs.Prelude.{◌≡◌, ℕ, ◌<◌, IfOk, map, vec_capacity, vec_len};
+ghost use Rattle.std.specs.Arc.{arc_value};
 ghost use Rattle.b3_forest.specs.Parts.{Part};
 ghost use Rattle.b3_forest.specs.Uploads.{ArePlaced, part_of, with_part};
 
+use std::alloc::AllocError;
 use std::sync::Arc;
 
 /// The bytes of one part, and where they begin in the upload.
@@ -13,6 +15,18 @@ pub struct Segment {
     pub offset: u64,
     /// The bytes.
     pub bytes: Arc<Vec<u8>>,
+}
+
+impl Segment {
+    /// The segment of bytes that it shares.
+    pub(crate) fn sharing(offset: u64, bytes: &Arc<Vec<u8>>) -> Result<Segment, AllocError>
+        ensures { IfOk result (λ s. part_of s ≡ record { offset = offset; bytes = (arc_value bytes.now).items }) }
+    {
+        match Arc::try_clone(bytes) {
+            Ok(bytes) => Ok(Segment { offset, bytes }),
+            Err(_) => Err(AllocError),
+        }
+    }
 }
 
 /// Puts a segment among others, by offset.

@@ -10,14 +10,14 @@ ghost use Rattle.store_journal.specs.Replay.{is_number};
 
 use crate::held::Held;
 use b3_core::Work;
-use b3_forest::{Forest, Prepared};
+use b3_forest::{MappedForest, Prepared};
 use std::collections::BTreeMap;
 
 // An upload that is not closed: its tenant's number, and what it holds.
 #[derive(Drop)]
 pub(crate) struct OpenUpload {
     pub(crate) tenant: u64,
-    pub(crate) forest: Forest,
+    pub(crate) forest: MappedForest,
 }
 
 impl OpenUpload {
