@@ -11,7 +11,8 @@ use std::simd::u32x4;
 
 pub(crate) const BLOCK_LEN: usize = 64;
 
-pub(crate) const CHUNK_LEN: usize = 1024;
+/// How many bytes a chunk has; the last of an input may have fewer (section 2.1).
+pub const CHUNK_LEN: usize = 1024;
 
 pub(crate) const CHUNK_START: u32 = 1;
 

@@ -29,7 +29,7 @@ mod wide;
 mod words;
 mod work;
 
-pub use compression::compress;
+pub use compression::{CHUNK_LEN, compress};
 pub use hasher::Hasher;
 pub use laws::tree_laws;
 pub use mode::Mode;

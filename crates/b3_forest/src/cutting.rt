@@ -7,10 +7,8 @@ ghost use Rattle.b3_forest.specs.Parts.{chunks_of};
 ghost use Rattle.b3_forest.specs.Pieces.{most_chunks, part_work, piece_at, pieces_of};
 
 use crate::piece::Piece;
-use b3_core::{Mode, Top, Work};
+use b3_core::{CHUNK_LEN, Mode, Top, Work};
 use std::alloc::AllocError;
-
-const CHUNK_LEN: usize = 1024;
 
 // The piece of 2^level chunks from the chunk `first` on, of a part that begins at the chunk `start` and covers them.
 fn piece_of(start: u64, bytes: &[u8], level: u32, width: u64, first: u64, work: &mut Work) -> Piece

@@ -11,7 +11,7 @@ use crate::held;
 use crate::incomplete::Incomplete;
 use crate::node::Node;
 use crate::note_fault::NoteFault;
-use crate::plan::{Plan, PlanTooLong};
+use crate::plan::{Plan, TooLong};
 use crate::prepared::Prepared;
 use b3_core::{Top, Work};
 use std::alloc::Global;
@@ -39,7 +39,7 @@ impl<'a> Model for Follow<'a> {
 impl<'a> Follow<'a> {
     /// Follows the parts of an upload of these bytes; none is noted. F1 where they are more than 2^44. It takes no
     /// memory.
-    pub fn new(alloc: Global, bytes: &'a [u8]) -> Result<Follow<'a>, PlanTooLong>
+    pub fn new(alloc: Global, bytes: &'a [u8]) -> Result<Follow<'a>, TooLong>
         ensures bytes { IfOk result (λ f. f.bytes ≡ bytes.now) }
         ensures nothing { IfOk result (λ f. (i : ℕ) → IsNoted f i → ⊥) }
         ensures no_pieces { IfOk result (λ f. pieces_noted f ≡ 0) }

@@ -11,12 +11,11 @@ ghost use Rattle.b3_forest.specs.Uploads.{content_of, finish_work, first_missing
 use crate::incomplete::Incomplete;
 use crate::node::Node;
 use crate::nodes::{first_gap, first_held, put_in, settle_all, top_of};
+use crate::plan::CHUNK_LEN;
 use crate::prepared::Prepared;
 use b3_core::{Mode, Top, Work, tree_laws};
 use std::alloc::AllocError;
 use std::collections::BTreeMap;
-
-const CHUNK_LEN: u64 = 1024;
 
 /// The least offset of a part that is held already.
 pub(crate) fn overlap(nodes: &BTreeMap<u64, Node>, part: &Prepared) -> Option<u64>

@@ -42,7 +42,7 @@ pub use forest::{Forest, MappedForest};
 pub use incomplete::Incomplete;
 pub use laws::{forest_laws, upload_laws};
 pub use note_fault::NoteFault;
-pub use plan::{Plan, PlanTooLong};
+pub use plan::{Plan, TooLong};
 pub use prepared::Prepared;
 pub use refusal::{PartFault, PartRefused};
 pub use segment::Segment;

@@ -6,17 +6,20 @@ ghost use Rattle.b3_forest.specs.Uploads.{new_upload};
 
 use std::marker::Model;
 
+// How many bytes a chunk has.
+pub(crate) const CHUNK_LEN: u64 = b3_core::CHUNK_LEN as u64;
+
 /// The most bytes of an upload, 2^44.
 pub const MOST_BYTES: u64 = 1 << 44;
 
 /// The number of all chunks that an upload may have, and the level of their range.
-pub(crate) const MOST_CHUNKS: u64 = MOST_BYTES / 1024;
+pub(crate) const MOST_CHUNKS: u64 = MOST_BYTES / CHUNK_LEN;
 
 pub(crate) const ROOT_LEVEL: u32 = 34;
 
 /// F1: the length is above 2^44.
 #[derive(Clone, Copy, PartialEq, Eq, Debug)]
-pub struct PlanTooLong;
+pub struct TooLong;
 
 /// The plan of an upload: its length in bytes, or, of an open plan, the most that it may have where its length is fixed
 /// later. At most 2^44.
@@ -41,12 +44,12 @@ impl Model for Plan {
 
 impl Plan {
     /// The plan of an upload of `len` bytes. F1 where that is above 2^44.
-    pub fn new(len: u64) -> Result<Plan, PlanTooLong>
+    pub fn new(len: u64) -> Result<Plan, TooLong>
         ensures plan { IfOk result (λ plan. plan ≡ closed_plan len) }
         ensures too_long { IsErr result ↔ most_bytes < len }
     {
         if len > MOST_BYTES {
-            return Err(PlanTooLong);
+            return Err(TooLong);
         }
         Ok(Plan {
             bound: len,
@@ -55,12 +58,12 @@ impl Plan {
     }
 
     /// The plan of an upload of at most so many bytes, whose length is fixed later. F1 where that is above 2^44.
-    pub fn open(at_most: u64) -> Result<Plan, PlanTooLong>
+    pub fn open(at_most: u64) -> Result<Plan, TooLong>
         ensures plan { IfOk result (λ plan. plan ≡ open_plan at_most) }
         ensures too_long { IsErr result ↔ most_bytes < at_most }
     {
         if at_most > MOST_BYTES {
-            return Err(PlanTooLong);
+            return Err(TooLong);
         }
         Ok(Plan {
             bound: at_most,

@@ -4,10 +4,8 @@ ghost use Rattle.std.specs.Prelude.{◌≡◌, ◌≤◌, IfNone, Some};
 ghost use Rattle.b3_forest.specs.PartRefusals.{part_fault_text, part_refusal};
 ghost use Rattle.b3_forest.specs.Parts.{Fits, most_bytes};
 
-use crate::plan::Plan;
+use crate::plan::{CHUNK_LEN, Plan};
 use std::fmt;
-
-const CHUNK_LEN: u64 = 1024;
 
 /// The most bytes of a part, 2^24.
 pub const MOST_PART_BYTES: u64 = 1 << 24;

@@ -1,6 +1,6 @@
 use crate::patterns::{closed_plan, open_plan, part_of_pattern, pattern, planned_part};
 use b3_core::Work;
-use b3_forest::{PartFault, PartRefused, Plan, PlanTooLong, Prepared};
+use b3_forest::{PartFault, PartRefused, Plan, TooLong, Prepared};
 use std::test::Fail;
 
 #[test]
@@ -116,7 +116,7 @@ fn parts_past_the_bound_of_an_open_plan(rt: HostRuntime) -> Result<(), Fail> {
 
 #[test]
 fn plans_up_to_two_to_the_forty_four(rt: HostRuntime) -> Result<(), Fail> {
-    assert_eq!(rt; Plan::new(17_592_186_044_417), Err(PlanTooLong));
+    assert_eq!(rt; Plan::new(17_592_186_044_417), Err(TooLong));
     let plan = closed_plan(17_592_186_044_416)?;
     assert_eq!(rt; (plan.bound(), plan.is_open()), (17_592_186_044_416, false));
     Ok(())
@@ -124,7 +124,7 @@ fn plans_up_to_two_to_the_forty_four(rt: HostRuntime) -> Result<(), Fail> {
 
 #[test]
 fn open_plans_up_to_two_to_the_forty_four(rt: HostRuntime) -> Result<(), Fail> {
-    assert_eq!(rt; Plan::open(17_592_186_044_417), Err(PlanTooLong));
+    assert_eq!(rt; Plan::open(17_592_186_044_417), Err(TooLong));
     let plan = open_plan(17_592_186_044_416)?;
     assert_eq!(rt; (plan.bound(), plan.is_open()), (17_592_186_044_416, true));
     Ok(())

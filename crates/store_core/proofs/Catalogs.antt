@@ -13,7 +13,7 @@ use Rattle.store_core.specs.Catalog.{AreCatalogued, IsAddressed}
 use Rattle.store_core.specs.Commands.{with_holders}
 use Rattle.store_core.specs.Model.{ModelCatalog, ModelObject, addressed, object_among}
 use Rattle.store_journal.proofs.ObjectsByNumber.{agrees, filed_after, filed_less, filed_more, object_missing, object_there, placed, removed, replaced, unplaced, values-push}
-use Rattle.store_core.proofs.Filings.{readdressed}
+use Rattle.store_core.proofs.AddressedObjects.{readdressed}
 use Rattle.store_core.proofs.Listed.{all_push, all_removed, all_set}
 use Rattle.store_journal.proofs.Maps.{all_below, inserted_last, is_there}
 

@@ -1,13 +1,13 @@
 pub mod Counted
 pub mod Accepting
-pub mod Carrying
+pub mod SoundAfter
 pub mod Catalogs
-pub mod Filings
+pub mod AddressedObjects
 pub mod HolderSearch
 pub mod HoldingRows
 pub mod Holdings
-pub mod Keeping
-pub mod Leaving
+pub mod LawAfter
+pub mod CommandsLeave
 pub mod Listed
 pub mod ModelRows
 pub mod Naming

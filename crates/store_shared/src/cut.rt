@@ -12,7 +12,7 @@ use std::alloc::Global;
 use std::marker::Model;
 
 // The bytes of a chunk.
-const CHUNK_LEN: u64 = 1024;
+const CHUNK_LEN: u64 = b3_core::CHUNK_LEN as u64;
 
 // The most chunks of a part.
 pub(crate) const MOST_PART_CHUNKS: u64 = 16384;
