@@ -151,7 +151,7 @@ def growths_of(refusing, words, data, may_have_written):
     """How many runs did as they must, how many of these ended for want of memory, and what the others did."""
     undisturbed, _ = refusing.run(words, data, 0)
     whole = (undisturbed.returncode, undisturbed.stdout, undisturbed.stderr)
-    if may_have_written is never and undisturbed.returncode:
+    if undisturbed.returncode > (0 if may_have_written is never else 1):
         return 0, 0, [f"it fails where no growth is refused: {whole!r}"]
     passed, ended, failed = 0, 0, []
     for growth in range(1, MOST_GROWTHS):

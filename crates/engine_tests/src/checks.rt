@@ -1,14 +1,18 @@
 //! The engine of `check`.
 
-use crate::fakes::{FailingReader, FailingWriter, Table};
+use crate::fakes::{FailingReader, FailingWriter, InterruptedReader, Table};
 use crate::vectors::ABC;
 use b3_check::NameFault;
 use hex::FromHex;
+use std::io::Read;
 use std::process::Abort;
 use std::test::Fail;
 use store_engines::{Cause, Verdict, check};
 
 const NO_NAMES: &[(&[u8], Result<[u8; 32], NameFault>)] = &[];
+
+// The report on `abc`, which is no check line.
+const REPORT: &[u8] = b"fault 1 C2\ngood 0 bad 0 missing 0 unreadable 0 faults 1\n";
 
 #[test]
 fn good_bad_and_unreadable_names(rt: HostRuntime) -> Result<(), Fail> {
@@ -46,7 +50,7 @@ fn names_without_memory(rt: HostRuntime) -> Result<(), Fail> {
 }
 
 #[test]
-fn a_failed_read_writes_nothing(rt: HostRuntime) -> Result<(), Fail> {
+fn each_read_that_fails_writes_nothing(rt: HostRuntime) -> Result<(), Fail> {
     for fails_at in 0..4u64 {
         let mut names = Table::new(NO_NAMES);
         let mut reader = FailingReader::new(b"abc", fails_at);
@@ -60,29 +64,34 @@ fn a_failed_read_writes_nothing(rt: HostRuntime) -> Result<(), Fail> {
 }
 
 #[test]
-fn a_failed_write_ends_it(rt: HostRuntime) -> Result<(), Fail> {
-    // The report is `fault 1 C2` and the counts: 11 bytes and 45.
-    for fails_at in 0..56u64 {
+fn each_write_that_fails_is_the_last(rt: HostRuntime) -> Result<(), Fail> {
+    // The report has 56 bytes, and a flush follows.
+    for fails_at in 0..57u64 {
         let mut names = Table::new(NO_NAMES);
         let mut reader = b"abc".as_slice();
         let mut writer = FailingWriter::new(rt.alloc(), fails_at);
         let ended = check(rt.alloc(), &mut names, &mut reader, &mut writer);
         assert_eq!(rt; ended, Err(Cause::CannotWrite));
-        assert_eq!(rt; writer.calls_after, 1);
+        assert!(rt; writer.has_stopped_in(REPORT));
     }
     Ok(())
 }
 
-#[test]
-fn one_byte_a_call_is_no_fault(rt: HostRuntime) -> Result<(), Fail> {
+// The report on `abc`, which this reader gives, is written a byte a call.
+fn abc_is_reported<R: AllocGlobal + Abort, I: Read>(rt: &R, reader: &mut I) {
     let mut names = Table::new(NO_NAMES);
-    let mut reader = FailingReader::new(b"abc", u64::MAX);
     let mut writer = FailingWriter::new(rt.alloc(), u64::MAX);
-    let ended = check(rt.alloc(), &mut names, &mut reader, &mut writer);
+    let ended = check(rt.alloc(), &mut names, reader, &mut writer);
     assert_eq!(rt; ended, Ok(Verdict::Refused));
-    assert_eq!(rt;
-        writer.taken.as_slice(),
-        b"fault 1 C2\ngood 0 bad 0 missing 0 unreadable 0 faults 1\n".as_slice()
-    );
-    Ok(())
+    assert_eq!(rt; writer.taken.as_slice(), REPORT);
+}
+
+#[test]
+fn one_byte_a_call_is_no_fault(rt: HostRuntime) {
+    abc_is_reported(&rt, &mut FailingReader::new(b"abc", u64::MAX));
+}
+
+#[test]
+fn an_interrupted_read_is_tried_again(rt: HostRuntime) {
+    abc_is_reported(&rt, &mut InterruptedReader::new(b"abc"));
 }

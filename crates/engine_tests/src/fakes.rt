@@ -1,4 +1,4 @@
-//! Readers and writers that fail at a call, or that give and take one byte at a time, and names over memory.
+//! Readers and writers that fail at a call, that give and take one byte at a time, or that are interrupted, and names over memory.
 
 use b3_check::{NameFault, Names};
 use std::alloc::Global;
@@ -38,13 +38,44 @@ impl Read for FailingReader<'_> {
     }
 }
 
-/// Takes one byte a call. The call with the number `fails_at`, from 0, and all later ones fail.
+/// Gives one byte a call, and answers `Interrupted` before each of them and before the end.
+#[derive(Drop)]
+pub struct InterruptedReader<'a> {
+    pub bytes: &'a [u8],
+    pub gives_next: bool,
+}
+
+impl<'a> InterruptedReader<'a> {
+    pub fn new(bytes: &'a [u8]) -> InterruptedReader<'a> {
+        InterruptedReader {
+            bytes,
+            gives_next: false,
+        }
+    }
+}
+
+impl Read for InterruptedReader<'_> {
+    fn read(&mut self, buf: &mut [u8]) -> io::Result<usize> {
+        self.gives_next = !self.gives_next;
+        if self.gives_next {
+            return Err(io::Error::from(ErrorKind::Interrupted));
+        }
+        if buf.is_empty() || self.bytes.is_empty() {
+            return Ok(0);
+        }
+        buf[0] = self.bytes[0];
+        self.bytes = &self.bytes[1..];
+        Ok(1)
+    }
+}
+
+/// Takes one byte a write. The call with the number `fails_at`, from 0, be it a write or a flush, and all later ones fail.
 #[derive(Drop)]
 pub struct FailingWriter {
     pub taken: Vec<u8>,
     pub calls: u64,
     pub fails_at: u64,
-    pub calls_after: u64,
+    pub failed: u64,
 }
 
 impl FailingWriter {
@@ -53,18 +84,29 @@ impl FailingWriter {
             taken: Vec::new(alloc),
             calls: 0,
             fails_at,
-            calls_after: 0,
+            failed: 0,
         }
+    }
+
+    /// Whether a call failed, no call came behind it, and what was taken is the beginning of a text.
+    pub fn has_stopped_in(&self, text: &[u8]) -> bool {
+        self.calls == self.fails_at && self.failed == 1 && text.starts_with(self.taken.as_slice())
+    }
+
+    // Counts a call, and fails it from the one on that is to fail.
+    fn count(&mut self) -> io::Result<()> {
+        if self.calls >= self.fails_at {
+            self.failed = self.failed.saturating_add(1);
+            return Err(io::Error::from(ErrorKind::Other));
+        }
+        self.calls += 1;
+        Ok(())
     }
 }
 
 impl Write for FailingWriter {
     fn write(&mut self, buf: &[u8]) -> io::Result<usize> {
-        if self.calls >= self.fails_at {
-            self.calls_after = self.calls_after.saturating_add(1);
-            return Err(io::Error::from(ErrorKind::Other));
-        }
-        self.calls += 1;
+        self.count()?;
         if buf.is_empty() {
             return Ok(0);
         }
@@ -73,7 +115,7 @@ impl Write for FailingWriter {
     }
 
     fn flush(&mut self) -> io::Result<()> {
-        Ok(())
+        self.count()
     }
 }
 

@@ -12,11 +12,9 @@ mod fakes;
 #[cfg(test)]
 mod files;
 #[cfg(test)]
-mod memory;
+mod growths;
 #[cfg(test)]
 mod runs;
-#[cfg(test)]
-mod scripts;
 #[cfg(test)]
 mod sums;
 #[cfg(test)]

@@ -1,8 +1,9 @@
 //! The engine of `upload`.
 
-use crate::fakes::FailingReader;
-use crate::vectors::PATTERN_2049;
+use crate::fakes::{FailingReader, FailingWriter, InterruptedReader};
+use crate::vectors::{ABC, PATTERN_2049};
 use std::alloc::{AllocError, Global};
+use std::io::{Read, Write};
 use std::marker::Brand;
 use std::process::Abort;
 use std::sync::Wait;
@@ -39,6 +40,16 @@ fn check_told<R: AllocGlobal + Abort>(rt: &R, text: &[u8]) -> Result<(), Fail> {
     Ok(())
 }
 
+fn uploaded<R: Threads + Wait + Sync + AllocGlobal, I: Read, W: Write>(
+    rt: &R,
+    options: UploadOptions,
+    reader: &mut I,
+    writer: &mut W,
+) -> Result<Verdict, Cause> {
+    let (bytes, calls) = (Blank::new(1 << 32), Blank::new(1 << 32));
+    upload::<Brand, Brand, _, _, _>(rt, rt.alloc(), options, bytes, calls, reader, writer)
+}
+
 #[test]
 fn three_workers_and_a_chunk_a_part(rt: HostRuntime) -> Result<(), Fail> {
     let input = pattern(rt.alloc(), 2049)?;
@@ -49,40 +60,9 @@ fn three_workers_and_a_chunk_a_part(rt: HostRuntime) -> Result<(), Fail> {
     };
     let mut reader = input.as_slice();
     let mut writer: Vec<u8> = Vec::new(rt.alloc());
-    let ended = upload::<Brand, Brand, _, _, _>(
-        &rt,
-        rt.alloc(),
-        options,
-        Blank::new(1 << 32),
-        Blank::new(1 << 32),
-        &mut reader,
-        &mut writer,
-    );
+    let ended = uploaded(&rt, options, &mut reader, &mut writer);
     assert_eq!(rt; ended, Ok(Verdict::Good));
     check_told(&rt, writer.as_slice())
-}
-
-#[test]
-fn a_failed_read_writes_nothing(rt: HostRuntime) -> Result<(), Fail> {
-    let options = UploadOptions {
-        workers: 1,
-        part_chunks: 1,
-        journal: true,
-    };
-    let mut reader = FailingReader::new(b"abc", 2);
-    let mut writer: Vec<u8> = Vec::new(rt.alloc());
-    let ended = upload::<Brand, Brand, _, _, _>(
-        &rt,
-        rt.alloc(),
-        options,
-        Blank::new(1 << 32),
-        Blank::new(1 << 32),
-        &mut reader,
-        &mut writer,
-    );
-    assert_eq!(rt; ended, Err(Cause::CannotRead));
-    assert!(rt; writer.is_empty());
-    Ok(())
 }
 
 // No worker: a cut that no command line asks for.
@@ -95,16 +75,68 @@ fn a_cut_without_workers_is_refused(rt: HostRuntime) -> Result<(), Fail> {
     };
     let mut reader = b"abc".as_slice();
     let mut writer: Vec<u8> = Vec::new(rt.alloc());
-    let ended = upload::<Brand, Brand, _, _, _>(
-        &rt,
-        rt.alloc(),
-        options,
-        Blank::new(1 << 32),
-        Blank::new(1 << 32),
-        &mut reader,
-        &mut writer,
-    );
+    let ended = uploaded(&rt, options, &mut reader, &mut writer);
     assert_eq!(rt; ended, Ok(Verdict::Refused));
     assert_eq!(rt; writer.as_slice(), b"refused U2\n".as_slice());
     Ok(())
+}
+
+const ONE_WORKER: UploadOptions = UploadOptions {
+    workers: 1,
+    part_chunks: 1,
+    journal: false,
+};
+
+// What is written of `abc`.
+fn text_of_abc(alloc: Global) -> Result<String, AllocError> {
+    format!(in alloc; "{ABC}  -\naccepted 3 1\n")
+}
+
+#[test]
+fn each_read_that_fails_writes_nothing(rt: HostRuntime) -> Result<(), Fail> {
+    for fails_at in 0..4u64 {
+        let mut reader = FailingReader::new(b"abc", fails_at);
+        let mut writer: Vec<u8> = Vec::new(rt.alloc());
+        let ended = uploaded(&rt, ONE_WORKER, &mut reader, &mut writer);
+        assert_eq!(rt; ended, Err(Cause::CannotRead));
+        assert!(rt; writer.is_empty());
+    }
+    Ok(())
+}
+
+// A flush follows the text.
+#[test]
+fn each_write_that_fails_is_the_last(rt: HostRuntime) -> Result<(), Fail> {
+    let text = text_of_abc(rt.alloc())?;
+    for fails_at in 0..(text.len() as u64).saturating_add(1) {
+        let mut reader = b"abc".as_slice();
+        let mut writer = FailingWriter::new(rt.alloc(), fails_at);
+        let ended = uploaded(&rt, ONE_WORKER, &mut reader, &mut writer);
+        assert_eq!(rt; ended, Err(Cause::CannotWrite));
+        assert!(rt; writer.has_stopped_in(text.as_bytes()));
+    }
+    Ok(())
+}
+
+// `abc`, which this reader gives, is uploaded, and told a byte a call.
+fn abc_is_uploaded<R: Threads + Wait + Sync + AllocGlobal + Abort, I: Read>(
+    rt: &R,
+    reader: &mut I,
+) -> Result<(), Fail> {
+    let mut writer = FailingWriter::new(rt.alloc(), u64::MAX);
+    let ended = uploaded(rt, ONE_WORKER, reader, &mut writer);
+    assert_eq!(rt; ended, Ok(Verdict::Good));
+    let text = text_of_abc(rt.alloc())?;
+    assert_eq!(rt; writer.taken.as_slice(), text.as_bytes());
+    Ok(())
+}
+
+#[test]
+fn one_byte_a_call_is_no_fault(rt: HostRuntime) -> Result<(), Fail> {
+    abc_is_uploaded(&rt, &mut FailingReader::new(b"abc", u64::MAX))
+}
+
+#[test]
+fn an_interrupted_read_is_tried_again(rt: HostRuntime) -> Result<(), Fail> {
+    abc_is_uploaded(&rt, &mut InterruptedReader::new(b"abc"))
 }

@@ -1,4 +1,4 @@
-use Rattle.engine_tests.proofs.uploads.a_failed_read_writes_nothing.Given as goal
+use Rattle.engine_tests.proofs.uploads.uploaded.Given as goal
 
 abbrev pub ghosts-upload-B-Ledger : goal.ghosts-upload-B-Ledger
 ghosts-upload-B-Ledger g a = record { name = a.bytes.name; parts = a.bytes.parts }
