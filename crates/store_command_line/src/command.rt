@@ -101,31 +101,41 @@ fn upload_command<'a>(alloc: Global) -> Result<Command<'a>, AllocError>
         .arg(journal)
 }
 
+// What stands at the end of the help of `check`.
+fn check_codes() -> &'static str {
+    "Faults of a line, of which the first is told:\n  C1  a tagged line\n  C2  too short\n  C3  no hexadecimal digit\n  C4  not two spaces\n  C5  no name\n  C6  a wrong escape\n  C7  a byte 0 in the name"
+}
+
 fn check_command<'a>(alloc: Global) -> Command<'a>
     ensures shape { app_of result ≡ check_line }
     ensures local { (fields_of result).has_globals ≡ false }
 {
-    Command::new(alloc, "check").about(
-        "Read check lines, and report of each whether the file of its name has its hash",
-    )
+    Command::new(alloc, "check")
+        .about("Read check lines, and report of each whether the file of its name has its hash")
+        .after_help(check_codes())
+}
+
+// What stands at the end of the help of subcommands that read a journal.
+fn journal_codes() -> &'static str {
+    "Refusals of a journal:\n  J2 N  line N is outside the grammar\n  J1 N  else, entry N is not legal"
 }
 
 fn audit_command<'a>(alloc: Global) -> Command<'a>
     ensures shape { app_of result ≡ audit_line }
     ensures local { (fields_of result).has_globals ≡ false }
 {
-    Command::new(alloc, "audit").about(
-        "Read a journal, and write the totals that it leaves and what it accepted",
-    )
+    Command::new(alloc, "audit")
+        .about("Read a journal, and write the totals that it leaves and what it accepted")
+        .after_help(journal_codes())
 }
 
 fn migrate_command<'a>(alloc: Global) -> Command<'a>
     ensures shape { app_of result ≡ migrate_line }
     ensures local { (fields_of result).has_globals ≡ false }
 {
-    Command::new(alloc, "migrate").about(
-        "Read a journal of either version, and write it in version 2",
-    )
+    Command::new(alloc, "migrate")
+        .about("Read a journal of either version, and write it in version 2")
+        .after_help(journal_codes())
 }
 
 // The program's command with the subcommands that hash and store.

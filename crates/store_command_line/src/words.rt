@@ -18,26 +18,48 @@ use crate::said::{Fault, Options, SumMode, SumOptions, UploadOptions};
 use clap::error::ErrorKind;
 use clap::{ArgMatches, Error};
 use hex::FromHex;
-use std::alloc::Global;
+use std::alloc::{AllocError, Global};
 use std::convert::AsStr;
 
-fn fault_of(alloc: Global, error: &Error) -> Fault
-    ensures { kind_of error.now ≡ ErrorKind.OutOfMemory → result ≡ NoMemory }
-{
-    if error.kind() == ErrorKind::OutOfMemory {
-        return Fault::NoMemory;
-    }
-    match error.to_string(alloc) {
+// The text of a usage fault, where there was memory for it.
+fn told(text: Result<String, AllocError>) -> Fault {
+    match text {
         Ok(text) => Fault::Usage(text),
         Err(_) => Fault::NoMemory,
     }
 }
 
-fn usage(alloc: Global, text: &str) -> Fault {
-    match String::from_str(alloc, text) {
-        Ok(text) => Fault::Usage(text),
-        Err(_) => Fault::NoMemory,
+// clap's text of a fault, which at its end names the help of the subcommand that the words name.
+fn error_text<S: AsStr>(alloc: Global, error: &Error, words: &[S]) -> Result<String, AllocError> {
+    let text = error.to_string(alloc)?;
+    let Some(front) = text.as_str().strip_suffix("'--help'.\n") else {
+        return Ok(text);
+    };
+    match words.get(1).map(|word| word.as_str()) {
+        Some(name @ ("sum" | "run" | "upload" | "check" | "audit" | "migrate")) => format!(in alloc;
+            "{front}'b3store {name} --help'.\n"
+        ),
+        _ => format!(in alloc; "{front}'b3store --help'.\n"),
     }
+}
+
+fn fault_of<S: AsStr>(alloc: Global, error: &Error, words: &[S]) -> Fault
+    ensures { kind_of error.now ≡ ErrorKind.OutOfMemory → result ≡ NoMemory }
+{
+    if error.kind() == ErrorKind::OutOfMemory {
+        return Fault::NoMemory;
+    }
+    told(error_text(alloc, error, words))
+}
+
+// What is wrong with an option of a subcommand.
+fn usage(alloc: Global, subcommand: &str, wrong: &str) -> Fault {
+    told(format!(in alloc; "b3store: {wrong}; see b3store {subcommand} --help\n"))
+}
+
+fn help_text(alloc: Global) -> Result<String, AllocError> {
+    let mut program = program(alloc)?;
+    program.render_help()
 }
 
 // The text of an argument, where it is given.
@@ -62,6 +84,7 @@ fn digits(text: &str) -> Option<u32>
 fn number_within(
     alloc: Global,
     found: &ArgMatches<'_>,
+    subcommand: &str,
     id: &str,
     most: u32,
 ) -> Result<Option<u32>, Fault>
@@ -75,10 +98,11 @@ fn number_within(
     };
     match digits(text) {
         Some(n) if n >= 1 && n <= most => Ok(Some(n)),
-        Some(_) => Err(usage(alloc, "b3store: a number is out of its range\n")),
+        Some(_) => Err(usage(alloc, subcommand, "a number is out of its range")),
         None => Err(usage(
             alloc,
-            "b3store: a number is decimal digits, without a sign\n",
+            subcommand,
+            "a number is decimal digits, without a sign",
         )),
     }
 }
@@ -94,12 +118,9 @@ fn sum_mode<'a>(alloc: Global, found: &ArgMatches<'a>) -> Result<SumMode<'a>, Fa
         (None, Some(context)) => Ok(SumMode::Derive(context)),
         (Some(digits), None) => match <[u8; 32] as FromHex>::from_hex(digits) {
             Ok(key) => Ok(SumMode::Keyed(key)),
-            Err(_) => Err(usage(alloc, "b3store: --key takes 64 hexadecimal digits\n")),
+            Err(_) => Err(usage(alloc, "sum", "--key takes 64 hexadecimal digits")),
         },
-        (Some(_), Some(_)) => Err(usage(
-            alloc,
-            "b3store: --key and --context exclude each other\n",
-        )),
+        (Some(_), Some(_)) => Err(usage(alloc, "sum", "--key and --context exclude each other")),
     }
 }
 
@@ -123,7 +144,8 @@ fn sum_name<'a>(alloc: Global, found: &ArgMatches<'a>) -> Result<&'a str, Fault>
     if !is_name(name) {
         return Err(usage(
             alloc,
-            "b3store: --name takes a name that is not empty and has no byte 0\n",
+            "sum",
+            "--name takes a name that is not empty and has no byte 0",
         ));
     }
     Ok(name)
@@ -138,11 +160,11 @@ fn sum_options<'a>(alloc: Global, found: &ArgMatches<'a>) -> Result<SumOptions<'
 {
     let name = sum_name(alloc, found)?;
     let mode = sum_mode(alloc, found)?;
-    let length = number_within(alloc, found, "length", 65536)?;
+    let length = number_within(alloc, found, "sum", "length", 65536)?;
     Ok(SumOptions { name, mode, length })
 }
 
-// A number from 1 to `most`, or another where none is given.
+// A number from 1 to `most` of an option of `upload`, or another where none is given.
 fn number_or(
     alloc: Global,
     found: &ArgMatches<'_>,
@@ -156,7 +178,7 @@ fn number_or(
     ensures only { (n : ℕ) → SpellsOr other (first_of id.now (rows_of (found_of found.now))) n → IsWithin most n
         → IsNotUsage result }
 {
-    match number_within(alloc, found, id, most)? {
+    match number_within(alloc, found, "upload", id, most)? {
         Some(n) => Ok(n),
         None => Ok(other),
     }
@@ -187,7 +209,8 @@ fn upload_options(alloc: Global, found: &ArgMatches<'_>) -> Result<UploadOptions
 ///
 /// `Ok` with the subcommand and the values that clap states of the words, where clap finds no fault in them, each number is
 /// decimal digits without a sign and within its range, the name is not empty and has no byte 0, and there are not both a key
-/// and a context. All other words are `Usage`, a request for help too. `NoMemory` where memory is refused.
+/// and a context. All other words are `Usage`, a request for help too, as no word but the program's name is one. `NoMemory` where
+/// memory is refused.
 pub fn options<'a, S: AsStr>(alloc: Global, words: &'a [S]) -> Result<Options<'a>, Fault>
     ensures says { IfOk result (λ o. Says o (subcommand_of command_line (map S.text words.entry.now))) }
     ensures range { IfOk result InRange }
@@ -198,7 +221,7 @@ pub fn options<'a, S: AsStr>(alloc: Global, words: &'a [S]) -> Result<Options<'a
 {
     let matches = match program(alloc)?.try_get_matches_from(words) {
         Ok(matches) => matches,
-        Err(error) => return Err(fault_of(alloc, &error)),
+        Err(error) => return Err(fault_of(alloc, &error, words)),
     };
     match matches.subcommand() {
         Some(("sum", found)) => Ok(Options::Sum(sum_options(alloc, found)?)),
@@ -207,9 +230,6 @@ pub fn options<'a, S: AsStr>(alloc: Global, words: &'a [S]) -> Result<Options<'a
         Some(("check", _)) => Ok(Options::Check),
         Some(("audit", _)) => Ok(Options::Audit),
         Some(("migrate", _)) => Ok(Options::Migrate),
-        _ => Err(usage(
-            alloc,
-            "b3store: a subcommand is needed; see b3store --help\n",
-        )),
+        _ => Err(told(help_text(alloc))),
     }
 }
