@@ -1,6 +1,6 @@
 use crate::patterns::{closed_plan, open_plan, part_of_pattern, pattern, planned_part};
 use b3_core::Work;
-use b3_forest::{PartFault, PartRefused, Plan, TooLong, Prepared};
+use b3_forest::{PartFault, PartRefused, Plan, Prepared, TooLong};
 use std::test::Fail;
 
 #[test]

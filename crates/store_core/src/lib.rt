@@ -34,8 +34,8 @@ pub use refusal::Refusal;
 pub use sealed::Sealed;
 pub use store::Store;
 pub use store_journal::{
-    AcceptedPuts, Address, BadText, Entry, FiledObject, HeldPart, IllegalEntry, LeftUpload, ReadError,
-    ReplayError, Replayed, TenantId, Totals, UploadId, cut_at, entry_laws, entry_lines,
+    AcceptedPuts, Address, BadText, Entry, FiledObject, HeldPart, IllegalEntry, LeftUpload,
+    ReadError, ReplayError, Replayed, TenantId, Totals, UploadId, cut_at, entry_laws, entry_lines,
     journal_laws, number, read_entry, read_journal, replay, two_numbers, write_entry,
     write_journal,
 };

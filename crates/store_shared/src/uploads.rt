@@ -186,7 +186,8 @@ fn put_parts<B: Ledger, C: Ledger, G: Gate + Sync, R: Threads + Wait + Sync + Al
     let Ok((board, seats)) = Board::new(alloc, cut.parts(), workers) else {
         return (share, no_memory);
     };
-    let Ok((hand_over, passes, take_pass)) = HandOver::new(alloc, 2 * workers as usize, workers) else {
+    let Ok((hand_over, passes, take_pass)) = HandOver::new(alloc, 2 * workers as usize, workers)
+    else {
         return (share, no_memory);
     };
     let Ok(follow) = Follow::new(alloc, cut.bytes()) else {

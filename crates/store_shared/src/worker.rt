@@ -139,7 +139,17 @@ pub(crate) fn run<G: Gate, R: Wait>(
 {
     let cut = Cut::new(bytes, part_chunks);
     let mut worker = worker;
-    let fault = make_parts(rt, alloc, &cut, gate, board, hand_over, progress, &mut worker).err();
+    let fault = make_parts(
+        rt,
+        alloc,
+        &cut,
+        gate,
+        board,
+        hand_over,
+        progress,
+        &mut worker,
+    )
+    .err();
     if fault.is_some() {
         board.stop(&mut worker.seat);
     }

@@ -13,16 +13,21 @@ use std::thread::Threads;
 use store_core::{Address, Limits, Object, Refusal, TenantId, UploadId};
 use store_ledger::{Accepted, NotWhole, Share};
 use store_shared::{
-    Shared, lent_abort, lent_begin, lent_forget, lent_open_tenant, lent_put, lent_seal,
-    lent_seal_as, lent_set_limit,
+    Shared, lent_abort, lent_begin, lent_begin_open, lent_fix, lent_forget, lent_open_tenant,
+    lent_put, lent_seal, lent_seal_as, lent_set_limit,
 };
+
+// One chunk of a pattern, as a part.
+fn chunk(rt: &impl AllocGlobal, plan: &Plan, offset: u64) -> Result<Prepared, Fail> {
+    let bytes = pattern(rt.alloc(), offset, 1024)?;
+    let part = Prepared::make(rt.alloc(), plan, offset, bytes, &mut Work::new(rt));
+    Ok(part.ok().ok_or("no part")?)
+}
 
 // One chunk of the pattern of 2048 bytes, as a part.
 fn half(rt: &impl AllocGlobal, offset: u64) -> Result<Prepared, Fail> {
     let plan = Plan::new(2048).ok().ok_or("no plan")?;
-    let bytes = pattern(rt.alloc(), offset, 1024)?;
-    let part = Prepared::make(rt.alloc(), &plan, offset, bytes, &mut Work::new(rt));
-    Ok(part.ok().ok_or("no part")?)
+    chunk(rt, &plan, offset)
 }
 
 // Puts a part under the lock. The share rises by the part's length and one call, or not at all.
@@ -179,4 +184,46 @@ fn aborted<B: Ledger, C: Ledger, R: Wait + AllocGlobal + Abort>(
 #[test]
 fn an_aborted_part_was_accepted(rt: HostRuntime) -> Result<(), Fail> {
     aborted::<Brand, Brand, _>(&rt, Blank::new(1 << 32), Blank::new(1 << 32))
+}
+
+// Begins an upload whose length is fixed later, puts both its parts, and fixes its length. The book and the share tell the parts
+// alone.
+fn fixed_later<B: Ledger, C: Ledger, R: Wait + AllocGlobal + Abort>(
+    rt: &R,
+    bytes: Blank,
+    calls: Blank,
+) -> Result<(), Fail>
+    requires bytes { (bytes.name ≡ B.name) × (bytes.parts ≡ B.parts) × (bytes.parts ≡ 2 ^ 32) }
+    requires calls { (calls.name ≡ C.name) × (calls.parts ≡ C.parts) × (calls.parts ≡ 2 ^ 32) }
+{
+    let (shared, mut share) = Shared::<B, C>::new(rt.alloc(), Limits::full(), bytes, calls);
+    let mut locked = shared.close();
+    let tenant = lent_open_tenant(&mut locked, 8192).ok().ok_or("no tenant")?;
+    let begun = lent_begin_open(&mut locked, tenant, 4096);
+    let (upload, plan) = begun.ok().ok_or("not begun")?;
+    let nothing = Accepted { bytes: 0, calls: 0 };
+    assert_eq!(rt; locked.accepted(&mut share), nothing);
+    for offset in [1024u64, 0] {
+        let part = chunk(rt, &plan, offset)?;
+        let put = lent_put(&mut locked, &mut share, upload, part, &mut Work::new(rt));
+        assert!(rt; put.is_ok());
+    }
+    assert_eq!(rt; lent_fix(&mut locked, upload, 2048), Ok(()));
+    let accepted = Accepted {
+        bytes: 2048,
+        calls: 2,
+    };
+    assert_eq!(rt; locked.accepted(&mut share), accepted);
+    let usage = locked.store().usage(tenant).ok().ok_or("no tenant")?;
+    assert_eq!(rt; (usage.used, usage.reserved), (0, 2048));
+    let address = Address::new(PATTERN_2048);
+    let sealed = lent_seal_as(&mut locked, upload, address, &mut Work::new(rt));
+    assert!(rt; sealed.is_ok());
+    assert_eq!(rt; locked.settle(&mut share), Ok(accepted));
+    Ok(())
+}
+
+#[test]
+fn a_length_is_fixed_under_the_lock(rt: HostRuntime) -> Result<(), Fail> {
+    fixed_later::<Brand, Brand, _>(&rt, Blank::new(1 << 32), Blank::new(1 << 32))
 }
