@@ -1,11 +1,13 @@
-"""Times `b3store run` over generated scripts: small objects of eight tenants, with and without forgets. It prints commands a second."""
+"""bench/commands.py [PROGRAM..]: times `b3store run` over generated scripts: small objects of eight tenants, with and without
+forgets. It prints commands a second of each program, the best of turns that they take in turn."""
 import random
 import subprocess
+import sys
 import time
 
-PROGRAM = "target/b3store"
+PROGRAMS = sys.argv[1:] or ["target/b3store"]
 TENANTS = 8
-TURNS = 3
+TURNS = 9
 LENGTHS = (50_000, 100_000, 200_000)
 
 
@@ -20,7 +22,7 @@ def addresses(count):
     for number in range(count):
         lines += object_lines(number)
     text = "\n".join(lines).encode()
-    answers = subprocess.run([PROGRAM, "run"], input=text, check=True, capture_output=True).stdout.decode().splitlines()
+    answers = subprocess.run([PROGRAMS[0], "run"], input=text, check=True, capture_output=True).stdout.decode().splitlines()
     return [answer.split()[1] for answer in answers if answer.startswith("new ")]
 
 
@@ -42,17 +44,20 @@ def script(length, forgets, address):
     return ("\n".join(lines[:length]) + "\n").encode()
 
 
+def seconds(program, text):
+    start = time.monotonic()
+    subprocess.run([program, "run"], input=text, stdout=subprocess.DEVNULL, check=True)
+    return time.monotonic() - start
+
+
 def main():
     address = addresses(LENGTHS[-1] // 3 + 1)
     for forgets in (False, True):
         for length in LENGTHS:
             text = script(length, forgets, address)
-            best = float("inf")
-            for _ in range(TURNS):
-                start = time.monotonic()
-                subprocess.run([PROGRAM, "run"], input=text, stdout=subprocess.DEVNULL, check=True)
-                best = min(best, time.monotonic() - start)
-            print(f"{'with forgets' if forgets else 'no forgets':12} {length:7} {length / best:9.0f} commands a second")
+            best = [min(taken) for taken in zip(*[[seconds(program, text) for program in PROGRAMS] for _ in range(TURNS)])]
+            told = "".join(f"{length / least:10.0f}" for least in best)
+            print(f"{'with forgets' if forgets else 'no forgets':12} {length:7} {told} commands a second", flush=True)
 
 
 if __name__ == "__main__":
