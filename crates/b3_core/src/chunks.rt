@@ -1,4 +1,4 @@
-// Chunks side by side, a lane for each: their words, and their numbers.
+//! Chunks side by side, a lane for each: their words, and their numbers.
 
 ghost use Rattle.std.specs.Prelude.{◌≡◌, ℕ, ◌+◌, ◌*◌, ◌/◌, ◌%◌, ◌^◌, ◌<◌, ◌≤◌, ◌++◌, length, slice_index};
 ghost use Rattle.std.proofs.Common.{rules};

@@ -1,4 +1,4 @@
-// The compression function (section 2.2) and the constants of the specification.
+//! The compression function (section 2.2) and the constants of the specification.
 
 ghost use Rattle.std.specs.Prelude.{◌≡◌, ℕ, ◌/◌, ◌%◌, ◌^◌, List, take};
 ghost use Rattle.b3_core.specs.Compression.{columns, diagonals, round, permute, rounds, start_state, output_words, compress_of};

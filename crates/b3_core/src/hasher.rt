@@ -1,4 +1,4 @@
-// The hash of bytes that come in pieces.
+//! The hash of bytes that come in pieces.
 
 ghost use Rattle.std.specs.Prelude.{◌≡◌, ℕ, ◌+◌, ◌-◌, ◌*◌, ◌/◌, ◌^◌, ◌<◌, ◌≤◌, ◌++◌, List, [], ◌∷◌, length, reverse};
 ghost use Rattle.b3_core.specs.Hashers.{Hashing, Subtrees, AreFrom, AreSubtrees, IsLeft, IsNext, Holds, Makes, joined, kept_work};

@@ -1,5 +1,5 @@
-// Compressions side by side, one lane each, by vectors of any number of lanes. The last row of a state is as it was before
-// its turn by 8 bits, as `mix` has it.
+//! Compressions side by side, one lane each, by vectors of any number of lanes. The last row of a state is as it was before
+//! its turn by 8 bits, as `mix` has it.
 
 ghost use Rattle.std.specs.Prelude.{◌≡◌, ℕ, ◌+◌, ◌*◌, ◌/◌, ◌%◌, ◌^◌, ◌<◌, ◌≤◌, ◌++◌, List, length, take, slice_index};
 ghost use Rattle.b3_core.specs.Compression.{columns, diagonals, round, permute, start_state, compress_of, output_words};
@@ -194,6 +194,7 @@ pub(crate) fn chains<V: Chunks>(mode: &Mode, bytes: &[u8], number: u64, work: &m
     let t_low = V::low_words(number);
     let t_high = V::high_words(number);
     let mut h = keys(mode.key());
+    // Its proof names the loop by the label.
     'blocks: for k in 0..15 {
         let m = blocks_at(bytes, k);
         compress(&mut h, m, t_low, t_high, mode.flag() + start_flag(k), work);

@@ -1,4 +1,4 @@
-// The laws of the tree.
+//! The laws of the tree.
 
 ghost use Rattle.b3_core.specs.Laws.{OneChunk, TwoSides, GreatestPower, NeighboursJoin};
 

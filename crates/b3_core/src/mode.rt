@@ -1,4 +1,4 @@
-// The modes of the hash (section 2.3): the key words, and the flag of each compression.
+//! The modes of the hash (section 2.3): the key words, and the flag of each compression.
 
 ghost use Rattle.std.specs.Prelude.{◌≡◌, ◌≤◌, length};
 ghost use Rattle.b3_core.specs.Modes.{hash_mode, keyed_mode, derive_mode};

@@ -1,4 +1,4 @@
-// The extended output of a root (section 2.6).
+//! The extended output of a root (section 2.6).
 
 ghost use Rattle.std.specs.Prelude.{◌≡◌, ◌+◌, ◌-◌, ◌^◌, ◌<◌, ◌↔◌, IsErr, OnOk, OnErr, length};
 ghost use Rattle.b3_core.specs.ExtendedOutput.{Reader, output_of, blocks_touched};
@@ -82,6 +82,7 @@ fn fill_from(root: &Top, start: u64, out: &mut [u8], work: &mut Work)
     let first = start / 64;
     let last = (start + (out.len() as u64 - 1)) / 64;
     let mut done = 0;
+    // Its proof names the loop by the label.
     'blocks: for i in first..last + 1 {
         let block = root.output_block(i, work);
         let skip = ((start + done as u64) % 64) as usize;

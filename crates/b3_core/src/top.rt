@@ -1,4 +1,4 @@
-// A node of the tree: one chunk, or the parent of two nodes.
+//! A node of the tree: one chunk, or the parent of two nodes.
 
 ghost use Rattle.std.specs.Prelude.{◌≡◌, ℕ, ◌+◌, ◌-◌, ◌*◌, ◌^◌, ◌<◌, ◌≤◌, length, slice_index};
 ghost use Rattle.b3_core.specs.ExtendedOutput.{output_of, root_words_of};
@@ -60,6 +60,7 @@ impl Top {
     {
         let last = bytes.len().saturating_sub(1) / BLOCK_LEN;
         let mut chaining_value = mode.key();
+        // Its proof names the loop by the label.
         'blocks: for j in 0..last {
             let at = BLOCK_LEN * j;
             let block = words_of_block(&bytes[at..at + BLOCK_LEN]);

@@ -1,4 +1,4 @@
-// The hash by recursion, as the specification splits an input (section 2.1).
+//! The hash by recursion, as the specification splits an input (section 2.1).
 
 ghost use Rattle.std.specs.Prelude.{◌≡◌, ◌+◌, ◌-◌, ◌/◌, ◌%◌, ◌^◌, ◌<◌, length};
 ghost use Rattle.b3_core.specs.Modes.{digest_of};

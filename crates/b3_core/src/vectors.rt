@@ -1,5 +1,5 @@
-// Vectors of words: the steps of the compression function, in each lane. The rows of one state have four lanes, the states
-// of some compressions side by side a lane for each.
+//! Vectors of words: the steps of the compression function, in each lane. The rows of one state have four lanes, the states
+//! of some compressions side by side a lane for each.
 
 ghost use Rattle.std.specs.Prelude.{◌≡◌, ℕ, ◌^◌, ◌<◌, [], ◌∷◌, slice_index, bit_xor};
 ghost use Rattle.b3_core.specs.Compression.{add32, turned, xor_turn, mix};

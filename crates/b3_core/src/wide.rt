@@ -1,4 +1,4 @@
-// The hash by eight compressions at a time, of chunks and of parents, and by four chunks where no eight are left.
+//! The hash by eight compressions at a time, of chunks and of parents, and by four chunks where no eight are left.
 
 ghost use Rattle.std.specs.Prelude.{◌≡◌, ℕ, ◌+◌, ◌-◌, ◌*◌, ◌/◌, ◌^◌, ◌<◌, ◌≤◌, IfSome, length, slice_index};
 ghost use Rattle.b3_core.specs.Lanes.{lane, group_top};

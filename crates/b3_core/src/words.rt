@@ -1,4 +1,4 @@
-// Words and bytes: blocks, keys and chaining values as words, and words as bytes, all little endian.
+//! Words and bytes: blocks, keys and chaining values as words, and words as bytes, all little endian.
 
 ghost use Rattle.std.specs.Prelude.{◌≡◌, ◌+◌, ◌-◌, ◌≤◌, ◌++◌, length, replicate, map};
 ghost use Rattle.std.specs.List.{range_with_len};

@@ -1,4 +1,4 @@
-// The count of compressions.
+//! The count of compressions.
 
 ghost use Rattle.std.specs.Prelude.{◌≡◌, ℕ};
 ghost use Rattle.b3_core.specs.Work.{counted};

@@ -1,4 +1,4 @@
-// Why a part is not added to a forest.
+//! Why a part is not added to a forest.
 
 use crate::prepared::Prepared;
 

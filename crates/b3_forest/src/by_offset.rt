@@ -1,4 +1,4 @@
-// Segments in an ordered map.
+//! Segments in an ordered map.
 
 ghost use Rattle.std.specs.Prelude.{◌≡◌, IfOk, map};
 ghost use Rattle.b3_forest.specs.Uploads.{part_of};

@@ -1,5 +1,5 @@
-// A part is cut into pieces from the top: a range of chunks that the part covers is one piece, and any other range
-// that it meets is halved.
+//! A part is cut into pieces from the top: a range of chunks that the part covers is one piece, and any other range
+//! that it meets is halved.
 
 ghost use Rattle.std.specs.Prelude.{◌≡◌, ℕ, ◌+◌, ◌-◌, ◌*◌, ◌/◌, ◌^◌, ◌<◌, ◌≤◌, ◌++◌, OnOk, length, min, max};
 ghost use Rattle.b3_core.specs.Work.{counted};

@@ -1,4 +1,4 @@
-// Why an upload has no top yet.
+//! Why an upload has no top yet.
 
 /// The refusals of `Forest::finish`, in the order in which they are checked.
 #[derive(Clone, Copy, PartialEq, Eq, Debug)]

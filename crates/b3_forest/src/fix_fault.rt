@@ -1,4 +1,4 @@
-// Why the end of an upload is not fixed.
+//! Why the end of an upload is not fixed.
 
 /// The refusals of `Forest::fix`, in the order in which they are checked.
 #[derive(Clone, Copy, PartialEq, Eq, Debug)]

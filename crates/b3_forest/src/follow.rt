@@ -1,4 +1,5 @@
-// The parts of bytes that are lent, without copies of them.
+//! The parts of bytes that are lent, without copies of them. It merges pieces as the upload's forest does, so each merge of an
+//! upload by workers is made twice: the address that the caller is told then rests on its own bytes, and on nothing that a store says.
 
 ghost use Rattle.std.specs.Prelude.{◌≡◌, ◌≢◌, ℕ, ◌*◌, ◌-◌, ◌<◌, ◌↔◌, IfErr, IfNone, IfOk, IfSome, IsErr, OnErr, OnOk, false, length, true};
 ghost use Rattle.b3_core.specs.Modes.{hash_mode};
@@ -46,6 +47,7 @@ impl<'a> Follow<'a> {
         ensures too_long { IsErr result ↔ most_bytes < length bytes.now }
     {
         let plan = Plan::new(bytes.len() as u64)?;
+        // For the proof alone: a plan says that its bound is at most 2^44.
         let _most = plan.bound();
         let nodes = BTreeMap::new(alloc);
         Ok(Follow { bytes, nodes })

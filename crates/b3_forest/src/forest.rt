@@ -1,4 +1,4 @@
-// The parts that an upload holds, as a forest of pieces.
+//! The parts that an upload holds, as a forest of pieces.
 
 ghost use Rattle.std.specs.Prelude.{◌≡◌, ◌≤◌, [], IfErr, IfOk, OnErr, OnOk, None, Some, length, map, unwrap_or};
 ghost use Rattle.b3_core.specs.Modes.{hash_mode};
@@ -60,6 +60,7 @@ impl<S: Segments> ForestOf<S> {
     pub fn new(alloc: Global, plan: Plan) -> ForestOf<S>
         ensures { result ≡ new_upload plan }
     {
+        // For the proof alone: a plan says that its bound is at most 2^44.
         let _most = plan.bound();
         let end = plan.end();
         ForestOf {

@@ -1,4 +1,4 @@
-// Two pieces that are the halves of one aligned range.
+//! Two pieces that are the halves of one aligned range.
 
 use b3_core::Top;
 

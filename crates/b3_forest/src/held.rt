@@ -1,4 +1,4 @@
-// What the pieces of an upload tell of its parts.
+//! What the pieces of an upload tell of its parts.
 
 ghost use Rattle.std.specs.Prelude.{◌≡◌, ℕ, ◌+◌, ◌*◌, ◌^◌, ◌≤◌, List, [], IfErr, IfOk, OnErr, OnOk, None, Some, length};
 ghost use Rattle.b3_core.specs.Modes.{hash_mode};
@@ -82,6 +82,7 @@ pub(crate) fn finish(
         → OnOk result (work.new ≡ counted work.old (finish_work (upload_of len ps))) }
     ensures uncounted { OnErr result (work.new ≡ work.old) }
 {
+    // For the proof alone: the laws of the tree.
     tree_laws();
     if let Some(missing) = first_missing(nodes, len) {
         return Err(Incomplete { missing });

@@ -1,4 +1,4 @@
-// An upload that is not whole.
+//! An upload that is not whole.
 
 /// F10: the least offset of the upload that is not held.
 #[derive(Clone, Copy, PartialEq, Eq, Debug)]

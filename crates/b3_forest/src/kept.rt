@@ -1,4 +1,4 @@
-// How an upload keeps its segments.
+//! How an upload keeps its segments.
 
 ghost use Rattle.std.specs.Prelude.{◌≡◌, ◌==◌, ℕ, List, [], OnOk, OnErr, length, map};
 ghost use Rattle.std.specs.List.{position};

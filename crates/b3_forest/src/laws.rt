@@ -1,4 +1,4 @@
-// The laws of canonical forests.
+//! The laws of canonical forests.
 
 ghost use Rattle.b3_forest.specs.Followed.{NotedAsHeld};
 ghost use Rattle.b3_forest.specs.Forests.{OneForest, PiecesAreForest};

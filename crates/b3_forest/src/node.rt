@@ -1,4 +1,4 @@
-// A piece in a map.
+//! A piece in a map.
 
 ghost use Rattle.std.specs.Prelude.{◌≡◌, ◌^◌, ◌≤◌};
 ghost use Rattle.b3_forest.specs.Pieces.{root_level};

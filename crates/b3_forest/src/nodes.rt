@@ -1,4 +1,4 @@
-// The pieces of an upload in a map, by their first chunk.
+//! The pieces of an upload in a map, by their first chunk.
 
 ghost use Rattle.std.specs.Prelude.{◌≡◌, ◌≢◌, ℕ, ◌+◌, ◌-◌, ◌*◌, ◌^◌, ◌<◌, ◌≤◌, ◌∷◌, List, [], IfNone, IfSome, OnErr, OnOk, false, length, true};
 ghost use Rattle.std.specs.Map.{values_of};
@@ -83,6 +83,7 @@ fn merge(nodes: &mut BTreeMap<u64, Node>, halves: &Halves, work: &mut Work)
     ensures fewer { length nodes.new.entries + 1 ≡ length nodes.old.entries }
     ensures count { work.new ≡ counted work.old 2 }
 {
+    // For the proof alone: the laws of the tree.
     tree_laws();
     let top = Top::parent(&Mode::hash(), &halves.left_top, &halves.right_top, work);
     nodes.remove(&halves.right);

@@ -1,4 +1,4 @@
-// Why a part is not noted.
+//! Why a part is not noted.
 
 /// The refusals of `Follow::note`, in the order in which they are checked.
 #[derive(Clone, Copy, PartialEq, Eq, Debug)]

@@ -1,4 +1,4 @@
-// A piece: a complete subtree.
+//! A piece: a complete subtree.
 
 use b3_core::Top;
 

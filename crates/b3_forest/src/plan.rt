@@ -1,4 +1,4 @@
-// Plans of uploads.
+//! Plans of uploads.
 
 ghost use Rattle.std.specs.Prelude.{◌≡◌, ◌≢◌, ◌<◌, ◌≤◌, ◌↔◌, IfOk, IsErr, false, true};
 ghost use Rattle.b3_forest.specs.Parts.{closed_plan, most_bytes, open_plan, same_plan};

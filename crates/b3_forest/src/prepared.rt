@@ -1,4 +1,4 @@
-// One part, hashed alone.
+//! One part, hashed alone.
 
 ghost use Rattle.std.specs.Prelude.{◌≡◌, ◌+◌, ◌≤◌, IfErr, IfOk, IfSome, OnOk, length, unwrap_or, vec_len};
 ghost use Rattle.std.specs.Arc.{arc_value};
@@ -134,6 +134,7 @@ impl Prepared {
         ensures fits { Fits self.now.plan self.now.part.offset (length self.now.part.bytes) }
         ensures most { self.now.plan.bound ≤ most_bytes }
     {
+        // For the proof alone: a plan says that its bound is at most 2^44.
         let _most = self.plan.bound();
         self.bytes()
     }

@@ -1,4 +1,4 @@
-// Why a part is refused when it is made.
+//! Why a part is refused when it is made.
 
 ghost use Rattle.std.specs.Prelude.{◌≡◌, ◌≤◌, IfNone, Some};
 ghost use Rattle.b3_forest.specs.PartRefusals.{part_fault_text, part_refusal};

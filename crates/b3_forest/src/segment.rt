@@ -1,4 +1,4 @@
-// A part's bytes, as an upload keeps them.
+//! A part's bytes, as an upload keeps them.
 
 ghost use Rattle.std.specs.Prelude.{◌≡◌, ℕ, ◌<◌, IfOk, map, vec_capacity, vec_len};
 ghost use Rattle.std.specs.Arc.{arc_value};

@@ -1,3 +1,4 @@
+//! Lines of check files.
 use crate::digests::digest;
 use crate::vectors::ABC;
 use b3_check::{CheckFile, Fault, Line, ReadError, read_line, write};

@@ -1,4 +1,4 @@
-// Digests from their digits.
+//! Digests from their digits.
 
 use hex::FromHex;
 use std::test::Fail;

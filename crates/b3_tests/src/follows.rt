@@ -1,3 +1,4 @@
+//! Parts of bytes that are lent.
 use crate::digests::digest;
 use crate::patterns::{open_plan, part_of_pattern, pattern, planned_part};
 use crate::vectors::COUNTS;

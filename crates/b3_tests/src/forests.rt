@@ -1,3 +1,4 @@
+//! Forests of parts.
 use crate::digests::digest;
 use crate::patterns::{closed_plan, part_of_pattern, pattern, planned_part};
 use crate::vectors::COUNTS;

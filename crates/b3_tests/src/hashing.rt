@@ -1,3 +1,4 @@
+//! Hashes in three modes, at once and in pieces.
 use crate::digests::digest;
 use crate::patterns::pattern;
 use crate::vectors::{ABC, CONTEXT, COUNTS, KEY, ROWS};

@@ -1,4 +1,4 @@
-// Forests of open plans: uploads whose length is fixed by a part, or at the end.
+//! Forests of open plans: uploads whose length is fixed by a part, or at the end.
 
 use crate::digests::digest;
 use crate::forests::{added, forest_of, refused, root};

@@ -1,3 +1,4 @@
+//! Extended outputs.
 ghost use Rattle.std.specs.Prelude.{◌≤◌};
 
 use crate::digests::digest;

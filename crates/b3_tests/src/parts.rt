@@ -1,3 +1,4 @@
+//! Parts and plans.
 use crate::patterns::{closed_plan, open_plan, part_of_pattern, pattern, planned_part};
 use b3_core::Work;
 use b3_forest::{PartFault, PartRefused, Plan, Prepared, TooLong};

@@ -1,4 +1,4 @@
-// Pattern bytes, plans, and parts of patterns.
+//! Pattern bytes, plans, and parts of patterns.
 
 use b3_core::Work;
 use b3_forest::{Plan, Prepared};

@@ -1,4 +1,4 @@
-// Bytes that a hasher is given in pieces.
+//! Bytes that a hasher is given in pieces.
 
 use crate::patterns::pattern;
 use crate::vectors::{CONTEXT, KEY};

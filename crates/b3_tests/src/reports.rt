@@ -1,3 +1,4 @@
+//! Check files, and reports on them.
 use crate::check_lines::{THREE_LINES, line_of_abc};
 use crate::digests::digest;
 use crate::vectors::ABC;

@@ -1,5 +1,5 @@
-// Hashes from outside: of the pattern bytes `i mod 251` and of `abc`, as the reference implementation's command
-// gives them, with the key and the context of the official test vectors.
+//! Hashes from outside: of the pattern bytes `i mod 251` and of `abc`, as the reference implementation's command
+//! gives them, with the key and the context of the official test vectors.
 
 pub(crate) const KEY: &[u8; 32] = b"whats the Elvish word for friend";
 

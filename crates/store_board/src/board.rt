@@ -1,4 +1,4 @@
-// A board, from which seats draw numbers.
+//! A board, from which seats draw numbers.
 ghost use Rattle.std.specs.Prelude.{◌≡◌, ◌+◌, ◌-◌, ◌^◌, ◌<◌, ◌≤◌, ◌⊎◌, ◌↔◌, true, false, [], All, Any, vec_len, IsTrue, IfOk, IfErr, IfSome, IfNone, OnOk, None, Err};
 
 pub mod drawn;

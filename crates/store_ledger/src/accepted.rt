@@ -1,3 +1,4 @@
+//! What was accepted.
 ghost use Rattle.std.specs.Prelude.{◌≡◌, ◌↔◌, IsSome, IfSome};
 ghost use Rattle.store_ledger.specs.Shares.{accepted_after, HasRoom};
 

@@ -1,3 +1,4 @@
+//! Books.
 ghost use Rattle.std.specs.Prelude.{◌≡◌, ◌+◌, ◌^◌, ◌≤◌, ◌↔◌, IfOk, IfErr, IsOk, OnOk, OnErr, Ok};
 ghost use Rattle.store_ledger.specs.Shares.{accepted_after, holding_after, sum_of, HasRoom, IsWhole, Agrees, IsMissing};
 ghost use Rattle.store_ledger.specs.declared.accepted.Accepted.{Accepted};

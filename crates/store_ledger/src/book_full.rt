@@ -1,3 +1,4 @@
+//! Why a book records nothing.
 ghost use Rattle.std.specs.Prelude.{Some};
 ghost use Rattle.store_ledger.specs.Shares.{full_text};
 

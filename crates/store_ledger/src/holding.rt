@@ -1,3 +1,4 @@
+//! What contracts see of shares.
 ghost use Rattle.std.specs.Prelude.{◌≡◌, ◌+◌, ◌^◌, ◌<◌};
 ghost use Rattle.store_ledger.specs.Shares.{sum_of};
 

@@ -1,3 +1,4 @@
+//! Why a share does not settle.
 ghost use Rattle.std.specs.Prelude.{Some};
 ghost use Rattle.store_ledger.specs.Shares.{missing_text};
 

@@ -1,3 +1,4 @@
+//! Shares of a book.
 ghost use Rattle.std.specs.Prelude.{◌≡◌, ◌+◌, ◌-◌, ◌^◌, ◌<◌};
 ghost use Rattle.store_ledger.specs.Shares.{sum_of};
 ghost use Rattle.store_ledger.specs.declared.holding.Holding.{Holding};

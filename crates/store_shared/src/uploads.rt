@@ -131,6 +131,7 @@ fn begin<B: Ledger, C: Ledger, R: Wait>(
     match lent_begin(&mut *shared.lock(rt), tenant, len) {
         Ok(begun) => {
             let (upload, plan) = begun;
+            // For the proof alone: a plan says that its bound is at most 2^44.
             let _most = plan.bound();
             Ok(upload)
         }

@@ -137,6 +137,7 @@ pub(crate) fn run<G: Gate, R: Wait>(
     requires most { part_chunks ≤ 16384 }
     ensures { IfSome result (IsFaultOf (G.may_stop gate.now) (G.may_fault gate.now) (part_count (length bytes.now) part_chunks)) }
 {
+    // A thread is handed bytes and numbers, and makes the cut of them again.
     let cut = Cut::new(bytes, part_chunks);
     let mut worker = worker;
     let fault = make_parts(

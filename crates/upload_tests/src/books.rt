@@ -1,3 +1,4 @@
+//! Books and their shares.
 ghost use Rattle.std.specs.Prelude.{◌≡◌, ◌^◌};
 
 use std::marker::Brand;

@@ -1,3 +1,4 @@
+//! Uploads that fail.
 ghost use Rattle.std.specs.Prelude.{◌≡◌, ◌^◌};
 
 use crate::gates::{Counting, FailAll, FailAt, FailBoth, StopAt};

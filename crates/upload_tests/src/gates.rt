@@ -1,4 +1,4 @@
-// Gates that stop an upload, fail, or hold a part.
+//! Gates that stop an upload, fail, or hold a part.
 
 ghost use Rattle.std.specs.Prelude.{◌≡◌};
 

@@ -1,4 +1,4 @@
-// Pattern bytes and their hashes, from the standard's vectors.
+//! Pattern bytes and their hashes, from the standard's vectors.
 
 use std::alloc::{AllocError, Global};
 

@@ -1,4 +1,4 @@
-// What an upload leaves, as text.
+//! What an upload leaves, as text.
 
 use std::alloc::{AllocError, Global};
 use store_core::{Entry, Store};

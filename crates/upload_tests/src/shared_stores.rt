@@ -1,3 +1,4 @@
+//! Commands of a store under its lock.
 ghost use Rattle.std.specs.Prelude.{◌≡◌, ◌+◌, ◌^◌, ◌<◌, ◌≤◌};
 
 use crate::patterns::{PATTERN_2048, pattern};

@@ -1,3 +1,4 @@
+//! Uploads by one and by several workers.
 ghost use Rattle.std.specs.Prelude.{◌≡◌, ◌^◌};
 
 use crate::gates::HoldFirst;

@@ -1,3 +1,4 @@
+//! Uploads at the same time.
 ghost use Rattle.std.specs.Prelude.{◌≡◌, ◌^◌};
 
 use crate::patterns::{PATTERN_2049, pattern};

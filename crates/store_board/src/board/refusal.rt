@@ -1,3 +1,4 @@
+//! Why no board is made.
 ghost use Rattle.std.specs.Prelude.{Some};
 ghost use Rattle.store_board.specs.Refusals.{board_refusal_text};
 

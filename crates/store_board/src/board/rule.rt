@@ -1,4 +1,4 @@
-// The rule of a board's table, and the steps that its seats make.
+//! The rule of a board's table, and the steps that its seats make.
 ghost use Rattle.std.specs.Prelude.{◌+◌, ◌-◌, [], ◌++◌};
 ghost use Rattle.store_board.specs.BoardRule.{seat_view, new_view, sum_view, BoardRule, Claimed, Stopped, Looked};
 

@@ -1,3 +1,4 @@
+//! Seats at a board.
 ghost use Rattle.std.specs.Prelude.{◌≡◌, ◌≤◌, [], if◌then◌else◌};
 
 use crate::board::view::SeatView;

@@ -1,3 +1,4 @@
+//! What contracts see of seats.
 use std::collections::LinkedList;
 
 /// What a seat has done. It is seen by contracts alone: no value of it is made.

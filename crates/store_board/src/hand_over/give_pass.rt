@@ -1,3 +1,4 @@
+//! Passes of givers.
 ghost use Rattle.std.specs.Prelude.{◌≡◌, ◌≢◌, ℕ, [], ◌∷◌};
 ghost use Rattle.crossbeam_queue.specs.Passes.{view};
 ghost use Rattle.store_board.specs.HandOverRule.{of_giver};

@@ -1,3 +1,4 @@
+//! Why no hand-over is made.
 ghost use Rattle.std.specs.Prelude.{Some};
 ghost use Rattle.store_board.specs.Refusals.{hand_over_refusal_text};
 

@@ -1,3 +1,4 @@
+//! The pass of the taker.
 ghost use Rattle.std.specs.Prelude.{◌≡◌, ◌%◌, ◌^◌, ◌<◌, [], length};
 ghost use Rattle.crossbeam_queue.specs.Passes.{view};
 

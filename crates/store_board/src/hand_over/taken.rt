@@ -1,3 +1,4 @@
+//! Parts that were handed over.
 use b3_forest::Prepared;
 
 /// A part that was handed over, with the number of its giver.

@@ -1,3 +1,4 @@
+//! What contracts see of passes.
 use crate::hand_over::taken::Taken;
 use std::collections::LinkedList;
 
