@@ -1,11 +1,15 @@
 //! The parts of an upload, hashed alone and in any order (hash mode).
 //!
-//! A `Plan` is the length of an upload, or the most that it may have where its length is fixed later. `Prepared::make` takes one part of it and hashes it, with no other part at
-//! hand: it keeps the part's pieces, which are complete subtrees of the tree over the whole upload.
+//! A `Plan` is the length of an upload, or the most that it may have where its length is fixed later. `Prepared::make` takes
+//! one part of it and hashes it, with no other part at hand: it keeps the part's pieces, which are complete subtrees of
+//! the tree over the whole upload.
 //!
 //! A `Forest` holds the parts of one upload. `Forest::add` puts a part's pieces among the others, and merges those that
 //! are the halves of one aligned range; it hashes no bytes. `Forest::finish` gives the top of the tree over the whole
 //! content, whichever way it was cut and in whatever order its parts came.
+//!
+//! A `MappedForest` is the same with its parts in an ordered map: one is added in logarithmic time wherever it lies, and
+//! `shared_segments` lists them, where a `Forest` shows them as a slice.
 //!
 //! A `Follow` does the same for bytes that are lent: it notes parts of them, and tells their top, without copies.
 //!
