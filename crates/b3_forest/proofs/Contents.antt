@@ -5,7 +5,7 @@ use Rattle.std.proofs.lemmas.Bool.Decides.{nat_tests}
 use Rattle.std.proofs.lemmas.Bool.{cases_lt}
 use Rattle.std.proofs.lemmas.List.{length-append, take-append-le, drop-append-le, length-drop, length-take, append-nil}
 use Rattle.std.proofs.Math.Seq.{drop-append-add}
-use Rattle.b3_forest.specs.Nodes.{IsFirstGap, is_held}
+use Rattle.b3_forest.specs.Subtrees.{IsFirstGap, is_held}
 use Rattle.b3_forest.specs.Parts.{Part, chunk_in, end_of}
 use Rattle.b3_forest.specs.Uploads.{ArePlaced, content_of, first_gap}
 use Rattle.b3_forest.proofs.HeldParts.{in_or_out, chunk_here, chunk_there, held_here, held_there, held_after, none_held_in_nothing}

@@ -4,11 +4,11 @@ use Rattle.std.specs.Prelude.{◌==◌, ◌&&◌, ◌||◌, Bool, not, max, if�
 use Rattle.std.specs.List.{AllByRecursion}
 use Rattle.std.specs.Option.{option_or}
 use Rattle.std.proofs.lemmas.Bool.Decides.{nat_tests}
-use Rattle.b3_forest.specs.Nodes.{HaveRoom, Keeps, Nodes}
+use Rattle.b3_forest.specs.Subtrees.{HaveRoom, Keeps, Subtrees}
 use Rattle.b3_forest.specs.Parts.{Fits, Part, PlannedPart, UploadPlan, closed_plan, end_of, is_ragged, most_bytes, same_plan}
 use Rattle.b3_forest.specs.Uploads.{ArePlaced, IsUpload, Upload, add_refusal, ends_elsewhere, fix_refusal, fixed_at, last_end, length_of, new_upload, overlap_at, past_last, reached, with_more, with_part}
-use Rattle.b3_forest.specs.declared.add_refused.AddFault.TheVariants.{Overlap, PastLast, WrongPlan}
-use Rattle.b3_forest.specs.declared.fix_fault.FixFault.TheVariants as fix
+use Rattle.b3_forest.specs.declared.refusal.AddFault.TheVariants.{Overlap, PastLast, WrongPlan}
+use Rattle.b3_forest.specs.declared.refusal.FixFault.TheVariants as fix
 use Rattle.b3_forest.proofs.HeldParts.{placed_more, with_part_first, with_part_later}
 use Rattle.b3_forest.proofs.Holding.{placed_upload}
 use Rattle.b3_forest.proofs.OneForest.{bool_cases}
@@ -164,11 +164,11 @@ allowed u p free = elim (bool_cases (same_plan p.plan u.plan)) [
     neither_of None None none = (refl, refl)
 
 -- the pieces have room for the part in an upload of the length that it leaves, which is lawful
-pub record Grows (u : Upload) (p : Part) (es : Nodes) : Type 0 where
+pub record Grows (u : Upload) (p : Part) (es : Subtrees) : Type 0 where
   pub room : HaveRoom (length_of (with_more u p)) u.parts p es
   pub lawful : IsUpload (with_more u p)
 
-grows_to_end : (plan : UploadPlan) (e : ℕ) (ps : List Part) (p : Part) (es : Nodes) → IsUpload (upload_with plan (Some e) ps) → Keeps e ps es → overlap_at p ps ≡ None
+grows_to_end : (plan : UploadPlan) (e : ℕ) (ps : List Part) (p : Part) (es : Subtrees) → IsUpload (upload_with plan (Some e) ps) → Keeps e ps es → overlap_at p ps ≡ None
     → past_last (upload_with plan (Some e) ps) p ≡ None → Fits plan p.offset (length p.bytes) → Grows (upload_with plan (Some e) ps) p es
 grows_to_end plan e ps p es lawful keeps apart last fits =
     let tests = neither (nat_lt e (end_of p)) (is_ragged p && nat_lt (end_of p) e) (no_value _ e last) in
@@ -188,7 +188,7 @@ grows_to_end plan e ps p es lawful keeps apart last fits =
       };
     }
 
-grows_to_part : (plan : UploadPlan) (ps : List Part) (p : Part) (es : Nodes) → IsUpload (upload_with plan None ps) → Keeps plan.bound ps es → overlap_at p ps ≡ None
+grows_to_part : (plan : UploadPlan) (ps : List Part) (p : Part) (es : Subtrees) → IsUpload (upload_with plan None ps) → Keeps plan.bound ps es → overlap_at p ps ≡ None
     → past_last (upload_with plan None ps) p ≡ None → Fits plan p.offset (length p.bytes) → Grows (upload_with plan None ps) p es
 grows_to_part plan ps p es lawful keeps apart last fits = elim (bool_cases (is_ragged p)) [
   | inl ragged ↦
@@ -232,23 +232,23 @@ grows_to_part plan ps p es lawful keeps apart last fits = elim (bool_cases (is_r
       }
 ]
 
-pub grows : (plan : UploadPlan) (end : Option ℕ) (ps : List Part) (p : PlannedPart) (es : Nodes) → IsUpload (upload_with plan end ps) → Keeps (unwrap_or end plan.bound) ps es
+pub grows : (plan : UploadPlan) (end : Option ℕ) (ps : List Part) (p : PlannedPart) (es : Subtrees) → IsUpload (upload_with plan end ps) → Keeps (unwrap_or end plan.bound) ps es
     → IsAllowed (upload_with plan end ps) p → Fits p.plan p.part.offset (length p.part.bytes) → Grows (upload_with plan end ps) p.part es
 grows plan (Some e) ps p es lawful keeps ok fits = grows_to_end plan e ps p.part es lawful keeps ok.apart ok.last (subst (λ q. Fits q p.part.offset (length p.part.bytes)) ok.plan fits)
 grows plan None ps p es lawful keeps ok fits = grows_to_part plan ps p.part es lawful keeps ok.apart ok.last (subst (λ q. Fits q p.part.offset (length p.part.bytes)) ok.plan fits)
 
-pub grown : (u : Upload) (plan : UploadPlan) (end : Option ℕ) (ps : List Part) (p : PlannedPart) (es : Nodes) → upload_with plan end ps ≡ u → None ≡ add_refusal u p
+pub grown : (u : Upload) (plan : UploadPlan) (end : Option ℕ) (ps : List Part) (p : PlannedPart) (es : Subtrees) → upload_with plan end ps ≡ u → None ≡ add_refusal u p
     → IsUpload (upload_with plan end ps) → Keeps (unwrap_or end plan.bound) ps es → Fits p.plan p.part.offset (length p.part.bytes) → Grows (upload_with plan end ps) p.part es
 grown u plan end ps p es seen free lawful keeps fits =
     grows plan end ps p es lawful keeps (allowed (upload_with plan end ps) p (free ∙ ap (λ (v : Upload). add_refusal v p) (sym seen))) fits
 
 -- ---- an end
 
-pub record IsFixed (u : Upload) (len : ℕ) (es : Nodes) : Type 0 where
+pub record IsFixed (u : Upload) (len : ℕ) (es : Subtrees) : Type 0 where
   pub keeps : Keeps len u.parts es
   pub lawful : IsUpload (fixed_at u len)
 
-pub fixes : (plan : UploadPlan) (end : Option ℕ) (ps : List Part) (es : Nodes) (len : ℕ) → IsUpload (upload_with plan end ps) → Keeps (unwrap_or end plan.bound) ps es
+pub fixes : (plan : UploadPlan) (end : Option ℕ) (ps : List Part) (es : Subtrees) (len : ℕ) → IsUpload (upload_with plan end ps) → Keeps (unwrap_or end plan.bound) ps es
     → None ≡ fix_refusal (upload_with plan end ps) len → IsFixed (upload_with plan end ps) len es
 fixes plan end ps es len lawful keeps free = elim (bool_cases (nat_lt plan.bound len)) [
   | inl long ↦ let wrong : fix_refusal (upload_with plan end ps) len ≡ Some fix.TooLong = rw long refl in let bad = free ∙ wrong in cc
@@ -257,7 +257,7 @@ fixes plan end ps es len lawful keeps free = elim (bool_cases (nat_lt plan.bound
       ends plan end ps es len lawful keeps (grind (arith, nat_tests, short)) (no_value _ _ rest)
 ]
   where
-    ends : (plan : UploadPlan) (end : Option ℕ) (ps : List Part) (es : Nodes) (len : ℕ) → IsUpload (upload_with plan end ps) → Keeps (unwrap_or end plan.bound) ps es
+    ends : (plan : UploadPlan) (end : Option ℕ) (ps : List Part) (es : Subtrees) (len : ℕ) → IsUpload (upload_with plan end ps) → Keeps (unwrap_or end plan.bound) ps es
         → len ≤ plan.bound → ends_elsewhere (upload_with plan end ps) len ≡ false → IsFixed (upload_with plan end ps) len es
     ends plan (Some e) ps es len lawful keeps short test =
         let same : e ≡ len = grind (arith, nat_tests, test) in

@@ -11,11 +11,11 @@ use Rattle.std.proofs.Math.Seq.{take-add}
 use Rattle.b3_core.specs.Laws.{NeighboursJoin}
 use Rattle.b3_core.specs.Modes.{hash_mode}
 use Rattle.b3_core.specs.Tree.{tree_top}
-use Rattle.b3_forest.specs.Nodes.{Nodes, AreChunks, Keeps, is_held, node_of, over, piece_from, top_before, top_over}
+use Rattle.b3_forest.specs.Subtrees.{Subtrees, AreChunks, Keeps, is_held, subtree_of, over, piece_from, top_before, top_over}
 use Rattle.b3_forest.specs.Parts.{Part, chunk_in}
 use Rattle.b3_forest.specs.Pieces.{content_at, is_full, piece_at, pieces_of, root_level}
 use Rattle.b3_forest.specs.Uploads.{content_of, first_gap, first_missing, upload_of}
-use Rattle.b3_forest.specs.declared.node.Node.{Node}
+use Rattle.b3_forest.specs.declared.piece.Subtree.{Subtree}
 use Rattle.b3_forest.specs.declared.piece.Piece.{Piece}
 use Rattle.b3_forest.proofs.Canonical.{AreSorted, forest_is_halved}
 use Rattle.b3_forest.proofs.Chunks.{content_most, content_some, content_whole, full_at, full_from}
@@ -63,15 +63,15 @@ nothing x (suc k) s first none =
 
 -- ---- the top over the pieces of a range
 
-nodes : List Piece → List Node
-nodes ps = map node_of ps
+subtrees : List Piece → List Subtree
+subtrees ps = map subtree_of ps
 
-one_top : (x : ℕ → List ℕ) (k s : ℕ) → is_full x k s ≡ true → top_over (map node_of (pieces_of x k s)) ≡ Some (tree_top (content_at x k s) s hash_mode)
+one_top : (x : ℕ → List ℕ) (k s : ℕ) → is_full x k s ≡ true → top_over (map subtree_of (pieces_of x k s)) ≡ Some (tree_top (content_at x k s) s hash_mode)
 unfolding top_before
-one_top x k s full = ap (λ (ps : List Piece). top_over (map node_of ps)) (pieces_of-full x k s full)
+one_top x k s full = ap (λ (ps : List Piece). top_over (map subtree_of ps)) (pieces_of-full x k s full)
 
 pub range_top : (n : ℕ) (x : ℕ → List ℕ) (k s : ℕ) → NeighboursJoin → AreChunks n x → IsFirst x → is_held x s ≡ true
-    → top_over (map node_of (pieces_of x k s)) ≡ Some (tree_top (content_at x k s) s hash_mode)
+    → top_over (map subtree_of (pieces_of x k s)) ≡ Some (tree_top (content_at x k s) s hash_mode)
 unfolding content_at top_before
 range_top n x zero s join chunks first held = one_top x zero s (full_one x s ∙ held)
 range_top n x (suc k) s join chunks first held = elim (bool_cases (is_full x (suc k) s)) [
@@ -80,20 +80,20 @@ range_top n x (suc k) s join chunks first held = elim (bool_cases (is_full x (su
       let m = s + 2 ^ k in
       let a = content_at x k s in
       let b = content_at x k m in
-      let halves = ap (λ (ps : List Piece). top_over (map node_of ps)) (pieces_of-halves x k s part) in
+      let halves = ap (λ (ps : List Piece). top_over (map subtree_of ps)) (pieces_of-halves x k s part) in
       elim (bool_cases (is_held x m)) [
         | inr none ↦
             let empty = nothing x k m first none in
             let left = range_top n x k s join chunks first held in
-            halves ∙ ap (λ (r : List Piece). top_over (map node_of (pieces_of x k s ++ r))) empty.pieces
-            ∙ ap (λ (ps : List Piece). top_over (map node_of ps)) (append-nil (pieces_of x k s)) ∙ left
+            halves ∙ ap (λ (r : List Piece). top_over (map subtree_of (pieces_of x k s ++ r))) empty.pieces
+            ∙ ap (λ (ps : List Piece). top_over (map subtree_of ps)) (append-nil (pieces_of x k s)) ∙ left
             ∙ ap (λ (c : List ℕ). Some (tree_top c s hash_mode)) (sym (ap (λ (r : List ℕ). a ++ r) empty.content ∙ append-nil a))
         | inl more ↦
             let full = full_from x k s (λ i after before. first i m (omega (arith, before)) more) in
             let right = range_top n x k m join chunks first more in
             let joined = join a b s k hash_mode (content_whole n x k s m chunks full more (omega arith)) (content_some x k m more) (content_most n x k m chunks) in
-            halves ∙ ap (λ (l : List Piece). top_over (map node_of (l ++ pieces_of x k m))) (pieces_of-full x k s full)
-            ∙ ap (over (node_of (piece_at x k s))) right ∙ ap Some joined
+            halves ∙ ap (λ (l : List Piece). top_over (map subtree_of (l ++ pieces_of x k m))) (pieces_of-full x k s full)
+            ∙ ap (over (subtree_of (piece_at x k s))) right ∙ ap Some joined
       ]
 ]
 
@@ -131,20 +131,20 @@ nothing_missing n ps none = elim (cases_lt (first_gap 0 ps) n) [
   | inl gap ↦ let test : nat_lt (first_gap 0 ps) n ≡ true = grind (arith, nat_tests, gap) in let some : first_missing (upload_of n ps) ≡ Some (first_gap 0 ps) = rw test refl in cc
 ]
 
-pub whole_upload : (n : ℕ) (ps : List Part) (es : Nodes) → Keeps n ps es → first_missing (upload_of n ps) ≡ None → IsWhole n 0 ps
+pub whole_upload : (n : ℕ) (ps : List Part) (es : Subtrees) → Keeps n ps es → first_missing (upload_of n ps) ≡ None → IsWhole n 0 ps
 whole_upload n ps es keeps none = whole_from n 0 ps (omega arith) keeps.upload.placed (nothing_missing n ps none)
 
-values_are_nodes : (es : Nodes) → values_of es ≡ map node_of (map piece_from es)
-values_are_nodes [] = refl
-values_are_nodes (e ∷ es) = ap (λ (ns : List Node). e.1 ∷ ns) (values_are_nodes es)
+values_are_subtrees : (es : Subtrees) → values_of es ≡ map subtree_of (map piece_from es)
+values_are_subtrees [] = refl
+values_are_subtrees (e ∷ es) = ap (λ (ns : List Subtree). e.1 ∷ ns) (values_are_subtrees es)
 
-pub top_of_pieces : (n : ℕ) (ps : List Part) (es : Nodes) → AreSorted es → Keeps n ps es → top_over (values_of es) ≡ top_over (map node_of (pieces_of (chunk_in ps) root_level 0))
-top_of_pieces n ps es sorted keeps = ap top_over (values_are_nodes es ∙ ap (map node_of) (forest_is_halved (chunk_in ps) es sorted keeps.forest))
+pub top_of_pieces : (n : ℕ) (ps : List Part) (es : Subtrees) → AreSorted es → Keeps n ps es → top_over (values_of es) ≡ top_over (map subtree_of (pieces_of (chunk_in ps) root_level 0))
+top_of_pieces n ps es sorted keeps = ap top_over (values_are_subtrees es ∙ ap (map subtree_of) (forest_is_halved (chunk_in ps) es sorted keeps.forest))
 
 drop_zero : (b : List ℕ) → drop 0 b ≡ b
 drop_zero b = refl
 
-pub empty_top : (n : ℕ) (ps : List Part) (es : Nodes) → AreSorted es → Keeps n ps es → IsWhole n 0 ps → n ≡ 0 → top_over (values_of es) ≡ None
+pub empty_top : (n : ℕ) (ps : List Part) (es : Subtrees) → AreSorted es → Keeps n ps es → IsWhole n 0 ps → n ≡ 0 → top_over (values_of es) ≡ None
 unfolding top_before
 empty_top n ps es sorted keeps whole none =
     let x = chunk_in ps in
@@ -154,9 +154,9 @@ empty_top n ps es sorted keeps whole none =
       | inl held ↦ let low = (held_after n 0 i ps placed held).1 in absurd (omega (arith, low, none))
     ] in
     let empty = nothing x root_level 0 (λ i j low held. let bad = gap j in cc) (gap 0) in
-    top_of_pieces n ps es sorted keeps ∙ ap (λ (l : List Piece). top_over (map node_of l)) empty.pieces
+    top_of_pieces n ps es sorted keeps ∙ ap (λ (l : List Piece). top_over (map subtree_of l)) empty.pieces
 
-pub whole_top : (n : ℕ) (ps : List Part) (es : Nodes) → NeighboursJoin → AreSorted es → Keeps n ps es → IsWhole n 0 ps → 0 < n
+pub whole_top : (n : ℕ) (ps : List Part) (es : Subtrees) → NeighboursJoin → AreSorted es → Keeps n ps es → IsWhole n 0 ps → 0 < n
     → top_over (values_of es) ≡ Some (tree_top (content_of ps) 0 hash_mode)
 whole_top n ps es join sorted keeps whole some =
     let x = chunk_in ps in

@@ -6,11 +6,11 @@ use Rattle.std.proofs.lemmas.Bool.{cases_lt}
 use Rattle.std.proofs.lemmas.Bool.Decides.{nat_tests}
 use Rattle.std.proofs.lemmas.List.{drop-drop, drop_all, length-append, length-drop, length-take, take-append-drop}
 use Rattle.b3_forest.specs.Followed.{AllNoted, ArePartsOf, Followed, Follows, IsFirstNoted, IsFirstUnnoted, IsIn, IsNoted, IsNotedWith, NothingNoted, bytes_at, followed, has_chunk, noted_chunk, noting_merges, pieces_noted, range_of}
-use Rattle.b3_forest.specs.Nodes.{HasChunk, HaveRoom, Keeps, Nodes, is_held, node_at}
+use Rattle.b3_forest.specs.Subtrees.{HasChunk, HaveRoom, Keeps, Subtrees, is_held, subtree_at}
 use Rattle.b3_forest.specs.Parts.{Fits, Part, PlannedPart, UploadPlan, chunk_in, chunks_of, closed_plan, end_of}
 use Rattle.b3_forest.specs.Pieces.{is_full, piece_count, pieces_of, root_level}
 use Rattle.b3_forest.specs.Uploads.{ArePlaced, IsFirstMissing, IsFirstOverlap, IsHeldAt, Upload, content_of, first_gap, first_missing, merges_of, overlap_at, with_part, upload_of}
-use Rattle.b3_forest.specs.declared.node.Node.{Node}
+use Rattle.b3_forest.specs.declared.piece.Subtree.{Subtree}
 use Rattle.b3_forest.proofs.Canonical.{AreSorted, forest_count, head_at, in_tail, tail_at}
 use Rattle.b3_forest.proofs.Contents.{gap_follows, gap_here}
 use Rattle.b3_forest.proofs.Finishing.{nothing_missing}
@@ -49,57 +49,57 @@ offset_of_chunk n a i (p ∷ ps) placed low held = elim (in_or_out p (i / 1024))
 
 -- ---- chunks in pieces
 
-in_nodes : (es : Nodes) (s i : ℕ) (n : Node) → node_at es s ≡ Some n → s ≤ i → i < s + 2 ^ n.level → has_chunk (range_of es) i ≡ true
-in_nodes [] s i n is after before = cc
-in_nodes (e ∷ es) s i n is after before = elim (same_or s e.0) [
+in_subtrees : (es : Subtrees) (s i : ℕ) (n : Subtree) → subtree_at es s ≡ Some n → s ≤ i → i < s + 2 ^ n.level → has_chunk (range_of es) i ≡ true
+in_subtrees [] s i n is after before = cc
+in_subtrees (e ∷ es) s i n is after before = elim (same_or s e.0) [
   | inl same ↦
-      let node : n ≡ e.1 = some_same n e.1 (sym is ∙ ap (node_at (e ∷ es)) same ∙ head_at e es) in
-      let wide : 2 ^ n.level ≡ 2 ^ e.1.level = ap (λ (w : Node). 2 ^ w.level) node in
+      let subtree : n ≡ e.1 = some_same n e.1 (sym is ∙ ap (subtree_at (e ∷ es)) same ∙ head_at e es) in
+      let wide : 2 ^ n.level ≡ 2 ^ e.1.level = ap (λ (w : Subtree). 2 ^ w.level) subtree in
       let low : nat_le e.0 i ≡ true = grind (arith, nat_tests) in
       let high : nat_lt i (e.0 + 2 ^ e.1.level) ≡ true = grind (arith, nat_tests) in
       rw (low, high) refl
-  | inr other ↦ rw (in_nodes es s i n (sym (tail_at e es s other) ∙ is) after before) (or_true _)
+  | inr other ↦ rw (in_subtrees es s i n (sym (tail_at e es s other) ∙ is) after before) (or_true _)
 ]
   where
     or_true : (p : Bool) → (p || true) ≡ true
     or_true true = refl
     or_true false = refl
 
-node_over : (es : Nodes) (i : ℕ) → AreSorted es → has_chunk (range_of es) i ≡ true → HasChunk es i
+subtree_over : (es : Subtrees) (i : ℕ) → AreSorted es → has_chunk (range_of es) i ≡ true → HasChunk es i
 unfolding IsStrictlySortedBy
-node_over [] i sorted noted = cc
-node_over (e ∷ es) i sorted noted = elim (cases_lt i e.0) [
+subtree_over [] i sorted noted = cc
+subtree_over (e ∷ es) i sorted noted = elim (cases_lt i e.0) [
   | inl early ↦
       let low : nat_le e.0 i ≡ false = grind (arith, nat_tests) in
-      node_later e es i sorted (node_over es i sorted.1 (rw low at noted))
+      subtree_later e es i sorted (subtree_over es i sorted.1 (rw low at noted))
   | inr after ↦ elim (cases_lt i (e.0 + 2 ^ e.1.level)) [
-    | inl before ↦ record { first = e.0; node = e.1; is = head_at e es; after = after; before = before }
+    | inl before ↦ record { first = e.0; subtree = e.1; is = head_at e es; after = after; before = before }
     | inr behind ↦
         let low : nat_le e.0 i ≡ true = grind (arith, nat_tests) in
         let high : nat_lt i (e.0 + 2 ^ e.1.level) ≡ false = grind (arith, nat_tests) in
-        node_later e es i sorted (node_over es i sorted.1 (rw (low, high) at noted))
+        subtree_later e es i sorted (subtree_over es i sorted.1 (rw (low, high) at noted))
   ]
 ]
   where
-    node_later : (e : ℕ × Node) (es : Nodes) (i : ℕ) → AreSorted (e ∷ es) → HasChunk es i → HasChunk (e ∷ es) i
-    node_later e es i sorted has = record { first = has.first; node = has.node; is = in_tail e es has.first has.node sorted has.is; after = has.after; before = has.before }
+    subtree_later : (e : ℕ × Subtree) (es : Subtrees) (i : ℕ) → AreSorted (e ∷ es) → HasChunk es i → HasChunk (e ∷ es) i
+    subtree_later e es i sorted has = record { first = has.first; subtree = has.subtree; is = in_tail e es has.first has.subtree sorted has.is; after = has.after; before = has.before }
 
-pub noted_of : (b : List ℕ) (ps : List Part) (es : Nodes) (i : ℕ) → Keeps (length b) ps es → IsHeldAt ps i → IsNoted (followed b es) i
+pub noted_of : (b : List ℕ) (ps : List Part) (es : Subtrees) (i : ℕ) → Keeps (length b) ps es → IsHeldAt ps i → IsNoted (followed b es) i
 noted_of b ps es i keeps held =
     let low = offset_after (length b) 0 i ps keeps.upload.placed held in
     let chunk = chunk_of_offset (length b) 0 i ps keeps.upload.placed held in
     let has = keeps.forest.all (i / 1024) chunk (omega (arith, low.1, keeps.upload.most)) in
-    (low.1, in_nodes es has.first (i / 1024) has.node has.is has.after has.before)
+    (low.1, in_subtrees es has.first (i / 1024) has.subtree has.is has.after has.before)
 
-pub held_of : (b : List ℕ) (ps : List Part) (es : Nodes) (i : ℕ) → Keeps (length b) ps es → IsNoted (followed b es) i → IsHeldAt ps i
+pub held_of : (b : List ℕ) (ps : List Part) (es : Subtrees) (i : ℕ) → Keeps (length b) ps es → IsNoted (followed b es) i → IsHeldAt ps i
 held_of b ps es i keeps noted =
-    let has = node_over es (i / 1024) keeps.sorted noted.1 in
-    let chunk = held_in (chunk_in ps) es has.first (i / 1024) has.node keeps.forest.pieces has.is has.after has.before in
+    let has = subtree_over es (i / 1024) keeps.sorted noted.1 in
+    let chunk = held_in (chunk_in ps) es has.first (i / 1024) has.subtree keeps.forest.pieces has.is has.after has.before in
     offset_of_chunk (length b) 0 i ps keeps.upload.placed noted.0 chunk
 
 -- ---- what is told
 
-pub told_missing : (b : List ℕ) (ps : List Part) (es : Nodes) (m : ℕ) → Keeps (length b) ps es → first_missing (upload_of (length b) ps) ≡ Some m → IsFirstUnnoted (followed b es) m
+pub told_missing : (b : List ℕ) (ps : List Part) (es : Subtrees) (m : ℕ) → Keeps (length b) ps es → first_missing (upload_of (length b) ps) ≡ Some m → IsFirstUnnoted (followed b es) m
 told_missing b ps es m keeps is =
     let u : Upload = upload_of (length b) ps in
     let first = subst (λ o. IfSome o (IsFirstMissing u)) is (least_missing u keeps.upload).some in
@@ -109,13 +109,13 @@ told_missing b ps es m keeps is =
       least = λ i before. noted_of b ps es i keeps (first.least i before);
     }
 
-pub told_all : (b : List ℕ) (ps : List Part) (es : Nodes) → Keeps (length b) ps es → first_missing (upload_of (length b) ps) ≡ None → AllNoted (followed b es)
+pub told_all : (b : List ℕ) (ps : List Part) (es : Subtrees) → Keeps (length b) ps es → first_missing (upload_of (length b) ps) ≡ None → AllNoted (followed b es)
 told_all b ps es keeps is i low =
     let u : Upload = upload_of (length b) ps in
     let all = subst (λ o. IfNone o ((j : ℕ) → j < length b → IsHeldAt ps j)) is (least_missing u keeps.upload).none in
     noted_of b ps es i keeps (all i low)
 
-pub told_overlap : (b : List ℕ) (ps : List Part) (es : Nodes) (p : Part) (at : ℕ) → Keeps (length b) ps es → 0 < length p.bytes → overlap_at p ps ≡ Some at → IsFirstNoted (followed b es) p at
+pub told_overlap : (b : List ℕ) (ps : List Part) (es : Subtrees) (p : Part) (at : ℕ) → Keeps (length b) ps es → 0 < length p.bytes → overlap_at p ps ≡ Some at → IsFirstNoted (followed b es) p at
 told_overlap b ps es p at keeps some is =
     let u : Upload = upload_of (length b) ps in
     let first = subst (λ o. IfSome o (IsFirstOverlap p ps)) is (least_overlap u p keeps.upload some).some in
@@ -125,7 +125,7 @@ told_overlap b ps es p at keeps some is =
       least = λ i after before noted. first.least i after before (held_of b ps es i keeps noted);
     }
 
-pub told_apart : (b : List ℕ) (ps : List Part) (es : Nodes) (p : Part) → Keeps (length b) ps es → 0 < length p.bytes → overlap_at p ps ≡ None → NothingNoted (followed b es) p
+pub told_apart : (b : List ℕ) (ps : List Part) (es : Subtrees) (p : Part) → Keeps (length b) ps es → 0 < length p.bytes → overlap_at p ps ≡ None → NothingNoted (followed b es) p
 told_apart b ps es p keeps some is i inside noted =
     let u : Upload = upload_of (length b) ps in
     let none = subst (λ o. IfNone o ((j : ℕ) → p.offset ≤ j → j < end_of p → IsHeldAt ps j → ⊥)) is (least_overlap u p keeps.upload some).none in
@@ -156,7 +156,7 @@ held_more_of p (q ∷ qs) i held = elim (cases_lt p.offset q.offset) [
   ])
 ]
 
-pub noted_with : (b : List ℕ) (ps : List Part) (es fs : Nodes) (p : Part) → Keeps (length b) ps es → Keeps (length b) (with_part p ps) fs → IsNotedWith (followed b es) (followed b fs) p
+pub noted_with : (b : List ℕ) (ps : List Part) (es fs : Subtrees) (p : Part) → Keeps (length b) ps es → Keeps (length b) (with_part p ps) fs → IsNotedWith (followed b es) (followed b fs) p
 noted_with b ps es fs p old new = record {
   bytes = refl;
   noted = λ i. (
@@ -180,7 +180,7 @@ parts_with b p (q ∷ qs) same all = elim (cases_lt p.offset q.offset) [
 ]
 
 -- the pieces have room for a part of the bytes' plan that overlaps no other
-pub room_of : (b : List ℕ) (es : Nodes) (w : Follows b es) (p : PlannedPart) → p.plan ≡ closed_plan (length b) → Fits p.plan p.part.offset (length p.part.bytes)
+pub room_of : (b : List ℕ) (es : Subtrees) (w : Follows b es) (p : PlannedPart) → p.plan ≡ closed_plan (length b) → Fits p.plan p.part.offset (length p.part.bytes)
     → None ≡ overlap_at p.part w.parts → HaveRoom (length b) w.parts p.part es
 room_of b es w p plan fits apart = record {
   keeps = w.keeps;
@@ -202,7 +202,7 @@ content_from b a (p ∷ ps) most placed all same = elim (same_or p.offset a) [
       ap₂ (λ (l r : List ℕ). l ++ r) own (rest ∙ next) ∙ take-append-drop (length p.bytes) (drop a b)
 ]
 
-pub content_is : (b : List ℕ) (es : Nodes) (w : Follows b es) → first_missing (upload_of (length b) w.parts) ≡ None → content_of w.parts ≡ b
+pub content_is : (b : List ℕ) (es : Subtrees) (w : Follows b es) → first_missing (upload_of (length b) w.parts) ≡ None → content_of w.parts ≡ b
 content_is b es w none = content_from b 0 w.parts (omega arith) w.keeps.upload.placed (nothing_missing (length b) w.parts none) w.same
 
 -- ---- counts
@@ -271,14 +271,14 @@ pub noted_pieces : (f : Followed) (n : ℕ) (ps : List Part) → n ≡ length f.
     → pieces_noted f ≡ piece_count (chunk_in ps)
 noted_pieces f n ps len placed same = same_count (noted_chunk f) (chunk_in ps) root_level 0 (noted_as_held f n ps len placed same)
 
-pub noted_count : (b : List ℕ) (ps : List Part) (es : Nodes) → Keeps (length b) ps es → piece_count (chunk_in ps) ≡ pieces_noted (followed b es)
+pub noted_count : (b : List ℕ) (ps : List Part) (es : Subtrees) → Keeps (length b) ps es → piece_count (chunk_in ps) ≡ pieces_noted (followed b es)
 noted_count b ps es keeps =
     sym (noted_pieces (followed b es) (length b) ps refl keeps.upload.placed (λ i. (held_of b ps es i keeps, noted_of b ps es i keeps)))
 
-pub nothing_noted : (b : List ℕ) (es : Nodes) → Keeps (length b) [] es → es ≡ [] → pieces_noted (followed b es) ≡ 0
+pub nothing_noted : (b : List ℕ) (es : Subtrees) → Keeps (length b) [] es → es ≡ [] → pieces_noted (followed b es) ≡ 0
 nothing_noted b es keeps empty = sym (noted_count b [] es keeps) ∙ sym (forest_count (chunk_in []) es keeps.sorted keeps.forest) ∙ ap length empty
 
-pub merges_noted : (b : List ℕ) (ps : List Part) (es fs : Nodes) (p : Part) → Keeps (length b) ps es → Keeps (length b) (with_part p ps) fs
+pub merges_noted : (b : List ℕ) (ps : List Part) (es fs : Subtrees) (p : Part) → Keeps (length b) ps es → Keeps (length b) (with_part p ps) fs
     → merges_of (upload_of (length b) ps) p ≡ noting_merges (followed b es) (followed b fs) p
 merges_noted b ps es fs p old new = ap₂ (λ i j. i + piece_count (chunks_of p) - j) (noted_count b ps es old) (noted_count b (with_part p ps) fs new)
 
@@ -292,11 +292,11 @@ pub on_ok_by : {A E : Type 0} (r : Result A E) (P Q : Type 0) → (P → Q) → 
 on_ok_by (Ok a) P Q by holds = by holds
 on_ok_by (Err e) P Q by holds = tt
 
-pub told_some : (b : List ℕ) (ps : List Part) (es : Nodes) (o : Option ℕ) → Keeps (length b) ps es → o ≡ first_missing (upload_of (length b) ps) → IfSome o (IsFirstUnnoted (followed b es))
+pub told_some : (b : List ℕ) (ps : List Part) (es : Subtrees) (o : Option ℕ) → Keeps (length b) ps es → o ≡ first_missing (upload_of (length b) ps) → IfSome o (IsFirstUnnoted (followed b es))
 told_some b ps es None keeps is = tt
 told_some b ps es (Some m) keeps is = told_missing b ps es m keeps (sym is)
 
-pub told_none : (b : List ℕ) (ps : List Part) (es : Nodes) (o : Option ℕ) → Keeps (length b) ps es → o ≡ first_missing (upload_of (length b) ps) → IfNone o (AllNoted (followed b es))
+pub told_none : (b : List ℕ) (ps : List Part) (es : Subtrees) (o : Option ℕ) → Keeps (length b) ps es → o ≡ first_missing (upload_of (length b) ps) → IfNone o (AllNoted (followed b es))
 told_none b ps es None keeps is = told_all b ps es keeps (sym is)
 told_none b ps es (Some m) keeps is = tt
 

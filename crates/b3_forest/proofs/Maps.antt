@@ -6,8 +6,8 @@ use Rattle.std.specs.Map.{remove_entry}
 use Rattle.std.specs.Ordering.{nat_cmp}
 use Rattle.std.proofs.lemmas.Bool.Decides.{nat_tests}
 use Rattle.std.proofs.lemmas.Bool.{cases_lt}
-use Rattle.b3_forest.specs.Nodes.{Nodes, node_at}
-use Rattle.b3_forest.specs.declared.node.Node.{Node}
+use Rattle.b3_forest.specs.Subtrees.{Subtrees, subtree_at}
+use Rattle.b3_forest.specs.declared.piece.Subtree.{Subtree}
 
 pub at_same : (k : ℕ) → is_at (nat_cmp k) k ≡ true
 at_same k = grind (arith, nat_tests)
@@ -31,7 +31,7 @@ same_or a b = elim (three a b) [
 
 -- ---- an entry put in
 
-pub put_here : (es : Nodes) (k : ℕ) (v : Node) → node_at (insert_entry nat_cmp es k v) k ≡ Some v
+pub put_here : (es : Subtrees) (k : ℕ) (v : Subtree) → subtree_at (insert_entry nat_cmp es k v) k ≡ Some v
 put_here [] k v = rw (at_same k) refl
 put_here (e ∷ es) k v = elim (three k e.0) [
   | inl less ↦ let c : nat_cmp k e.0 ≡ Less = grind (arith, nat_tests) in rw (c, at_same k) refl
@@ -45,7 +45,7 @@ put_here (e ∷ es) k v = elim (three k e.0) [
       rw (c, other) (put_here es k v)
 ]
 
-pub put_apart : (es : Nodes) (k q : ℕ) (v : Node) → q ≢ k → node_at (insert_entry nat_cmp es k v) q ≡ node_at es q
+pub put_apart : (es : Subtrees) (k q : ℕ) (v : Subtree) → q ≢ k → subtree_at (insert_entry nat_cmp es k v) q ≡ subtree_at es q
 put_apart [] k q v apart = rw (at_other q k apart) refl
 put_apart (e ∷ es) k q v apart = elim (three k e.0) [
   | inl less ↦ let c : nat_cmp k e.0 ≡ Less = grind (arith, nat_tests) in rw (c, at_other q k apart) refl
@@ -59,33 +59,33 @@ put_apart (e ∷ es) k q v apart = elim (three k e.0) [
 ]
 
 -- what is put in where nothing stood, and taken out again
-pub put_and_taken : (es : Nodes) (k : ℕ) (v : Node) → node_at es k ≡ None → remove_entry (is_at (nat_cmp k)) (insert_entry nat_cmp es k v) ≡ es
+pub put_and_taken : (es : Subtrees) (k : ℕ) (v : Subtree) → subtree_at es k ≡ None → remove_entry (is_at (nat_cmp k)) (insert_entry nat_cmp es k v) ≡ es
 put_and_taken [] k v none = rw (at_same k) refl
 put_and_taken (e ∷ es) k v none = elim (three k e.0) [
   | inl less ↦ let c : nat_cmp k e.0 ≡ Less = grind (arith, nat_tests) in rw (c, at_same k) refl
   | inr (inl same) ↦
       let at : is_at (nat_cmp k) e.0 ≡ true = grind (arith, nat_tests) in
-      let found : node_at (e ∷ es) k ≡ Some e.1 = rw at refl in
+      let found : subtree_at (e ∷ es) k ≡ Some e.1 = rw at refl in
       cc
   | inr (inr more) ↦
       let c : nat_cmp k e.0 ≡ Greater = grind (arith, nat_tests) in
       let other = at_other k e.0 (λ h. omega (arith, more, h)) in
-      let rest : node_at es k ≡ None = sym (rw other refl) ∙ none in
-      rw (c, other) (ap (λ (r : Nodes). e ∷ r) (put_and_taken es k v rest))
+      let rest : subtree_at es k ≡ None = sym (rw other refl) ∙ none in
+      rw (c, other) (ap (λ (r : Subtrees). e ∷ r) (put_and_taken es k v rest))
 ]
 
-pub length_put : (es : Nodes) (k : ℕ) (v : Node) → node_at es k ≡ None → length (insert_entry nat_cmp es k v) ≡ length es + 1
+pub length_put : (es : Subtrees) (k : ℕ) (v : Subtree) → subtree_at es k ≡ None → length (insert_entry nat_cmp es k v) ≡ length es + 1
 length_put [] k v none = refl
 length_put (e ∷ es) k v none = elim (three k e.0) [
   | inl less ↦ let c : nat_cmp k e.0 ≡ Less = grind (arith, nat_tests) in rw c (omega arith)
   | inr (inl same) ↦
       let at : is_at (nat_cmp k) e.0 ≡ true = grind (arith, nat_tests) in
-      let found : node_at (e ∷ es) k ≡ Some e.1 = rw at refl in
+      let found : subtree_at (e ∷ es) k ≡ Some e.1 = rw at refl in
       cc
   | inr (inr more) ↦
       let c : nat_cmp k e.0 ≡ Greater = grind (arith, nat_tests) in
       let other = at_other k e.0 (λ h. omega (arith, more, h)) in
-      let rest : node_at es k ≡ None = sym (rw other refl) ∙ none in
+      let rest : subtree_at es k ≡ None = sym (rw other refl) ∙ none in
       let more = length_put es k v rest in
       rw c (omega (arith, more))
 ]

@@ -6,93 +6,93 @@ use Rattle.b3_core.specs.Laws.{NeighboursJoin}
 use Rattle.b3_core.specs.Modes.{hash_mode}
 use Rattle.b3_core.specs.Tree.{parent_top}
 use Rattle.b3_forest.specs.Forests.{IsPiece}
-use Rattle.b3_forest.specs.Nodes.{Nodes, AreChunks, AreForest, AreHalvesAt, ArePieces, AreSettled, HasChunk, IsAlone, IsAmong, IsMerged, IsPair, node_at, piece_from}
+use Rattle.b3_forest.specs.Subtrees.{Subtrees, AreChunks, AreForest, AreHalvesAt, ArePieces, AreSettled, HasChunk, IsAlone, IsAmong, IsMerged, IsPair, subtree_at, piece_from}
 use Rattle.b3_forest.specs.Pieces.{most_chunks}
-use Rattle.b3_forest.specs.declared.halves.Halves.{Halves}
-use Rattle.b3_forest.specs.declared.node.Node.{Node}
+use Rattle.b3_forest.specs.declared.subtrees.Halves.{Halves}
+use Rattle.b3_forest.specs.declared.piece.Subtree.{Subtree}
 use Rattle.b3_forest.proofs.Chunks.{halves_piece}
 use Rattle.b3_forest.proofs.Maps.{same_or, three}
 
-pub merged_node : Halves → Node
-merged_node h = record { level = suc h.level; top = parent_top h.left_top h.right_top hash_mode }
+pub merged_subtree : Halves → Subtree
+merged_subtree h = record { level = suc h.level; top = parent_top h.left_top h.right_top hash_mode }
 
-pub some_same : (n m : Node) → Some n ≡ Some m → n ≡ m
+pub some_same : (n m : Subtree) → Some n ≡ Some m → n ≡ m
 some_same n m same = cc
 
 -- what a look-up finds behind a merge
-Found : Nodes → Halves → ℕ → Node → Type 0
-Found es h s m = ((s ≡ h.left) × (m ≡ merged_node h)) ⊎ ((s ≢ h.left) × (s ≢ h.right) × (node_at es s ≡ Some m))
+Found : Subtrees → Halves → ℕ → Subtree → Type 0
+Found es h s m = ((s ≡ h.left) × (m ≡ merged_subtree h)) ⊎ ((s ≢ h.left) × (s ≢ h.right) × (subtree_at es s ≡ Some m))
 
-found : (es fs : Nodes) (h : Halves) (s : ℕ) (m : Node) → IsMerged es fs h → node_at fs s ≡ Some m → Found es h s m
-unfolding Found merged_node
+found : (es fs : Subtrees) (h : Halves) (s : ℕ) (m : Subtree) → IsMerged es fs h → subtree_at fs s ≡ Some m → Found es h s m
+unfolding Found merged_subtree
 found es fs h s m merged is = elim (same_or s h.left) [
-  | inl left ↦ inl (left, some_same m _ (sym is ∙ ap (node_at fs) left ∙ merged.at_left))
+  | inl left ↦ inl (left, some_same m _ (sym is ∙ ap (subtree_at fs) left ∙ merged.at_left))
   | inr not_left ↦ elim (same_or s h.right) [
-    | inl right ↦ let none = sym is ∙ ap (node_at fs) right ∙ merged.at_right in cc
+    | inl right ↦ let none = sym is ∙ ap (subtree_at fs) right ∙ merged.at_right in cc
     | inr not_right ↦ inr (not_left, not_right, sym (merged.others s not_left not_right) ∙ is)
   ]
 ]
 
 -- the two halves, as pieces
-left_node : Halves → Node
-left_node h = record { level = h.level; top = h.left_top }
+left_subtree : Halves → Subtree
+left_subtree h = record { level = h.level; top = h.left_top }
 
-right_node : Halves → Node
-right_node h = record { level = h.level; top = h.right_top }
+right_subtree : Halves → Subtree
+right_subtree h = record { level = h.level; top = h.right_top }
 
-merged_piece : (n : ℕ) (x : ℕ → List ℕ) (es : Nodes) (first : ℕ) (h : Halves) → NeighboursJoin → AreChunks n x → ArePieces x es → IsPair es first h
-    → IsPiece x (piece_from (h.left, merged_node h))
-unfolding merged_node left_node right_node
+merged_piece : (n : ℕ) (x : ℕ → List ℕ) (es : Subtrees) (first : ℕ) (h : Halves) → NeighboursJoin → AreChunks n x → ArePieces x es → IsPair es first h
+    → IsPiece x (piece_from (h.left, merged_subtree h))
+unfolding merged_subtree left_subtree right_subtree
 merged_piece n x es first h join chunks pieces pair =
-    halves_piece n x (piece_from (h.left, left_node h)) (piece_from (h.right, right_node h)) join chunks
-    (pieces.lawful h.left (left_node h) pair.is_left) (pieces.lawful h.right (right_node h) pair.is_right) refl pair.next pair.aligned
+    halves_piece n x (piece_from (h.left, left_subtree h)) (piece_from (h.right, right_subtree h)) join chunks
+    (pieces.lawful h.left (left_subtree h) pair.is_left) (pieces.lawful h.right (right_subtree h) pair.is_right) refl pair.next pair.aligned
 
-merged_within : (x : ℕ → List ℕ) (es : Nodes) (first : ℕ) (h : Halves) → ArePieces x es → IsPair es first h → h.left + 2 ^ suc h.level ≤ most_chunks
-unfolding right_node
+merged_within : (x : ℕ → List ℕ) (es : Subtrees) (first : ℕ) (h : Halves) → ArePieces x es → IsPair es first h → h.left + 2 ^ suc h.level ≤ most_chunks
+unfolding right_subtree
 merged_within x es first h pieces pair =
     let two = two-pow-succ h.level in
-    let right = pieces.within h.right (right_node h) pair.is_right in
+    let right = pieces.within h.right (right_subtree h) pair.is_right in
     let next = pair.next in
     omega (arith, two, right, next)
 
 -- a piece that begins behind the left half begins behind both
-behind_both : (x : ℕ → List ℕ) (es : Nodes) (first t : ℕ) (m : Node) (h : Halves) → ArePieces x es → IsPair es first h → node_at es t ≡ Some m
+behind_both : (x : ℕ → List ℕ) (es : Subtrees) (first t : ℕ) (m : Subtree) (h : Halves) → ArePieces x es → IsPair es first h → subtree_at es t ≡ Some m
     → t ≢ h.right → h.left < t → h.left + 2 ^ suc h.level ≤ t
-unfolding left_node right_node
+unfolding left_subtree right_subtree
 behind_both x es first t m h pieces pair is not_right behind =
     let two = two-pow-succ h.level in
-    let left = pieces.apart h.left t (left_node h) m pair.is_left is behind in
+    let left = pieces.apart h.left t (left_subtree h) m pair.is_left is behind in
     let next = pair.next in
     elim (three h.right t) [
-      | inl after ↦ let right = pieces.apart h.right t (right_node h) m pair.is_right is after in omega (arith, two, right, next)
+      | inl after ↦ let right = pieces.apart h.right t (right_subtree h) m pair.is_right is after in omega (arith, two, right, next)
       | inr (inl same) ↦ absurd (not_right (sym same))
       | inr (inr before) ↦ absurd (omega (arith, left, next, before))
     ]
 
-merged_pieces : (n : ℕ) (x : ℕ → List ℕ) (es fs : Nodes) (first : ℕ) (h : Halves) → NeighboursJoin → AreChunks n x → ArePieces x es
+merged_pieces : (n : ℕ) (x : ℕ → List ℕ) (es fs : Subtrees) (first : ℕ) (h : Halves) → NeighboursJoin → AreChunks n x → ArePieces x es
     → IsPair es first h → IsMerged es fs h → ArePieces x fs
-unfolding Found merged_node left_node
+unfolding Found merged_subtree left_subtree
 merged_pieces n x es fs first h join chunks pieces pair merged = record {
   lawful = λ s m is. elim (found es fs h s m merged is) [
-    | inl at ↦ subst (IsPiece x) (ap₂ (λ (i : ℕ) (k : Node). piece_from (i, k)) (sym at.0) (sym at.1)) (merged_piece n x es first h join chunks pieces pair)
+    | inl at ↦ subst (IsPiece x) (ap₂ (λ (i : ℕ) (k : Subtree). piece_from (i, k)) (sym at.0) (sym at.1)) (merged_piece n x es first h join chunks pieces pair)
     | inr other ↦ pieces.lawful s m other.2
   ];
   within = λ s m is. elim (found es fs h s m merged is) [
-    | inl at ↦ subst (λ i. i ≤ most_chunks) (ap₂ (λ (i : ℕ) (k : Node). i + 2 ^ k.level) (sym at.0) (sym at.1)) (merged_within x es first h pieces pair)
+    | inl at ↦ subst (λ i. i ≤ most_chunks) (ap₂ (λ (i : ℕ) (k : Subtree). i + 2 ^ k.level) (sym at.0) (sym at.1)) (merged_within x es first h pieces pair)
     | inr other ↦ pieces.within s m other.2
   ];
   apart = λ s t m k is_s is_t before. elim (found es fs h s m merged is_s) [
     | inl at ↦ elim (found es fs h t k merged is_t) [
       | inl other ↦ absurd (omega (arith, before, at.0, other.0))
       | inr other ↦
-          let level : m.level ≡ suc h.level = ap (λ (w : Node). w.level) at.1 in
+          let level : m.level ≡ suc h.level = ap (λ (w : Subtree). w.level) at.1 in
           let wide : 2 ^ m.level ≡ 2 ^ suc h.level = ap (λ i. 2 ^ i) level in
           let both = behind_both x es first t k h pieces pair other.2 other.1 (omega (arith, before, at.0)) in
           omega (arith, both, wide, at.0)
     ]
     | inr here ↦ elim (found es fs h t k merged is_t) [
       | inl other ↦
-          let below = pieces.apart s h.left m (left_node h) here.2 pair.is_left (omega (arith, before, other.0)) in
+          let below = pieces.apart s h.left m (left_subtree h) here.2 pair.is_left (omega (arith, before, other.0)) in
           omega (arith, below, other.0)
       | inr other ↦ pieces.apart s t m k here.2 other.2 before
     ]
@@ -100,22 +100,22 @@ merged_pieces n x es fs first h join chunks pieces pair merged = record {
 }
 
 -- a chunk in a piece is in one behind a merge
-chunk_kept : (es fs : Nodes) (first i : ℕ) (h : Halves) → IsPair es first h → IsMerged es fs h → HasChunk es i → HasChunk fs i
-unfolding merged_node
+chunk_kept : (es fs : Subtrees) (first i : ℕ) (h : Halves) → IsPair es first h → IsMerged es fs h → HasChunk es i → HasChunk fs i
+unfolding merged_subtree
 chunk_kept es fs first i h pair merged has =
     let two = two-pow-succ h.level in
     let next = pair.next in
     elim (same_or has.first h.left) [
       | inl left ↦
-          let node : has.node ≡ record { level = h.level; top = h.left_top } = some_same _ _ (sym has.is ∙ ap (node_at es) left ∙ pair.is_left) in
-          let wide : 2 ^ has.node.level ≡ 2 ^ h.level = ap (λ (w : Node). 2 ^ w.level) node in
-          record { first = h.left; node = merged_node h; is = merged.at_left; after = omega (arith, left, has.after); before = omega (arith, two, wide, left, has.before) }
+          let subtree : has.subtree ≡ record { level = h.level; top = h.left_top } = some_same _ _ (sym has.is ∙ ap (subtree_at es) left ∙ pair.is_left) in
+          let wide : 2 ^ has.subtree.level ≡ 2 ^ h.level = ap (λ (w : Subtree). 2 ^ w.level) subtree in
+          record { first = h.left; subtree = merged_subtree h; is = merged.at_left; after = omega (arith, left, has.after); before = omega (arith, two, wide, left, has.before) }
       | inr not_left ↦ elim (same_or has.first h.right) [
         | inl right ↦
-            let node : has.node ≡ record { level = h.level; top = h.right_top } = some_same _ _ (sym has.is ∙ ap (node_at es) right ∙ pair.is_right) in
-            let wide : 2 ^ has.node.level ≡ 2 ^ h.level = ap (λ (w : Node). 2 ^ w.level) node in
-            record { first = h.left; node = merged_node h; is = merged.at_left; after = omega (arith, right, next, has.after); before = omega (arith, two, wide, right, next, has.before) }
-        | inr not_right ↦ record { first = has.first; node = has.node; is = merged.others has.first not_left not_right ∙ has.is; after = has.after; before = has.before }
+            let subtree : has.subtree ≡ record { level = h.level; top = h.right_top } = some_same _ _ (sym has.is ∙ ap (subtree_at es) right ∙ pair.is_right) in
+            let wide : 2 ^ has.subtree.level ≡ 2 ^ h.level = ap (λ (w : Subtree). 2 ^ w.level) subtree in
+            record { first = h.left; subtree = merged_subtree h; is = merged.at_left; after = omega (arith, right, next, has.after); before = omega (arith, two, wide, right, next, has.before) }
+        | inr not_right ↦ record { first = has.first; subtree = has.subtree; is = merged.others has.first not_left not_right ∙ has.is; after = has.after; before = has.before }
       ]
     ]
 
@@ -124,7 +124,7 @@ other_among : (s first : ℕ) (ds : List ℕ) → s ≢ first → IsAmong s (fir
 other_among s first ds apart (inl same) = absurd (apart same)
 other_among s first ds apart (inr later) = later
 
-merged_settled : (es fs : Nodes) (first : ℕ) (ds : List ℕ) (h : Halves) → IsPair es first h → IsMerged es fs h → AreSettled (first ∷ ds) es → AreSettled (h.left ∷ ds) fs
+merged_settled : (es fs : Subtrees) (first : ℕ) (ds : List ℕ) (h : Halves) → IsPair es first h → IsMerged es fs h → AreSettled (first ∷ ds) es → AreSettled (h.left ∷ ds) fs
 unfolding Found
 merged_settled es fs first ds h pair merged settled s p =
     elim (found es fs h s p.left merged p.is_left) [
@@ -143,7 +143,7 @@ merged_settled es fs first ds h pair merged settled s p =
     ]
 
 -- a canonical forest but for halves at `first` is, behind their merge, one but for halves at the result
-pub merged_forest : (n : ℕ) (x : ℕ → List ℕ) (ds : List ℕ) (es fs : Nodes) (first : ℕ) (h : Halves) → NeighboursJoin → AreChunks n x
+pub merged_forest : (n : ℕ) (x : ℕ → List ℕ) (ds : List ℕ) (es fs : Subtrees) (first : ℕ) (h : Halves) → NeighboursJoin → AreChunks n x
     → AreForest x (first ∷ ds) es → IsPair es first h → IsMerged es fs h → AreForest x (h.left ∷ ds) fs
 merged_forest n x ds es fs first h join chunks forest pair merged = record {
   pieces = merged_pieces n x es fs first h join chunks forest.pieces pair merged;
@@ -152,7 +152,7 @@ merged_forest n x ds es fs first h join chunks forest pair merged = record {
 }
 
 -- where none begins at `first`, nothing is left to merge there
-pub alone_forest : (x : ℕ → List ℕ) (ds : List ℕ) (es : Nodes) (first : ℕ) → AreForest x (first ∷ ds) es → IsAlone es first → AreForest x ds es
+pub alone_forest : (x : ℕ → List ℕ) (ds : List ℕ) (es : Subtrees) (first : ℕ) → AreForest x (first ∷ ds) es → IsAlone es first → AreForest x ds es
 alone_forest x ds es first forest alone = record {
   pieces = forest.pieces;
   all = forest.all;

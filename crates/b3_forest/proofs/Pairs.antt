@@ -5,9 +5,9 @@ use Rattle.std.proofs.lemmas.Bool.{cases_lt}
 use Rattle.std.proofs.lemmas.Nat.{pow_pos}
 use Rattle.std.proofs.Math.Nat.{two-pow-succ, mul-div_cancel, mul-le-mul_right}
 use Rattle.std.proofs.Math.Pow.{pow_mono}
-use Rattle.b3_forest.specs.Nodes.{Nodes, ArePieces, IsAlone, IsOtherHalf, IsPair, node_at}
+use Rattle.b3_forest.specs.Subtrees.{Subtrees, ArePieces, IsAlone, IsOtherHalf, IsPair, subtree_at}
 use Rattle.b3_forest.specs.Pieces.{root_level}
-use Rattle.b3_forest.specs.declared.node.Node.{Node}
+use Rattle.b3_forest.specs.declared.piece.Subtree.{Subtree}
 use Rattle.b3_forest.proofs.Merging.{some_same}
 
 -- ---- multiples
@@ -51,45 +51,45 @@ no_both c d w v twice some same = elim (cases_lt d c) [
 
 -- ---- pairs
 
-pub other_alone : (es : Nodes) (first place : ℕ) (node : Node) → node_at es first ≡ Some node → IsOtherHalf first node.level place
-    → ((m : Node) → node_at es place ≡ Some m → m.level ≢ node.level) → IsAlone es first
-other_alone es first place node here (inl left) no_other s h =
-    let two = two-pow-succ node.level in
-    let some = pow_pos node.level in (
+pub other_alone : (es : Subtrees) (first place : ℕ) (subtree : Subtree) → subtree_at es first ≡ Some subtree → IsOtherHalf first subtree.level place
+    → ((m : Subtree) → subtree_at es place ≡ Some m → m.level ≢ subtree.level) → IsAlone es first
+other_alone es first place subtree here (inl left) no_other s h =
+    let two = two-pow-succ subtree.level in
+    let some = pow_pos subtree.level in (
       (λ same.
-          let is : h.left ≡ node = some_same h.left node (sym h.is_left ∙ ap (node_at es) (sym same) ∙ here) in
-          let wide : s + 2 ^ h.left.level ≡ place = ap₂ (λ i (k : Node). i + 2 ^ k.level) (sym same) is ∙ sym left.1 in
-          no_other h.right (ap (node_at es) (sym wide) ∙ h.is_right) (h.level ∙ ap (λ (k : Node). k.level) is)),
+          let is : h.left ≡ subtree = some_same h.left subtree (sym h.is_left ∙ ap (subtree_at es) (sym same) ∙ here) in
+          let wide : s + 2 ^ h.left.level ≡ place = ap₂ (λ i (k : Subtree). i + 2 ^ k.level) (sym same) is ∙ sym left.1 in
+          no_other h.right (ap (subtree_at es) (sym wide) ∙ h.is_right) (h.level ∙ ap (λ (k : Subtree). k.level) is)),
       (λ same.
-          let is : h.right ≡ node = some_same h.right node (sym h.is_right ∙ ap (node_at es) (sym same) ∙ here) in
-          let level : h.left.level ≡ node.level = sym h.level ∙ ap (λ (k : Node). k.level) is in
+          let is : h.right ≡ subtree = some_same h.right subtree (sym h.is_right ∙ ap (subtree_at es) (sym same) ∙ here) in
+          let level : h.left.level ≡ subtree.level = sym h.level ∙ ap (λ (k : Subtree). k.level) is in
           let a = h.aligned in
           let c = left.0 in
-          let right : c.0 * 2 ^ suc node.level ≡ a.0 * 2 ^ suc node.level + 2 ^ node.level =
+          let right : c.0 * 2 ^ suc subtree.level ≡ a.0 * 2 ^ suc subtree.level + 2 ^ subtree.level =
           sym c.1 ∙ same ∙ ap₂ (λ i j. i + 2 ^ j) (a.1 ∙ ap (λ j. a.0 * 2 ^ suc j) level) level in
-          no_both c.0 a.0 (2 ^ node.level) (2 ^ suc node.level) two some right),
+          no_both c.0 a.0 (2 ^ subtree.level) (2 ^ suc subtree.level) two some right),
     )
-other_alone es first place node here (inr right) no_other s h =
-    let two = two-pow-succ node.level in
-    let some = pow_pos node.level in (
+other_alone es first place subtree here (inr right) no_other s h =
+    let two = two-pow-succ subtree.level in
+    let some = pow_pos subtree.level in (
       (λ same.
-          let is : h.left ≡ node = some_same h.left node (sym h.is_left ∙ ap (node_at es) (sym same) ∙ here) in
-          let level : h.left.level ≡ node.level = ap (λ (k : Node). k.level) is in
+          let is : h.left ≡ subtree = some_same h.left subtree (sym h.is_left ∙ ap (subtree_at es) (sym same) ∙ here) in
+          let level : h.left.level ≡ subtree.level = ap (λ (k : Subtree). k.level) is in
           let a = h.aligned in
           let c = right.0 in
-          let both : a.0 * 2 ^ suc node.level ≡ c.0 * 2 ^ suc node.level + 2 ^ node.level =
-          sym (a.1 ∙ ap (λ j. a.0 * 2 ^ suc j) level) ∙ sym same ∙ right.1 ∙ ap (λ i. i + 2 ^ node.level) c.1 in
-          no_both a.0 c.0 (2 ^ node.level) (2 ^ suc node.level) two some both),
+          let both : a.0 * 2 ^ suc subtree.level ≡ c.0 * 2 ^ suc subtree.level + 2 ^ subtree.level =
+          sym (a.1 ∙ ap (λ j. a.0 * 2 ^ suc j) level) ∙ sym same ∙ right.1 ∙ ap (λ i. i + 2 ^ subtree.level) c.1 in
+          no_both a.0 c.0 (2 ^ subtree.level) (2 ^ suc subtree.level) two some both),
       (λ same.
-          let is : h.right ≡ node = some_same h.right node (sym h.is_right ∙ ap (node_at es) (sym same) ∙ here) in
-          let level : h.left.level ≡ node.level = sym h.level ∙ ap (λ (k : Node). k.level) is in
-          let wide : 2 ^ h.left.level ≡ 2 ^ node.level = ap (λ j. 2 ^ j) level in
+          let is : h.right ≡ subtree = some_same h.right subtree (sym h.is_right ∙ ap (subtree_at es) (sym same) ∙ here) in
+          let level : h.left.level ≡ subtree.level = sym h.level ∙ ap (λ (k : Subtree). k.level) is in
+          let wide : 2 ^ h.left.level ≡ 2 ^ subtree.level = ap (λ j. 2 ^ j) level in
           let at : s ≡ place = omega (arith, same, right.1, wide) in
-          no_other h.left (ap (node_at es) (sym at) ∙ h.is_left) level),
+          no_other h.left (ap (subtree_at es) (sym at) ∙ h.is_left) level),
     )
 
 -- the level of a half is below that of all chunks
-low_level : (x : ℕ → List ℕ) (es : Nodes) (s l : ℕ) (m : Node) → ArePieces x es → node_at es (s + 2 ^ l) ≡ Some m → m.level ≡ l → l < root_level
+low_level : (x : ℕ → List ℕ) (es : Subtrees) (s l : ℕ) (m : Subtree) → ArePieces x es → subtree_at es (s + 2 ^ l) ≡ Some m → m.level ≡ l → l < root_level
 low_level x es s l m pieces is level =
     let most = pieces.within (s + 2 ^ l) m is in
     let wide : 2 ^ m.level ≡ 2 ^ l = ap (λ j. 2 ^ j) level in
@@ -98,34 +98,34 @@ low_level x es s l m pieces is level =
       | inr high ↦ let up : 2 ^ root_level ≤ 2 ^ l = pow_mono high in absurd (omega (arith, up, most, wide))
     ]
 
-pub pair_of : (x : ℕ → List ℕ) (es : Nodes) (first place : ℕ) (node other : Node) → ArePieces x es → node_at es first ≡ Some node → node_at es place ≡ Some other
-    → other.level ≡ node.level → IsOtherHalf first node.level place → first < place
-    → IsPair es first (record { left = first; right = place; level = node.level; left_top = node.top; right_top = other.top })
-pair_of x es first place node other pieces here there level (inl left) before = record {
+pub pair_of : (x : ℕ → List ℕ) (es : Subtrees) (first place : ℕ) (subtree other : Subtree) → ArePieces x es → subtree_at es first ≡ Some subtree → subtree_at es place ≡ Some other
+    → other.level ≡ subtree.level → IsOtherHalf first subtree.level place → first < place
+    → IsPair es first (record { left = first; right = place; level = subtree.level; left_top = subtree.top; right_top = other.top })
+pair_of x es first place subtree other pieces here there level (inl left) before = record {
   is_left = here;
   is_right = there ∙ ap (λ i. Some (record { level = i; top = other.top })) level;
   next = left.1;
   one = inl refl;
   aligned = left.0;
-  low = low_level x es first node.level other pieces (ap (node_at es) (sym left.1) ∙ there) level;
+  low = low_level x es first subtree.level other pieces (ap (subtree_at es) (sym left.1) ∙ there) level;
 }
-pair_of x es first place node other pieces here there level (inr right) before = absurd (omega (arith, right.1, before))
+pair_of x es first place subtree other pieces here there level (inr right) before = absurd (omega (arith, right.1, before))
 
-pub pair_to : (x : ℕ → List ℕ) (es : Nodes) (first place : ℕ) (node other : Node) → ArePieces x es → node_at es first ≡ Some node → node_at es place ≡ Some other
-    → other.level ≡ node.level → IsOtherHalf first node.level place → (first < place → ⊥)
-    → IsPair es first (record { left = place; right = first; level = node.level; left_top = other.top; right_top = node.top })
-pair_to x es first place node other pieces here there level (inl left) after = let some = pow_pos node.level in absurd (after (omega (arith, left.1, some)))
-pair_to x es first place node other pieces here there level (inr right) after = record {
+pub pair_to : (x : ℕ → List ℕ) (es : Subtrees) (first place : ℕ) (subtree other : Subtree) → ArePieces x es → subtree_at es first ≡ Some subtree → subtree_at es place ≡ Some other
+    → other.level ≡ subtree.level → IsOtherHalf first subtree.level place → (first < place → ⊥)
+    → IsPair es first (record { left = place; right = first; level = subtree.level; left_top = other.top; right_top = subtree.top })
+pair_to x es first place subtree other pieces here there level (inl left) after = let some = pow_pos subtree.level in absurd (after (omega (arith, left.1, some)))
+pair_to x es first place subtree other pieces here there level (inr right) after = record {
   is_left = there ∙ ap (λ i. Some (record { level = i; top = other.top })) level;
   is_right = here;
   next = right.1;
   one = inr refl;
   aligned = right.0;
-  low = low_level x es place node.level node pieces (ap (node_at es) (sym right.1) ∙ here) refl;
+  low = low_level x es place subtree.level subtree pieces (ap (subtree_at es) (sym right.1) ∙ here) refl;
 }
 
 -- no piece is wider than all chunks
-pub level_most : (x : ℕ → List ℕ) (es : Nodes) (s : ℕ) (n : Node) → ArePieces x es → node_at es s ≡ Some n → n.level ≤ root_level
+pub level_most : (x : ℕ → List ℕ) (es : Subtrees) (s : ℕ) (n : Subtree) → ArePieces x es → subtree_at es s ≡ Some n → n.level ≤ root_level
 level_most x es s n pieces is = elim (cases_lt root_level n.level) [
   | inl high ↦
       let most = pieces.within s n is in
@@ -135,9 +135,9 @@ level_most x es s n pieces is = elim (cases_lt root_level n.level) [
 ]
 
 -- where the other half of a piece begins
-pub other_place : (x : ℕ → List ℕ) (es : Nodes) (first : ℕ) (node : Node) (width place : ℕ) → ArePieces x es → node_at es first ≡ Some node
-    → width ≡ 2 ^ node.level
-    → ((l q : ℕ) → width ≡ 2 ^ l → first ≡ q * 2 ^ l → IsOtherHalf first l place) → IsOtherHalf first node.level place
-other_place x es first node width place pieces here wide other =
-    let aligned = (pieces.lawful first node here).aligned in
-    other node.level aligned.0 wide aligned.1
+pub other_place : (x : ℕ → List ℕ) (es : Subtrees) (first : ℕ) (subtree : Subtree) (width place : ℕ) → ArePieces x es → subtree_at es first ≡ Some subtree
+    → width ≡ 2 ^ subtree.level
+    → ((l q : ℕ) → width ≡ 2 ^ l → first ≡ q * 2 ^ l → IsOtherHalf first l place) → IsOtherHalf first subtree.level place
+other_place x es first subtree width place pieces here wide other =
+    let aligned = (pieces.lawful first subtree here).aligned in
+    other subtree.level aligned.0 wide aligned.1

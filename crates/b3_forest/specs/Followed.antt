@@ -1,11 +1,11 @@
 -- Parts that are noted over the bytes that they are to be of.
 use Rattle.std.specs.Prelude.{◌≡◌, ◌≢◌, ◌↔◌, ℕ, ◌+◌, ◌-◌, ◌*◌, ◌^◌, ◌<◌, ◌≤◌, ◌⊎◌, ◌/◌, ◌&&◌, ◌||◌, Bool, true, false, nat_le, nat_lt, if◌then◌else◌, List, [], ◌∷◌, length, map, take, drop}
-use Rattle.b3_forest.specs.Nodes.{Keeps, Nodes}
+use Rattle.b3_forest.specs.Subtrees.{Keeps, Subtrees}
 use Rattle.b3_forest.specs.Parts.{Part, PlannedPart, chunks_of, closed_plan, end_of}
 use Rattle.b3_forest.specs.Pieces.{piece_count}
 use Rattle.b3_forest.specs.Uploads.{IsHeldAt, IsUpload, Upload, length_of, pieces_held}
-use Rattle.b3_forest.specs.declared.note_fault.NoteFault.{NoteFault}
-use Rattle.b3_forest.specs.declared.note_fault.NoteFault.TheVariants.{NoMemory, Overlap, Stranger, WrongPlan}
+use Rattle.b3_forest.specs.declared.refusal.NoteFault.{NoteFault}
+use Rattle.b3_forest.specs.declared.refusal.NoteFault.TheVariants.{NoMemory, Overlap, Stranger, WrongPlan}
 
 -- lent bytes, and what of them was noted: ranges of chunks, each from one to before another
 pub record Followed : Type 0 where
@@ -87,10 +87,10 @@ AllNoted f = (i : ℕ) → i < length f.bytes → IsNoted f i
 
 -- ---- what is kept
 
-abbrev pub range_of : Nodes → List (ℕ × ℕ)
+abbrev pub range_of : Subtrees → List (ℕ × ℕ)
 range_of es = map (λ e. (e.0, e.0 + 2 ^ e.1.level)) es
 
-abbrev pub followed : List ℕ → Nodes → Followed
+abbrev pub followed : List ℕ → Subtrees → Followed
 followed b es = record { bytes = b; ranges = range_of es }
 
 -- each part has the bytes that stand where it is
@@ -99,7 +99,7 @@ ArePartsOf b [] = Unit {0}
 ArePartsOf b (p ∷ ps) = (p.bytes ≡ bytes_at b p) × ArePartsOf b ps
 
 -- the pieces are those of some parts of the bytes
-pub record Follows (b : List ℕ) (es : Nodes) : Type 0 where
+pub record Follows (b : List ℕ) (es : Subtrees) : Type 0 where
   pub parts : List Part
   pub keeps : Keeps (length b) parts es
   pub same : ArePartsOf b parts

@@ -1,7 +1,7 @@
 pub mod Followed
 pub mod Forests
 pub mod Kept
-pub mod Nodes
+pub mod Subtrees
 pub mod PartRefusals
 pub mod Parts
 pub mod Pieces

@@ -1,6 +1,6 @@
 -- Why a part is refused when it is made, and what is shown of it.
-use Rattle.std.specs.Prelude.{ℕ, ◌+◌, ◌%◌, ◌^◌, ◌==◌, ◌&&◌, not, nat_lt, if◌then◌else◌, List, Option, Some, None, codes}
-use Rattle.b3_forest.specs.Parts.{UploadPlan}
+use Rattle.std.specs.Prelude.{ℕ, ◌+◌, ◌%◌, ◌==◌, ◌&&◌, not, nat_lt, if◌then◌else◌, List, Option, Some, None, codes}
+use Rattle.b3_forest.specs.Parts.{UploadPlan, most_part_bytes}
 use Rattle.b3_forest.specs.declared.refusal.PartFault.{PartFault}
 use Rattle.b3_forest.specs.declared.refusal.PartFault.TheVariants.{EmptyPart, NoMemory, OffAlign, PastEnd, Ragged, PartTooLong}
 
@@ -11,7 +11,7 @@ part_refusal plan offset len =
     else if not (offset % 1024 == 0) then Some OffAlign
     else if nat_lt plan.bound (offset + len) then Some PastEnd
     else if not plan.is_open && not (len % 1024 == 0) && not (offset + len == plan.bound) then Some Ragged
-    else if nat_lt (2 ^ 24) len then Some PartTooLong
+    else if nat_lt most_part_bytes len then Some PartTooLong
     else None
 
 -- the number of a refusal

@@ -5,6 +5,10 @@ use Rattle.std.specs.Prelude.{◌≡◌, ◌≢◌, ℕ, ◌+◌, ◌-◌, ◌*�
 abbrev pub most_bytes : ℕ
 most_bytes = 2 ^ 44
 
+-- the most bytes of a part
+abbrev pub most_part_bytes : ℕ
+most_part_bytes = 2 ^ 24
+
 -- the plan of an upload: the most bytes that it may have, and whether its length is fixed later
 pub record UploadPlan : Type 0 where
   pub bound : ℕ
@@ -35,14 +39,14 @@ end_of p = p.offset + length p.bytes
 abbrev pub is_ragged : Part → Bool
 is_ragged p = not (length p.bytes % 1024 == 0)
 
--- len bytes at an offset fit a plan: they are 1 to 2 ^ 24 bytes within its bound, and begin with a chunk; where the plan
+-- len bytes at an offset fit a plan: they are 1 to `most_part_bytes` bytes within its bound, and begin with a chunk; where the plan
 -- has the upload's length, they end with a chunk or with the upload
 pub record Fits (plan : UploadPlan) (offset len : ℕ) : Type 0 where
   pub some : 0 < len
   pub aligned : offset % 1024 ≡ 0
   pub within : offset + len ≤ plan.bound
   pub whole : plan.is_open ≡ false → len % 1024 ≢ 0 → offset + len ≡ plan.bound
-  pub small : len ≤ 2 ^ 24
+  pub small : len ≤ most_part_bytes
 
 -- the bytes of chunk i where the parts hold it, and none where they don't
 unfoldable pub chunk_in : List Part → ℕ → List ℕ

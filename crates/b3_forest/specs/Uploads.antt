@@ -6,12 +6,12 @@ use Rattle.std.specs.Option.{option_or}
 use Rattle.b3_forest.specs.Parts.{Part, PlannedPart, UploadPlan, Fits, closed_plan, end_of, chunk_in, chunks_of, is_ragged, most_bytes, same_plan}
 use Rattle.b3_forest.specs.Pieces.{piece_count}
 use Rattle.b3_forest.specs.declared.segment.Segment.{Segment}
-use Rattle.b3_forest.specs.declared.add_refused.AddFault.{AddFault}
-use Rattle.b3_forest.specs.declared.add_refused.AddFault.TheVariants.{WrongPlan, Overlap, PastLast}
-use Rattle.b3_forest.specs.declared.finish_fault.FinishFault.{FinishFault}
-use Rattle.b3_forest.specs.declared.finish_fault.FinishFault.TheVariants.{NotFixed, Incomplete}
-use Rattle.b3_forest.specs.declared.fix_fault.FixFault.{FixFault}
-use Rattle.b3_forest.specs.declared.fix_fault.FixFault.TheVariants as fix
+use Rattle.b3_forest.specs.declared.refusal.AddFault.{AddFault}
+use Rattle.b3_forest.specs.declared.refusal.AddFault.TheVariants.{WrongPlan, Overlap, PastLast}
+use Rattle.b3_forest.specs.declared.refusal.FinishFault.{FinishFault}
+use Rattle.b3_forest.specs.declared.refusal.FinishFault.TheVariants.{NotFixed, Incomplete}
+use Rattle.b3_forest.specs.declared.refusal.FixFault.{FixFault}
+use Rattle.b3_forest.specs.declared.refusal.FixFault.TheVariants as fix
 
 -- an upload: its plan, its end once that is fixed, and the parts that it holds, by offset
 pub record Upload : Type 0 where

@@ -3,7 +3,7 @@
 
 ghost use Rattle.std.specs.Prelude.{◌≡◌, ℕ, ◌+◌, ◌-◌, ◌*◌, ◌/◌, ◌^◌, ◌<◌, ◌≤◌, ◌++◌, OnOk, length, min, max};
 ghost use Rattle.b3_core.specs.Work.{counted};
-ghost use Rattle.b3_forest.specs.Parts.{chunks_of};
+ghost use Rattle.b3_forest.specs.Parts.{chunks_of, most_part_bytes};
 ghost use Rattle.b3_forest.specs.Pieces.{most_chunks, part_work, piece_at, pieces_of};
 
 use crate::piece::Piece;
@@ -13,7 +13,7 @@ use std::alloc::AllocError;
 // The piece of 2^level chunks from the chunk `first` on, of a part that begins at the chunk `start` and covers them.
 fn piece_of(start: u64, bytes: &[u8], level: u32, width: u64, first: u64, work: &mut Work) -> Piece
     requires width { (width ≡ 2 ^ level) × (0 < width) × (width ≤ most_chunks) }
-    requires len { length bytes.now ≤ 2 ^ 24 }
+    requires len { length bytes.now ≤ most_part_bytes }
     requires within { (start ≤ first) × (first + width ≤ start + (length bytes.now + 1023) / 1024) × (first < most_chunks) }
     ensures piece { result ≡ piece_at (chunks_of (record { offset = 1024 * start; bytes = bytes.now })) level first }
     ensures count { work.new ≡ counted work.old (part_work (min (1024 * width) (length bytes.now - 1024 * (first - start))) 1) }
@@ -35,7 +35,7 @@ pub(crate) fn push_pieces(
     work: &mut Work,
 ) -> Result<(), AllocError>
     requires width { (width ≡ 2 ^ level) × (0 < width) × (width ≤ most_chunks) }
-    requires len { (length bytes.now ≤ 2 ^ 24) × (0 < length bytes.now) }
+    requires len { (length bytes.now ≤ most_part_bytes) × (0 < length bytes.now) }
     requires within { (first + width ≤ most_chunks) × (start ≤ most_chunks) }
     ensures pieces { OnOk result (pieces.new.items ≡ pieces.old.items ++ pieces_of (chunks_of (record { offset = 1024 * start; bytes = bytes.now })) level first) }
     ensures count { OnOk result (work.new ≡ counted work.old (part_work

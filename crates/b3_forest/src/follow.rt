@@ -5,15 +5,14 @@ ghost use Rattle.std.specs.Prelude.{◌≡◌, ◌≢◌, ℕ, ◌*◌, ◌-◌,
 ghost use Rattle.b3_core.specs.Modes.{hash_mode};
 ghost use Rattle.b3_core.specs.Tree.{tree_top};
 ghost use Rattle.b3_core.specs.Work.{counted};
-ghost use Rattle.b3_forest.specs.Parts.{closed_plan, most_bytes};
 ghost use Rattle.b3_forest.specs.Followed.{AllNoted, IsFirstUnnoted, IsNoted, IsNotedWith, IsRefused, MayNote, bytes_at, noting_merges, pieces_noted};
+ghost use Rattle.b3_forest.specs.Parts.{closed_plan, most_bytes};
 
 use crate::held;
-use crate::incomplete::Incomplete;
-use crate::node::Node;
-use crate::note_fault::NoteFault;
+use crate::piece::Subtree;
 use crate::plan::{Plan, TooLong};
 use crate::prepared::Prepared;
+use crate::refusal::{Incomplete, NoteFault};
 use b3_core::{Top, Work};
 use std::alloc::Global;
 use std::collections::BTreeMap;
@@ -23,7 +22,7 @@ use std::marker::Model;
 #[derive(Drop)]
 pub struct Follow<'a> {
     bytes: &'a [u8],
-    nodes: BTreeMap<u64, Node>,
+    subtrees: BTreeMap<u64, Subtree>,
 }
 
 impl<'a> Model for Follow<'a> {
@@ -32,9 +31,9 @@ impl<'a> Model for Follow<'a> {
 
     ghost Value = { Followed };
 
-    ghost view = { λ f. followed f.bytes.now f.nodes.entries };
+    ghost view = { λ f. followed f.bytes.now f.subtrees.entries };
 
-    ghost invariant = { λ f. Follows f.bytes.now f.nodes.entries };
+    ghost invariant = { λ f. Follows f.bytes.now f.subtrees.entries };
 }
 
 impl<'a> Follow<'a> {
@@ -49,8 +48,8 @@ impl<'a> Follow<'a> {
         let plan = Plan::new(bytes.len() as u64)?;
         // For the proof alone: a plan says that its bound is at most 2^44.
         let _most = plan.bound();
-        let nodes = BTreeMap::new(alloc);
-        Ok(Follow { bytes, nodes })
+        let subtrees = BTreeMap::new(alloc);
+        Ok(Follow { bytes, subtrees })
     }
 
     /// Notes a part, and answers how many merges that took, of two compressions each.
@@ -70,13 +69,13 @@ impl<'a> Follow<'a> {
         if !part.plan().is_of(self.bytes.len() as u64) {
             return Err(NoteFault::WrongPlan);
         }
-        if let Some(at) = held::overlap(&self.nodes, part) {
+        if let Some(at) = held::overlap(&self.subtrees, part) {
             return Err(NoteFault::Overlap { at });
         }
         if !has_bytes(self.bytes, part) {
             return Err(NoteFault::Stranger);
         }
-        let Ok(merges) = held::add(&mut self.nodes, part, work) else {
+        let Ok(merges) = held::add(&mut self.subtrees, part, work) else {
             return Err(NoteFault::NoMemory);
         };
         Ok(merges)
@@ -87,7 +86,7 @@ impl<'a> Follow<'a> {
         ensures some { IfSome result (IsFirstUnnoted self.now) }
         ensures none { IfNone result (AllNoted self.now) }
     {
-        held::first_missing(&self.nodes, self.bytes.len() as u64)
+        held::first_missing(&self.subtrees, self.bytes.len() as u64)
     }
 
     /// The top of the tree over the lent bytes, or F10 with the least offset that was not noted. It makes two
@@ -99,7 +98,7 @@ impl<'a> Follow<'a> {
         ensures count { OnOk result (work.new ≡ counted work.old (2 * (pieces_noted self.now - 1))) }
         ensures uncounted { OnErr result (work.new ≡ work.old) }
     {
-        held::finish(&self.nodes, self.bytes.len() as u64, work)
+        held::finish(&self.subtrees, self.bytes.len() as u64, work)
     }
 }
 

@@ -5,18 +5,15 @@ ghost use Rattle.b3_core.specs.Modes.{hash_mode};
 ghost use Rattle.b3_core.specs.Tree.{tree_top};
 ghost use Rattle.b3_core.specs.Work.{counted};
 ghost use Rattle.b3_forest.specs.Uploads.{ArePlaced, IsComplete, IsUpload, add_refusal, content_of, end_with, finish_refusal, finish_work, first_missing, fix_refusal, fixed_at, held_bytes, length_of, merges_of, new_upload, part_of, past_last, put_work, reached, with_more};
-ghost use Rattle.b3_forest.specs.declared.add_refused.AddFault.TheVariants.{NoMemory};
+ghost use Rattle.b3_forest.specs.declared.refusal.AddFault.TheVariants.{NoMemory};
 
-use crate::add_refused::{AddFault, AddRefused};
 use crate::by_offset::ByOffset;
-use crate::finish_fault::FinishFault;
-use crate::fix_fault::FixFault;
 use crate::held;
-use crate::incomplete::Incomplete;
 use crate::kept::{Segments, put_part};
-use crate::node::Node;
+use crate::piece::Subtree;
 use crate::plan::Plan;
 use crate::prepared::Prepared;
+use crate::refusal::{AddFault, AddRefused, FinishFault, FixFault, Incomplete};
 use crate::segment::Segment;
 use b3_core::{Top, Work};
 use std::alloc::{AllocError, Global};
@@ -31,7 +28,7 @@ pub struct ForestOf<S: Segments> {
     end: Option<u64>,
     greatest_end: u64,
     segments: S,
-    nodes: BTreeMap<u64, Node>,
+    subtrees: BTreeMap<u64, Subtree>,
     held: u64,
 }
 
@@ -43,7 +40,7 @@ pub type MappedForest = ForestOf<ByOffset>;
 
 impl<S: Segments> Model for ForestOf<S> {
     ghost use Rattle.std.specs.Prelude.{◌≡◌};
-    ghost use Rattle.b3_forest.specs.Nodes.{Keeps};
+    ghost use Rattle.b3_forest.specs.Subtrees.{Keeps};
     ghost use Rattle.b3_forest.specs.Uploads.{IsUpload, Upload, held_bytes, last_end, length_of};
 
     ghost Value = { Upload };
@@ -51,7 +48,7 @@ impl<S: Segments> Model for ForestOf<S> {
     ghost view = { λ f. record { plan = f.plan; end = f.end; parts = S.parts f.segments } };
 
     ghost invariant = { λ f. IsUpload (record { plan = f.plan; end = f.end; parts = S.parts f.segments })
-        × Keeps (length_of (record { plan = f.plan; end = f.end; parts = S.parts f.segments })) (S.parts f.segments) f.nodes.entries
+        × Keeps (length_of (record { plan = f.plan; end = f.end; parts = S.parts f.segments })) (S.parts f.segments) f.subtrees.entries
         × (f.held ≡ held_bytes (S.parts f.segments)) × (f.greatest_end ≡ last_end (S.parts f.segments)) };
 }
 
@@ -68,7 +65,7 @@ impl<S: Segments> ForestOf<S> {
             end,
             greatest_end: 0,
             segments: S::new(alloc),
-            nodes: BTreeMap::new(alloc),
+            subtrees: BTreeMap::new(alloc),
             held: 0,
         }
     }
@@ -140,7 +137,7 @@ impl<S: Segments> ForestOf<S> {
         if !part.plan().is_same(&self.plan) {
             return Some(AddFault::WrongPlan);
         }
-        if let Some(at) = held::overlap(&self.nodes, part) {
+        if let Some(at) = held::overlap(&self.subtrees, part) {
             return Some(AddFault::Overlap { at });
         }
         match self.past_last(part) {
@@ -210,7 +207,7 @@ impl<S: Segments> ForestOf<S> {
             let fault = AddFault::NoMemory;
             return Err(AddRefused { fault, part });
         };
-        let Ok(merges) = held::add(&mut self.nodes, &part, work) else {
+        let Ok(merges) = held::add(&mut self.subtrees, &part, work) else {
             self.segments.take_out(part.offset());
             let fault = AddFault::NoMemory;
             return Err(AddRefused { fault, part });
@@ -233,7 +230,7 @@ impl<S: Segments> ForestOf<S> {
     pub fn first_missing(&self) -> Option<u64>
         ensures { result ≡ first_missing self.now }
     {
-        held::first_missing(&self.nodes, self.length())
+        held::first_missing(&self.subtrees, self.length())
     }
 
     /// How many parts are held.
@@ -256,7 +253,7 @@ impl<S: Segments> ForestOf<S> {
         let Some(end) = self.end else {
             return Err(FinishFault::NotFixed);
         };
-        match held::finish(&self.nodes, end, work) {
+        match held::finish(&self.subtrees, end, work) {
             Ok(top) => Ok(top),
             Err(Incomplete { missing }) => Err(FinishFault::Incomplete { missing }),
         }

@@ -2,7 +2,7 @@
 
 ghost use Rattle.b3_forest.specs.Followed.{NotedAsHeld};
 ghost use Rattle.b3_forest.specs.Forests.{OneForest, PiecesAreForest};
-ghost use Rattle.b3_forest.specs.Nodes.{KeptIsForest};
+ghost use Rattle.b3_forest.specs.Subtrees.{KeptIsForest};
 ghost use Rattle.b3_forest.specs.Uploads.{LeastMissing, LeastOverlap};
 
 /// States that what a `Forest` or a `Follow` keeps is a canonical forest of what its parts hold, that halving finds one,

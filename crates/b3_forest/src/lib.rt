@@ -17,36 +17,26 @@
 //! forest of what is held. They stand in an ordered map by their first chunk.
 #![tactic(auto)]
 
-mod add_refused;
 mod by_offset;
 mod cutting;
-mod finish_fault;
-mod fix_fault;
 mod follow;
 mod forest;
-mod halves;
 mod held;
-mod incomplete;
 mod kept;
 mod laws;
-mod node;
-mod nodes;
-mod note_fault;
 mod piece;
 mod plan;
 mod prepared;
 mod refusal;
 mod segment;
+mod subtrees;
 
-pub use add_refused::{AddFault, AddRefused};
-pub use finish_fault::FinishFault;
-pub use fix_fault::FixFault;
 pub use follow::Follow;
 pub use forest::{Forest, MappedForest};
-pub use incomplete::Incomplete;
 pub use laws::{forest_laws, upload_laws};
-pub use note_fault::NoteFault;
 pub use plan::{Plan, TooLong};
 pub use prepared::Prepared;
-pub use refusal::{PartFault, PartRefused};
+pub use refusal::{
+    AddFault, AddRefused, FinishFault, FixFault, Incomplete, NoteFault, PartFault, PartRefused,
+};
 pub use segment::Segment;

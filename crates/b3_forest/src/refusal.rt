@@ -1,10 +1,11 @@
-//! Why a part is refused when it is made.
+//! Why parts are refused, and why an upload has no end or no top yet.
 
 ghost use Rattle.std.specs.Prelude.{◌≡◌, ◌≤◌, IfNone, Some};
 ghost use Rattle.b3_forest.specs.PartRefusals.{part_fault_text, part_refusal};
 ghost use Rattle.b3_forest.specs.Parts.{Fits, most_bytes};
 
 use crate::plan::{CHUNK_LEN, Plan};
+use crate::prepared::Prepared;
 use std::fmt;
 
 /// The most bytes of a part, 2^24.
@@ -48,6 +49,64 @@ impl fmt::Display for PartFault {
 pub struct PartRefused {
     pub fault: PartFault,
     pub bytes: Vec<u8>,
+}
+
+/// The refusals of `Forest::add`, in the order in which they are checked.
+#[derive(Clone, Copy, PartialEq, Eq, Debug)]
+pub enum AddFault {
+    /// F7: the part was made for another plan.
+    WrongPlan,
+    /// F8: the least offset of the part that is held already.
+    Overlap { at: u64 },
+    /// F12: the part ends past the upload's end, or its length is not a multiple of 1024 and it ends before what the
+    /// upload reaches. `end` is the upload's end, or while there is none the greatest end of a part that it holds.
+    PastLast { end: u64 },
+    /// F9: memory was refused.
+    NoMemory,
+}
+
+/// A part that was not added, handed back.
+#[derive(Drop)]
+pub struct AddRefused {
+    pub fault: AddFault,
+    pub part: Prepared,
+}
+
+/// The refusals of `Forest::fix`, in the order in which they are checked.
+#[derive(Clone, Copy, PartialEq, Eq, Debug)]
+pub enum FixFault {
+    /// F1: above the plan's bound.
+    TooLong,
+    /// F12: the upload has another end, or holds a part that ends behind this one. `end` is how far it reaches.
+    PastLast { end: u64 },
+}
+
+/// The refusals of `Forest::finish`, in the order in which they are checked.
+#[derive(Clone, Copy, PartialEq, Eq, Debug)]
+pub enum FinishFault {
+    /// F13: the upload's end is not fixed.
+    NotFixed,
+    /// F10: the least offset of the upload that is not held.
+    Incomplete { missing: u64 },
+}
+
+/// F10: the least offset of the upload that is not held.
+#[derive(Clone, Copy, PartialEq, Eq, Debug)]
+pub struct Incomplete {
+    pub missing: u64,
+}
+
+/// The refusals of `Follow::note`, in the order in which they are checked.
+#[derive(Clone, Copy, PartialEq, Eq, Debug)]
+pub enum NoteFault {
+    /// F7: the part was made for a plan of another length.
+    WrongPlan,
+    /// F8: the least offset of the part that is noted already.
+    Overlap { at: u64 },
+    /// F11: the part's bytes are not the lent bytes at its offset.
+    Stranger,
+    /// F9: memory was refused.
+    NoMemory,
 }
 
 /// The first refusal that applies to a part of `len` bytes at an offset.

@@ -7,9 +7,9 @@ use Rattle.b3_core.specs.Modes.{digest_of}
 use Rattle.b3_core.specs.Tree.{chain, chunk_top, parent_top, power_below, left_length, tree_top_within, tree_top}
 use Rattle.b3_forest.specs.Parts.{closed_plan, open_plan, planned}
 use Rattle.b3_forest.specs.Uploads.{content_of, first_gap, last_end, overlap_at, with_part}
-use Rattle.store_core.specs.declared.held.Held.{Held}
-use Rattle.store_journal.specs.declared.totals.Totals.{Totals}
-use Rattle.store_core.specs.declared.usage.Usage.{Usage}
+use Rattle.store_core.specs.declared.store.Held.{Held}
+use Rattle.store_journal.specs.declared.replayed.Totals.{Totals}
+use Rattle.store_core.specs.declared.store.Usage.{Usage}
 use Rattle.store_core.specs.declared.refusal.Refusal.{Refusal}
 use Rattle.store_core.specs.declared.refusal.Refusal.TheVariants.{BelowUse, Incomplete, LimitTooLarge, NoTenant, NoUpload, NotFixed, NotHeld, OverQuota, Overlap, PastLast, TooLong, WrongAddress, WrongPlan}
 use Rattle.store_core.specs.Commands.{Acceptance, abort_in, begin_in, begin_open_in, fix_in, forget_in, list_in, open_tenant_in, put_in, seal_as_in, seal_in, set_limit_in, usage_in}

@@ -1,5 +1,5 @@
 -- The commands and questions of the model: each is a function of the store, with its refusals in order.
-use Rattle.std.specs.Prelude.{◌≡◌, ◌+◌, ◌-◌, ◌*◌, ◌^◌, ◌==◌, ◌&&◌, ℕ, Bool, true, false, not, is_some, List, [], ◌∷◌, ◌++◌, Option, Some, None, Result, Ok, Err, length, if◌then◌else◌, nat_lt, nat_le, map, filter, slice_set}
+use Rattle.std.specs.Prelude.{◌≡◌, ◌+◌, ◌-◌, ◌*◌, ◌==◌, ◌&&◌, ℕ, Bool, true, false, not, is_some, List, [], ◌∷◌, ◌++◌, Option, Some, None, Result, Ok, Err, length, if◌then◌else◌, nat_lt, nat_le, map, filter, slice_set}
 use Rattle.std.specs.Map.{remove_entry, set_value, values_of}
 use Rattle.std.specs.Option.{option_map_or}
 use Rattle.std.specs.Str.{bytes_eq}
@@ -8,13 +8,13 @@ use Rattle.b3_forest.specs.Parts.{PlannedPart, UploadPlan, closed_plan, most_byt
 use Rattle.b3_forest.specs.Uploads.{Upload, ends_elsewhere, first_missing, fixed_at, held_bytes, length_of, new_upload, overlap_at, past_last, pieces_held, put_work, reached, with_more}
 use Rattle.store_journal.specs.declared.entry.Entry.{Entry}
 use Rattle.store_journal.specs.declared.entry.Entry.TheVariants as entry
-use Rattle.store_core.specs.declared.held.Held.{Held}
-use Rattle.store_core.specs.declared.put_refused.PutRefused.{PutRefused}
-use Rattle.store_core.specs.declared.usage.Usage.{Usage}
+use Rattle.store_core.specs.declared.store.Held.{Held}
+use Rattle.store_core.specs.declared.refusal.PutRefused.{PutRefused}
+use Rattle.store_core.specs.declared.store.Usage.{Usage}
 use Rattle.store_core.specs.declared.refusal.Refusal.{Refusal}
 use Rattle.store_core.specs.declared.refusal.Refusal.TheVariants.{BelowUse, Incomplete, JournalFull, LimitTooLarge, NoMemory, NoTenant, NoUpload, NotFixed, NotHeld, OverQuota, Overlap, PastLast, TenantsFull, TooLong, WrongAddress, WrongPlan}
 use Rattle.store_core.specs.Model.{ModelObject, ModelStore, ModelUpload, Shown, addressed, content, free_of, in_use, is_held_by, limit_of, object_at, reserved_of, upload_at, use_of}
-use Rattle.store_journal.specs.Replay.{is_number, with_holder, without_holder}
+use Rattle.store_journal.specs.Replay.{is_number, most_limit, with_holder, without_holder}
 
 -- ---- answers
 
@@ -30,11 +30,11 @@ after old a = record { state = a.state; journal = old.journal ++ a.entry ∷ [] 
 
 -- A call's answer, seen so, and what it leaves are the model's; or memory was refused, where the model accepts. A refusal
 -- leaves store and journal as they were.
-abbrev pub Answers : {R M : Type 0} → (R → M) → Result (Acceptance M) Refusal → Shown → Result R Refusal → Shown → Type 0
-Answers seen (Ok a) old (Ok reply) new = (seen reply ≡ a.reply) × (new ≡ after old a)
-Answers seen (Ok a) old (Err refusal) new = (refusal ≡ NoMemory) × (new ≡ old)
-Answers seen (Err first) old (Err refusal) new = (refusal ≡ first) × (new ≡ old)
-Answers seen (Err first) old (Ok reply) new = ⊥
+abbrev pub StepsAs : {R M : Type 0} → (R → M) → Result (Acceptance M) Refusal → Shown → Result R Refusal → Shown → Type 0
+StepsAs seen (Ok a) old (Ok reply) new = (seen reply ≡ a.reply) × (new ≡ after old a)
+StepsAs seen (Ok a) old (Err refusal) new = (refusal ≡ NoMemory) × (new ≡ old)
+StepsAs seen (Err first) old (Err refusal) new = (refusal ≡ first) × (new ≡ old)
+StepsAs seen (Err first) old (Ok reply) new = ⊥
 
 -- a result whose reply is seen so
 abbrev pub reply_seen : {R M E : Type 0} → (R → M) → Result R E → Result M E
@@ -101,7 +101,7 @@ opened s limit = record {
 abbrev pub open_tenant_in : ModelStore → ℕ → Result (Acceptance ℕ) Refusal
 open_tenant_in s limit =
     refuse_if (nat_le s.most_tenants (length s.limits)) TenantsFull
-    (refuse_if (nat_lt (2 ^ 46) limit) LimitTooLarge
+    (refuse_if (nat_lt most_limit limit) LimitTooLarge
     (refuse_if (is_full s) JournalFull
     (Ok (opened s limit))))
 
@@ -115,7 +115,7 @@ limited s tenant limit = record {
 abbrev pub set_limit_in : ModelStore → ℕ → ℕ → Result (Acceptance (Unit {0})) Refusal
 set_limit_in s tenant limit =
     refuse_if (is_absent s tenant) NoTenant
-    (refuse_if (nat_lt (2 ^ 46) limit) LimitTooLarge
+    (refuse_if (nat_lt most_limit limit) LimitTooLarge
     (refuse_if (nat_lt limit (in_use s tenant)) (BelowUse (in_use s tenant))
     (refuse_if (is_full s) JournalFull
     (Ok (limited s tenant limit)))))

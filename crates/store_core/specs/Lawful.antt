@@ -1,12 +1,12 @@
 -- What a store keeps, as the model sees it, and what is true of it.
-use Rattle.std.specs.Prelude.{◌≡◌, ◌+◌, ◌-◌, ◌<◌, ◌≤◌, ◌^◌, ℕ, List, [], ◌∷◌, ◌++◌, Some, Ok, length, map, if◌then◌else◌, nat_le, slice_set}
+use Rattle.std.specs.Prelude.{◌≡◌, ◌+◌, ◌-◌, ◌<◌, ◌≤◌, ℕ, List, [], ◌∷◌, ◌++◌, Some, Ok, length, map, if◌then◌else◌, nat_le, slice_set}
 use Rattle.std.specs.Arc.{arc_value}
 use Rattle.std.specs.List.{slice_index_or}
 use Rattle.std.specs.Map.{remove_entry}
 use Rattle.b3_core.specs.Modes.{hash_of}
 use Rattle.b3_forest.specs.Parts.{most_bytes}
 use Rattle.b3_forest.specs.Uploads.{held_bytes, length_of}
-use Rattle.store_core.specs.declared.closing.Closing.{Closing}
+use Rattle.store_core.specs.declared.open_upload.Closing.{Closing}
 use Rattle.store_core.specs.declared.contents.Contents.{Contents}
 use Rattle.store_journal.specs.declared.entry.Entry.{Entry}
 use Rattle.store_core.specs.declared.known.Known.{Known}
@@ -14,11 +14,11 @@ use Rattle.store_core.specs.declared.limits.Limits.{Limits}
 use Rattle.store_core.specs.declared.open_upload.OpenUpload.{OpenUpload}
 use Rattle.store_core.specs.declared.refusal.Refusal.{Refusal}
 use Rattle.store_core.specs.declared.refusal.Refusal.TheVariants.{JournalFull, NoMemory}
-use Rattle.store_core.specs.declared.sealed.Sealed.{Sealed}
+use Rattle.store_core.specs.declared.store.Sealed.{Sealed}
 use Rattle.store_core.specs.declared.tenant.Tenant.{Tenant}
 use Rattle.store_core.specs.Commands.{ModelSealed, ready_in}
 use Rattle.store_core.specs.Model.{ModelObject, ModelStore, ModelUpload, Shown, content, held_bytes_of, is_held_by, limit_of, object_among, object_bytes_of, parts_of, reserved_of, upload_at, use_of}
-use Rattle.store_journal.specs.Replay.{is_number}
+use Rattle.store_journal.specs.Replay.{is_number, most_limit}
 use Rattle.store_core.specs.Sound.{IsCarried}
 
 -- a seal's reply, whose object is seen as its bytes
@@ -74,7 +74,7 @@ pub record IsTenant (s : ModelStore) (n : ℕ) (t : Tenant) : Type 0 where
   pub used : t.used ≡ use_of s n
   pub reserved : t.reserved ≡ reserved_of s n
   pub within : t.used + t.reserved ≤ t.limit
-  pub most : t.limit ≤ 2 ^ 46
+  pub most : t.limit ≤ most_limit
 
 pub record IsLawful (c : Contents) : Type 0 where
   pub carried : IsCarried (shown_of c)

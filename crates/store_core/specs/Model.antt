@@ -6,7 +6,7 @@ use Rattle.std.specs.Str.{bytes_eq}
 use Rattle.b3_core.specs.Modes.{hash_of}
 use Rattle.b3_forest.specs.Uploads.{Upload, content_of, held_bytes, length_of}
 use Rattle.store_journal.specs.declared.entry.Entry.{Entry}
-use Rattle.store_journal.specs.declared.totals.Totals.{Totals}
+use Rattle.store_journal.specs.declared.replayed.Totals.{Totals}
 use Rattle.store_journal.specs.Replay.{is_number}
 
 -- an open upload: its tenant, and its plan, its end and its parts

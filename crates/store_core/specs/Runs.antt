@@ -2,11 +2,11 @@
 use Rattle.std.specs.Prelude.{◌≡◌, ℕ, List, [], ◌∷◌, Result, Ok, Err}
 use Rattle.b3_forest.specs.Parts.{PlannedPart, UploadPlan}
 use Rattle.store_journal.specs.declared.entry.Entry.{Entry}
-use Rattle.store_core.specs.declared.held.Held.{Held}
+use Rattle.store_core.specs.declared.store.Held.{Held}
 use Rattle.store_core.specs.declared.refusal.Refusal.{Refusal}
-use Rattle.store_journal.specs.declared.totals.Totals.{Totals}
-use Rattle.store_core.specs.declared.usage.Usage.{Usage}
-use Rattle.store_core.specs.Commands.{Acceptance, Answers, ModelSealed, Tells, abort_in, as_is, begin_in, begin_open_in, fetch_in, fix_in, forget_in, list_in, open_tenant_in, plan_in, put_in, seal_as_in, seal_in, set_limit_in, usage_in}
+use Rattle.store_journal.specs.declared.replayed.Totals.{Totals}
+use Rattle.store_core.specs.declared.store.Usage.{Usage}
+use Rattle.store_core.specs.Commands.{Acceptance, StepsAs, ModelSealed, Tells, abort_in, as_is, begin_in, begin_open_in, fetch_in, fix_in, forget_in, list_in, open_tenant_in, plan_in, put_in, seal_as_in, seal_in, set_limit_in, usage_in}
 use Rattle.store_core.specs.Model.{Shown, totals_of}
 
 -- a command or a question of the store, with its arguments
@@ -56,16 +56,16 @@ told reply (Err refusal) = Err refusal
 -- One step: the reply is the model's, and so is what it leaves. A command that is accepted adds its entry to the journal; one
 -- that is refused, and a question, leave store and journal as they were. What takes memory may be refused for the want of it.
 abbrev pub Step : Shown → Command → Result Reply Refusal → Shown → Type 0
-Step old (open_tenant limit) reply new = Answers as_is (replied opened_tenant (open_tenant_in old.state limit)) old reply new
-Step old (set_limit tenant limit) reply new = Answers as_is (replied (λ _. done) (set_limit_in old.state tenant limit)) old reply new
-Step old (begin tenant len) reply new = Answers as_is (replied (λ r. begun_upload r.0 r.1) (begin_in old.state tenant len)) old reply new
-Step old (begin_open tenant at_most) reply new = Answers as_is (replied (λ r. begun_upload r.0 r.1) (begin_open_in old.state tenant at_most)) old reply new
-Step old (fix upload len) reply new = Answers as_is (replied (λ _. done) (fix_in old.state upload len)) old reply new
-Step old (put upload part) reply new = Answers as_is (replied now_held (put_in old.state upload part)) old reply new
-Step old (seal upload) reply new = Answers as_is (replied now_sealed (seal_in old.state upload)) old reply new
-Step old (seal_as upload address) reply new = Answers as_is (replied now_sealed (seal_as_in old.state upload address)) old reply new
-Step old (abort upload) reply new = Answers as_is (replied (λ _. done) (abort_in old.state upload)) old reply new
-Step old (forget tenant address) reply new = Answers as_is (replied (λ _. done) (forget_in old.state tenant address)) old reply new
+Step old (open_tenant limit) reply new = StepsAs as_is (replied opened_tenant (open_tenant_in old.state limit)) old reply new
+Step old (set_limit tenant limit) reply new = StepsAs as_is (replied (λ _. done) (set_limit_in old.state tenant limit)) old reply new
+Step old (begin tenant len) reply new = StepsAs as_is (replied (λ r. begun_upload r.0 r.1) (begin_in old.state tenant len)) old reply new
+Step old (begin_open tenant at_most) reply new = StepsAs as_is (replied (λ r. begun_upload r.0 r.1) (begin_open_in old.state tenant at_most)) old reply new
+Step old (fix upload len) reply new = StepsAs as_is (replied (λ _. done) (fix_in old.state upload len)) old reply new
+Step old (put upload part) reply new = StepsAs as_is (replied now_held (put_in old.state upload part)) old reply new
+Step old (seal upload) reply new = StepsAs as_is (replied now_sealed (seal_in old.state upload)) old reply new
+Step old (seal_as upload address) reply new = StepsAs as_is (replied now_sealed (seal_as_in old.state upload address)) old reply new
+Step old (abort upload) reply new = StepsAs as_is (replied (λ _. done) (abort_in old.state upload)) old reply new
+Step old (forget tenant address) reply new = StepsAs as_is (replied (λ _. done) (forget_in old.state tenant address)) old reply new
 Step old (fetch tenant address) reply new = Tells as_is (told the_bytes (fetch_in old.state tenant address)) reply × (new ≡ old)
 Step old (usage tenant) reply new = (reply ≡ told the_usage (usage_in old.state tenant)) × (new ≡ old)
 Step old (plan upload) reply new = (reply ≡ told the_plan (plan_in old.state upload)) × (new ≡ old)

@@ -1,5 +1,5 @@
 //! Filed objects in filing order, which their addresses lead to, and who holds which.
-ghost use Rattle.std.specs.Prelude.{◌≡◌, ◌+◌, ◌<◌, ◌^◌, ◌∷◌, ◌++◌, [], false, ℕ, List, None, Some, IfNone, IfOk, IfSome, IsSome, OnErr, OnOk, length, nat_le, true};
+ghost use Rattle.std.specs.Prelude.{◌≡◌, ◌+◌, ◌<◌, ◌∷◌, ◌++◌, [], false, ℕ, List, None, Some, IfNone, IfOk, IfSome, IsSome, OnErr, OnOk, length, nat_le, true};
 ghost use Rattle.std.specs.Arc.{arc_value};
 ghost use Rattle.std.specs.BTreeMap.{WritesThrough, get};
 ghost use Rattle.std.specs.HashMap.{get as number_in};
@@ -10,7 +10,7 @@ ghost use Rattle.b3_core.specs.Modes.{hash_of};
 ghost use Rattle.store_core.specs.Commands.{listed, with_holders};
 ghost use Rattle.store_core.specs.Lawful.{IsKnown};
 ghost use Rattle.store_core.specs.Model.{ModelObject as Item, is_held_by, object_among};
-ghost use Rattle.store_journal.specs.Replay.{with_holder, without_holder};
+ghost use Rattle.store_journal.specs.Replay.{most_entries, with_holder, without_holder};
 
 use crate::filed::Filed;
 use crate::known::Known;
@@ -129,7 +129,7 @@ impl Catalog {
     ) -> Result<(), AllocError>
         requires absent { object_among self.old.objects address ≡ None }
         requires address { address ≡ hash_of (arc_value object) }
-        requires room { self.old.filings < 2 ^ 32 }
+        requires room { self.old.filings < most_entries }
         ensures filed { OnOk result (self.new ≡ record { objects = self.old.objects ++ record { bytes = arc_value object; holders = tenant ∷ [] } ∷ []; filings = self.old.filings + 1 }) }
         ensures unchanged { OnErr result (self.new ≡ self.old) }
     {

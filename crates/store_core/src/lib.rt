@@ -9,34 +9,25 @@
 #![tactic(auto)]
 
 mod catalog;
-mod closing;
 mod contents;
 mod filed;
-mod held;
 mod holders;
 mod journal;
 mod known;
 mod limits;
 mod object;
 mod open_upload;
-mod put_refused;
 mod refusal;
-mod sealed;
 mod store;
 mod tenant;
-mod usage;
 
-pub use held::Held;
 pub use limits::{BadLimits, Limits};
 pub use object::Object;
-pub use put_refused::PutRefused;
-pub use refusal::Refusal;
-pub use sealed::Sealed;
-pub use store::Store;
+pub use refusal::{PutRefused, Refusal};
+pub use store::{Held, Sealed, Store, Usage};
 pub use store_journal::{
     AcceptedPuts, Address, BadText, Entry, FiledObject, HeldPart, IllegalEntry, LeftUpload,
     ReadError, ReplayError, Replayed, TenantId, Totals, UploadId, cut_at, entry_laws, entry_lines,
     journal_laws, number, read_entry, read_journal, replay, two_numbers, write_entry,
     write_journal,
 };
-pub use usage::Usage;

@@ -1,5 +1,6 @@
 //! How much a store takes.
-ghost use Rattle.std.specs.Prelude.{◌≡◌, ◌<◌, ◌≤◌, ◌^◌, ◌⊎◌, ◌↔◌, IfOk, IsErr};
+ghost use Rattle.std.specs.Prelude.{◌≡◌, ◌<◌, ◌≤◌, ◌⊎◌, ◌↔◌, IfOk, IsErr};
+ghost use Rattle.store_journal.specs.Replay.{most_entries, most_tenants};
 
 use store_journal::{MOST_ENTRIES, MOST_TENANTS};
 
@@ -20,13 +21,13 @@ pub struct Limits {
     /// 1 to 16.
     pub workers: u64,
     pub ghost some: { (0 < tenants) × (0 < entries) × (0 < workers) },
-    pub ghost most: { (tenants ≤ 2 ^ 16) × (entries ≤ 2 ^ 32) × (workers ≤ 16) },
+    pub ghost most: { (tenants ≤ most_tenants) × (entries ≤ most_entries) × (workers ≤ 16) },
 }
 
 impl Limits {
     /// The widest limits: 2^16 tenants, 2^32 entries and 16 workers.
     pub fn full() -> Limits
-        ensures { (result.tenants ≡ 2 ^ 16) × (result.entries ≡ 2 ^ 32) × (result.workers ≡ 16) }
+        ensures { (result.tenants ≡ most_tenants) × (result.entries ≡ most_entries) × (result.workers ≡ 16) }
     {
         Limits {
             tenants: MOST_TENANTS,
@@ -38,7 +39,7 @@ impl Limits {
     /// These limits. S0 where one of them is zero or above the widest.
     pub fn new(tenants: u64, entries: u64, workers: u64) -> Result<Limits, BadLimits>
         ensures limits { IfOk result (λ l. (l.tenants ≡ tenants) × (l.entries ≡ entries) × (l.workers ≡ workers)) }
-        ensures bad { IsErr result ↔ ((tenants ≡ 0) ⊎ (entries ≡ 0) ⊎ (workers ≡ 0) ⊎ (2 ^ 16 < tenants) ⊎ (2 ^ 32 < entries) ⊎ (16 < workers)) }
+        ensures bad { IsErr result ↔ ((tenants ≡ 0) ⊎ (entries ≡ 0) ⊎ (workers ≡ 0) ⊎ (most_tenants < tenants) ⊎ (most_entries < entries) ⊎ (16 < workers)) }
     {
         if tenants == 0 || entries == 0 || workers == 0 {
             return Err(BadLimits);

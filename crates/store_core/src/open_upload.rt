@@ -1,14 +1,15 @@
 //! Open uploads.
+
 ghost use Rattle.std.specs.Prelude.{◌≡◌, IfErr, IfOk, IsSome, None, OnErr, OnOk, Some};
 ghost use Rattle.std.specs.Map.{lookup, set_value};
 ghost use Rattle.b3_core.specs.Work.{counted};
 ghost use Rattle.b3_forest.specs.Uploads.{IsUpload, add_refusal, fix_refusal, fixed_at, length_of, put_work, with_more};
+ghost use Rattle.store_journal.specs.Replay.{is_number};
 ghost use Rattle.store_core.specs.Commands.{held_of};
 ghost use Rattle.store_core.specs.Lawful.{model_uploads};
 ghost use Rattle.store_core.specs.Model.{ModelUpload as Upload};
-ghost use Rattle.store_journal.specs.Replay.{is_number};
 
-use crate::held::Held;
+use crate::store::Held;
 use b3_core::Work;
 use b3_forest::{MappedForest, Prepared};
 use std::collections::BTreeMap;
@@ -18,6 +19,15 @@ use std::collections::BTreeMap;
 pub(crate) struct OpenUpload {
     pub(crate) tenant: u64,
     pub(crate) forest: MappedForest,
+}
+
+// An upload's tenant, its length, and the bytes and the number of the parts that it holds.
+#[derive(Clone, Copy, Debug)]
+pub(crate) struct Closing {
+    pub(crate) tenant: u64,
+    pub(crate) len: u64,
+    pub(crate) held: u64,
+    pub(crate) parts: u64,
 }
 
 impl OpenUpload {

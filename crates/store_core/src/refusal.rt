@@ -1,7 +1,9 @@
 //! Why a command or a question is refused.
+
 ghost use Rattle.std.specs.Prelude.{Some};
 ghost use Rattle.store_core.specs.Refusals.{refusal_text};
 
+use b3_forest::Prepared;
 use std::fmt;
 use store_journal::Address;
 
@@ -69,4 +71,11 @@ impl fmt::Display for Refusal {
             Refusal::NotFixed => write!(f, "S16"),
         }
     }
+}
+
+/// A part that was not put, handed back.
+#[derive(Drop)]
+pub struct PutRefused {
+    pub refusal: Refusal,
+    pub part: Prepared,
 }

@@ -1,7 +1,8 @@
 //! The engine of `upload`.
 
-ghost use Rattle.std.specs.Prelude.{◌≡◌, ◌≢◌, ◌^◌, ◌++◌, codes, false, true, IfErr, IfOk, IfSome, OnOk, Err, Ok};
+ghost use Rattle.std.specs.Prelude.{◌≡◌, ◌≢◌, ◌++◌, codes, false, true, IfErr, IfOk, IfSome, OnOk, Err, Ok};
 ghost use Rattle.std.specs.Io.KnownBytes.{Appends, IsAtEnd};
+ghost use Rattle.store_ledger.specs.Shares.{all_parts};
 ghost use Rattle.store_shared.specs.Cuts.{IsBadCut};
 ghost use Rattle.store_engines.specs.Uploads.{IsTold, SomeRefusal, WroteRefusal, WroteUpload, is_memory, journal_part};
 
@@ -78,7 +79,7 @@ fn uploaded_text<B: Ledger, C: Ledger>(
     locked: Locked<B, C>,
     share: Share<B, C>,
 ) -> Result<Vec<u8>, AllocError>
-    requires whole { share.parts ≡ 2 ^ 32 }
+    requires whole { share.parts ≡ all_parts }
     ensures { IfOk result (λ text. IsTold journal address share locked text.items) }
 {
     let mut locked = locked;
@@ -110,8 +111,8 @@ pub fn upload<B: Ledger, C: Ledger, T: Threads + Wait + Sync + Alloc, R: Read, W
     reader: &mut R,
     writer: &mut W,
 ) -> Result<Verdict, Cause>
-    requires bytes { (bytes.name ≡ B.name) × (bytes.parts ≡ B.parts) × (bytes.parts ≡ 2 ^ 32) }
-    requires calls { (calls.name ≡ C.name) × (calls.parts ≡ C.parts) × (calls.parts ≡ 2 ^ 32) }
+    requires bytes { (bytes.name ≡ B.name) × (bytes.parts ≡ B.parts) × (bytes.parts ≡ all_parts) }
+    requires calls { (calls.name ≡ C.name) × (calls.parts ≡ C.parts) × (calls.parts ≡ all_parts) }
     ensures written { result ≡ Ok Verdict.Good → IfSome (R.remaining reader.old) (λ input.
         WroteUpload options input (W.contents writer.old) (W.contents writer.new)) }
     ensures refused { result ≡ Ok Verdict.Refused → SomeRefusal (W.contents writer.old) (W.contents writer.new) }

@@ -1,9 +1,9 @@
 -- What a book and its shares say was accepted.
 use Rattle.std.specs.Prelude.{◌≡◌, ℕ, ◌+◌, ◌^◌, ◌<◌, List, ◌++◌, codes}
 use Rattle.std.specs.Fmt.{decimal}
-use Rattle.store_ledger.specs.declared.accepted.Accepted.{Accepted}
+use Rattle.store_ledger.specs.declared.book.Accepted.{Accepted}
 use Rattle.store_ledger.specs.declared.holding.Holding.{Holding}
-use Rattle.store_ledger.specs.declared.not_whole.NotWhole.{NotWhole}
+use Rattle.store_ledger.specs.declared.refusal.NotWhole.{NotWhole}
 
 -- a book's numbers after one more call with that many bytes
 abbrev pub accepted_after : Accepted → ℕ → Accepted
@@ -21,9 +21,13 @@ sum_of g h = record { parts = g.parts + h.parts; bytes = g.bytes + h.bytes; call
 abbrev pub HasRoom : Accepted → ℕ → Type 0
 HasRoom a bytes = (a.bytes + bytes < 2 ^ 64) × (a.calls + 1 < 2 ^ 64)
 
+-- the parts of a book
+abbrev pub all_parts : ℕ
+all_parts = 2 ^ 32
+
 -- the share has every part of its book, so no other share of it is out
 abbrev pub IsWhole : Holding → Type 0
-IsWhole h = h.parts ≡ 2 ^ 32
+IsWhole h = h.parts ≡ all_parts
 
 -- the share's two numbers are the book's
 abbrev pub Agrees : Accepted → Holding → Type 0

@@ -1,16 +1,22 @@
-//! Books.
-ghost use Rattle.std.specs.Prelude.{◌≡◌, ◌+◌, ◌^◌, ◌≤◌, ◌↔◌, IfOk, IfErr, IsOk, OnOk, OnErr, Ok};
-ghost use Rattle.store_ledger.specs.Shares.{accepted_after, holding_after, sum_of, HasRoom, IsWhole, Agrees, IsMissing};
-ghost use Rattle.store_ledger.specs.declared.accepted.Accepted.{Accepted};
+//! Books, and what was accepted.
 
-use crate::accepted::Accepted;
-use crate::book_full::BookFull;
+ghost use Rattle.std.specs.Prelude.{◌≡◌, ◌↔◌, IsSome, IfSome, ◌+◌, ◌≤◌, IfOk, IfErr, IsOk, OnOk, OnErr, Ok};
+ghost use Rattle.store_ledger.specs.Shares.{Agrees, HasRoom, IsMissing, IsWhole, accepted_after, all_parts, holding_after, sum_of};
+ghost use Rattle.store_ledger.specs.declared.book.Accepted.{Accepted};
+
 use crate::holding::Holding;
-use crate::not_whole::NotWhole;
+use crate::refusal::{BookFull, NotWhole};
 use crate::share::{ALL_PARTS, Share};
 use std::marker::Model;
 use std::sync::ledger;
 use std::sync::ledger::{Blank, Ledger};
+
+/// What was accepted: the bytes of all calls together, and how many calls there were.
+#[derive(Clone, Copy, Debug, PartialEq, Eq, Hash)]
+pub struct Accepted {
+    pub bytes: u64,
+    pub calls: u64,
+}
 
 /// The bytes and the calls of all its shares together.
 #[derive(Drop)]
@@ -25,16 +31,16 @@ impl<B: Ledger, C: Ledger> Model for Book<B, C> {
 
     ghost view = { λ b. b.accepted };
 
-    ghost invariant = { λ b. (b.byte_book.total ≡ b.accepted.bytes) × (b.call_book.total ≡ b.accepted.calls) × (B.parts ≡ 2 ^ 32) × (C.parts ≡ 2 ^ 32) };
+    ghost invariant = { λ b. (b.byte_book.total ≡ b.accepted.bytes) × (b.call_book.total ≡ b.accepted.calls) × (B.parts ≡ all_parts) × (C.parts ≡ all_parts) };
 }
 
 impl<B: Ledger, C: Ledger> Book<B, C> {
     /// A new book, in which nothing is recorded, and the share with all of its parts.
     pub fn open(bytes: Blank, calls: Blank) -> (Book<B, C>, Share<B, C>)
-        requires bytes { (bytes.name ≡ B.name) × (bytes.parts ≡ B.parts) × (bytes.parts ≡ 2 ^ 32) }
-        requires calls { (calls.name ≡ C.name) × (calls.parts ≡ C.parts) × (calls.parts ≡ 2 ^ 32) }
+        requires bytes { (bytes.name ≡ B.name) × (bytes.parts ≡ B.parts) × (bytes.parts ≡ all_parts) }
+        requires calls { (calls.name ≡ C.name) × (calls.parts ≡ C.parts) × (calls.parts ≡ all_parts) }
         ensures book { result.0 ≡ record { bytes = 0; calls = 0 } }
-        ensures share { result.1 ≡ record { parts = 2 ^ 32; bytes = 0; calls = 0 } }
+        ensures share { result.1 ≡ record { parts = all_parts; bytes = 0; calls = 0 } }
     {
         let (byte_book, byte_share) = bytes.open::<B>();
         let (call_book, call_share) = calls.open::<C>();
@@ -126,5 +132,18 @@ impl<B: Ledger, C: Ledger> Book<B, C> {
         self.byte_book.audit(&mut share.byte_share);
         self.call_book.audit(&mut share.call_share);
         share.holding = share.holding.plus(holding);
+    }
+}
+
+impl Accepted {
+    /// The numbers after one more call with that many bytes, unless one of them would be above 2^64-1.
+    pub(crate) fn after(self, bytes: u64) -> Option<Accepted>
+        ensures room { IsSome result ↔ HasRoom self bytes }
+        ensures numbers { IfSome result (λ accepted. accepted ≡ accepted_after self bytes) }
+    {
+        Some(Accepted {
+            bytes: self.bytes.checked_add(bytes)?,
+            calls: self.calls.checked_add(1)?,
+        })
     }
 }

@@ -10,16 +10,12 @@
 //! function with `Brand` for each, and hands it two `Blank`s of `ALL_PARTS` parts.
 #![tactic(auto)]
 
-mod accepted;
 mod book;
-mod book_full;
 mod holding;
-mod not_whole;
+mod refusal;
 mod share;
 
-pub use crate::accepted::Accepted;
-pub use crate::book::Book;
-pub use crate::book_full::BookFull;
+pub use crate::book::{Accepted, Book};
 pub use crate::holding::Holding;
-pub use crate::not_whole::NotWhole;
+pub use crate::refusal::{BookFull, NotWhole};
 pub use crate::share::{ALL_PARTS, Share};

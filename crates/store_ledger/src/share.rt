@@ -1,6 +1,6 @@
 //! Shares of a book.
 ghost use Rattle.std.specs.Prelude.{◌≡◌, ◌+◌, ◌-◌, ◌^◌, ◌<◌};
-ghost use Rattle.store_ledger.specs.Shares.{sum_of};
+ghost use Rattle.store_ledger.specs.Shares.{all_parts, sum_of};
 ghost use Rattle.store_ledger.specs.declared.holding.Holding.{Holding};
 
 use crate::holding::Holding;
@@ -25,7 +25,7 @@ impl<B: Ledger, C: Ledger> Model for Share<B, C> {
 
     ghost view = { λ s. s.holding };
 
-    ghost invariant = { λ s. (s.byte_share.parts ≡ s.holding.parts) × (s.call_share.parts ≡ s.holding.parts) × (s.byte_share.amount ≡ s.holding.bytes) × (s.call_share.amount ≡ s.holding.calls) × (0 < s.holding.parts) × (B.parts ≡ 2 ^ 32) × (C.parts ≡ 2 ^ 32) };
+    ghost invariant = { λ s. (s.byte_share.parts ≡ s.holding.parts) × (s.call_share.parts ≡ s.holding.parts) × (s.byte_share.amount ≡ s.holding.bytes) × (s.call_share.amount ≡ s.holding.calls) × (0 < s.holding.parts) × (B.parts ≡ all_parts) × (C.parts ≡ all_parts) };
 }
 
 impl<B: Ledger, C: Ledger> Share<B, C> {

@@ -1,5 +1,5 @@
 -- A script and its output.
-use Rattle.std.specs.Prelude.{◌≡◌, ◌≢◌, ◌^◌, ℕ, List, [], ◌∷◌, ◌++◌, Option, Some, None, Result, Ok, Err, length, codes}
+use Rattle.std.specs.Prelude.{◌≡◌, ◌≢◌, ℕ, List, [], ◌∷◌, ◌++◌, Option, Some, None, Result, Ok, Err, length, codes}
 use Rattle.std.specs.Io.KnownBytes.{Appends}
 use Rattle.std.specs.List.{flat_map}
 use Rattle.b3_forest.specs.Parts.{PlannedPart, UploadPlan, planned}
@@ -10,6 +10,7 @@ use Rattle.store_core.specs.declared.refusal.Refusal.{Refusal}
 use Rattle.store_core.specs.declared.refusal.Refusal.TheVariants as refusals
 use Rattle.store_core.specs.Commands.{plan_in}
 use Rattle.store_journal.specs.Journal.{lines_of}
+use Rattle.store_journal.specs.Replay.{most_entries, most_tenants}
 use Rattle.store_core.specs.Model.{Shown}
 use Rattle.store_core.specs.Runs.{Command, Reply, Run, Step, plan, put}
 use Rattle.store_script.specs.Grammar.{ScriptCommand, asks, command_at, puts}
@@ -133,7 +134,7 @@ first_cause _ stop = stop
 -- an empty store with the widest limits
 abbrev pub widest : Shown
 widest = record {
-  state = record { most_tenants = 2 ^ 16; most_entries = 2 ^ 32; most_workers = 16; limits = []; begun = 0; uploads = []; objects = []; accepted = 0 };
+  state = record { most_tenants = most_tenants; most_entries = most_entries; most_workers = 16; limits = []; begun = 0; uploads = []; objects = []; accepted = 0 };
   journal = [];
 }
 

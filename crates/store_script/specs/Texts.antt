@@ -8,8 +8,8 @@ use Rattle.hex.specs.Hex.{encode_lower}
 use Rattle.store_journal.specs.declared.entry.Entry.{Entry}
 use Rattle.store_core.specs.declared.refusal.Refusal.{Refusal}
 use Rattle.store_core.specs.declared.refusal.Refusal.TheVariants as refusals
-use Rattle.store_journal.specs.declared.totals.Totals.{Totals}
-use Rattle.store_core.specs.declared.usage.Usage.{Usage}
+use Rattle.store_journal.specs.declared.replayed.Totals.{Totals}
+use Rattle.store_core.specs.declared.store.Usage.{Usage}
 use Rattle.store_core.specs.Commands.{ModelSealed}
 use Rattle.store_core.specs.Refusals.{refusal_text}
 use Rattle.b3_forest.specs.PartRefusals.{part_fault_text}

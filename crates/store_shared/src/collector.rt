@@ -162,18 +162,18 @@ impl<'a, B: Ledger, C: Ledger> Collector<'a, B, C> {
         shared: &Shared<B, C>,
         pass: &mut TakePass,
     ) -> bool
-        requires taker { IsTakerOf job.now.hand_over pass.old }
+        requires taker { IsTakerOf job.now.exchange.hand_over pass.old }
         requires bytes { self.old.follow.bytes ≡ job.now.cut.bytes }
         requires own { IfSome self.old.fault IsOwnFault }
-        ensures taker { IsTakerOf job.now.hand_over pass.new }
+        ensures taker { IsTakerOf job.now.exchange.hand_over pass.new }
         ensures bytes { self.new.follow.bytes ≡ job.now.cut.bytes }
         ensures own { IfSome self.new.fault IsOwnFault }
         ensures kept { (start : Holding) → IsCollecting job.now.cut start self.old.follow self.old.share self.old.fault → IsCollecting job.now.cut start self.new.follow self.new.share self.new.fault }
     {
         if self.fault.is_some() {
-            return job.hand_over.take(rt, pass).is_some();
+            return job.exchange.hand_over.take(rt, pass).is_some();
         }
-        let parts = match take_some(rt, alloc, &job.hand_over, pass) {
+        let parts = match take_some(rt, alloc, &job.exchange.hand_over, pass) {
             Ok(parts) => parts,
             Err(kind) => {
                 self.fault = Some(kind);
@@ -199,7 +199,7 @@ impl<'a, B: Ledger, C: Ledger> Collector<'a, B, C> {
         started: u64,
         pass: TakePass,
     )
-        requires taker { IsTakerOf job.now.hand_over pass }
+        requires taker { IsTakerOf job.now.exchange.hand_over pass }
         requires bytes { self.old.follow.bytes ≡ job.now.cut.bytes }
         requires own { IfSome self.old.fault IsOwnFault }
         ensures bytes { self.new.follow.bytes ≡ job.now.cut.bytes }
@@ -210,9 +210,9 @@ impl<'a, B: Ledger, C: Ledger> Collector<'a, B, C> {
         let mut backoff = Backoff::new();
         for _ in rt.forever() {
             if self.fault.is_some() {
-                job.progress.give_up();
+                job.exchange.progress.give_up();
             }
-            let all_ended = job.progress.ended() >= started;
+            let all_ended = job.exchange.progress.ended() >= started;
             if self.collect_some(rt, alloc, job, shared, &mut pass) {
                 backoff = Backoff::new();
             } else {

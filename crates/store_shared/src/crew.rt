@@ -6,6 +6,7 @@ ghost use Rattle.store_board.specs.Seats.{IsSeatOf, parts_of};
 ghost use Rattle.store_shared.specs.Cuts.{part_count};
 ghost use Rattle.store_shared.specs.Gates.{IsFaultOf, IsOwnFault};
 ghost use Rattle.store_shared.specs.Uploading.{count_of};
+ghost use Rattle.store_shared.specs.Workers.{AreWorkersOf, IsWorkerOf};
 
 use crate::fault::UploadFaultKind;
 use crate::gate::Gate;
@@ -25,9 +26,9 @@ pub(crate) fn workers_of<G: Gate, R: Alloc>(
     seats: Vec<BoardSeat>,
     passes: Vec<GivePass>,
 ) -> Result<Vec<Worker>, AllocError>
-    requires seats { All (λ s. IsSeatOf job.now.board s) seats.items }
-    requires passes { All (λ p. IsGiverOf job.now.hand_over p) passes.items }
-    ensures { IfOk result (λ v. All (λ w. IsSeatOf job.now.board w.seat × IsGiverOf job.now.hand_over w.pass) v.items) }
+    requires seats { All (λ s. IsSeatOf job.now.exchange.board s) seats.items }
+    requires passes { All (λ p. IsGiverOf job.now.exchange.hand_over p) passes.items }
+    ensures { IfOk result (λ workers. AreWorkersOf job.now.exchange workers.items) }
 {
     let mut seats = seats;
     let mut passes = passes;
@@ -57,14 +58,14 @@ pub(crate) fn start_all<'s, E, G: Gate + Sync, R: Wait + Sync>(
     Vec<PromisedHandle<Option<UploadFaultKind>, FaultOf<'s, G>>>,
     Option<UploadFaultKind>,
 )
-    requires { All (λ w. IsSeatOf job.now.board w.seat × IsGiverOf job.now.hand_over w.pass) workers.items }
+    requires { AreWorkersOf job.now.exchange workers.items }
     ensures handles { All (λ h. (h.promise.bytes.now ≡ job.now.cut.bytes) × (h.promise.part_chunks ≡ job.now.cut.part_chunks) × (h.promise.gate.now ≡ job.now.gate.now)) result.0.items }
     ensures fault { IfSome result.1 IsOwnFault }
 {
     let bytes = job.cut.bytes();
     let part_chunks = job.cut.part_chunks();
     let gate = job.gate;
-    let (board, hand_over, progress) = (&job.board, &job.hand_over, &job.progress);
+    let exchange = &job.exchange;
     let mut handles = Vec::new(alloc);
     let mut workers = workers;
     while let Some(worker) = workers.pop() {
@@ -78,21 +79,9 @@ pub(crate) fn start_all<'s, E, G: Gate + Sync, R: Wait + Sync>(
                 gate,
             },
             move || -> Option<UploadFaultKind>
-                requires { IsSeatOf board.now worker.seat × IsGiverOf hand_over.now worker.pass × (parts_of board.now ≡ part_count (length bytes.now) part_chunks) × (length bytes.now ≤ most_bytes) × (0 < part_chunks) × (part_chunks ≤ 16384) }
+                requires { IsWorkerOf exchange.now worker × (parts_of exchange.now.board ≡ part_count (length bytes.now) part_chunks) × (length bytes.now ≤ most_bytes) × (0 < part_chunks) × (part_chunks ≤ 16384) }
                 ensures { IfSome result (IsFaultOf (G.may_stop gate.entry.now) (G.may_fault gate.entry.now) (part_count (length bytes.entry.now) part_chunks)) }
-            {
-                run(
-                    rt,
-                    alloc,
-                    bytes,
-                    part_chunks,
-                    gate,
-                    board,
-                    hand_over,
-                    progress,
-                    worker,
-                )
-            },
+            { run(rt, alloc, bytes, part_chunks, gate, exchange, worker) },
         );
         match started {
             Ok(handle) => handles.push_reserved(handle),

@@ -1,6 +1,6 @@
 //! How an upload's bytes are cut into parts.
-ghost use Rattle.std.specs.Prelude.{◌≡◌, ◌*◌, ◌-◌, ◌<◌, ◌≤◌, ◌^◌, IfErr, IfOk, IfSome, length, min, true};
-ghost use Rattle.b3_forest.specs.Parts.{closed_plan, most_bytes};
+ghost use Rattle.std.specs.Prelude.{◌≡◌, ◌*◌, ◌-◌, ◌<◌, ◌≤◌, IfErr, IfOk, IfSome, length, min, true};
+ghost use Rattle.b3_forest.specs.Parts.{closed_plan, most_bytes, most_part_bytes};
 ghost use Rattle.store_shared.specs.Cuts.{part_at};
 ghost use Rattle.store_shared.specs.Uploading.{IsPlaceOf, count_of};
 ghost use Rattle.store_shared.specs.declared.fault.UploadFaultKind.TheVariants.{NoMemory};
@@ -74,7 +74,7 @@ impl<'a> Cut<'a> {
 
     // How many bytes a part has that is not the last.
     fn part_len(&self) -> u64
-        ensures { (result ≡ 1024 * self.now.part_chunks) × (0 < result) × (result ≤ 2 ^ 24) }
+        ensures { (result ≡ 1024 * self.now.part_chunks) × (0 < result) × (result ≤ most_part_bytes) }
     {
         CHUNK_LEN * self.part_chunks
     }

@@ -1,4 +1,4 @@
-//! What the workers of an upload share.
+//! What the workers of an upload share with each other and with its collector.
 ghost use Rattle.std.specs.Prelude.{◌≡◌, length};
 ghost use Rattle.store_board.specs.Seats.{parts_of};
 ghost use Rattle.store_shared.specs.Uploading.{count_of};
@@ -8,14 +8,20 @@ use crate::gate::Gate;
 use crate::progress::Progress;
 use store_board::{Board, HandOver};
 
-// The cut, the board from which workers draw the numbers of its parts, the hand-over to the collector, the gate, and how
-// far workers and collector are.
+// The board from which workers draw the numbers of parts, the hand-over to the collector, and how far workers and collector
+// are.
+#[derive(Drop)]
+pub(crate) struct Exchange {
+    pub(crate) board: Board,
+    pub(crate) hand_over: HandOver,
+    pub(crate) progress: Progress,
+}
+
+// The cut, the gate that is asked for each of its parts, and the exchange.
 #[derive(Drop)]
 pub(crate) struct Job<'a, G: Gate> {
     pub(crate) cut: Cut<'a>,
-    pub(crate) board: Board,
-    pub(crate) hand_over: HandOver,
     pub(crate) gate: &'a G,
-    pub(crate) progress: Progress,
-    ghost parts: { parts_of board ≡ count_of cut },
+    pub(crate) exchange: Exchange,
+    ghost parts: { parts_of exchange.board ≡ count_of cut },
 }

@@ -1,5 +1,6 @@
 //! A store that threads share.
-ghost use Rattle.std.specs.Prelude.{◌≡◌, ◌^◌, ◌≤◌};
+ghost use Rattle.std.specs.Prelude.{◌≡◌, ◌≤◌};
+ghost use Rattle.store_ledger.specs.Shares.{all_parts};
 
 use crate::locked::Locked;
 use std::alloc::Global;
@@ -35,10 +36,10 @@ impl<B: Ledger, C: Ledger> Shared<B, C> {
         bytes: Blank,
         calls: Blank,
     ) -> (Shared<B, C>, Share<B, C>)
-        requires bytes { (bytes.name ≡ B.name) × (bytes.parts ≡ B.parts) × (bytes.parts ≡ 2 ^ 32) }
-        requires calls { (calls.name ≡ C.name) × (calls.parts ≡ C.parts) × (calls.parts ≡ 2 ^ 32) }
+        requires bytes { (bytes.name ≡ B.name) × (bytes.parts ≡ B.parts) × (bytes.parts ≡ all_parts) }
+        requires calls { (calls.name ≡ C.name) × (calls.parts ≡ C.parts) × (calls.parts ≡ all_parts) }
         ensures workers { result.0 ≡ limits.workers }
-        ensures share { result.1 ≡ record { parts = 2 ^ 32; bytes = 0; calls = 0 } }
+        ensures share { result.1 ≡ record { parts = all_parts; bytes = 0; calls = 0 } }
     {
         let (book, share) = Book::open(bytes, calls);
         let workers = limits.workers;

@@ -3,11 +3,11 @@ ghost use Rattle.std.specs.Prelude.{◌≡◌, ◌+◌, ◌<◌, ◌≤◌, ◌^
 ghost use Rattle.std.specs.Arc.{arc_value};
 ghost use Rattle.b3_core.specs.Modes.{hash_of};
 ghost use Rattle.b3_forest.specs.Parts.{most_bytes};
-ghost use Rattle.store_board.specs.Passes.{IsGiverOf, IsTakerOf};
-ghost use Rattle.store_board.specs.Seats.{IsSeatOf};
+ghost use Rattle.store_board.specs.Passes.{IsTakerOf};
 ghost use Rattle.store_shared.specs.Cuts.{IsBadCut, RoseBySome, cut_of};
 ghost use Rattle.store_shared.specs.Gates.{IsOwnFault, MayStop};
 ghost use Rattle.store_shared.specs.Uploading.{AreNoted, Cutting, IsCollected, IsUploaded};
+ghost use Rattle.store_shared.specs.Workers.{AreWorkersOf};
 ghost use Rattle.store_shared.specs.declared.fault.UploadFaultKind.TheVariants.{BadCut, GateFault, Stopped};
 
 use crate::collector::Collector;
@@ -15,7 +15,7 @@ use crate::crew::{join_all, start_all, workers_of};
 use crate::cut::{Cut, MOST_PART_CHUNKS};
 use crate::fault::{UploadFault, UploadFaultKind};
 use crate::gate::Gate;
-use crate::job::Job;
+use crate::job::{Exchange, Job};
 use crate::lent::{lent_abort, lent_begin, lent_seal_as};
 use crate::progress::Progress;
 use crate::shared::Shared;
@@ -71,42 +71,45 @@ pub fn upload<B: Ledger, C: Ledger, G: Gate + Sync, R: Threads + Wait + Sync + A
         let fault = UploadFault::unbegun(UploadFaultKind::BadCut);
         return (share, Err(fault));
     }
-    upload_parts(
-        rt,
-        alloc,
-        shared,
-        share,
-        gate,
+    let request = Request {
         tenant,
         bytes,
         part_chunks,
         workers,
-    )
+        gate,
+    };
+    upload_parts(rt, alloc, shared, share, &request)
 }
 
-// Uploads bytes of a good cut.
+// What is uploaded of a good cut, for whom, by how many workers, and the gate that they ask.
+#[derive(Drop)]
+struct Request<'a, G: Gate> {
+    tenant: TenantId,
+    bytes: &'a [u8],
+    part_chunks: u64,
+    workers: u64,
+    gate: &'a G,
+    ghost some: { 0 < part_chunks },
+    ghost most: { part_chunks ≤ 16384 },
+    ghost few: { workers ≤ 16 },
+}
+
+// Uploads what is asked for.
 fn upload_parts<B: Ledger, C: Ledger, G: Gate + Sync, R: Threads + Wait + Sync + Alloc>(
     rt: &R,
     alloc: Global,
     shared: &Shared<B, C>,
     share: Share<B, C>,
-    gate: &G,
-    tenant: TenantId,
-    bytes: &[u8],
-    part_chunks: u64,
-    workers: u64,
+    request: &Request<'_, G>,
 ) -> (Share<B, C>, Result<Sealed, UploadFault>)
-    requires some { 0 < part_chunks }
-    requires most { part_chunks ≤ 16384 }
-    requires workers { workers ≤ 16 }
-    ensures { IsUploaded (G.may_stop gate.now) (G.may_fault gate.now) (record { bytes = bytes.now; part_chunks = part_chunks }) share result.0 result.1 }
+    ensures { IsUploaded (G.may_stop request.now.gate.now) (G.may_fault request.now.gate.now) (record { bytes = request.now.bytes.now; part_chunks = request.now.part_chunks }) share result.0 result.1 }
 {
-    let upload = match begin(rt, shared, tenant, bytes.len() as u64) {
+    let upload = match begin(rt, shared, request.tenant, request.bytes.len() as u64) {
         Ok(upload) => upload,
         Err(kind) => return (share, Err(UploadFault::unbegun(kind))),
     };
-    let cut = Cut::new(bytes, part_chunks);
-    let (share, hashed) = put_parts(rt, alloc, shared, share, gate, cut, upload, workers);
+    let cut = Cut::new(request.bytes, request.part_chunks);
+    let (share, hashed) = put_parts(rt, alloc, shared, share, request, cut, upload);
     let kind = match hashed {
         Ok(address) => match seal(rt, shared, upload, address) {
             Ok(sealed) => return (share, Ok(sealed)),
@@ -175,14 +178,13 @@ fn put_parts<B: Ledger, C: Ledger, G: Gate + Sync, R: Threads + Wait + Sync + Al
     alloc: Global,
     shared: &Shared<B, C>,
     share: Share<B, C>,
-    gate: &G,
+    request: &Request<'_, G>,
     cut: Cut<'_>,
     upload: UploadId,
-    workers: u64,
 ) -> (Share<B, C>, Result<Address, UploadFaultKind>)
-    requires { workers ≤ 16 }
-    ensures { IsCollected (G.may_stop gate.now) (G.may_fault gate.now) cut.entry share result.0 result.1 }
+    ensures { IsCollected (G.may_stop request.now.gate.now) (G.may_fault request.now.gate.now) cut.entry share result.0 result.1 }
 {
+    let workers = request.workers;
     let no_memory = Err(UploadFaultKind::NoMemory);
     let Ok((board, seats)) = Board::new(alloc, cut.parts(), workers) else {
         return (share, no_memory);
@@ -194,12 +196,15 @@ fn put_parts<B: Ledger, C: Ledger, G: Gate + Sync, R: Threads + Wait + Sync + Al
     let Ok(follow) = Follow::new(alloc, cut.bytes()) else {
         return (share, no_memory);
     };
-    let job = Job {
-        cut,
+    let exchange = Exchange {
         board,
         hand_over,
-        gate,
         progress: Progress::new(),
+    };
+    let job = Job {
+        cut,
+        gate: request.gate,
+        exchange,
     };
     let Ok(workers) = workers_of(rt, alloc, &job, seats, passes) else {
         return (share, no_memory);
@@ -225,8 +230,8 @@ fn work_together<B: Ledger, C: Ledger, G: Gate + Sync, R: Threads + Wait + Sync>
     collector: Collector<'_, B, C>,
 ) -> (Share<B, C>, Result<Address, UploadFaultKind>)
     requires some { 0 < job.now.cut.part_chunks }
-    requires workers { All (λ w. IsSeatOf job.now.board w.seat × IsGiverOf job.now.hand_over w.pass) workers.items }
-    requires taker { IsTakerOf job.now.hand_over take_pass }
+    requires workers { AreWorkersOf job.now.exchange workers.items }
+    requires taker { IsTakerOf job.now.exchange.hand_over take_pass }
     requires fresh { AreNoted job.now.cut collector.follow [] }
     ensures { IsCollected (G.may_stop job.now.gate.now) (G.may_fault job.now.gate.now) job.now.cut collector.entry.share result.0 result.1 }
 {
@@ -234,7 +239,7 @@ fn work_together<B: Ledger, C: Ledger, G: Gate + Sync, R: Threads + Wait + Sync>
         thread::scope_env(),
         rt,
         move |scope| -> (Share<B, C>, Result<Address, UploadFaultKind>)
-            requires { (0 < job.now.cut.part_chunks) × All (λ w. IsSeatOf job.now.board w.seat × IsGiverOf job.now.hand_over w.pass) workers.items × IsTakerOf job.now.hand_over take_pass × AreNoted job.now.cut collector.follow [] }
+            requires { (0 < job.now.cut.part_chunks) × AreWorkersOf job.now.exchange workers.items × IsTakerOf job.now.exchange.hand_over take_pass × AreNoted job.now.cut collector.follow [] }
             ensures { IsCollected (G.may_stop job.entry.now.gate.now) (G.may_fault job.entry.now.gate.now) job.entry.now.cut collector.entry.share result.0 result.1 }
         {
             let (handles, unstarted) = start_all(scope, rt, alloc, job, workers);
@@ -259,7 +264,7 @@ fn gather<'s, B: Ledger, C: Ledger, G: Gate, R: Threads + Wait>(
     requires some { 0 < job.now.cut.part_chunks }
     requires handles { All (λ h. (h.promise.bytes.now ≡ job.now.cut.bytes) × (h.promise.part_chunks ≡ job.now.cut.part_chunks) × (h.promise.gate.now ≡ job.now.gate.now)) handles.items }
     requires own { IfSome unstarted IsOwnFault }
-    requires taker { IsTakerOf job.now.hand_over take_pass }
+    requires taker { IsTakerOf job.now.exchange.hand_over take_pass }
     requires fresh { AreNoted job.now.cut collector.follow [] }
     ensures { IsCollected (G.may_stop job.now.gate.now) (G.may_fault job.now.gate.now) job.now.cut collector.entry.share result.0 result.1 }
 {

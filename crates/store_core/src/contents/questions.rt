@@ -7,7 +7,7 @@ ghost use Rattle.store_core.specs.Lawful.{IsLawful, shown_of};
 use crate::contents::Contents;
 use crate::object::Object;
 use crate::refusal::Refusal;
-use crate::usage::Usage;
+use crate::store::Usage;
 use std::sync::Arc;
 use store_journal::{Address, TenantId};
 

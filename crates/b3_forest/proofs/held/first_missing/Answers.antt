@@ -9,7 +9,7 @@ overflow_mul-offset c = let most = c.first_gap-offset.ensures.most (chunk_in c.r
 pub returns-then-offset-len : goal.returns-then-offset-len
 returns-then-offset-len c ps keeps =
     let n = c.args.len in
-    let es = c.args.nodes.now.entries in
+    let es = c.args.subtrees.now.entries in
     let gap = c.first_gap-offset.ensures.gap (chunk_in ps) keeps.forest (omega arith) (inl refl) (λ i before. absurd (omega (arith, before))) (nothing_past n ps es keeps) in
     let place : c.first_gap-offset.result * 1024 ≡ 1024 * c.first_gap-offset.result = omega arith in
     ap Some place ∙ sym (missing_some n c.first_gap-offset.result ps es keeps gap (omega (arith, place, c.if-offset-len.true)))
@@ -17,7 +17,7 @@ returns-then-offset-len c ps keeps =
 pub returns-else-offset-len : goal.returns-else-offset-len
 returns-else-offset-len c ps keeps =
     let n = c.args.len in
-    let es = c.args.nodes.now.entries in
+    let es = c.args.subtrees.now.entries in
     let gap = c.first_gap-offset.ensures.gap (chunk_in ps) keeps.forest (omega arith) (inl refl) (λ i before. absurd (omega (arith, before))) (nothing_past n ps es keeps) in
     let place : c.first_gap-offset.result * 1024 ≡ 1024 * c.first_gap-offset.result = omega arith in
     sym (missing_none n c.first_gap-offset.result ps es keeps gap (omega (arith, place, c.if-offset-len.false)))

@@ -1,5 +1,5 @@
 use Rattle.std.proofs.Common.{◌≡◌, ◌*◌, ◌/◌, Some, length, arith, ap, subst, sym, ◌∙◌}
-use Rattle.b3_forest.specs.Nodes.{IsLeastHeld, NoneHeld}
+use Rattle.b3_forest.specs.Subtrees.{IsLeastHeld, NoneHeld}
 use Rattle.b3_forest.specs.Parts.{chunk_in}
 use Rattle.b3_forest.proofs.HeldPlaces.{chunk_end, overlap_least, overlap_none}
 use Rattle.b3_forest.proofs.held.overlap.Goals as goal

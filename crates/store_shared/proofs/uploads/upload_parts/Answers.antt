@@ -7,9 +7,9 @@ use Rattle.store_shared.proofs.uploads.upload_parts.Goals.{in-Ok-hashed+in-Err-s
 
 pub returns : goal.returns
 returns g c =
-    let may_stop = g.G.Gate.may_stop c.args.gate.now in
-    let may_fault = g.G.Gate.may_fault c.args.gate.now in
-    let cut : Cutting = record { bytes = c.args.bytes.now; part_chunks = c.args.part_chunks } in
+    let may_stop = g.G.Gate.may_stop c.args.request.now.gate.now in
+    let may_fault = g.G.Gate.may_fault c.args.request.now.gate.now in
+    let cut : Cutting = record { bytes = c.args.request.now.bytes.now; part_chunks = c.args.request.now.part_chunks } in
     let share = c.put_parts-share.result.0 in
     let found = c.put_parts-share.result.1 in
     let is : IsCollected may_stop may_fault cut c.args.share share found =

@@ -1,5 +1,5 @@
 use Rattle.std.proofs.Common.{[], ap, arith, refl, length}
-use Rattle.b3_forest.specs.Nodes.{Keeps}
+use Rattle.b3_forest.specs.Subtrees.{Keeps}
 use Rattle.b3_forest.specs.Parts.{UploadPlan}
 use Rattle.b3_forest.proofs.Following.{nothing_noted}
 use Rattle.b3_forest.proofs.Holding.{keeps_nothing}
@@ -8,13 +8,13 @@ use Rattle.b3_forest.proofs.follow.Follow.new.Goals as goal
 pub returns-clause-no_pieces : goal.returns-clause-no_pieces
 returns-clause-no_pieces c =
     let b = c.args.bytes.now in
-    let es = c.new-nodes.result.entries in
-    let keeps : Keeps (length b) [] es = keeps_nothing (length b) [] es (omega (arith, c.bound-most.ensures.value, c.bound-most.ensures.most, ap (λ (q : UploadPlan). q.bound) c.in_ok-plan.ensures.plan)) refl c.new-nodes.ensures.empty in
-    nothing_noted b es keeps c.new-nodes.ensures.empty
+    let es = c.new-subtrees.result.entries in
+    let keeps : Keeps (length b) [] es = keeps_nothing (length b) [] es (omega (arith, c.bound-most.ensures.value, c.bound-most.ensures.most, ap (λ (q : UploadPlan). q.bound) c.in_ok-plan.ensures.plan)) refl c.new-subtrees.ensures.empty in
+    nothing_noted b es keeps c.new-subtrees.ensures.empty
 
 pub invariant_of-result : goal.invariant_of-result
 invariant_of-result c = record {
   parts = [];
-  keeps = keeps_nothing (length c.args.bytes.now) [] c.new-nodes.result.entries (omega (arith, c.bound-most.ensures.value, c.bound-most.ensures.most, ap (λ (q : UploadPlan). q.bound) c.in_ok-plan.ensures.plan)) refl c.new-nodes.ensures.empty;
+  keeps = keeps_nothing (length c.args.bytes.now) [] c.new-subtrees.result.entries (omega (arith, c.bound-most.ensures.value, c.bound-most.ensures.most, ap (λ (q : UploadPlan). q.bound) c.in_ok-plan.ensures.plan)) refl c.new-subtrees.ensures.empty;
   same = tt;
 }

@@ -10,7 +10,7 @@ pub returns-in-Some-clause-fault : goal.returns-in-Some-clause-fault
 returns-in-Some-clause-fault c =
     let w = c.self.invariant in
     let b = c.self.inside.bytes.now in
-    let es = c.self.inside.nodes.entries in
+    let es = c.self.inside.subtrees.entries in
     let p = c.args.part.now in
     let plan = sym c.plan.ensures ∙ c.if-not-is_of.ensures.yes refl in
     let fits = c.overlap.ensures.fits in
@@ -21,7 +21,7 @@ pub returns-then-not-has_bytes-clause-fault : goal.returns-then-not-has_bytes-cl
 returns-then-not-has_bytes-clause-fault c =
     let w = c.self.invariant in
     let b = c.self.inside.bytes.now in
-    let es = c.self.inside.nodes.entries in
+    let es = c.self.inside.subtrees.entries in
     let p = c.args.part.now in
     let plan = sym c.plan.ensures ∙ c.if-not-is_of.ensures.yes refl in
     let fits = c.overlap.ensures.fits in
@@ -32,7 +32,7 @@ pub returns-in_default-add-clause-fault : goal.returns-in_default-add-clause-fau
 returns-in_default-add-clause-fault c =
     let w = c.self.invariant in
     let b = c.self.inside.bytes.now in
-    let es = c.self.inside.nodes.entries in
+    let es = c.self.inside.subtrees.entries in
     let p = c.args.part.now in
     let plan = sym c.plan.ensures ∙ c.if-not-is_of.ensures.yes refl in
     let fits = c.overlap.ensures.fits in
@@ -43,7 +43,7 @@ pub invariant_of-self-2 : goal.invariant_of-self-2
 invariant_of-self-2 c =
     let w = c.self.invariant in
     let b = c.self.inside.bytes.now in
-    let es = c.self.inside.nodes.entries in
+    let es = c.self.inside.subtrees.entries in
     let p = c.args.part.now in
     let plan = sym c.plan.ensures ∙ c.if-not-is_of.ensures.yes refl in
     let room = room_of b es w p plan c.overlap.ensures.fits (c.in_default.ensures.at (length b) w.parts w.keeps) in
@@ -53,18 +53,18 @@ pub returns-clause-noted : goal.returns-clause-noted
 returns-clause-noted c =
     let w = c.self.invariant in
     let b = c.self.inside.bytes.now in
-    let es = c.self.inside.nodes.entries in
+    let es = c.self.inside.subtrees.entries in
     let p = c.args.part.now in
     let plan = sym c.plan.ensures ∙ c.if-not-is_of.ensures.yes refl in
     let room = room_of b es w p plan c.overlap.ensures.fits (c.in_default.ensures.at (length b) w.parts w.keeps) in
     let kept = c.in-Ok.ensures.kept (length b) w.parts room in
-    subst (λ (f : Followed). IsNotedWith f (followed b c.add.new.nodes.entries) p.part) c.self.view_is (noted_with b w.parts es c.add.new.nodes.entries p.part w.keeps kept)
+    subst (λ (f : Followed). IsNotedWith f (followed b c.add.new.subtrees.entries) p.part) c.self.view_is (noted_with b w.parts es c.add.new.subtrees.entries p.part w.keeps kept)
 
 pub returns-clause-allowed : goal.returns-clause-allowed
 returns-clause-allowed c =
     let w = c.self.invariant in
     let b = c.self.inside.bytes.now in
-    let es = c.self.inside.nodes.entries in
+    let es = c.self.inside.subtrees.entries in
     let p = c.args.part.now in
     let plan = sym c.plan.ensures ∙ c.if-not-is_of.ensures.yes refl in
     let fits = c.overlap.ensures.fits in
@@ -75,11 +75,11 @@ pub returns-clause-merges : goal.returns-clause-merges
 returns-clause-merges c =
     let w = c.self.invariant in
     let b = c.self.inside.bytes.now in
-    let es = c.self.inside.nodes.entries in
+    let es = c.self.inside.subtrees.entries in
     let p = c.args.part.now in
     let plan = sym c.plan.ensures ∙ c.if-not-is_of.ensures.yes refl in
     let room = room_of b es w p plan c.overlap.ensures.fits (c.in_default.ensures.at (length b) w.parts w.keeps) in
     let kept = c.in-Ok.ensures.kept (length b) w.parts room in
-    let told : c.in-Ok.merges ≡ noting_merges (followed b es) (followed b c.add.new.nodes.entries) p.part =
-    c.in-Ok.ensures.merges (length b) w.parts room ∙ merges_noted b w.parts es c.add.new.nodes.entries p.part w.keeps kept in
-    subst (λ (f : Followed). c.in-Ok.merges ≡ noting_merges f (followed b c.add.new.nodes.entries) p.part) c.self.view_is told
+    let told : c.in-Ok.merges ≡ noting_merges (followed b es) (followed b c.add.new.subtrees.entries) p.part =
+    c.in-Ok.ensures.merges (length b) w.parts room ∙ merges_noted b w.parts es c.add.new.subtrees.entries p.part w.keeps kept in
+    subst (λ (f : Followed). c.in-Ok.merges ≡ noting_merges f (followed b c.add.new.subtrees.entries) p.part) c.self.view_is told

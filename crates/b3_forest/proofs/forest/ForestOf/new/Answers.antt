@@ -1,5 +1,5 @@
 use Rattle.std.proofs.Common.{◌≡◌, ℕ, [], List, Option, arith, ap, subst, sym, unwrap_or, ◌∙◌}
-use Rattle.b3_forest.specs.Nodes.{Keeps}
+use Rattle.b3_forest.specs.Subtrees.{Keeps}
 use Rattle.b3_forest.specs.Parts.{Part}
 use Rattle.b3_forest.specs.Uploads.{IsUpload, held_bytes, last_end}
 use Rattle.b3_forest.proofs.Ends.{last_of_none, nothing_held, upload_with}

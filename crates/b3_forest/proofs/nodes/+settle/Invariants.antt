@@ -1,5 +1,0 @@
-use Rattle.std.specs.Prelude.{length}
-use Rattle.b3_forest.proofs.nodes.+settle.Given as goal
-
-abbrev pub decreases-settle : goal.decreases-settle
-decreases-settle l = length l.nodes.now.entries

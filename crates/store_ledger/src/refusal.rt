@@ -1,0 +1,43 @@
+//! Why a book records nothing, and why a share does not settle.
+
+ghost use Rattle.std.specs.Prelude.{Some};
+ghost use Rattle.store_ledger.specs.Shares.{full_text, missing_text};
+
+use std::error::Error;
+use std::fmt;
+
+/// L2: the book's bytes or its calls would be above 2^64-1.
+#[derive(Clone, Copy, Debug, PartialEq, Eq, Hash)]
+pub struct BookFull;
+
+impl fmt::Display for BookFull {
+    ghost output = { λ _. Some full_text };
+
+    fn fmt<W: fmt::Write>(&self, f: &mut fmt::Formatter<W>) -> fmt::Result {
+        f.write_str("the book is full")
+    }
+}
+
+impl Error for BookFull {}
+
+/// L1: other shares of the book are out, and these bytes and calls were recorded with them.
+#[derive(Clone, Copy, Debug, PartialEq, Eq, Hash)]
+pub struct NotWhole {
+    pub bytes: u64,
+    pub calls: u64,
+}
+
+impl fmt::Display for NotWhole {
+    ghost output = { λ missing. Some (missing_text missing) };
+
+    fn fmt<W: fmt::Write>(&self, f: &mut fmt::Formatter<W>) -> fmt::Result {
+        let bytes = self.bytes;
+        let calls = self.calls;
+        write!(
+            f,
+            "the share is not whole: missing bytes {bytes}, calls {calls}"
+        )
+    }
+}
+
+impl Error for NotWhole {}
