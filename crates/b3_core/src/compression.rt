@@ -28,15 +28,10 @@ pub(crate) const DERIVE_KEY_CONTEXT: u32 = 32;
 
 pub(crate) const DERIVE_KEY_MATERIAL: u32 = 64;
 
+#[rattlefmt::skip]
 pub(crate) const IV: [u32; 8] = [
-    0x6a09_e667,
-    0xbb67_ae85,
-    0x3c6e_f372,
-    0xa54f_f53a,
-    0x510e_527f,
-    0x9b05_688c,
-    0x1f83_d9ab,
-    0x5be0_cd19,
+    0x6a09_e667, 0xbb67_ae85, 0x3c6e_f372, 0xa54f_f53a,
+    0x510e_527f, 0x9b05_688c, 0x1f83_d9ab, 0x5be0_cd19,
 ];
 
 // The state as four rows of four words, so that one vector operation does a step for all columns or all diagonals. The last
@@ -86,12 +81,13 @@ fn round(v: Rows, m: [u32; 16]) -> Rows
 
 // The message words in the order of the next round (table 2).
 #[inline(always)]
+#[rattlefmt::skip]
 fn permute(m: [u32; 16]) -> [u32; 16]
     ensures { result ≡ permute m }
 {
     [
-        m[2], m[6], m[3], m[10], m[7], m[0], m[4], m[13], m[1], m[11], m[12], m[5], m[9], m[14],
-        m[15], m[8],
+        m[2], m[6], m[3], m[10], m[7], m[0], m[4], m[13],
+        m[1], m[11], m[12], m[5], m[9], m[14], m[15], m[8],
     ]
 }
 
@@ -166,6 +162,7 @@ fn low_words(v: Rows) -> [u32; 8]
 
 // The output words.
 #[inline(always)]
+#[rattlefmt::skip]
 fn output_words(h: [u32; 8], v: Rows) -> [u32; 16]
     ensures { result ≡ output_words h (state_of v) }
 {
@@ -173,22 +170,10 @@ fn output_words(h: [u32; 8], v: Rows) -> [u32; 16]
     let [c0, c1, c2, c3] = v.c.to_array();
     let [d0, d1, d2, d3] = v.d.turn(8).to_array();
     [
-        w0,
-        w1,
-        w2,
-        w3,
-        w4,
-        w5,
-        w6,
-        w7,
-        c0 ^ h[0],
-        c1 ^ h[1],
-        c2 ^ h[2],
-        c3 ^ h[3],
-        d0 ^ h[4],
-        d1 ^ h[5],
-        d2 ^ h[6],
-        d3 ^ h[7],
+        w0, w1, w2, w3,
+        w4, w5, w6, w7,
+        c0 ^ h[0], c1 ^ h[1], c2 ^ h[2], c3 ^ h[3],
+        d0 ^ h[4], d1 ^ h[5], d2 ^ h[6], d3 ^ h[7],
     ]
 }
 

@@ -16,64 +16,48 @@ use crate::work::Work;
 use std::simd::u32x8;
 
 #[inline(always)]
+#[rattlefmt::skip]
 fn columns<V: Words>(v: [V; 16], m: [V; 16]) -> [V; 16]
     ensures { (j : ℕ) → j < V.LANES → state_lane V.word j result ≡ columns (state_lane V.word j v) (lane V.word j m) }
 {
     let [
-        v0,
-        v1,
-        v2,
-        v3,
-        v4,
-        v5,
-        v6,
-        v7,
-        v8,
-        v9,
-        v10,
-        v11,
-        v12,
-        v13,
-        v14,
-        v15,
+        v0, v1, v2, v3,
+        v4, v5, v6, v7,
+        v8, v9, v10, v11,
+        v12, v13, v14, v15,
     ] = v;
     let (v0, v4, v8, v12) = mix(v0, v4, v8, v12, m[0], m[1]);
     let (v1, v5, v9, v13) = mix(v1, v5, v9, v13, m[2], m[3]);
     let (v2, v6, v10, v14) = mix(v2, v6, v10, v14, m[4], m[5]);
     let (v3, v7, v11, v15) = mix(v3, v7, v11, v15, m[6], m[7]);
     [
-        v0, v1, v2, v3, v4, v5, v6, v7, v8, v9, v10, v11, v12, v13, v14, v15,
+        v0, v1, v2, v3,
+        v4, v5, v6, v7,
+        v8, v9, v10, v11,
+        v12, v13, v14, v15,
     ]
 }
 
 #[inline(always)]
+#[rattlefmt::skip]
 fn diagonals<V: Words>(v: [V; 16], m: [V; 16]) -> [V; 16]
     ensures { (j : ℕ) → j < V.LANES → state_lane V.word j result ≡ diagonals (state_lane V.word j v) (lane V.word j m) }
 {
     let [
-        v0,
-        v1,
-        v2,
-        v3,
-        v4,
-        v5,
-        v6,
-        v7,
-        v8,
-        v9,
-        v10,
-        v11,
-        v12,
-        v13,
-        v14,
-        v15,
+        v0, v1, v2, v3,
+        v4, v5, v6, v7,
+        v8, v9, v10, v11,
+        v12, v13, v14, v15,
     ] = v;
     let (v0, v5, v10, v15) = mix(v0, v5, v10, v15, m[8], m[9]);
     let (v1, v6, v11, v12) = mix(v1, v6, v11, v12, m[10], m[11]);
     let (v2, v7, v8, v13) = mix(v2, v7, v8, v13, m[12], m[13]);
     let (v3, v4, v9, v14) = mix(v3, v4, v9, v14, m[14], m[15]);
     [
-        v0, v1, v2, v3, v4, v5, v6, v7, v8, v9, v10, v11, v12, v13, v14, v15,
+        v0, v1, v2, v3,
+        v4, v5, v6, v7,
+        v8, v9, v10, v11,
+        v12, v13, v14, v15,
     ]
 }
 
@@ -85,17 +69,19 @@ fn round<V: Words>(v: [V; 16], m: [V; 16]) -> [V; 16]
 }
 
 #[inline(always)]
+#[rattlefmt::skip]
 fn permute<V: Words>(m: [V; 16]) -> [V; 16]
     ensures { (j : ℕ) → j < V.LANES → lane V.word j result ≡ permute (lane V.word j m) }
 {
     [
-        m[2], m[6], m[3], m[10], m[7], m[0], m[4], m[13], m[1], m[11], m[12], m[5], m[9], m[14],
-        m[15], m[8],
+        m[2], m[6], m[3], m[10], m[7], m[0], m[4], m[13],
+        m[1], m[11], m[12], m[5], m[9], m[14], m[15], m[8],
     ]
 }
 
 // The state before the rounds, in each lane.
 #[inline(always)]
+#[rattlefmt::skip]
 fn start_states<V: Words>(h: [V; 8], t_low: V, t_high: V, d: u32) -> [V; 16]
     ensures { (j t : ℕ) → j < V.LANES → V.word t_low j ≡ t % 2 ^ 32 → V.word t_high j ≡ t / 2 ^ 32
         → state_lane V.word j result ≡ start_state (lane V.word j h) t 64 d }
@@ -109,7 +95,10 @@ fn start_states<V: Words>(h: [V; 8], t_low: V, t_high: V, d: u32) -> [V; 16]
     let b = V::splat(64).turn(24);
     let f = V::splat(d).turn(24);
     [
-        h[0], h[1], h[2], h[3], h[4], h[5], h[6], h[7], i0, i1, i2, i3, t0, t1, b, f,
+        h[0], h[1], h[2], h[3],
+        h[4], h[5], h[6], h[7],
+        i0, i1, i2, i3,
+        t0, t1, b, f,
     ]
 }
 
@@ -154,6 +143,7 @@ fn halves<V: Words>(v: [V; 16]) -> [V; 8]
 
 // Block `k` of each chunk.
 #[inline(always)]
+#[rattlefmt::skip]
 fn blocks_at<V: Chunks>(bytes: &[u8], k: usize) -> [V; 16]
     requires len { length bytes.now ≡ 1024 * V.LANES }
     requires block { k < 16 }
@@ -165,7 +155,10 @@ fn blocks_at<V: Chunks>(bytes: &[u8], k: usize) -> [V; 16]
     let (w8, w9, w10, w11) = V::words_at(bytes, at + 32);
     let (w12, w13, w14, w15) = V::words_at(bytes, at + 48);
     [
-        w0, w1, w2, w3, w4, w5, w6, w7, w8, w9, w10, w11, w12, w13, w14, w15,
+        w0, w1, w2, w3,
+        w4, w5, w6, w7,
+        w8, w9, w10, w11,
+        w12, w13, w14, w15,
     ]
 }
 
@@ -260,6 +253,7 @@ fn parted(left: u32x8, right: u32x8) -> (u32x8, u32x8)
 
 // The blocks of eight parents: the words of two neighbouring lanes each.
 #[inline(always)]
+#[rattlefmt::skip]
 fn pairs(left: [u32x8; 8], right: [u32x8; 8]) -> [u32x8; 16]
     ensures front { (j : ℕ) → j < 4 → lane slice_index j result ≡ lane slice_index (2 * j) left ++ lane slice_index (2 * j + 1) left }
     ensures back { (j : ℕ) → j < 4 → lane slice_index (j + 4) result ≡ lane slice_index (2 * j) right ++ lane slice_index (2 * j + 1) right }
@@ -273,24 +267,20 @@ fn pairs(left: [u32x8; 8], right: [u32x8; 8]) -> [u32x8; 16]
     let (l6, r6) = parted(left[6], right[6]);
     let (l7, r7) = parted(left[7], right[7]);
     [
-        l0, l1, l2, l3, l4, l5, l6, l7, r0, r1, r2, r3, r4, r5, r6, r7,
+        l0, l1, l2, l3, l4, l5, l6, l7,
+        r0, r1, r2, r3, r4, r5, r6, r7,
     ]
 }
 
 /// The words of one lane.
 #[inline(always)]
+#[rattlefmt::skip]
 pub(crate) fn lane_words<V: Words>(h: &[V; 8], i: usize) -> [u32; 8]
     requires { i < V.LANES }
     ensures { result ≡ lane V.word i h.now }
 {
     [
-        h[0].get(i),
-        h[1].get(i),
-        h[2].get(i),
-        h[3].get(i),
-        h[4].get(i),
-        h[5].get(i),
-        h[6].get(i),
-        h[7].get(i),
+        h[0].get(i), h[1].get(i), h[2].get(i), h[3].get(i),
+        h[4].get(i), h[5].get(i), h[6].get(i), h[7].get(i),
     ]
 }

@@ -181,19 +181,10 @@ impl Top {
         ensures bytes { result ≡ output_of self.now 0 32 }
         ensures count { work.new ≡ counted work.old 1 }
     {
-        let w = self.root_words(0, work);
-        let [a0, a1, a2, a3] = w[0].to_le_bytes();
-        let [b0, b1, b2, b3] = w[1].to_le_bytes();
-        let [c0, c1, c2, c3] = w[2].to_le_bytes();
-        let [d0, d1, d2, d3] = w[3].to_le_bytes();
-        let [e0, e1, e2, e3] = w[4].to_le_bytes();
-        let [f0, f1, f2, f3] = w[5].to_le_bytes();
-        let [g0, g1, g2, g3] = w[6].to_le_bytes();
-        let [h0, h1, h2, h3] = w[7].to_le_bytes();
-        [
-            a0, a1, a2, a3, b0, b1, b2, b3, c0, c1, c2, c3, d0, d1, d2, d3, e0, e1, e2, e3, f0, f1,
-            f2, f3, g0, g1, g2, g3, h0, h1, h2, h3,
-        ]
+        let block = self.output_block(0, work);
+        let mut hash = [0; 32];
+        hash.copy_from_slice(&block[..32]);
+        hash
     }
 }
 

@@ -18,27 +18,16 @@ pub(crate) fn word(bytes: &[u8], at: usize) -> u32
 
 // The words of a whole block.
 #[inline(always)]
+#[rattlefmt::skip]
 pub(crate) fn words_of_block(bytes: &[u8]) -> [u32; 16]
     requires { length bytes.now ≡ 64 }
     ensures { result ≡ block_words_of bytes.now }
 {
     [
-        word(bytes, 0),
-        word(bytes, 4),
-        word(bytes, 8),
-        word(bytes, 12),
-        word(bytes, 16),
-        word(bytes, 20),
-        word(bytes, 24),
-        word(bytes, 28),
-        word(bytes, 32),
-        word(bytes, 36),
-        word(bytes, 40),
-        word(bytes, 44),
-        word(bytes, 48),
-        word(bytes, 52),
-        word(bytes, 56),
-        word(bytes, 60),
+        word(bytes, 0), word(bytes, 4), word(bytes, 8), word(bytes, 12),
+        word(bytes, 16), word(bytes, 20), word(bytes, 24), word(bytes, 28),
+        word(bytes, 32), word(bytes, 36), word(bytes, 40), word(bytes, 44),
+        word(bytes, 48), word(bytes, 52), word(bytes, 56), word(bytes, 60),
     ]
 }
 
@@ -62,28 +51,24 @@ pub(crate) fn words_of_short_block(bytes: &[u8]) -> [u32; 16]
 }
 
 /// The key words of 32 bytes.
+#[rattlefmt::skip]
 pub(crate) fn words_of_key(bytes: &[u8; 32]) -> [u32; 8]
     ensures { result ≡ key_words_of bytes.now }
 {
     [
-        word(bytes, 0),
-        word(bytes, 4),
-        word(bytes, 8),
-        word(bytes, 12),
-        word(bytes, 16),
-        word(bytes, 20),
-        word(bytes, 24),
-        word(bytes, 28),
+        word(bytes, 0), word(bytes, 4), word(bytes, 8), word(bytes, 12),
+        word(bytes, 16), word(bytes, 20), word(bytes, 24), word(bytes, 28),
     ]
 }
 
 #[inline(always)]
+#[rattlefmt::skip]
 pub(crate) fn joined(left: [u32; 8], right: [u32; 8]) -> [u32; 16]
     ensures { result ≡ left ++ right }
 {
     [
-        left[0], left[1], left[2], left[3], left[4], left[5], left[6], left[7], right[0], right[1],
-        right[2], right[3], right[4], right[5], right[6], right[7],
+        left[0], left[1], left[2], left[3], left[4], left[5], left[6], left[7],
+        right[0], right[1], right[2], right[3], right[4], right[5], right[6], right[7],
     ]
 }
 

@@ -1,20 +1,38 @@
 //! Lines of check files.
-use crate::digests::digest;
-use crate::vectors::ABC;
+
+use crate::helpers::{ABC, THREE_LINES, digest, line_of_abc};
 use b3_check::{CheckFile, Fault, Line, ReadError, read_line, write};
 use std::alloc::Global;
 use std::process::Abort;
 use std::test::Fail;
 
-// A check file of two lines and a bad one between them. They begin at the bytes 0, 68 and 74, and the first byte of a
-// name stands 66 bytes on.
-pub(crate) const THREE_LINES: &[u8] =
-    b"6437b3ac38465133ffb63b75273a8db548c558465d79db03fd359c6cd5bd9d85  f\nshort\naf1349b9f5f9a1a6a0404dea36dcc9499bcb25c9adc112b7cc9a93cae41f3262  g";
+// The number of lines of a beginning of `THREE_LINES`, and the numbers of those that are read.
+fn lines_of(alloc: Global, end: usize) -> Result<(usize, Vec<u64>), Fail> {
+    let mut numbers = Vec::new(alloc);
+    let bytes = THREE_LINES.get(..end).ok_or("no such beginning")?;
+    let file = CheckFile::read(alloc, bytes)?;
+    for numbered in file.lines() {
+        if numbered.line.is_ok() {
+            numbers.push(numbered.number)?;
+        }
+    }
+    Ok((file.lines().len(), numbers))
+}
 
-/// A line of the hash of `abc`.
-pub(crate) fn line_of_abc(alloc: Global, name: &[u8]) -> Result<Line, Fail> {
-    let line = Line::new(digest(ABC)?, Vec::from_slice(alloc, name)?);
-    Ok(line.ok().ok_or("no name")?)
+// From one length of a beginning to another, it has so many lines, of which these are read.
+fn has_lines<R: AllocGlobal + Abort>(
+    rt: &R,
+    from: usize,
+    to: usize,
+    count: usize,
+    good: &[u64],
+) -> Result<(), Fail> {
+    for end in from..to {
+        let (lines, numbers) = lines_of(rt.alloc(), end)?;
+        let is_as_told = lines == count && numbers.as_slice() == good;
+        assert!(rt; is_as_told, "of {end} bytes");
+    }
+    Ok(())
 }
 
 #[test]
@@ -67,35 +85,6 @@ fn lines_are_written(rt: HostRuntime) -> Result<(), Fail> {
     let lines = vec![in alloc; line_of_abc(alloc, b"f")?]?;
     write(alloc, lines.as_slice(), &mut file)?;
     assert!(rt; file.as_slice() == &THREE_LINES[..68]);
-    Ok(())
-}
-
-// The number of lines of a beginning of `THREE_LINES`, and the numbers of those that are read.
-fn lines_of(alloc: Global, end: usize) -> Result<(usize, Vec<u64>), Fail> {
-    let mut numbers = Vec::new(alloc);
-    let bytes = THREE_LINES.get(..end).ok_or("no such beginning")?;
-    let file = CheckFile::read(alloc, bytes)?;
-    for numbered in file.lines() {
-        if numbered.line.is_ok() {
-            numbers.push(numbered.number)?;
-        }
-    }
-    Ok((file.lines().len(), numbers))
-}
-
-// From one length of a beginning to another, it has so many lines, of which these are read.
-fn has_lines<R: AllocGlobal + Abort>(
-    rt: &R,
-    from: usize,
-    to: usize,
-    count: usize,
-    good: &[u64],
-) -> Result<(), Fail> {
-    for end in from..to {
-        let (lines, numbers) = lines_of(rt.alloc(), end)?;
-        let is_as_told = lines == count && numbers.as_slice() == good;
-        assert!(rt; is_as_told, "of {end} bytes");
-    }
     Ok(())
 }
 

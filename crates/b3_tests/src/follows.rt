@@ -1,7 +1,7 @@
 //! Parts of bytes that are lent.
-use crate::digests::digest;
-use crate::patterns::{open_plan, part_of_pattern, pattern, planned_part};
-use crate::vectors::COUNTS;
+
+use crate::fakes::pattern;
+use crate::helpers::{COUNTS, digest, open_plan, part_of_pattern, planned_part};
 use b3_core::Work;
 use b3_forest::{Follow, Incomplete, NoteFault};
 use std::test::Fail;
@@ -38,6 +38,28 @@ fn followed<'a>(
     Ok((follow, counts))
 }
 
+// The refusal of a part of a pattern.
+fn refused(
+    rt: &impl AllocGlobal,
+    follow: &mut Follow<'_>,
+    len: u64,
+    offset: u64,
+    size: u64,
+) -> Result<NoteFault, Fail> {
+    let mut work = Work::new(rt);
+    let part = part_of_pattern(rt.alloc(), len, offset, size, &mut work)?;
+    Ok(follow.note(&part, &mut work).err().ok_or("noted")?)
+}
+
+// The pattern of 2049 bytes, of whose first chunk the last byte is another.
+fn with_a_strange_chunk(rt: &impl AllocGlobal) -> Result<Vec<u8>, Fail> {
+    let mut bytes = pattern(rt.alloc(), 0, 2049)?;
+    if let Some(byte) = bytes.get_mut(1023) {
+        *byte ^= 1;
+    }
+    Ok(bytes)
+}
+
 #[test]
 fn parts_are_noted_in_any_order(rt: HostRuntime) -> Result<(), Fail> {
     let bytes = pattern(rt.alloc(), 0, 2049)?;
@@ -69,28 +91,6 @@ fn nothing_is_missing_where_all_is_noted(rt: HostRuntime) -> Result<(), Fail> {
     let (follow, _) = followed(&rt, bytes.as_slice(), &[(0, 2049)])?;
     assert_eq!(rt; follow.first_missing(), None);
     Ok(())
-}
-
-// The refusal of a part of a pattern.
-fn refused(
-    rt: &impl AllocGlobal,
-    follow: &mut Follow<'_>,
-    len: u64,
-    offset: u64,
-    size: u64,
-) -> Result<NoteFault, Fail> {
-    let mut work = Work::new(rt);
-    let part = part_of_pattern(rt.alloc(), len, offset, size, &mut work)?;
-    Ok(follow.note(&part, &mut work).err().ok_or("noted")?)
-}
-
-// The pattern of 2049 bytes, of whose first chunk the last byte is another.
-fn with_a_strange_chunk(rt: &impl AllocGlobal) -> Result<Vec<u8>, Fail> {
-    let mut bytes = pattern(rt.alloc(), 0, 2049)?;
-    if let Some(byte) = bytes.get_mut(1023) {
-        *byte ^= 1;
-    }
-    Ok(bytes)
 }
 
 #[test]

@@ -1,28 +1,15 @@
 //! Forests of parts.
-use crate::digests::digest;
-use crate::patterns::{closed_plan, part_of_pattern, pattern, planned_part};
-use crate::vectors::COUNTS;
+
+use crate::fakes::pattern;
+use crate::helpers::{
+    COUNTS, added, closed_plan, digest, forest_of, part_of_pattern, refused, root,
+};
 use b3_core::{Mode, Top, Work, hash};
-use b3_forest::{AddFault, FinishFault, Forest, Plan};
-use std::process::Abort;
+use b3_forest::{AddFault, FinishFault, Forest};
 use std::test::Fail;
 
 fn forest(rt: &impl AllocGlobal, len: u64) -> Result<Forest, Fail> {
     Ok(Forest::new(rt.alloc(), closed_plan(len)?))
-}
-
-/// Adds a part of a pattern, and answers the merges, and the compressions in the forest.
-pub(crate) fn added(
-    rt: &impl AllocGlobal,
-    forest: &mut Forest,
-    offset: u64,
-    size: u64,
-) -> Result<(u64, u64), Fail> {
-    let plan = forest.plan();
-    let part = planned_part(rt.alloc(), &plan, offset, size, &mut Work::new(rt))?;
-    let mut work = Work::new(rt);
-    let merges = forest.add(part, &mut work).ok().ok_or("refused")?;
-    Ok((merges, work.count()))
 }
 
 // The top over what a whole forest holds.
@@ -31,36 +18,54 @@ fn top_of(rt: &impl AllocGlobal, forest: &Forest) -> Result<Top, Fail> {
     Ok(top.ok().ok_or("not whole")?)
 }
 
-/// The root's hash, and the compressions that it takes.
-pub(crate) fn root(rt: &impl AllocGlobal, forest: &Forest) -> Result<([u8; 32], u64), Fail> {
-    let mut work = Work::new(rt);
-    let top = forest.finish(&mut work).ok().ok_or("not whole")?;
-    Ok((top.root32(&mut work), work.count()))
-}
-
 // The hash of so many bytes of a pattern.
 fn hash_of_pattern(rt: &impl AllocGlobal, len: u64) -> Result<[u8; 32], Fail> {
     let bytes = pattern(rt.alloc(), 0, len)?;
     Ok(hash(&Mode::hash(), bytes.as_slice(), &mut Work::new(rt)))
 }
 
-/// A forest of parts of a pattern, which come in this order, and the compressions of each.
-pub(crate) fn forest_of(
-    rt: &impl AllocGlobal,
-    plan: Plan,
-    parts: &[(u64, u64)],
-) -> Result<(Forest, Vec<u64>), Fail> {
-    let mut forest = Forest::new(rt.alloc(), plan);
-    let mut counts = Vec::new(rt.alloc());
-    for (offset, size) in parts {
-        let (merges, count) = added(rt, &mut forest, *offset, *size)?;
-        counts.push(if count == merges.wrapping_mul(2) {
-            count
-        } else {
-            9
-        })?;
+// What is held: the first offset that is missing, the bytes and the parts.
+fn held(forest: &Forest) -> (Option<u64>, u64, usize) {
+    (forest.first_missing(), forest.held(), forest.parts())
+}
+
+// A forest of three parts of 2049 bytes, which come in this order.
+fn in_order(rt: &impl AllocGlobal, order: &[u64]) -> Result<Forest, Fail> {
+    let mut forest = forest(rt, 2049)?;
+    for number in order {
+        let size = if *number == 2 { 1 } else { 1024 };
+        let _ = added(rt, &mut forest, number.wrapping_mul(1024), size)?;
     }
-    Ok((forest, counts))
+    Ok(forest)
+}
+
+// A pattern in one part: the compressions of the part, of it and its top, and of it, its top and the root; and whether
+// the root is the hash.
+fn one_part(rt: &impl AllocGlobal, len: u64) -> Result<String, Fail> {
+    let mut work = Work::new(rt);
+    let part = part_of_pattern(rt.alloc(), len, 0, len, &mut work)?;
+    let made = work.count();
+    let mut forest = forest(rt, len)?;
+    let _merges = forest.add(part, &mut work).ok().ok_or("refused")?;
+    let top = forest.finish(&mut work).ok().ok_or("not whole")?;
+    let finished = work.count();
+    let is_hash = top.root32(&mut work) == hash_of_pattern(rt, len)?;
+    let all = work.count();
+    Ok(format!(in rt.alloc(); "{made} {finished} {all} {is_hash}")?)
+}
+
+// The root of a pattern that is cut into parts of `size` bytes, which come in turns of `step`.
+fn root_of_cut(rt: &impl AllocGlobal, len: u64, size: u64, step: u64) -> Result<[u8; 32], Fail> {
+    let mut forest = forest(rt, len)?;
+    for turn in 0..step {
+        for number in 0..17u64 {
+            let offset = size.wrapping_mul(number);
+            if offset < len && number.checked_rem(step) == Some(step - 1 - turn) {
+                let _ = added(rt, &mut forest, offset, size.min(len - offset))?;
+            }
+        }
+    }
+    Ok(root(rt, &forest)?.0)
 }
 
 #[test]
@@ -70,11 +75,6 @@ fn four_chunks_from_the_middle(rt: HostRuntime) -> Result<(), Fail> {
     assert!(rt; counts.as_slice() == [0, 2, 4].as_slice());
     assert_eq!(rt; root(&rt, &forest)?, (hash_of_pattern(&rt, 4096)?, 1));
     Ok(())
-}
-
-// What is held: the first offset that is missing, the bytes and the parts.
-fn held(forest: &Forest) -> (Option<u64>, u64, usize) {
-    (forest.first_missing(), forest.held(), forest.parts())
 }
 
 #[test]
@@ -98,16 +98,6 @@ fn nothing_is_missing_where_all_is_held(rt: HostRuntime) -> Result<(), Fail> {
     let (forest, _) = forest_of(&rt, closed_plan(4096)?, &[(0, 4096)])?;
     assert_eq!(rt; held(&forest), (None, 4096, 1));
     Ok(())
-}
-
-// A forest of three parts of 2049 bytes, which come in this order.
-fn in_order(rt: &impl AllocGlobal, order: &[u64]) -> Result<Forest, Fail> {
-    let mut forest = forest(rt, 2049)?;
-    for number in order {
-        let size = if *number == 2 { 1 } else { 1024 };
-        let _ = added(rt, &mut forest, number.wrapping_mul(1024), size)?;
-    }
-    Ok(forest)
 }
 
 #[test]
@@ -148,25 +138,6 @@ fn no_bytes_are_whole(rt: HostRuntime) -> Result<(), Fail> {
     let forest = forest(&rt, 0)?;
     assert_eq!(rt; root(&rt, &forest)?, (digest(COUNTS[0].hash)?, 1));
     Ok(())
-}
-
-/// The refusal of a part, which comes back.
-pub(crate) fn refused<R: AllocGlobal + Abort>(
-    rt: &R,
-    forest: &mut Forest,
-    plan: &Plan,
-    offset: u64,
-    size: u64,
-) -> Result<AddFault, Fail> {
-    let mut work = Work::new(rt);
-    let part = planned_part(rt.alloc(), plan, offset, size, &mut work)?;
-    let told = forest.refusal_of(&part);
-    let refused = forest.add(part, &mut work).err().ok_or("added")?;
-    assert_eq!(rt;
-        (told, refused.part.offset()),
-        (Some(refused.fault), offset)
-    );
-    Ok(refused.fault)
 }
 
 #[test]
@@ -211,39 +182,10 @@ fn one_long_part(rt: HostRuntime) -> Result<(), Fail> {
     Ok(())
 }
 
-// A pattern in one part: the compressions of the part, of it and its top, and of it, its top and the root; and whether
-// the root is the hash.
-fn one_part(rt: &impl AllocGlobal, len: u64) -> Result<String, Fail> {
-    let mut work = Work::new(rt);
-    let part = part_of_pattern(rt.alloc(), len, 0, len, &mut work)?;
-    let made = work.count();
-    let mut forest = forest(rt, len)?;
-    let _merges = forest.add(part, &mut work).ok().ok_or("refused")?;
-    let top = forest.finish(&mut work).ok().ok_or("not whole")?;
-    let finished = work.count();
-    let is_hash = top.root32(&mut work) == hash_of_pattern(rt, len)?;
-    let all = work.count();
-    Ok(format!(in rt.alloc(); "{made} {finished} {all} {is_hash}")?)
-}
-
 #[test]
 fn ten_chunks_in_one_part(rt: HostRuntime) -> Result<(), Fail> {
     assert_eq!(rt; one_part(&rt, 9217)?.as_str(), "151 153 154 true");
     Ok(())
-}
-
-// The root of a pattern that is cut into parts of `size` bytes, which come in turns of `step`.
-fn root_of_cut(rt: &impl AllocGlobal, len: u64, size: u64, step: u64) -> Result<[u8; 32], Fail> {
-    let mut forest = forest(rt, len)?;
-    for turn in 0..step {
-        for number in 0..17u64 {
-            let offset = size.wrapping_mul(number);
-            if offset < len && number.checked_rem(step) == Some(step - 1 - turn) {
-                let _ = added(rt, &mut forest, offset, size.min(len - offset))?;
-            }
-        }
-    }
-    Ok(root(rt, &forest)?.0)
 }
 
 #[test]

@@ -7,8 +7,8 @@
 
 ghost use Rattle.std.specs.Prelude.{◌<◌};
 
-use crate::check_lines::THREE_LINES;
-use crate::patterns::pattern;
+use crate::fakes::pattern;
+use crate::helpers::THREE_LINES;
 use b3_check::{CheckFile, NameFault, Names, verify};
 use b3_core::Work;
 use b3_forest::{AddFault, Follow, Forest, NoteFault, PartFault, Plan, Prepared};
@@ -72,14 +72,6 @@ fn part_made<R: AllocGlobal + Abort>(rt: &R) -> Result<(), AllocError> {
     Ok(())
 }
 
-#[test]
-fn make(rt: HostRuntime) -> Result<(), Fail> {
-    match part_made(&rt) {
-        Ok(()) => Ok(()),
-        Err(_) => Ok(part_made(&rt)?),
-    }
-}
-
 // What is held: the bytes, the parts, the first offset that is missing, and the end.
 fn held(forest: &Forest) -> (u64, usize, Option<u64>, Option<u64>) {
     (
@@ -125,23 +117,6 @@ fn parts_added<R: AllocGlobal + Abort>(rt: &R, plan: Plan, len: u64) -> Result<(
     Ok(())
 }
 
-#[test]
-fn add(rt: HostRuntime) -> Result<(), Fail> {
-    match parts_added(&rt, plan(&rt), 4096) {
-        Ok(()) => Ok(()),
-        Err(_) => Ok(parts_added(&rt, plan(&rt), 4096)?),
-    }
-}
-
-// The second part fixes the end, which a refused one must not.
-#[test]
-fn add_to_an_open_upload(rt: HostRuntime) -> Result<(), Fail> {
-    match parts_added(&rt, open_plan(&rt), 3172) {
-        Ok(()) => Ok(()),
-        Err(_) => Ok(parts_added(&rt, open_plan(&rt), 3172)?),
-    }
-}
-
 // Notes a part, and once more where it is refused. Answers the merges.
 fn noted<R: AllocGlobal + Abort>(
     rt: &R,
@@ -178,14 +153,6 @@ fn parts_noted<R: AllocGlobal + Abort>(rt: &R) -> Result<(), AllocError> {
     Ok(())
 }
 
-#[test]
-fn note(rt: HostRuntime) -> Result<(), Fail> {
-    match parts_noted(&rt) {
-        Ok(()) => Ok(()),
-        Err(_) => Ok(parts_noted(&rt)?),
-    }
-}
-
 // Gives no digest.
 #[derive(Drop)]
 struct NoNames;
@@ -203,6 +170,39 @@ fn lines_of(alloc: Global) -> Result<CheckFile, AllocError> {
     match CheckFile::read(alloc, THREE_LINES) {
         Ok(file) => Ok(file),
         Err(_) => CheckFile::read(alloc, THREE_LINES),
+    }
+}
+
+#[test]
+fn make(rt: HostRuntime) -> Result<(), Fail> {
+    match part_made(&rt) {
+        Ok(()) => Ok(()),
+        Err(_) => Ok(part_made(&rt)?),
+    }
+}
+
+#[test]
+fn add(rt: HostRuntime) -> Result<(), Fail> {
+    match parts_added(&rt, plan(&rt), 4096) {
+        Ok(()) => Ok(()),
+        Err(_) => Ok(parts_added(&rt, plan(&rt), 4096)?),
+    }
+}
+
+// The second part fixes the end, which a refused one must not.
+#[test]
+fn add_to_an_open_upload(rt: HostRuntime) -> Result<(), Fail> {
+    match parts_added(&rt, open_plan(&rt), 3172) {
+        Ok(()) => Ok(()),
+        Err(_) => Ok(parts_added(&rt, open_plan(&rt), 3172)?),
+    }
+}
+
+#[test]
+fn note(rt: HostRuntime) -> Result<(), Fail> {
+    match parts_noted(&rt) {
+        Ok(()) => Ok(()),
+        Err(_) => Ok(parts_noted(&rt)?),
     }
 }
 

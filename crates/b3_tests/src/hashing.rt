@@ -1,7 +1,7 @@
 //! Hashes in three modes, at once and in pieces.
-use crate::digests::digest;
-use crate::patterns::pattern;
-use crate::vectors::{ABC, CONTEXT, COUNTS, KEY, ROWS};
+
+use crate::fakes::pattern;
+use crate::helpers::{ABC, CONTEXT, COUNTS, KEY, ROWS, digest};
 use b3_core::{Hasher, Mode, OutputReader, Top, Work, compress, hash, hash_wide};
 use std::process::Abort;
 use std::test::Fail;
@@ -43,6 +43,43 @@ fn gives<R: AllocGlobal + Abort>(
     Ok(())
 }
 
+// The words of the hash of `abc`.
+const HASH_OF_ABC: [u32; 8] = [
+    0xacb3_3764,
+    0x3351_4638,
+    0x753b_b6ff,
+    0xb58d_3a27,
+    0x4658_c548,
+    0x03db_795d,
+    0x6c9c_35fd,
+    0x859d_bdd5,
+];
+
+// Whether node i of the eight is that of chunk i alone. The high word of the chunk's number changes in the fifth lane.
+fn are_eight_times_one(mode: &Mode, bytes: &[u8; 8192], work: &mut Work) -> bool {
+    let (chunks, _) = bytes.as_chunks::<1024>();
+    let eight = Top::of_eight(mode, bytes, 4_294_967_292, work);
+    let mut number = 4_294_967_292u64;
+    let mut are_same = true;
+    for (chunk, top) in chunks.iter().zip(eight.iter()) {
+        are_same = are_same && Top::of_chunk(mode, chunk, number, work) == *top;
+        number = number.wrapping_add(1);
+    }
+    are_same && number == 4_294_967_300
+}
+
+// The root over the nodes of eight chunks.
+fn root_of_eight(mode: &Mode, bytes: &[u8; 8192], work: &mut Work) -> [u8; 32] {
+    let [n0, n1, n2, n3, n4, n5, n6, n7] = Top::of_eight(mode, bytes, 0, work);
+    let first = Top::parent(mode, &n0, &n1, work);
+    let second = Top::parent(mode, &n2, &n3, work);
+    let third = Top::parent(mode, &n4, &n5, work);
+    let fourth = Top::parent(mode, &n6, &n7, work);
+    let left = Top::parent(mode, &first, &second, work);
+    let right = Top::parent(mode, &third, &fourth, work);
+    Top::parent(mode, &left, &right, work).root32(work)
+}
+
 #[test]
 fn patterns_in_three_modes(rt: HostRuntime) -> Result<(), Fail> {
     let keyed = Mode::keyed(KEY);
@@ -74,18 +111,6 @@ fn a_short_context_is_one_compression(rt: HostRuntime) {
     let _derive = Mode::derive(CONTEXT, &mut work);
     assert_eq!(rt; work.count(), 1);
 }
-
-// The words of the hash of `abc`.
-const HASH_OF_ABC: [u32; 8] = [
-    0xacb3_3764,
-    0x3351_4638,
-    0x753b_b6ff,
-    0xb58d_3a27,
-    0x4658_c548,
-    0x03db_795d,
-    0x6c9c_35fd,
-    0x859d_bdd5,
-];
 
 #[test]
 fn one_compression(rt: HostRuntime) {
@@ -123,31 +148,6 @@ fn two_chunks_and_their_parent(rt: HostRuntime) -> Result<(), Fail> {
     assert_eq!(rt; (in_chunks, in_all), (15, 17));
     assert_eq!(rt; top.root32(&mut work), digest(COUNTS[3].hash)?);
     Ok(())
-}
-
-// Whether node i of the eight is that of chunk i alone. The high word of the chunk's number changes in the fifth lane.
-fn are_eight_times_one(mode: &Mode, bytes: &[u8; 8192], work: &mut Work) -> bool {
-    let (chunks, _) = bytes.as_chunks::<1024>();
-    let eight = Top::of_eight(mode, bytes, 4_294_967_292, work);
-    let mut number = 4_294_967_292u64;
-    let mut are_same = true;
-    for (chunk, top) in chunks.iter().zip(eight.iter()) {
-        are_same = are_same && Top::of_chunk(mode, chunk, number, work) == *top;
-        number = number.wrapping_add(1);
-    }
-    are_same && number == 4_294_967_300
-}
-
-// The root over the nodes of eight chunks.
-fn root_of_eight(mode: &Mode, bytes: &[u8; 8192], work: &mut Work) -> [u8; 32] {
-    let [n0, n1, n2, n3, n4, n5, n6, n7] = Top::of_eight(mode, bytes, 0, work);
-    let first = Top::parent(mode, &n0, &n1, work);
-    let second = Top::parent(mode, &n2, &n3, work);
-    let third = Top::parent(mode, &n4, &n5, work);
-    let fourth = Top::parent(mode, &n6, &n7, work);
-    let left = Top::parent(mode, &first, &second, work);
-    let right = Top::parent(mode, &third, &fourth, work);
-    Top::parent(mode, &left, &right, work).root32(work)
 }
 
 #[test]

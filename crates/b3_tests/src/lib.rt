@@ -3,8 +3,7 @@
 
 #[cfg(test)]
 mod check_lines;
-#[cfg(test)]
-mod digests;
+mod fakes;
 #[cfg(test)]
 mod follows;
 #[cfg(test)]
@@ -12,7 +11,11 @@ mod forests;
 #[cfg(test)]
 mod growths;
 #[cfg(test)]
+mod hashers;
+#[cfg(test)]
 mod hashing;
+#[cfg(test)]
+mod helpers;
 #[cfg(test)]
 mod open_forests;
 #[cfg(test)]
@@ -20,10 +23,6 @@ mod outputs;
 #[cfg(test)]
 mod parts;
 #[cfg(test)]
-mod patterns;
-#[cfg(test)]
-mod pieces;
-#[cfg(test)]
 mod reports;
-#[cfg(test)]
-mod vectors;
+
+pub use fakes::{FailingWriter, pattern};

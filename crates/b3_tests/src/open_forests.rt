@@ -1,9 +1,6 @@
 //! Forests of open plans: uploads whose length is fixed by a part, or at the end.
 
-use crate::digests::digest;
-use crate::forests::{added, forest_of, refused, root};
-use crate::patterns::{closed_plan, open_plan};
-use crate::vectors::COUNTS;
+use crate::helpers::{COUNTS, added, closed_plan, digest, forest_of, open_plan, refused, root};
 use b3_core::Work;
 use b3_forest::{AddFault, FinishFault, FixFault, Forest};
 use std::alloc::{AllocError, Global};
@@ -15,6 +12,14 @@ fn seen(alloc: Global, forest: &Forest) -> Result<String, AllocError> {
     let (end, missing) = (forest.end(), forest.first_missing());
     let (len, held) = (forest.length(), forest.held());
     format!(in alloc; "end {end:?} length {len} missing {missing:?} held {held}")
+}
+
+// The answer of `fix`, of which its question tells the fault before.
+fn fixed<R: Abort>(rt: &R, forest: &mut Forest, len: u64) -> Option<FixFault> {
+    let told = forest.fix_refusal_of(len);
+    let fault = forest.fix(len).err();
+    assert_eq!(rt; told, fault);
+    fault
 }
 
 #[test]
@@ -93,14 +98,6 @@ fn an_upload_up_to_its_bound_has_no_top(rt: HostRuntime) -> Result<(), Fail> {
     assert_eq!(rt; forest.fix(2048), Ok(()));
     assert_eq!(rt; root(&rt, &forest)?, (digest(COUNTS[4].hash)?, 1));
     Ok(())
-}
-
-// The answer of `fix`, of which its question tells the fault before.
-fn fixed<R: Abort>(rt: &R, forest: &mut Forest, len: u64) -> Option<FixFault> {
-    let told = forest.fix_refusal_of(len);
-    let fault = forest.fix(len).err();
-    assert_eq!(rt; told, fault);
-    fault
 }
 
 #[test]

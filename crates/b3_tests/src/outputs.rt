@@ -1,8 +1,8 @@
 //! Extended outputs.
+
 ghost use Rattle.std.specs.Prelude.{◌≤◌};
 
-use crate::digests::digest;
-use crate::vectors::{ABC, ABC_FROM_64};
+use crate::helpers::{ABC, ABC_FROM_64};
 use b3_core::{Mode, OutputReader, Top, Work};
 use std::fmt::Write;
 use std::process::Abort;
@@ -34,6 +34,16 @@ fn hex(rt: &impl AllocGlobal, bytes: &[u8]) -> Result<String, Fail> {
     Ok(text)
 }
 
+// The compressions of `len` bytes of output from a place on.
+fn filled<R: AllocGlobal + Abort>(rt: &R, position: u64, len: usize) -> Result<u64, Fail> {
+    let mut reader = OutputReader::new(top_of_abc(&mut Work::new(rt)));
+    reader.set_position(position);
+    let mut buffer = vec![in rt.alloc(); 0u8; len]?;
+    let mut work = Work::new(rt);
+    reader.fill(&mut buffer, &mut work).ok().ok_or("no output")?;
+    Ok(work.count())
+}
+
 #[test]
 fn output_of_abc(rt: HostRuntime) -> Result<(), Fail> {
     let whole = in_two_pieces(131, &mut Work::new(&rt)).ok_or("no output")?;
@@ -52,16 +62,6 @@ fn output_in_pieces(rt: HostRuntime) {
         let pieces = in_two_pieces(cut, &mut work);
         assert!(rt; pieces == whole, "cut at {cut}");
     }
-}
-
-// The compressions of `len` bytes of output from a place on.
-fn filled<R: AllocGlobal + Abort>(rt: &R, position: u64, len: usize) -> Result<u64, Fail> {
-    let mut reader = OutputReader::new(top_of_abc(&mut Work::new(rt)));
-    reader.set_position(position);
-    let mut buffer = vec![in rt.alloc(); 0u8; len]?;
-    let mut work = Work::new(rt);
-    reader.fill(&mut buffer, &mut work).ok().ok_or("no output")?;
-    Ok(work.count())
 }
 
 #[test]

@@ -1,8 +1,34 @@
 //! Parts and plans.
-use crate::patterns::{closed_plan, open_plan, part_of_pattern, pattern, planned_part};
+
+use crate::fakes::pattern;
+use crate::helpers::{closed_plan, open_plan, part_of_pattern, planned_part};
 use b3_core::Work;
 use b3_forest::{PartFault, PartRefused, Plan, Prepared, TooLong};
 use std::test::Fail;
+
+// The pieces of a part of a pattern, and its compressions.
+fn made(rt: &impl AllocGlobal, plan: u64, offset: u64, len: u64) -> Result<(usize, u64), Fail> {
+    let mut work = Work::new(rt);
+    let part = part_of_pattern(rt.alloc(), plan, offset, len, &mut work)?;
+    Ok((part.pieces(), work.count()))
+}
+
+// The refusal of a part.
+fn refused_under(
+    rt: &impl AllocGlobal,
+    plan: &Plan,
+    offset: u64,
+    len: u64,
+) -> Result<PartRefused, Fail> {
+    let bytes = pattern(rt.alloc(), offset, len)?;
+    let part = Prepared::make(rt.alloc(), plan, offset, bytes, &mut Work::new(rt));
+    Ok(part.err().ok_or("the part was made")?)
+}
+
+// The refusal of a part of an upload of `plan` bytes.
+fn refused(rt: &impl AllocGlobal, plan: u64, offset: u64, len: u64) -> Result<PartRefused, Fail> {
+    refused_under(rt, &closed_plan(plan)?, offset, len)
+}
 
 #[test]
 fn a_part_tells_what_it_is(rt: HostRuntime) -> Result<(), Fail> {
@@ -11,13 +37,6 @@ fn a_part_tells_what_it_is(rt: HostRuntime) -> Result<(), Fail> {
     let bytes = pattern(rt.alloc(), 1024, 2048)?;
     assert!(rt; part.bytes() == bytes.as_slice());
     Ok(())
-}
-
-// The pieces of a part of a pattern, and its compressions.
-fn made(rt: &impl AllocGlobal, plan: u64, offset: u64, len: u64) -> Result<(usize, u64), Fail> {
-    let mut work = Work::new(rt);
-    let part = part_of_pattern(rt.alloc(), plan, offset, len, &mut work)?;
-    Ok((part.pieces(), work.count()))
 }
 
 #[test]
@@ -52,23 +71,6 @@ fn parts_of_any_length_under_an_open_plan(rt: HostRuntime) -> Result<(), Fail> {
         assert_eq!(rt; (part.pieces(), work.count()), (pieces, count));
     }
     Ok(())
-}
-
-// The refusal of a part.
-fn refused_under(
-    rt: &impl AllocGlobal,
-    plan: &Plan,
-    offset: u64,
-    len: u64,
-) -> Result<PartRefused, Fail> {
-    let bytes = pattern(rt.alloc(), offset, len)?;
-    let part = Prepared::make(rt.alloc(), plan, offset, bytes, &mut Work::new(rt));
-    Ok(part.err().ok_or("the part was made")?)
-}
-
-// The refusal of a part of an upload of `plan` bytes.
-fn refused(rt: &impl AllocGlobal, plan: u64, offset: u64, len: u64) -> Result<PartRefused, Fail> {
-    refused_under(rt, &closed_plan(plan)?, offset, len)
 }
 
 #[test]

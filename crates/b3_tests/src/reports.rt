@@ -1,11 +1,9 @@
 //! Check files, and reports on them.
-use crate::check_lines::{THREE_LINES, line_of_abc};
-use crate::digests::digest;
-use crate::vectors::ABC;
+
+use crate::fakes::FailingWriter;
+use crate::helpers::{ABC, THREE_LINES, digest, line_of_abc};
 use b3_check::{CheckFile, NameFault, Names, Report, verify, write};
 use std::alloc::{AllocError, Global};
-use std::io;
-use std::io::{ErrorKind, Write};
 use std::test::Fail;
 
 // Answers for `f` alone, and counts its calls.
@@ -81,33 +79,12 @@ fn names_without_memory_end_it(rt: HostRuntime) -> Result<(), Fail> {
     Ok(())
 }
 
-// A writer whose call of this number fails.
-#[derive(Drop)]
-struct Failing {
-    calls: u64,
-    fails: u64,
-}
-
-impl Write for Failing {
-    fn write(&mut self, bytes: &[u8]) -> io::Result<usize> {
-        self.calls = self.calls.wrapping_add(1);
-        if self.calls >= self.fails {
-            return Err(io::Error::from(ErrorKind::Other));
-        }
-        if bytes.is_empty() { Ok(0) } else { Ok(1) }
-    }
-
-    fn flush(&mut self) -> io::Result<()> {
-        Ok(())
-    }
-}
-
 #[test]
 fn a_failed_write_of_lines_is_the_last(rt: HostRuntime) -> Result<(), Fail> {
     let alloc = rt.alloc();
     let lines = vec![in alloc; line_of_abc(alloc, b"x")?]?;
     for fails in 1..68u64 {
-        let mut writer = Failing { calls: 0, fails };
+        let mut writer = FailingWriter { calls: 0, fails };
         assert!(rt; write(alloc, lines.as_slice(), &mut writer).is_err());
         assert_eq!(rt; writer.calls, fails);
     }
@@ -123,7 +100,7 @@ fn a_failed_write_of_a_report_is_the_last(rt: HostRuntime) -> Result<(), Fail> {
     };
     let report = report_on(alloc, b"short", &mut names)?;
     for fails in 1..57u64 {
-        let mut writer = Failing { calls: 0, fails };
+        let mut writer = FailingWriter { calls: 0, fails };
         assert!(rt; report.write(alloc, &mut writer).is_err());
         assert_eq!(rt; writer.calls, fails);
     }

@@ -1,7 +1,7 @@
 //! Bytes that a hasher is given in pieces.
 
-use crate::patterns::pattern;
-use crate::vectors::{CONTEXT, KEY};
+use crate::fakes::pattern;
+use crate::helpers::{CONTEXT, KEY};
 use b3_core::{Hasher, Mode, Work, hash};
 use std::process::Abort;
 use std::test::Fail;

@@ -1,0 +1,38 @@
+//! Pattern bytes and a writer that fails, for the tests of the crates above too.
+
+use std::alloc::{AllocError, Global};
+use std::io;
+use std::io::{ErrorKind, Write};
+
+/// The pattern bytes `i mod 251` of an object, from `first` on.
+pub fn pattern(alloc: Global, first: u64, len: u64) -> Result<Vec<u8>, AllocError> {
+    let mut bytes = Vec::new(alloc);
+    let mut next = (first % 251) as u8;
+    for _ in 0..len {
+        bytes.push(next)?;
+        next = if next >= 250 { 0 } else { next + 1 };
+    }
+    Ok(bytes)
+}
+
+/// A writer that takes a byte a call, and whose calls fail from the one with the number `fails` on.
+#[derive(Drop)]
+pub struct FailingWriter {
+    /// The calls so far.
+    pub calls: u64,
+    pub fails: u64,
+}
+
+impl Write for FailingWriter {
+    fn write(&mut self, bytes: &[u8]) -> io::Result<usize> {
+        self.calls = self.calls.wrapping_add(1);
+        if self.calls >= self.fails {
+            return Err(io::Error::from(ErrorKind::Other));
+        }
+        if bytes.is_empty() { Ok(0) } else { Ok(1) }
+    }
+
+    fn flush(&mut self) -> io::Result<()> {
+        Ok(())
+    }
+}
