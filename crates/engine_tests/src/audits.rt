@@ -36,6 +36,24 @@ fn ended<R: AllocGlobal, I: Read, W: Write>(
     }
 }
 
+const SHORT: &[u8] = b"tenant 0 5\n";
+
+// What an engine writes of the short journal.
+fn written(engine: Engine) -> &'static [u8] {
+    match engine {
+        Engine::Audit => b"objects 0 bytes 0 uploads 0 held 0 parts 0\naccepted 0 0\n",
+        Engine::Migrate => b"b3store-journal 2\ntenant 0 5\n",
+    }
+}
+
+// The short journal, which this reader gives, is answered a byte a call.
+fn short_is_answered<R: AllocGlobal + Abort, I: Read>(rt: &R, engine: Engine, reader: &mut I) {
+    let mut writer = FailingWriter::new(rt.alloc(), u64::MAX);
+    let ended = ended(rt, engine, reader, &mut writer);
+    assert_eq!(rt; ended, Ok(Verdict::Good));
+    assert_eq!(rt; writer.taken.as_slice(), written(engine));
+}
+
 #[test]
 fn ten_entries(rt: HostRuntime) -> Result<(), Fail> {
     let input = journal(rt.alloc())?;
@@ -60,16 +78,6 @@ fn ten_entries_in_version_2(rt: HostRuntime) -> Result<(), Fail> {
     let text = format!(in rt.alloc(); "b3store-journal 2\n{input}")?;
     assert_eq!(rt; writer.as_slice(), text.as_bytes());
     Ok(())
-}
-
-const SHORT: &[u8] = b"tenant 0 5\n";
-
-// What an engine writes of the short journal.
-fn written(engine: Engine) -> &'static [u8] {
-    match engine {
-        Engine::Audit => b"objects 0 bytes 0 uploads 0 held 0 parts 0\naccepted 0 0\n",
-        Engine::Migrate => b"b3store-journal 2\ntenant 0 5\n",
-    }
 }
 
 #[test]
@@ -100,14 +108,6 @@ fn each_write_that_fails_is_the_last(rt: HostRuntime) -> Result<(), Fail> {
         }
     }
     Ok(())
-}
-
-// The short journal, which this reader gives, is answered a byte a call.
-fn short_is_answered<R: AllocGlobal + Abort, I: Read>(rt: &R, engine: Engine, reader: &mut I) {
-    let mut writer = FailingWriter::new(rt.alloc(), u64::MAX);
-    let ended = ended(rt, engine, reader, &mut writer);
-    assert_eq!(rt; ended, Ok(Verdict::Good));
-    assert_eq!(rt; writer.taken.as_slice(), written(engine));
 }
 
 #[test]

@@ -14,6 +14,15 @@ const NO_NAMES: &[(&[u8], Result<[u8; 32], NameFault>)] = &[];
 // The report on `abc`, which is no check line.
 const REPORT: &[u8] = b"fault 1 C2\ngood 0 bad 0 missing 0 unreadable 0 faults 1\n";
 
+// The report on `abc`, which this reader gives, is written a byte a call.
+fn abc_is_reported<R: AllocGlobal + Abort, I: Read>(rt: &R, reader: &mut I) {
+    let mut names = Table::new(NO_NAMES);
+    let mut writer = FailingWriter::new(rt.alloc(), u64::MAX);
+    let ended = check(rt.alloc(), &mut names, reader, &mut writer);
+    assert_eq!(rt; ended, Ok(Verdict::Refused));
+    assert_eq!(rt; writer.taken.as_slice(), REPORT);
+}
+
 #[test]
 fn good_bad_and_unreadable_names(rt: HostRuntime) -> Result<(), Fail> {
     let abc = <[u8; 32]>::from_hex(ABC)?;
@@ -75,15 +84,6 @@ fn each_write_that_fails_is_the_last(rt: HostRuntime) -> Result<(), Fail> {
         assert!(rt; writer.has_stopped_in(REPORT));
     }
     Ok(())
-}
-
-// The report on `abc`, which this reader gives, is written a byte a call.
-fn abc_is_reported<R: AllocGlobal + Abort, I: Read>(rt: &R, reader: &mut I) {
-    let mut names = Table::new(NO_NAMES);
-    let mut writer = FailingWriter::new(rt.alloc(), u64::MAX);
-    let ended = check(rt.alloc(), &mut names, reader, &mut writer);
-    assert_eq!(rt; ended, Ok(Verdict::Refused));
-    assert_eq!(rt; writer.taken.as_slice(), REPORT);
 }
 
 #[test]

@@ -4,7 +4,7 @@
 use crate::fakes::FixedWriter;
 use b3_core::Work;
 use std::process::Abort;
-use store_script::{Ending, Stop, run};
+use store_engines::{Cause, Verdict, run};
 
 // Two tenants that hold one object.
 const SHARED: &[u8] =
@@ -25,12 +25,13 @@ fn is_answered<R: AllocGlobal + Abort>(rt: &R) -> bool {
     let found = run(rt.alloc(), &mut reader, &mut writer, &mut work);
     let common = writer.common(SHARED_ANSWERS);
     match found {
-        Ok(Ending::Good) => assert_eq!(rt; common, SHARED_ANSWERS.len()),
-        Ok(Ending::OutOfMemory) => assert!(rt; writer.goes_on_with(common, b"refused S14\n")),
-        Err(Stop::OutOfMemory) => assert_eq!(rt; common, writer.len),
+        Ok(Verdict::Good) => assert_eq!(rt; common, SHARED_ANSWERS.len()),
+        Err(Cause::OutOfMemory) => assert!(rt;
+            common == writer.len || writer.goes_on_with(common, b"refused S14\n")
+        ),
         _ => panic!(rt; "another ending"),
     }
-    found == Ok(Ending::Good)
+    found == Ok(Verdict::Good)
 }
 
 // Whatever growth is refused, the script is answered in the end, since no second growth is refused. So a run that always tells

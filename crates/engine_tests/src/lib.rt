@@ -1,4 +1,4 @@
-//! Tests of scripts, command lines and engines, over the public calls of `store_script`, `store_command_line` and `store_engines`.
+//! Tests of command lines and engines, that of scripts among them, over the public calls of `store_command_line` and `store_engines`.
 #![tactic(auto)]
 
 #[cfg(test)]

@@ -7,6 +7,21 @@ use std::process::Abort;
 use std::test::Fail;
 use store_engines::{Cause, Verdict, run};
 
+const SCRIPT: &[u8] = b"tenant 5\nbegin 0 1\n";
+
+const ANSWERS: &[u8] = b"tenant 0\nupload 0\n";
+
+// The script, which this reader gives, is answered a byte a call.
+fn script_is_run<R: AllocGlobal + Abort, I: Read + Drop>(rt: &R, reader: I) -> Result<(), Fail> {
+    let mut lines = BufReader::new(rt.alloc(), reader)?;
+    let mut writer = FailingWriter::new(rt.alloc(), u64::MAX);
+    let mut work = Work::new(rt);
+    let ended = run(rt.alloc(), &mut lines, &mut writer, &mut work);
+    assert_eq!(rt; ended, Ok(Verdict::Good));
+    assert_eq!(rt; writer.taken.as_slice(), ANSWERS);
+    Ok(())
+}
+
 #[test]
 fn a_refused_line_is_told_and_the_next_is_run(rt: HostRuntime) -> Result<(), Fail> {
     let mut reader = b"\nusage 3\ntenant 5".as_slice();
@@ -17,10 +32,6 @@ fn a_refused_line_is_told_and_the_next_is_run(rt: HostRuntime) -> Result<(), Fai
     assert_eq!(rt; writer.as_slice(), b"refused S1\ntenant 0\n".as_slice());
     Ok(())
 }
-
-const SCRIPT: &[u8] = b"tenant 5\nbegin 0 1\n";
-
-const ANSWERS: &[u8] = b"tenant 0\nupload 0\n";
 
 // The lines whose line feed was read are answered, each by 9 bytes. The first has 9 bytes, and the second 10.
 #[test]
@@ -56,17 +67,6 @@ fn each_write_that_fails_is_the_last(rt: HostRuntime) -> Result<(), Fail> {
         assert_eq!(rt; ended, Err(Cause::CannotWrite));
         assert!(rt; writer.has_stopped_in(ANSWERS));
     }
-    Ok(())
-}
-
-// The script, which this reader gives, is answered a byte a call.
-fn script_is_run<R: AllocGlobal + Abort, I: Read + Drop>(rt: &R, reader: I) -> Result<(), Fail> {
-    let mut lines = BufReader::new(rt.alloc(), reader)?;
-    let mut writer = FailingWriter::new(rt.alloc(), u64::MAX);
-    let mut work = Work::new(rt);
-    let ended = run(rt.alloc(), &mut lines, &mut writer, &mut work);
-    assert_eq!(rt; ended, Ok(Verdict::Good));
-    assert_eq!(rt; writer.taken.as_slice(), ANSWERS);
     Ok(())
 }
 

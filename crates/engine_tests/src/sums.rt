@@ -15,18 +15,6 @@ const PLAIN: SumOptions<'static> = SumOptions {
     length: None,
 };
 
-#[test]
-fn the_check_line_of_abc(rt: HostRuntime) -> Result<(), Fail> {
-    let mut reader = b"abc".as_slice();
-    let mut writer: Vec<u8> = Vec::new(rt.alloc());
-    let mut work = Work::new(&rt);
-    let ended = sum(rt.alloc(), &PLAIN, &mut reader, &mut writer, &mut work);
-    assert_eq!(rt; ended, Ok(()));
-    let line = format!(in rt.alloc(); "{ABC}  -\n")?;
-    assert_eq!(rt; writer.as_slice(), line.as_bytes());
-    Ok(())
-}
-
 // The hash of `abc`, which this reader gives, is written a byte a call.
 fn abc_is_summed<R: AllocGlobal + Abort, I: Read>(rt: &R, reader: &mut I) -> Result<(), Fail> {
     let mut writer = FailingWriter::new(rt.alloc(), u64::MAX);
@@ -39,13 +27,15 @@ fn abc_is_summed<R: AllocGlobal + Abort, I: Read>(rt: &R, reader: &mut I) -> Res
 }
 
 #[test]
-fn one_byte_a_call_is_no_fault(rt: HostRuntime) -> Result<(), Fail> {
-    abc_is_summed(&rt, &mut FailingReader::new(b"abc", u64::MAX))
-}
-
-#[test]
-fn an_interrupted_read_is_tried_again(rt: HostRuntime) -> Result<(), Fail> {
-    abc_is_summed(&rt, &mut InterruptedReader::new(b"abc"))
+fn the_check_line_of_abc(rt: HostRuntime) -> Result<(), Fail> {
+    let mut reader = b"abc".as_slice();
+    let mut writer: Vec<u8> = Vec::new(rt.alloc());
+    let mut work = Work::new(&rt);
+    let ended = sum(rt.alloc(), &PLAIN, &mut reader, &mut writer, &mut work);
+    assert_eq!(rt; ended, Ok(()));
+    let line = format!(in rt.alloc(); "{ABC}  -\n")?;
+    assert_eq!(rt; writer.as_slice(), line.as_bytes());
+    Ok(())
 }
 
 #[test]
@@ -74,4 +64,14 @@ fn each_write_that_fails_is_the_last(rt: HostRuntime) -> Result<(), Fail> {
         assert!(rt; writer.has_stopped_in(line.as_bytes()));
     }
     Ok(())
+}
+
+#[test]
+fn one_byte_a_call_is_no_fault(rt: HostRuntime) -> Result<(), Fail> {
+    abc_is_summed(&rt, &mut FailingReader::new(b"abc", u64::MAX))
+}
+
+#[test]
+fn an_interrupted_read_is_tried_again(rt: HostRuntime) -> Result<(), Fail> {
+    abc_is_summed(&rt, &mut InterruptedReader::new(b"abc"))
 }

@@ -50,6 +50,30 @@ fn uploaded<R: Threads + Wait + Sync + AllocGlobal, I: Read, W: Write>(
     upload::<Brand, Brand, _, _, _>(rt, rt.alloc(), options, bytes, calls, reader, writer)
 }
 
+const ONE_WORKER: UploadOptions = UploadOptions {
+    workers: 1,
+    part_chunks: 1,
+    journal: false,
+};
+
+// What is written of `abc`.
+fn text_of_abc(alloc: Global) -> Result<String, AllocError> {
+    format!(in alloc; "{ABC}  -\naccepted 3 1\n")
+}
+
+// `abc`, which this reader gives, is uploaded, and told a byte a call.
+fn abc_is_uploaded<R: Threads + Wait + Sync + AllocGlobal + Abort, I: Read>(
+    rt: &R,
+    reader: &mut I,
+) -> Result<(), Fail> {
+    let mut writer = FailingWriter::new(rt.alloc(), u64::MAX);
+    let ended = uploaded(rt, ONE_WORKER, reader, &mut writer);
+    assert_eq!(rt; ended, Ok(Verdict::Good));
+    let text = text_of_abc(rt.alloc())?;
+    assert_eq!(rt; writer.taken.as_slice(), text.as_bytes());
+    Ok(())
+}
+
 #[test]
 fn three_workers_and_a_chunk_a_part(rt: HostRuntime) -> Result<(), Fail> {
     let input = pattern(rt.alloc(), 2049)?;
@@ -81,17 +105,6 @@ fn a_cut_without_workers_is_refused(rt: HostRuntime) -> Result<(), Fail> {
     Ok(())
 }
 
-const ONE_WORKER: UploadOptions = UploadOptions {
-    workers: 1,
-    part_chunks: 1,
-    journal: false,
-};
-
-// What is written of `abc`.
-fn text_of_abc(alloc: Global) -> Result<String, AllocError> {
-    format!(in alloc; "{ABC}  -\naccepted 3 1\n")
-}
-
 #[test]
 fn each_read_that_fails_writes_nothing(rt: HostRuntime) -> Result<(), Fail> {
     for fails_at in 0..4u64 {
@@ -115,19 +128,6 @@ fn each_write_that_fails_is_the_last(rt: HostRuntime) -> Result<(), Fail> {
         assert_eq!(rt; ended, Err(Cause::CannotWrite));
         assert!(rt; writer.has_stopped_in(text.as_bytes()));
     }
-    Ok(())
-}
-
-// `abc`, which this reader gives, is uploaded, and told a byte a call.
-fn abc_is_uploaded<R: Threads + Wait + Sync + AllocGlobal + Abort, I: Read>(
-    rt: &R,
-    reader: &mut I,
-) -> Result<(), Fail> {
-    let mut writer = FailingWriter::new(rt.alloc(), u64::MAX);
-    let ended = uploaded(rt, ONE_WORKER, reader, &mut writer);
-    assert_eq!(rt; ended, Ok(Verdict::Good));
-    let text = text_of_abc(rt.alloc())?;
-    assert_eq!(rt; writer.taken.as_slice(), text.as_bytes());
     Ok(())
 }
 

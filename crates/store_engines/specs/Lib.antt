@@ -2,6 +2,5 @@ pub mod Audits
 pub mod Journals
 pub mod Migrations
 pub mod Checks
-pub mod Scripts
 pub mod Sums
 pub mod Uploads

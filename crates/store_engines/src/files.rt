@@ -2,13 +2,13 @@
 
 ghost use Rattle.std.specs.Prelude.{◌≡◌};
 
-use crate::outcome::Cause;
 use crate::streams::hash_all;
 use b3_check::{NameFault, Names};
 use b3_core::{Mode, Work};
 use std::fs::File;
 use std::io::ErrorKind;
 use std::rt::Files;
+use store_script::Cause;
 
 /// The files of the system. A name is a path, `-` too.
 #[derive(Drop)]

@@ -13,8 +13,8 @@
 //! program.
 //!
 //! Contracts know what a reader gives and what a writer took where their types tell it, as those of slices and of vectors do. The
-//! texts and verdicts are defined in `specs/`: `Sums`, `Checks`, `Scripts`, `Uploads`, `Journals`,
-//! `Audits` and `Migrations`.
+//! texts and verdicts are defined in `specs/`: `Sums`, `Checks`, `Uploads`, `Journals`, `Audits` and `Migrations`; those of a script
+//! in `store_script`.
 #![tactic(auto)]
 
 mod auditing;
@@ -22,8 +22,6 @@ mod checking;
 mod files;
 mod journals;
 mod migrating;
-mod outcome;
-mod running;
 mod streams;
 mod summing;
 mod uploading;
@@ -32,7 +30,6 @@ pub use auditing::audit;
 pub use checking::check;
 pub use files::SystemFiles;
 pub use migrating::migrate;
-pub use outcome::{Cause, Verdict};
-pub use running::run;
+pub use store_script::{Cause, Verdict, run};
 pub use summing::sum;
 pub use uploading::upload;

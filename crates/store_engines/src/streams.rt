@@ -1,13 +1,13 @@
-//! Reading or hashing all of an input, and writing all of an output.
+//! Reading or hashing all of an input.
 
 ghost use Rattle.std.specs.Prelude.{◌≡◌, ◌≢◌, ◌<◌, ℕ, List, IfSome, OnOk, IfOk, IfErr, length};
-ghost use Rattle.std.specs.Io.KnownBytes.{Appends, Consumes, IsAtEnd};
+ghost use Rattle.std.specs.Io.KnownBytes.{Consumes, IsAtEnd};
 ghost use Rattle.b3_core.specs.Tree.{tree_top};
 
-use crate::outcome::Cause;
 use b3_core::{Hasher, Mode, Top, Work};
 use std::alloc::Global;
-use std::io::{Error, ErrorKind, Read, Write};
+use std::io::{Error, ErrorKind, Read};
+use store_script::Cause;
 
 // How much is read at a time. A constant's many elements would stand in the proofs of its callers.
 fn block_len() -> usize
@@ -82,13 +82,4 @@ pub fn hash_all<R: Read>(
 {
     let mut block = vec![in alloc; 0u8; block_len()]?;
     hash_in_blocks(mode, reader, &mut block, work)
-}
-
-/// Writes all of `bytes`, and flushes.
-pub fn write_all<W: Write>(writer: &mut W, bytes: &[u8]) -> Result<(), Cause>
-    ensures written { OnOk result (Appends (W.contents writer.old) (W.contents writer.new) bytes.now) }
-    ensures cause { IfErr result (λ cause. cause ≡ Cause.CannotWrite) }
-{
-    writer.write_all(bytes).map_err(|_| Cause::CannotWrite)?;
-    writer.flush().map_err(|_| Cause::CannotWrite)
 }

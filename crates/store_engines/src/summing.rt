@@ -9,13 +9,13 @@ ghost use Rattle.b3_core.specs.ExtendedOutput.{output_of};
 ghost use Rattle.b3_core.specs.Tree.{tree_top};
 ghost use Rattle.store_engines.specs.Sums.{mode_of, sum_text};
 
-use crate::outcome::Cause;
-use crate::streams::{hash_all, write_all};
+use crate::streams::hash_all;
 use b3_check::Line;
 use b3_core::{Mode, OutputReader, Top, Work};
 use std::alloc::{AllocError, Global};
 use std::io::{Read, Write};
 use store_command_line::{SumMode, SumOptions};
+use store_script::{Cause, write_all};
 
 // The mode that the options say.
 fn mode_of(mode: SumMode<'_>, work: &mut Work) -> Mode

@@ -8,8 +8,7 @@ ghost use Rattle.store_engines.specs.Uploads.{IsTold, SomeRefusal, WroteRefusal,
 
 use crate::auditing::accepted_line;
 use crate::journals::text_of;
-use crate::outcome::{Cause, Verdict};
-use crate::streams::{read_all, write_all};
+use crate::streams::read_all;
 use crate::summing::line_of;
 use std::alloc::{AllocError, Global};
 use std::io::{Read, Write};
@@ -19,6 +18,7 @@ use std::thread::Threads;
 use store_command_line::UploadOptions;
 use store_core::{Address, Entry, Limits, Refusal};
 use store_ledger::Share;
+use store_script::{Cause, Verdict, write_all};
 use store_shared::{Locked, PassAll, Shared, UploadFaultKind, lent_open_tenant};
 
 // The tenant's limit, in bytes.

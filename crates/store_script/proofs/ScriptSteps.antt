@@ -1,6 +1,6 @@
 -- How far a script has come.
 use Rattle.std.proofs.Common.{◌≡◌, ◌∙◌, ◌<◌, ◌-◌, ◌^◌, ℕ, Bool, true, false, List, [], ◌∷◌, ◌++◌, Some, None, Ok, Err, Result, refl, ap, sym, subst, arith, length, cond, take, append_assoc, suc}
-use Rattle.std.specs.Prelude.{◌≢◌, Option, ◌==◌, IfSome, slice_index}
+use Rattle.std.specs.Prelude.{◌≢◌, Option, ◌==◌, IfOk, IfSome, OnOk, slice_index}
 use Rattle.std.specs.List.{flat_map}
 use Rattle.std.specs.Io.BufRead.{DropsThrough, drop_through, strip_last, take_through}
 use Rattle.std.specs.Io.KnownBytes.{Appends, IsAtEnd}
@@ -18,11 +18,11 @@ use Rattle.store_core.specs.Lawful.{start}
 use Rattle.store_core.specs.Model.{Shown}
 use Rattle.store_core.specs.Runs.{Command, Run, Step, plan}
 use Rattle.store_script.specs.Grammar.{ScriptCommand, asks, command_at, puts}
-use Rattle.store_script.specs.Script.{AllPlay, Answered, AreAnswered, Does, Makes, Plays, Puts, PutsBy, Ran, RanSome, Takes, Turn, bad, commands_of, ending_of, replies_of, skipped, took, turn_ending, turn_text, unmade, widest, worse}
+use Rattle.store_script.specs.Script.{AllPlay, Answered, AreAnswered, Does, IsScriptBegun, Makes, Plays, Puts, PutsBy, Ran, RanOut, RanSome, Takes, Turn, bad, commands_of, ended_as, ending_of, failed_write, first_cause, ran_all, ran_some, replies_of, skipped, took, turn_ending, turn_text, unmade, verdict_ending, widest, worse}
 use Rattle.store_script.specs.declared.outcome.Ending.{Ending}
 use Rattle.store_script.specs.declared.outcome.Ending.TheVariants as endings
-use Rattle.store_script.specs.declared.outcome.Stop.{Stop}
-use Rattle.store_script.specs.declared.outcome.Stop.TheVariants as stops
+use Rattle.store_script.specs.declared.outcome.Cause.{Cause}
+use Rattle.store_script.specs.declared.outcome.Cause.TheVariants as causes
 use Rattle.store_script.proofs.LineOutcomes.{LineTurn}
 
 -- ---- a line more
@@ -206,22 +206,82 @@ at_end (Some input) now was is store ending h e =
       wrote = h.wrote;
     }
 
+-- ---- a run that ends
+
+-- answered to its end: its verdict, or want of memory in an answer
+pub is_verdict : (old was is : Option (List ℕ)) (ending : Ending) → IfSome old (λ input. Ran input was is ending) → IfOk (ended_as ending) (λ verdict. IfSome old (λ input. Ran input was is (verdict_ending verdict)))
+is_verdict old was is endings.Good h = h
+is_verdict old was is endings.Refused h = h
+is_verdict old was is endings.OutOfMemory h = tt
+
+pub is_out : (old left was is : Option (List ℕ)) (ending : Ending) → IfSome old (λ _. IsAtEnd left) → IfSome old (λ input. Ran input was is ending) → ended_as ending ≡ Err causes.OutOfMemory → IfSome old (λ input. RanOut input left was is)
+is_out old left was is endings.Good end h e = absurd (cc)
+is_out old left was is endings.Refused end h e = absurd (cc)
+is_out None left was is endings.OutOfMemory end h e = tt
+is_out (Some input) left was is endings.OutOfMemory end h e = ran_all end h
+
+pub no_failed_read : (ending : Ending) → ended_as ending ≢ Err causes.CannotRead
+no_failed_read endings.Good = λ e. cc
+no_failed_read endings.Refused = λ e. cc
+no_failed_read endings.OutOfMemory = λ e. cc
+
+pub if_ended : (ending : Ending) (Holds : Type 0) → Holds → OnOk (ended_as ending) Holds
+if_ended endings.Good Holds h = h
+if_ended endings.Refused Holds h = h
+if_ended endings.OutOfMemory Holds h = tt
+
+-- stopped behind a beginning of its lines
+script_begun : (now was is : Option (List ℕ)) (store : Shown) (ending : Ending) (input : List ℕ) (h : IsUnder now was is store ending input) → IsScriptBegun input (flat_map turn_text h.turns) ending
+script_begun now was is store ending input h = record {
+  front = h.front;
+  back = lines_of h.rest;
+  lines = h.lines;
+  answered = are_answered h.front h.turns store ending h.plays h.ending_is;
+}
+
 -- a failed read is told only where no answer before told want of memory
-pub has_memory : (ending : Ending) (stop : Stop) → (ending ≡ endings.OutOfMemory → stop ≡ stops.OutOfMemory) → stop ≡ stops.CannotRead → ending ≢ endings.OutOfMemory
-has_memory ending stop told is = λ memory. let other = told memory in absurd (cc)
+pub has_memory : (ending : Ending) (cause : Cause) → (ending ≡ endings.OutOfMemory → cause ≡ causes.OutOfMemory) → cause ≡ causes.CannotRead → ending ≢ endings.OutOfMemory
+has_memory ending cause told is = λ memory. let other = told memory in absurd (cc)
 
 pub at_stop : (old now was is : Option (List ℕ)) (store : Shown) (ending : Ending) → ending ≢ endings.OutOfMemory → IfSome old (IsUnder now was is store ending) → IfSome old (λ input. RanSome input was is)
 at_stop None now was is store ending memory h = tt
 at_stop (Some input) now was is store ending memory h = record {
-  front = h.front;
-  back = lines_of h.rest;
-  lines = h.lines;
   output = flat_map turn_text h.turns;
   ending = ending;
-  answered = are_answered h.front h.turns store ending h.plays h.ending_is;
+  script = script_begun now was is store ending input h;
   has_memory = memory;
   wrote = h.wrote;
 }
+
+pub at_refusal : (old now left was is : Option (List ℕ)) (store : Shown) (ending : Ending) → IfSome old (IsUnder now was is store ending) → IfSome old (λ input. RanOut input left was is)
+at_refusal None now left was is store ending h = tt
+at_refusal (Some input) now left was is store ending h = ran_some (flat_map turn_text h.turns) ending (script_begun now was is store ending input h) h.wrote
+
+-- of a failed write the writer tells nothing
+pub whatever_written : (old now was is : Option (List ℕ)) (store : Shown) (ending : Ending) → IfSome old (IsUnder now was is store ending) → IfSome old (IsUnder now None None store ending)
+whatever_written None now was is store ending h = tt
+whatever_written (Some input) now was is store ending h = record {
+  rest = h.rest;
+  left = h.left;
+  front = h.front;
+  lines = h.lines;
+  turns = h.turns;
+  plays = h.plays;
+  wrote = tt;
+  ending_is = h.ending_is;
+}
+
+pub told_memory : (ending : Ending) → first_cause ending causes.CannotWrite ≡ causes.OutOfMemory → ending ≡ endings.OutOfMemory
+told_memory endings.Good e = absurd (cc)
+told_memory endings.Refused e = absurd (cc)
+told_memory endings.OutOfMemory e = refl
+
+pub at_failed_write : (old now left was is : Option (List ℕ)) (store : Shown) (ending : Ending) → ending ≡ endings.OutOfMemory → IfSome old (IsUnder now None None store ending) → IfSome old (λ input. RanOut input left was is)
+at_failed_write None now left was is store ending memory h = tt
+at_failed_write (Some input) now left was is store ending memory h =
+    failed_write (flat_map turn_text h.turns) (subst (λ (e : Ending). IsScriptBegun input (flat_map turn_text h.turns) e) memory (script_begun now None None store ending input h))
+
+-- ---- a line more of a run
 
 pub turned : (old now then was is after : Option (List ℕ)) (store next : Shown) (ending said : Ending) (buf text : List ℕ) → IfSome old (IsUnder now was is store ending) → IfSome now (λ xs. buf ≡ take_through 10 xs)
     → DropsThrough now then 10 → 0 < length buf → Answered (LineTurn store (strip_last 10 buf) next) text said → Appends is after text → IfSome old (IsUnder then was after next (worse ending said))

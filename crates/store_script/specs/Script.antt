@@ -1,6 +1,6 @@
 -- A script and its output.
 use Rattle.std.specs.Prelude.{◌≡◌, ◌≢◌, ℕ, List, [], ◌∷◌, ◌++◌, Option, Some, None, Result, Ok, Err, length, codes}
-use Rattle.std.specs.Io.KnownBytes.{Appends}
+use Rattle.std.specs.Io.KnownBytes.{Appends, IsAtEnd}
 use Rattle.std.specs.List.{flat_map}
 use Rattle.b3_forest.specs.Parts.{PlannedPart, UploadPlan, planned}
 use Rattle.b3_forest.specs.PartRefusals.{part_refusal}
@@ -17,8 +17,10 @@ use Rattle.store_script.specs.Grammar.{ScriptCommand, asks, command_at, puts}
 use Rattle.store_script.specs.Texts.{answer_text, fault_text, refused_text}
 use Rattle.store_script.specs.declared.outcome.Ending.{Ending}
 use Rattle.store_script.specs.declared.outcome.Ending.TheVariants as endings
-use Rattle.store_script.specs.declared.outcome.Stop.{Stop}
-use Rattle.store_script.specs.declared.outcome.Stop.TheVariants as stops
+use Rattle.store_script.specs.declared.outcome.Cause.{Cause}
+use Rattle.store_script.specs.declared.outcome.Cause.TheVariants as causes
+use Rattle.store_script.specs.declared.outcome.Verdict.{Verdict}
+use Rattle.store_script.specs.declared.outcome.Verdict.TheVariants as verdicts
 
 -- ---- one line
 
@@ -127,9 +129,20 @@ ending_of [] = endings.Good
 ending_of (turn ∷ turns) = worse (turn_ending turn) (ending_of turns)
 
 -- what stops a run whose answers so far end so: want of memory where one of them told it, else what came now
-abbrev pub first_cause : Ending → Stop → Stop
-first_cause endings.OutOfMemory stop = stops.OutOfMemory
-first_cause _ stop = stop
+abbrev pub first_cause : Ending → Cause → Cause
+first_cause endings.OutOfMemory cause = causes.OutOfMemory
+first_cause _ cause = cause
+
+-- how a script ends that was answered to its end, by its answers
+abbrev pub ended_as : Ending → Result Verdict Cause
+ended_as endings.Good = Ok verdicts.Good
+ended_as endings.Refused = Ok verdicts.Refused
+ended_as endings.OutOfMemory = Err causes.OutOfMemory
+
+-- the ending of answers with this verdict
+abbrev pub verdict_ending : Verdict → Ending
+verdict_ending verdicts.Good = endings.Good
+verdict_ending verdicts.Refused = endings.Refused
 
 -- an empty store with the widest limits
 abbrev pub widest : Shown
@@ -158,13 +171,25 @@ pub record Ran (input : List ℕ) (old new : Option (List ℕ)) (ending : Ending
   pub script : IsScriptRun input output ending
   pub wrote : Appends old new output
 
--- the writer grew by the answers to a beginning of the script's lines, none of which is `refused S14`
-pub record RanSome (input : List ℕ) (old new : Option (List ℕ)) : Type 0 where
+-- a script and the output of a beginning of its lines, which were answered
+pub record IsScriptBegun (input output : List ℕ) (ending : Ending) : Type 0 where
   pub front : List (List ℕ)
   pub back : List (List ℕ)
   pub lines : lines_of input ≡ front ++ back
+  pub answered : AreAnswered front output ending
+
+-- the writer grew by the answers to a beginning of the script's lines, none of which is `refused S14`
+pub record RanSome (input : List ℕ) (old new : Option (List ℕ)) : Type 0 where
   pub output : List ℕ
   pub ending : Ending
-  pub answered : AreAnswered front output ending
+  pub script : IsScriptBegun input output ending
   pub has_memory : ending ≢ endings.OutOfMemory
   pub wrote : Appends old new output
+
+-- What a run leaves that ends by want of memory. The writer grew by the script's output, with an answer `refused S14`, and the
+-- reader is at its end; or it grew by the answers to a beginning of the lines. Or a write failed, and the answers to a beginning
+-- of the lines have a `refused S14`.
+pub data RanOut (input : List ℕ) (left old new : Option (List ℕ)) : Type 0 where
+  ran_all : IsAtEnd left → Ran input old new endings.OutOfMemory → RanOut input left old new
+  ran_some : (output : List ℕ) (ending : Ending) → IsScriptBegun input output ending → Appends old new output → RanOut input left old new
+  failed_write : (output : List ℕ) → IsScriptBegun input output endings.OutOfMemory → RanOut input left old new

@@ -2,35 +2,38 @@
 ghost use Rattle.std.specs.Prelude.{◌≡◌, ◌<◌, IfErr, IfOk, IfSome, OnOk, Err, Ok, false, length, true};
 ghost use Rattle.std.specs.Io.BufRead.{DropsThrough, strip_last, take_through};
 ghost use Rattle.std.specs.Io.KnownBytes.{Appends, IsAtEnd};
-ghost use Rattle.store_script.specs.Script.{Ran, RanSome, first_cause, widest, worse};
+ghost use Rattle.store_script.specs.Script.{Ran, RanOut, RanSome, ended_as, first_cause, verdict_ending, widest, worse};
 ghost use Rattle.store_script.specs.declared.outcome.Ending.TheVariants as endings;
-ghost use Rattle.store_script.specs.declared.outcome.Stop.TheVariants as stops;
 
 use crate::answer::answer_line;
-use crate::outcome::{Ending, Stop};
+use crate::outcome::{Cause, Ending, Verdict};
+use crate::streams::write_all;
 use b3_core::Work;
 use std::alloc::Global;
 use std::io::{BufRead, ErrorKind, Write};
 use store_core::{Limits, Store};
 
 /// Runs a script on an empty store with the widest limits: reads it line by line, and writes the answer to each line when its
-/// line feed was read. The writer is flushed behind each answer.
+/// line feed was read. The writer is flushed behind each answer. `Good` where no line was refused and each was a command.
 ///
 /// It stops at the first read or write that fails, or where memory is refused for a line, a part's bytes or an answer's
-/// text; nothing more is written. Behind 2^64-1 lines it gives up reading, as std's readers do. The first cause is told: want
-/// of memory where an answer before is `refused S14`. What a failed read leaves of a line is not run. Compressions are counted
-/// in `work`.
+/// text; nothing more is written. Behind 2^64-1 lines it gives up reading, as std's readers do. A script in which some answer
+/// is `refused S14` is answered on, and ends by want of memory, also where a read or a write fails later: the first cause is
+/// told. What a failed read leaves of a line is not run. Compressions are counted in `work`.
 pub fn run<R: BufRead, W: Write>(
     alloc: Global,
     reader: &mut R,
     writer: &mut W,
     work: &mut Work,
-) -> Result<Ending, Stop>
-    // The writer grew by the script's output, and the ending is that of its answers.
-    ensures written { IfOk result (λ ending. IfSome (R.Read.remaining reader.old) (λ input. Ran input (W.contents writer.old) (W.contents writer.new) ending)) }
+) -> Result<Verdict, Cause>
+    // The writer grew by the script's output, and the verdict is that of its answers, none of which told want of memory.
+    ensures written { IfOk result (λ verdict. IfSome (R.Read.remaining reader.old) (λ input. Ran input (W.contents writer.old) (W.contents writer.new) (verdict_ending verdict))) }
     ensures end { OnOk result (IfSome (R.Read.remaining reader.old) (λ _. IsAtEnd (R.Read.remaining reader.new))) }
     // After a failed read it grew by the answers to a beginning of the lines, and none of these told want of memory.
-    ensures read { result ≡ Err stops.CannotRead → IfSome (R.Read.remaining reader.old) (λ input. RanSome input (W.contents writer.old) (W.contents writer.new)) }
+    ensures read { result ≡ Err Cause.CannotRead → IfSome (R.Read.remaining reader.old) (λ input. RanSome input (W.contents writer.old) (W.contents writer.new)) }
+    // After want of memory it grew by the script's output, in which it was told, or by the answers to a beginning of the lines;
+    // unless it was told there before a write failed.
+    ensures memory { result ≡ Err Cause.OutOfMemory → IfSome (R.Read.remaining reader.old) (λ input. RanOut input (R.Read.remaining reader.new) (W.contents writer.old) (W.contents writer.new)) }
 {
     let mut store = Store::new(alloc, Limits::full());
     answer_lines(alloc, &mut store, reader, writer, work)
@@ -43,39 +46,40 @@ fn answer_lines<R: BufRead, W: Write>(
     reader: &mut R,
     writer: &mut W,
     work: &mut Work,
-) -> Result<Ending, Stop>
+) -> Result<Verdict, Cause>
     requires { store.old ≡ widest }
-    ensures written { IfOk result (λ ending. IfSome (R.Read.remaining reader.old) (λ input. Ran input (W.contents writer.old) (W.contents writer.new) ending)) }
+    ensures written { IfOk result (λ verdict. IfSome (R.Read.remaining reader.old) (λ input. Ran input (W.contents writer.old) (W.contents writer.new) (verdict_ending verdict))) }
     ensures end { OnOk result (IfSome (R.Read.remaining reader.old) (λ _. IsAtEnd (R.Read.remaining reader.new))) }
-    ensures read { result ≡ Err stops.CannotRead → IfSome (R.Read.remaining reader.old) (λ input. RanSome input (W.contents writer.old) (W.contents writer.new)) }
+    ensures read { result ≡ Err Cause.CannotRead → IfSome (R.Read.remaining reader.old) (λ input. RanSome input (W.contents writer.old) (W.contents writer.new)) }
+    ensures memory { result ≡ Err Cause.OutOfMemory → IfSome (R.Read.remaining reader.old) (λ input. RanOut input (R.Read.remaining reader.new) (W.contents writer.old) (W.contents writer.new)) }
 {
     let mut ending = Ending::Good;
     let mut line: Vec<u8> = Vec::new(alloc);
     for _ in 0..u64::MAX {
         if !read_line(reader, &mut line, ending)? {
-            return Ok(ending);
+            return ended_as(ending);
         }
         let answer = answer_line(alloc, store, without_end(line.as_slice()), work)?;
         ending = worse(ending, answer.ending);
         tell(writer, answer.text.as_slice(), ending)?;
     }
-    Err(first_cause(ending, Stop::CannotRead))
+    Err(first_cause(ending, Cause::CannotRead))
 }
 
 // Reads the next line with its line feed, which the last line may lack. False at the end of the input. A failure is told by
 // the first cause behind answers that end so.
-fn read_line<R: BufRead>(reader: &mut R, line: &mut Vec<u8>, ending: Ending) -> Result<bool, Stop>
+fn read_line<R: BufRead>(reader: &mut R, line: &mut Vec<u8>, ending: Ending) -> Result<bool, Cause>
     ensures bytes { OnOk result (IfSome (R.Read.remaining reader.old) (λ left. line.new.items ≡ take_through 10 left)) }
     ensures rest { OnOk result (DropsThrough (R.Read.remaining reader.old) (R.Read.remaining reader.new) 10) }
     ensures end { result ≡ Ok false → IsAtEnd (R.Read.remaining reader.old) }
     ensures some { result ≡ Ok true → 0 < length line.new.items }
-    ensures stop { IfErr result (λ stop. ending ≡ endings.OutOfMemory → stop ≡ stops.OutOfMemory) }
+    ensures cause { IfErr result (λ cause. ending ≡ endings.OutOfMemory → cause ≡ Cause.OutOfMemory) }
 {
     line.clear();
     match reader.read_until(b'\n', line) {
         Ok(count) => Ok(count != 0),
-        Err(error) if error.kind() == ErrorKind::OutOfMemory => Err(Stop::OutOfMemory),
-        Err(_) => Err(first_cause(ending, Stop::CannotRead)),
+        Err(error) if error.kind() == ErrorKind::OutOfMemory => Err(Cause::OutOfMemory),
+        Err(_) => Err(first_cause(ending, Cause::CannotRead)),
     }
 }
 
@@ -90,22 +94,32 @@ fn without_end(line: &[u8]) -> &[u8]
 }
 
 // Writes an answer, and flushes. A failure is told by the first cause behind answers that end so, this one among them.
-fn tell<W: Write>(writer: &mut W, text: &[u8], ending: Ending) -> Result<(), Stop>
+fn tell<W: Write>(writer: &mut W, text: &[u8], ending: Ending) -> Result<(), Cause>
     ensures wrote { OnOk result (Appends (W.contents writer.old) (W.contents writer.new) text.now) }
-    ensures stop { IfErr result (λ stop. stop ≡ first_cause ending stops.CannotWrite) }
+    ensures cause { IfErr result (λ cause. cause ≡ first_cause ending Cause.CannotWrite) }
 {
-    let stop = first_cause(ending, Stop::CannotWrite);
-    writer.write_all(text).map_err(|_| stop)?;
-    writer.flush().map_err(|_| stop)
+    let cause = first_cause(ending, Cause::CannotWrite);
+    write_all(writer, text).map_err(|_| cause)
+}
+
+// How a script ends that was answered to its end, by its answers.
+fn ended_as(ending: Ending) -> Result<Verdict, Cause>
+    ensures { result ≡ ended_as ending }
+{
+    match ending {
+        Ending::Good => Ok(Verdict::Good),
+        Ending::Refused => Ok(Verdict::Refused),
+        Ending::OutOfMemory => Err(Cause::OutOfMemory),
+    }
 }
 
 // What stops a run whose answers so far end so.
-fn first_cause(ending: Ending, stop: Stop) -> Stop
-    ensures { result ≡ first_cause ending stop }
+fn first_cause(ending: Ending, cause: Cause) -> Cause
+    ensures { result ≡ first_cause ending cause }
 {
     match ending {
-        Ending::OutOfMemory => Stop::OutOfMemory,
-        Ending::Good | Ending::Refused => stop,
+        Ending::OutOfMemory => Cause::OutOfMemory,
+        Ending::Good | Ending::Refused => cause,
     }
 }
 

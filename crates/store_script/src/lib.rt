@@ -45,8 +45,10 @@ mod outcome;
 mod reading;
 mod reply;
 mod stepping;
+mod streams;
 mod texts;
 
 pub use engine::run;
 pub use laws::script_laws;
-pub use outcome::{Ending, Stop};
+pub use outcome::{Cause, Verdict};
+pub use streams::write_all;

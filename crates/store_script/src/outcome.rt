@@ -1,36 +1,49 @@
-//! How a run ends.
+//! How an engine ends: its verdict, or what stopped it.
 
 ghost use Rattle.std.specs.Prelude.{◌≡◌};
-ghost use Rattle.store_script.specs.declared.outcome.Stop.TheVariants as stops;
+ghost use Rattle.store_script.specs.declared.outcome.Cause.TheVariants.{OutOfMemory};
 
 use std::alloc::AllocError;
+use thiserror::Error;
 
-/// How a run ends whose lines were all answered.
+/// How an engine that came to its end found its input.
 #[derive(Clone, Copy, Debug, PartialEq, Eq)]
-pub enum Ending {
+pub enum Verdict {
+    /// All was good.
+    Good,
+    /// Something was refused, bad or failed.
+    Refused,
+}
+
+/// What stopped an engine, the first cause of it.
+#[derive(Clone, Copy, Debug, PartialEq, Eq, Error)]
+pub enum Cause {
+    /// A read failed, or was given up.
+    #[error("cannot read")]
+    CannotRead,
+    /// A write failed.
+    #[error("cannot write")]
+    CannotWrite,
+    /// Memory was refused.
+    #[error("out of memory")]
+    OutOfMemory,
+}
+
+impl From<AllocError> for Cause {
+    ghost from_gives = { λ _ cause. cause ≡ OutOfMemory };
+
+    fn from(_: AllocError) -> Cause {
+        Cause::OutOfMemory
+    }
+}
+
+/// How a script's answers end.
+#[derive(Clone, Copy, Debug, PartialEq, Eq)]
+pub(crate) enum Ending {
     /// No line was refused, and each was a command.
     Good,
     /// Some answer is `refused` or `bad`, and none is `refused S14`.
     Refused,
     /// Some answer is `refused S14`.
     OutOfMemory,
-}
-
-/// What stopped a run, the first cause of it. Nothing more is written.
-#[derive(Clone, Copy, Debug, PartialEq, Eq)]
-pub enum Stop {
-    /// A read failed, or was given up: a run reads at most 2^64-1 lines.
-    CannotRead,
-    /// A write failed.
-    CannotWrite,
-    /// Memory was refused for a line, a part's bytes or an answer's text, or to the store before a read or a write failed.
-    OutOfMemory,
-}
-
-impl From<AllocError> for Stop {
-    ghost from_gives = { λ _ stop. stop ≡ stops.OutOfMemory };
-
-    fn from(_: AllocError) -> Stop {
-        Stop::OutOfMemory
-    }
 }

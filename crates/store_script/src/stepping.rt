@@ -36,46 +36,36 @@ pub(crate) fn step(store: &mut Store, command: Command, work: &mut Work) -> Resu
 fn open_tenant(store: &mut Store, limit: u64) -> Result<Reply, Refusal>
     ensures { Step store.old (open_tenant limit) (reply_seen (reply_of store.new) result) store.new }
 {
-    match store.open_tenant(limit) {
-        Ok(tenant) => Ok(Reply::Tenant(tenant)),
-        Err(refusal) => Err(refusal),
-    }
+    let tenant = store.open_tenant(limit)?;
+    Ok(Reply::Tenant(tenant))
 }
 
 fn set_limit(store: &mut Store, tenant: TenantId, limit: u64) -> Result<Reply, Refusal>
     ensures { Step store.old (set_limit tenant limit) (reply_seen (reply_of store.new) result) store.new }
 {
-    match store.set_limit(tenant, limit) {
-        Ok(()) => Ok(Reply::Done),
-        Err(refusal) => Err(refusal),
-    }
+    store.set_limit(tenant, limit)?;
+    Ok(Reply::Done)
 }
 
 fn begin(store: &mut Store, tenant: TenantId, len: u64) -> Result<Reply, Refusal>
     ensures { Step store.old (begin tenant len) (reply_seen (reply_of store.new) result) store.new }
 {
-    match store.begin(tenant, len) {
-        Ok((upload, plan)) => Ok(Reply::Upload(upload, plan)),
-        Err(refusal) => Err(refusal),
-    }
+    let (upload, plan) = store.begin(tenant, len)?;
+    Ok(Reply::Upload(upload, plan))
 }
 
 fn begin_open(store: &mut Store, tenant: TenantId, at_most: u64) -> Result<Reply, Refusal>
     ensures { Step store.old (begin_open tenant at_most) (reply_seen (reply_of store.new) result) store.new }
 {
-    match store.begin_open(tenant, at_most) {
-        Ok((upload, plan)) => Ok(Reply::Upload(upload, plan)),
-        Err(refusal) => Err(refusal),
-    }
+    let (upload, plan) = store.begin_open(tenant, at_most)?;
+    Ok(Reply::Upload(upload, plan))
 }
 
 fn fix(store: &mut Store, upload: UploadId, len: u64) -> Result<Reply, Refusal>
     ensures { Step store.old (fix upload len) (reply_seen (reply_of store.new) result) store.new }
 {
-    match store.fix(upload, len) {
-        Ok(()) => Ok(Reply::Done),
-        Err(refusal) => Err(refusal),
-    }
+    store.fix(upload, len)?;
+    Ok(Reply::Done)
 }
 
 /// Puts a part.
@@ -87,19 +77,17 @@ pub(crate) fn put(
 ) -> Result<Reply, Refusal>
     ensures { Step store.old (put upload part) (reply_seen (reply_of store.new) result) store.new }
 {
-    match store.put(upload, part, work) {
-        Ok(held) => Ok(Reply::Held(held)),
-        Err(refused) => Err(refused.refusal),
-    }
+    let held = store
+        .put(upload, part, work)
+        .map_err(|refused| refused.refusal)?;
+    Ok(Reply::Held(held))
 }
 
 fn seal(store: &mut Store, upload: UploadId, work: &mut Work) -> Result<Reply, Refusal>
     ensures { Step store.old (seal upload) (reply_seen (reply_of store.new) result) store.new }
 {
-    match store.seal(upload, work) {
-        Ok(sealed) => Ok(Reply::Sealed(sealed)),
-        Err(refusal) => Err(refusal),
-    }
+    let sealed = store.seal(upload, work)?;
+    Ok(Reply::Sealed(sealed))
 }
 
 fn seal_as(
@@ -110,10 +98,8 @@ fn seal_as(
 ) -> Result<Reply, Refusal>
     ensures { Step store.old (seal_as upload address) (reply_seen (reply_of store.new) result) store.new }
 {
-    match store.seal_as(upload, address, work) {
-        Ok(sealed) => Ok(Reply::Sealed(sealed)),
-        Err(refusal) => Err(refusal),
-    }
+    let sealed = store.seal_as(upload, address, work)?;
+    Ok(Reply::Sealed(sealed))
 }
 
 fn abort(store: &mut Store, upload: UploadId) -> Result<Reply, Refusal>
@@ -126,35 +112,27 @@ fn abort(store: &mut Store, upload: UploadId) -> Result<Reply, Refusal>
 fn forget(store: &mut Store, tenant: TenantId, address: Address) -> Result<Reply, Refusal>
     ensures { Step store.old (forget tenant address) (reply_seen (reply_of store.new) result) store.new }
 {
-    match store.forget(tenant, address) {
-        Ok(()) => Ok(Reply::Done),
-        Err(refusal) => Err(refusal),
-    }
+    store.forget(tenant, address)?;
+    Ok(Reply::Done)
 }
 
 fn fetch(store: &Store, tenant: TenantId, address: Address) -> Result<Reply, Refusal>
     ensures { Step store.now (fetch tenant address) (reply_seen (reply_of store.now) result) store.now }
 {
-    match store.fetch(tenant, address) {
-        Ok(object) => Ok(Reply::Object(object)),
-        Err(refusal) => Err(refusal),
-    }
+    let object = store.fetch(tenant, address)?;
+    Ok(Reply::Object(object))
 }
 
 fn usage(store: &Store, tenant: TenantId) -> Result<Reply, Refusal>
     ensures { Step store.now (usage tenant) (reply_seen (reply_of store.now) result) store.now }
 {
-    match store.usage(tenant) {
-        Ok(usage) => Ok(Reply::Usage(usage)),
-        Err(refusal) => Err(refusal),
-    }
+    let usage = store.usage(tenant)?;
+    Ok(Reply::Usage(usage))
 }
 
 fn list(store: &Store, tenant: TenantId) -> Result<Reply, Refusal>
     ensures { Step store.now (list tenant) (reply_seen (reply_of store.now) result) store.now }
 {
-    match store.list(tenant) {
-        Ok(objects) => Ok(Reply::List(objects)),
-        Err(refusal) => Err(refusal),
-    }
+    let objects = store.list(tenant)?;
+    Ok(Reply::List(objects))
 }
