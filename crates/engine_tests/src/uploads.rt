@@ -2,6 +2,7 @@
 
 use crate::fakes::{FailingReader, FailingWriter, InterruptedReader};
 use crate::vectors::{ABC, PATTERN_2049};
+use b3_tests::pattern;
 use std::alloc::{AllocError, Global};
 use std::io::{Read, Write};
 use std::marker::Brand;
@@ -12,16 +13,6 @@ use std::test::Fail;
 use std::thread::Threads;
 use store_command_line::UploadOptions;
 use store_engines::{Cause, Verdict, audit, upload};
-
-fn pattern(alloc: Global, len: u64) -> Result<Vec<u8>, AllocError> {
-    let mut bytes = Vec::new(alloc);
-    let mut next = 0u8;
-    for _ in 0..len {
-        bytes.push(next)?;
-        next = if next >= 250 { 0 } else { next + 1 };
-    }
-    Ok(bytes)
-}
 
 // The journal behind the head of what an upload wrote leaves one object of 2049 bytes in three parts.
 fn check_told<R: AllocGlobal + Abort>(rt: &R, text: &[u8]) -> Result<(), Fail> {
@@ -76,7 +67,7 @@ fn abc_is_uploaded<R: Threads + Wait + Sync + AllocGlobal + Abort, I: Read>(
 
 #[test]
 fn three_workers_and_a_chunk_a_part(rt: HostRuntime) -> Result<(), Fail> {
-    let input = pattern(rt.alloc(), 2049)?;
+    let input = pattern(rt.alloc(), 0, 2049)?;
     let options = UploadOptions {
         workers: 3,
         part_chunks: 1,

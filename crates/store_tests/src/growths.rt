@@ -7,6 +7,7 @@
 
 use b3_core::Work;
 use b3_forest::{PartFault, Prepared};
+use b3_tests::pattern;
 use std::alloc::{AllocError, Global};
 use std::process::Abort;
 use std::test::Fail;
@@ -56,15 +57,6 @@ fn unless_refused<T>(answer: Result<T, Refusal>) -> Result<Option<T>, Refusal> {
         Err(Refusal::NoMemory) => Ok(None),
         Err(refusal) => Err(refusal),
     }
-}
-
-// Bytes of the pattern from an offset on.
-fn pattern(alloc: Global, first: u64, len: u64) -> Result<Vec<u8>, AllocError> {
-    let mut bytes = Vec::new(alloc);
-    for i in 0..len {
-        bytes.push((first.wrapping_add(i) % 251) as u8)?;
-    }
-    Ok(bytes)
 }
 
 // A store of one tenant, a part that fits into its upload 1, and its journal as text.

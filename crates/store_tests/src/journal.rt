@@ -1,19 +1,14 @@
 //! Names, entries, and the journal's text. What is outside the grammar stands in tests/cases/journal-lines.table.
 
+use crate::helpers::{NOTHING, ZERO};
+use b3_tests::FailingWriter;
 use hex::FromHex;
 use std::alloc::{AllocError, Global};
-use std::io;
-use std::io::{ErrorKind, Write};
 use std::test::Fail;
 use store_journal::{
     Address, BadText, Entry, IllegalEntry, ReadError, ReplayError, TenantId, UploadId, entry_lines,
     read_entry, read_journal, write_entry, write_journal,
 };
-
-// The BLAKE3 hash of no bytes, and of one byte 0.
-const NOTHING: &str = "af1349b9f5f9a1a6a0404dea36dcc9499bcb25c9adc112b7cc9a93cae41f3262";
-
-const ZERO: &str = "2d3adedff11b61f14c886e35afa036736dcd87a74d27b5c1510225d0f592e213";
 
 // An entry of each kind that both versions have, and a seal of either word.
 const EIGHT_LINES: &str =
@@ -103,6 +98,10 @@ fn later_entries() -> [Entry; 2] {
     ]
 }
 
+fn refusal(alloc: Global, text: &[u8]) -> Option<ReadError> {
+    read_journal(alloc, text).err()
+}
+
 #[test]
 fn an_address_gives_back_its_bytes(rt: HostRuntime) -> Result<(), Fail> {
     let bytes = <[u8; 32]>::from_hex(ZERO)?;
@@ -180,10 +179,6 @@ fn an_entry_is_read_back(rt: HostRuntime) -> Result<(), Fail> {
     Ok(())
 }
 
-fn refusal(alloc: Global, text: &[u8]) -> Option<ReadError> {
-    read_journal(alloc, text).err()
-}
-
 #[test]
 fn a_line_outside_the_grammar_is_told(rt: HostRuntime) {
     let alloc = rt.alloc();
@@ -212,36 +207,15 @@ fn refusals_are_shown(rt: HostRuntime) -> Result<(), Fail> {
     Ok(())
 }
 
-// A writer whose call of this number fails, and which takes a byte a call.
-#[derive(Drop)]
-struct Failing {
-    calls: u64,
-    fails: u64,
-}
-
-impl Write for Failing {
-    fn write(&mut self, bytes: &[u8]) -> io::Result<usize> {
-        self.calls = self.calls.wrapping_add(1);
-        if self.calls >= self.fails {
-            return Err(io::Error::from(ErrorKind::Other));
-        }
-        if bytes.is_empty() { Ok(0) } else { Ok(1) }
-    }
-
-    fn flush(&mut self) -> io::Result<()> {
-        Ok(())
-    }
-}
-
 #[test]
 fn a_failed_write_is_the_last(rt: HostRuntime) -> Result<(), Fail> {
     for fails in 1..11u64 {
-        let mut writer = Failing { calls: 0, fails };
+        let mut writer = FailingWriter { calls: 0, fails };
         assert!(rt; write_entry(&put(), &mut writer).is_err());
         assert_eq!(rt; writer.calls, fails);
     }
     for fails in 1..32u64 {
-        let mut writer = Failing { calls: 0, fails };
+        let mut writer = FailingWriter { calls: 0, fails };
         assert!(rt; write_journal(&[put()], &mut writer).is_err());
         assert_eq!(rt; writer.calls, fails);
     }

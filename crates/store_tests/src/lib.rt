@@ -4,6 +4,8 @@
 #[cfg(test)]
 mod growths;
 #[cfg(test)]
+mod helpers;
+#[cfg(test)]
 mod journal;
 #[cfg(test)]
 mod open_uploads;

@@ -1,6 +1,6 @@
 //! Uploads whose length is fixed later, by a call or by a part.
 
-use crate::store::{Fixture, put_a_stranger, store_with};
+use crate::helpers::{Fixture, put_a_stranger, store_with};
 use std::process::Abort;
 use std::test::Fail;
 use store_core::{Address, Limits};
@@ -20,11 +20,6 @@ fn begun_and_fixed<R: AllocGlobal + Abort>(rt: &R, on: &mut Fixture) -> Result<(
     Ok(())
 }
 
-#[test]
-fn a_length_is_fixed_at_the_end(rt: HostRuntime) -> Result<(), Fail> {
-    begun_and_fixed(&rt, &mut store_with(&rt, Limits::full()))
-}
-
 fn put_and_sealed<R: AllocGlobal + Abort>(rt: &R, on: &mut Fixture) -> Result<(), Fail> {
     let _tenant = on.open_tenant(8192)?;
     let _upload = on.begin_open(4096)?;
@@ -42,12 +37,6 @@ fn put_and_sealed<R: AllocGlobal + Abort>(rt: &R, on: &mut Fixture) -> Result<()
     Ok(())
 }
 
-// As many compressions as a closed upload of the two parts takes.
-#[test]
-fn a_ragged_part_fixes_the_length(rt: HostRuntime) -> Result<(), Fail> {
-    put_and_sealed(&rt, &mut store_with(&rt, Limits::full()))
-}
-
 fn not_begun<R: AllocGlobal + Abort>(rt: &R, on: &mut Fixture) -> Result<(), Fail> {
     assert_eq!(rt; on.begin_open(5)?.as_str(), "S1");
     let _tenant = on.open_tenant(4096)?;
@@ -58,11 +47,6 @@ fn not_begun<R: AllocGlobal + Abort>(rt: &R, on: &mut Fixture) -> Result<(), Fai
     let lines = b"tenant 0 4096\nopen 0 0 4096\n".as_slice();
     assert_eq!(rt; on.lines()?.as_slice(), lines);
     Ok(())
-}
-
-#[test]
-fn open_uploads_that_are_refused(rt: HostRuntime) -> Result<(), Fail> {
-    not_begun(&rt, &mut store_with(&rt, Limits::full()))
 }
 
 fn not_fixed<R: AllocGlobal + Abort>(rt: &R, on: &mut Fixture) -> Result<(), Fail> {
@@ -83,11 +67,6 @@ fn not_fixed<R: AllocGlobal + Abort>(rt: &R, on: &mut Fixture) -> Result<(), Fai
     Ok(())
 }
 
-#[test]
-fn lengths_and_parts_that_are_refused(rt: HostRuntime) -> Result<(), Fail> {
-    not_fixed(&rt, &mut store_with(&rt, Limits::full()))
-}
-
 fn not_sealed<R: AllocGlobal + Abort>(rt: &R, on: &mut Fixture) -> Result<(), Fail> {
     let _tenant = on.open_tenant(4096)?;
     let _upload = on.begin_open(1024)?;
@@ -103,11 +82,6 @@ fn not_sealed<R: AllocGlobal + Abort>(rt: &R, on: &mut Fixture) -> Result<(), Fa
     Ok(())
 }
 
-#[test]
-fn no_upload_without_an_end_is_sealed(rt: HostRuntime) -> Result<(), Fail> {
-    not_sealed(&rt, &mut store_with(&rt, Limits::full()))
-}
-
 fn strangers_refused<R: AllocGlobal + Abort>(rt: &R, on: &mut Fixture) -> Result<(), Fail> {
     let _tenant = on.open_tenant(4096)?;
     let _closed = on.begin(2048)?;
@@ -115,12 +89,6 @@ fn strangers_refused<R: AllocGlobal + Abort>(rt: &R, on: &mut Fixture) -> Result
     assert_eq!(rt; put_a_stranger(on, 0, 1)?.as_str(), "S8, back 0 1024");
     assert_eq!(rt; put_a_stranger(on, 1, 0)?.as_str(), "S8, back 0 1024");
     Ok(())
-}
-
-// Both uploads have one number of bytes.
-#[test]
-fn parts_of_the_other_kind_of_plan_come_back(rt: HostRuntime) -> Result<(), Fail> {
-    strangers_refused(&rt, &mut store_with(&rt, Limits::full()))
 }
 
 fn full<R: AllocGlobal + Abort>(rt: &R, on: &mut Fixture) -> Result<(), Fail> {
@@ -132,6 +100,38 @@ fn full<R: AllocGlobal + Abort>(rt: &R, on: &mut Fixture) -> Result<(), Fail> {
     assert_eq!(rt; on.begin_open(2048)?.as_str(), "S13");
     assert_eq!(rt; on.usage()?.as_str(), "0 2048 4096");
     Ok(())
+}
+
+#[test]
+fn a_length_is_fixed_at_the_end(rt: HostRuntime) -> Result<(), Fail> {
+    begun_and_fixed(&rt, &mut store_with(&rt, Limits::full()))
+}
+
+// As many compressions as a closed upload of the two parts takes.
+#[test]
+fn a_ragged_part_fixes_the_length(rt: HostRuntime) -> Result<(), Fail> {
+    put_and_sealed(&rt, &mut store_with(&rt, Limits::full()))
+}
+
+#[test]
+fn open_uploads_that_are_refused(rt: HostRuntime) -> Result<(), Fail> {
+    not_begun(&rt, &mut store_with(&rt, Limits::full()))
+}
+
+#[test]
+fn lengths_and_parts_that_are_refused(rt: HostRuntime) -> Result<(), Fail> {
+    not_fixed(&rt, &mut store_with(&rt, Limits::full()))
+}
+
+#[test]
+fn no_upload_without_an_end_is_sealed(rt: HostRuntime) -> Result<(), Fail> {
+    not_sealed(&rt, &mut store_with(&rt, Limits::full()))
+}
+
+// Both uploads have one number of bytes.
+#[test]
+fn parts_of_the_other_kind_of_plan_come_back(rt: HostRuntime) -> Result<(), Fail> {
+    strangers_refused(&rt, &mut store_with(&rt, Limits::full()))
 }
 
 #[test]

@@ -19,6 +19,43 @@ fn left(alloc: Global) -> Result<Replayed, Fail> {
     Ok(replayed)
 }
 
+// An object is filed, and an upload is left open.
+fn filed_and_open() -> [Entry; 6] {
+    let tenant = TenantId::new(0);
+    let upload = UploadId::new(0);
+    [
+        Entry::Tenant {
+            tenant,
+            limit: 4096,
+        },
+        Entry::Begin {
+            upload,
+            tenant,
+            len: 1,
+        },
+        Entry::Put {
+            upload,
+            offset: 0,
+            len: 1,
+        },
+        Entry::Seal {
+            upload,
+            address: Address::new([0; 32]),
+            new: true,
+        },
+        Entry::Begin {
+            upload: UploadId::new(1),
+            tenant,
+            len: 2,
+        },
+        Entry::Put {
+            upload: UploadId::new(1),
+            offset: 0,
+            len: 2,
+        },
+    ]
+}
+
 // What is left has the whole state, not its sums alone.
 #[test]
 fn limits_and_objects_are_listed(rt: HostRuntime) -> Result<(), Fail> {
@@ -92,43 +129,6 @@ fn sums_are_told(rt: HostRuntime) -> Result<(), Fail> {
     };
     assert_eq!(rt; replayed.accepted(), accepted);
     Ok(())
-}
-
-// An object is filed, and an upload is left open.
-fn filed_and_open() -> [Entry; 6] {
-    let tenant = TenantId::new(0);
-    let upload = UploadId::new(0);
-    [
-        Entry::Tenant {
-            tenant,
-            limit: 4096,
-        },
-        Entry::Begin {
-            upload,
-            tenant,
-            len: 1,
-        },
-        Entry::Put {
-            upload,
-            offset: 0,
-            len: 1,
-        },
-        Entry::Seal {
-            upload,
-            address: Address::new([0; 32]),
-            new: true,
-        },
-        Entry::Begin {
-            upload: UploadId::new(1),
-            tenant,
-            len: 2,
-        },
-        Entry::Put {
-            upload: UploadId::new(1),
-            offset: 0,
-            len: 2,
-        },
-    ]
 }
 
 // Where one growth is refused, replay says so, and works when it is called again.

@@ -2,8 +2,8 @@
 ghost use Rattle.std.specs.Prelude.{◌≡◌, ◌^◌};
 
 use crate::gates::{Counting, FailAll, FailAt, FailBoth, StopAt};
-use crate::patterns::pattern;
 use crate::reports::{aborted_after, fault_text, store_text};
+use b3_tests::pattern;
 use std::marker::Brand;
 use std::process::Abort;
 use std::sync::Wait;

@@ -6,8 +6,8 @@
 //! again, which succeeds too, since no second growth is refused.
 ghost use Rattle.std.specs.Prelude.{◌≡◌, ◌^◌};
 
-use crate::patterns::pattern;
 use crate::uploads_in_threads::upload_row;
+use b3_tests::pattern;
 use std::alloc::{AllocError, Global};
 use std::marker::Brand;
 use std::process::Abort;

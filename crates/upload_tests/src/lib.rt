@@ -16,7 +16,7 @@ mod growths;
 #[cfg(test)]
 mod hand_overs;
 #[cfg(test)]
-mod patterns;
+mod hashes;
 #[cfg(test)]
 mod reports;
 #[cfg(test)]

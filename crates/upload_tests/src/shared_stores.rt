@@ -1,9 +1,10 @@
 //! Commands of a store under its lock.
 ghost use Rattle.std.specs.Prelude.{◌≡◌, ◌+◌, ◌^◌, ◌<◌, ◌≤◌};
 
-use crate::patterns::{PATTERN_2048, pattern};
+use crate::hashes::PATTERN_2048;
 use b3_core::Work;
 use b3_forest::{Plan, Prepared};
+use b3_tests::pattern;
 use std::marker::Brand;
 use std::process::Abort;
 use std::sync::Wait;

@@ -2,11 +2,12 @@
 ghost use Rattle.std.specs.Prelude.{◌≡◌, ◌^◌};
 
 use crate::gates::{Hold, TURNS, is_set};
-use crate::patterns::{PATTERN_2049, pattern};
+use crate::hashes::PATTERN_2049;
 use crate::reports::{fault_text, store_text};
 use crate::uploads_in_threads::upload_row;
 use b3_core::Work;
 use b3_forest::{Plan, Prepared};
+use b3_tests::pattern;
 use std::alloc::{AllocError, Global};
 use std::marker::Brand;
 use std::process::Abort;

@@ -2,7 +2,8 @@
 ghost use Rattle.std.specs.Prelude.{◌≡◌, ◌^◌};
 
 use crate::gates::HoldFirst;
-use crate::patterns::{NO_BYTES, PATTERN_2048, PATTERN_2049, pattern};
+use crate::hashes::{NO_BYTES, PATTERN_2048, PATTERN_2049};
+use b3_tests::pattern;
 use std::marker::Brand;
 use std::process::Abort;
 use std::sync::Wait;

@@ -1,8 +1,9 @@
 //! Uploads at the same time.
 ghost use Rattle.std.specs.Prelude.{◌≡◌, ◌^◌};
 
-use crate::patterns::{PATTERN_2049, pattern};
+use crate::hashes::PATTERN_2049;
 use crate::uploads::{is_held, open_two_tenants};
+use b3_tests::pattern;
 use std::alloc::Global;
 use std::marker::Brand;
 use std::process::Abort;
