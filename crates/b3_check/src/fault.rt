@@ -1,4 +1,5 @@
 //! Why a line is no check line.
+
 ghost use Rattle.std.specs.Prelude.{◌≡◌, Some};
 ghost use Rattle.b3_check.specs.Faults.{code_of, error_text};
 ghost use Rattle.b3_check.specs.declared.fault.ReadError.TheVariants.{NoMemory};

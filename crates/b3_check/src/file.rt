@@ -1,4 +1,5 @@
 //! Check files.
+
 ghost use Rattle.std.specs.Prelude.{◌≡◌, ◌++◌, [], IfOk, OnOk, map};
 ghost use Rattle.b3_check.specs.Files.{counted, file_at, read_of};
 

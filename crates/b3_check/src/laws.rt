@@ -1,4 +1,5 @@
 //! Laws of check lines and check files.
+
 ghost use Rattle.b3_check.specs.Laws.{FaultsSayNothing, FeedsEndLines, LastLineKept, OneMeaning, OthersKept, ReturnsDropped, WrittenInGrammar, WrittenReadBack};
 
 /// What holds of the definitions that the other calls' contracts name. It does nothing.

@@ -1,4 +1,5 @@
 //! One line of a check file.
+
 ghost use Rattle.std.specs.Prelude.{◌≡◌, IfOk, IfErr, None, Some};
 ghost use Rattle.b3_check.specs.Names.{name_fault};
 

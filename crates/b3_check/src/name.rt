@@ -1,4 +1,5 @@
 //! The names of check lines.
+
 ghost use Rattle.std.specs.Prelude.{◌≡◌, IfOk, IfErr, None, Some};
 ghost use Rattle.b3_check.specs.Names.{IsName, name_fault};
 

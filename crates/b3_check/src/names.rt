@@ -1,4 +1,5 @@
 //! Where the digests of named files come from.
+
 ghost use Rattle.std.specs.Prelude.{ℕ, List, Option, Result};
 ghost use Rattle.b3_check.specs.declared.names.NameFault.{NameFault as Refusal};
 

@@ -1,4 +1,5 @@
 //! Reading one line.
+
 ghost use Rattle.std.specs.Prelude.{◌≡◌, ◌≤◌, ℕ, List, length, IfOk};
 ghost use Rattle.b3_check.specs.Lines.{Gives, IsLine, bytes_at, has_two_spaces, line_at, marked_at, rest_at, without_returns};
 ghost use Rattle.b3_check.specs.Names.{escape_value, unescaped};

@@ -1,4 +1,5 @@
 //! Verifying a check file.
+
 ghost use Rattle.std.specs.Prelude.{◌≡◌, ◌⊎◌, IfOk, OnErr};
 ghost use Rattle.b3_check.specs.Reports.{IsCalledFor, IsCutShort, IsReport, IsVerdictBy};
 

@@ -1,4 +1,5 @@
 //! Uploads by several workers.
+
 ghost use Rattle.std.specs.Prelude.{◌≡◌, ◌^◌};
 
 use crate::hashing::{pattern, report};

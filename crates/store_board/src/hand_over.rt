@@ -1,4 +1,5 @@
 //! A hand-over, by which givers pass parts to one taker.
+
 ghost use Rattle.std.specs.Prelude.{◌≡◌, ◌+◌, ◌-◌, ◌^◌, ◌<◌, ◌⊎◌, [], ◌∷◌, ◌++◌, All, EachIndex, List, length, vec_len, slice_index_or, IfOk, IfErr, IfSome, IfNone, OnOk, Err};
 ghost use Rattle.crossbeam_queue.specs.Passes.{view, IsPassOf};
 

@@ -1,4 +1,5 @@
 //! Filed objects in filing order, which their addresses lead to, and who holds which.
+
 ghost use Rattle.std.specs.Prelude.{◌≡◌, ◌+◌, ◌<◌, ◌∷◌, ◌++◌, [], false, ℕ, List, None, Some, IfNone, IfOk, IfSome, IsSome, OnErr, OnOk, length, nat_le, true};
 ghost use Rattle.std.specs.Arc.{arc_value};
 ghost use Rattle.std.specs.BTreeMap.{WritesThrough, get};

@@ -1,4 +1,5 @@
 //! Filed objects.
+
 ghost use Rattle.std.specs.Prelude.{◌≡◌, ◌∷◌, [], false, IfOk, OnErr, OnOk, length, nat_le};
 ghost use Rattle.std.specs.Arc.{arc_value};
 ghost use Rattle.b3_core.specs.Modes.{hash_of};

@@ -1,4 +1,5 @@
 //! Holders of an object, by number.
+
 ghost use Rattle.std.specs.Prelude.{◌≡◌, ◌==◌, OnErr, OnOk};
 ghost use Rattle.std.specs.List.{list_any};
 ghost use Rattle.store_journal.specs.Replay.{with_holder, without_holder};

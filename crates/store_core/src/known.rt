@@ -1,4 +1,5 @@
 //! Objects that are filed already.
+
 ghost use Rattle.std.specs.Prelude.{◌≡◌, ◌&&◌, if◌then◌else◌, nat_lt, not};
 
 // A filed object's length, whether a tenant holds it, and whether it has one holder alone.

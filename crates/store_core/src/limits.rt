@@ -1,4 +1,5 @@
 //! How much a store takes.
+
 ghost use Rattle.std.specs.Prelude.{◌≡◌, ◌<◌, ◌≤◌, ◌⊎◌, ◌↔◌, IfOk, IsErr};
 ghost use Rattle.store_journal.specs.Replay.{most_entries, most_tenants};
 

@@ -1,4 +1,5 @@
 //! Tenants.
+
 ghost use Rattle.std.specs.Prelude.{◌≡◌, ◌-◌, ◌<◌, ◌≤◌, length, slice_set};
 ghost use Rattle.std.specs.List.{slice_index_or};
 ghost use Rattle.store_core.specs.Lawful.{model_limits, no_tenant};

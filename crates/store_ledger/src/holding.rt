@@ -1,4 +1,5 @@
 //! What contracts see of shares.
+
 ghost use Rattle.std.specs.Prelude.{◌≡◌, ◌+◌, ◌^◌, ◌<◌};
 ghost use Rattle.store_ledger.specs.Shares.{sum_of};
 

@@ -1,4 +1,5 @@
 //! Shares of a book.
+
 ghost use Rattle.std.specs.Prelude.{◌≡◌, ◌+◌, ◌-◌, ◌^◌, ◌<◌};
 ghost use Rattle.store_ledger.specs.Shares.{all_parts, sum_of};
 ghost use Rattle.store_ledger.specs.declared.holding.Holding.{Holding};

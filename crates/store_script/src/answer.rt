@@ -1,4 +1,5 @@
 //! The answer to a line.
+
 ghost use Rattle.std.specs.Prelude.{◌≡◌, IfOk, [], codes};
 ghost use Rattle.b3_forest.specs.Parts.{planned};
 ghost use Rattle.b3_forest.specs.PartRefusals.{part_refusal};

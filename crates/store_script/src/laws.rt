@@ -1,4 +1,5 @@
 //! Laws of the grammar.
+
 ghost use Rattle.store_script.specs.Spelling.{PatternIs, ReadIsSpelled, SpelledIsRead};
 
 /// What holds of the definitions that the contract of `run` names. It does nothing.

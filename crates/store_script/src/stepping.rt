@@ -1,4 +1,5 @@
 //! The steps of the store.
+
 ghost use Rattle.std.specs.Prelude.{◌≡◌};
 ghost use Rattle.b3_forest.specs.Parts.{planned};
 ghost use Rattle.store_core.specs.Commands.{reply_seen};

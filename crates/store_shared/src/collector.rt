@@ -1,4 +1,5 @@
 //! The collector of an upload: it notes the parts that workers hand over, and puts them.
+
 ghost use Rattle.std.specs.Prelude.{◌≡◌, [], ◌∷◌, ◌⊎◌, IfErr, IfOk, IfSome, None, OnErr, OnOk, Some, map};
 ghost use Rattle.b3_core.specs.Modes.{hash_of};
 ghost use Rattle.b3_forest.specs.Followed.{AllNoted};

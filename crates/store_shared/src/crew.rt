@@ -1,4 +1,5 @@
 //! The threads of an upload.
+
 ghost use Rattle.std.specs.Prelude.{◌≡◌, ◌<◌, ◌≤◌, ◌^◌, All, IfOk, IfSome, length};
 ghost use Rattle.b3_forest.specs.Parts.{most_bytes};
 ghost use Rattle.store_board.specs.Passes.{IsGiverOf, IsTakerOf};

@@ -1,4 +1,5 @@
 //! Gates, which a worker asks after each part.
+
 ghost use Rattle.std.specs.Prelude.{IfErr, ℕ};
 ghost use Rattle.store_shared.specs.Gates.{IsGateAnswer};
 

@@ -1,4 +1,5 @@
 //! What the workers of an upload share with each other and with its collector.
+
 ghost use Rattle.std.specs.Prelude.{◌≡◌, length};
 ghost use Rattle.store_board.specs.Seats.{parts_of};
 ghost use Rattle.store_shared.specs.Uploading.{count_of};

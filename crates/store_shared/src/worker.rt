@@ -1,4 +1,5 @@
 //! The workers of an upload.
+
 ghost use Rattle.std.specs.Prelude.{◌≡◌, ◌<◌, ◌≤◌, ◌^◌, IfErr, IfSome, length};
 ghost use Rattle.b3_forest.specs.Parts.{most_bytes};
 ghost use Rattle.store_board.specs.Seats.{IsSeatOf, parts_of};

@@ -1,4 +1,5 @@
 //! Boards, drawn from by one thread and by several.
+
 ghost use Rattle.std.specs.Prelude.{◌≡◌, All, vec_len};
 ghost use Rattle.store_board.specs.Seats.{IsSeatOf};
 

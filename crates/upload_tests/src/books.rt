@@ -1,4 +1,5 @@
 //! Books and their shares.
+
 ghost use Rattle.std.specs.Prelude.{◌≡◌, ◌^◌};
 
 use std::marker::Brand;

@@ -1,4 +1,5 @@
 //! Uploads that fail.
+
 ghost use Rattle.std.specs.Prelude.{◌≡◌, ◌^◌};
 
 use crate::gates::{Counting, FailAll, FailAt, FailBoth, StopAt};

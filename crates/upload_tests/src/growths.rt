@@ -4,6 +4,7 @@
 //! The upload is sealed, or tells want of memory and is gone. Then the share settles, the journal leads to what the store holds,
 //! and the same upload is sealed. Where the growth is refused while the store is prepared or looked at, the whole is done
 //! again, which succeeds too, since no second growth is refused.
+
 ghost use Rattle.std.specs.Prelude.{◌≡◌, ◌^◌};
 
 use crate::uploads_in_threads::upload_row;

@@ -1,4 +1,5 @@
 //! Hand-overs, by one thread and by several.
+
 ghost use Rattle.std.specs.Prelude.{◌≡◌, All, vec_len};
 ghost use Rattle.store_board.specs.Passes.{IsGiverOf, IsTakerOf};
 

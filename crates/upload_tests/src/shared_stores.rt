@@ -1,4 +1,5 @@
 //! Commands of a store under its lock.
+
 ghost use Rattle.std.specs.Prelude.{◌≡◌, ◌+◌, ◌^◌, ◌<◌, ◌≤◌};
 
 use crate::hashes::PATTERN_2048;

@@ -1,4 +1,5 @@
 //! Uploads, and what another thread does under the lock meanwhile.
+
 ghost use Rattle.std.specs.Prelude.{◌≡◌, ◌^◌};
 
 use crate::gates::{Hold, TURNS, is_set};

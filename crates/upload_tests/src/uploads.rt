@@ -1,4 +1,5 @@
 //! Uploads by one and by several workers.
+
 ghost use Rattle.std.specs.Prelude.{◌≡◌, ◌^◌};
 
 use crate::gates::HoldFirst;

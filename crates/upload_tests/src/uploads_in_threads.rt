@@ -1,4 +1,5 @@
 //! Uploads at the same time.
+
 ghost use Rattle.std.specs.Prelude.{◌≡◌, ◌^◌};
 
 use crate::hashes::PATTERN_2049;

@@ -1,4 +1,5 @@
 //! The rule of a hand-over's queue, and the steps that its passes make.
+
 ghost use Rattle.std.specs.Prelude.{◌≡◌, ◌+◌, ◌-◌, [], ◌∷◌};
 ghost use Rattle.store_board.specs.HandOverRule.{pass_view, first_view, giver_view, giving_view, taking_view, sum_view, HandOverRule, IsSeenWith, Ended};
 

@@ -1,4 +1,5 @@
 //! Questions.
+
 ghost use Rattle.std.specs.Prelude.{◌≡◌};
 ghost use Rattle.std.specs.Arc.{arc_value};
 ghost use Rattle.store_core.specs.Commands.{Tells, fetch_in, list_in, usage_in};
