@@ -1,9 +1,10 @@
 -- The store that commands speak of: lists alone. No hash, no tree value and no sum is kept in it.
-use Rattle.std.specs.Prelude.{◌+◌, ◌-◌, ◌==◌, ℕ, Bool, List, Option, length, if◌then◌else◌, map, sum_by}
+use Rattle.std.specs.Prelude.{◌≡◌, ◌<◌, ◌+◌, ◌-◌, ◌==◌, ℕ, Bool, List, [], ◌∷◌, Option, length, if◌then◌else◌, map, sum_by}
 use Rattle.std.specs.List.{list_any, slice_index_or}
 use Rattle.std.specs.Map.{lookup, values_of}
 use Rattle.std.specs.Str.{bytes_eq}
 use Rattle.b3_core.specs.Modes.{hash_of}
+use Rattle.b3_forest.specs.Parts.{Part, end_of}
 use Rattle.b3_forest.specs.Uploads.{Upload, content_of, held_bytes, length_of}
 use Rattle.store_journal.specs.declared.entry.Entry.{Entry}
 use Rattle.store_journal.specs.declared.replayed.Totals.{Totals}
@@ -54,6 +55,11 @@ upload_at s number = lookup (is_number number) s.uploads
 -- an upload's parts, joined by offset
 abbrev pub content : ModelUpload → List ℕ
 content u = content_of u.upload.parts
+
+-- parts with bytes of which the first begins at offset a, and each other where the one before it ends
+abbrev pub AreJoined : ℕ → List Part → Type 0
+AreJoined a [] = Unit {0}
+AreJoined a (p ∷ ps) = (p.offset ≡ a) × (0 < length p.bytes) × AreJoined (end_of p) ps
 
 -- ---- objects
 

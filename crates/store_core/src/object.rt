@@ -3,6 +3,7 @@
 ghost use Rattle.std.specs.Prelude.{◌≡◌, length, map};
 ghost use Rattle.b3_core.specs.Modes.{hash_of};
 ghost use Rattle.b3_forest.specs.Uploads.{content_of, part_of};
+ghost use Rattle.store_core.specs.Model.{AreJoined};
 
 use b3_forest::Segment;
 use std::marker::Model;
@@ -20,12 +21,13 @@ impl Model for Object {
     ghost use Rattle.std.specs.Prelude.{◌≡◌, ℕ, List, length, map};
     ghost use Rattle.b3_core.specs.Modes.{hash_of};
     ghost use Rattle.b3_forest.specs.Uploads.{content_of, part_of};
+    ghost use Rattle.store_core.specs.Model.{AreJoined};
 
     ghost Value = { List ℕ };
 
     ghost view = { λ o. content_of (map part_of o.segments.items) };
 
-    ghost invariant = { λ o. (o.address ≡ hash_of (content_of (map part_of o.segments.items))) × (o.len ≡ length (content_of (map part_of o.segments.items))) };
+    ghost invariant = { λ o. (o.address ≡ hash_of (content_of (map part_of o.segments.items))) × (o.len ≡ length (content_of (map part_of o.segments.items))) × AreJoined 0 (map part_of o.segments.items) };
 }
 
 impl Object {
@@ -33,6 +35,7 @@ impl Object {
     pub(crate) fn new(address: Address, len: u64, segments: Vec<Segment>) -> Object
         requires address { address ≡ hash_of (content_of (map part_of segments.items)) }
         requires len { len ≡ length (content_of (map part_of segments.items)) }
+        requires joined { AreJoined 0 (map part_of segments.items) }
         ensures { result ≡ content_of (map part_of segments.items) }
     {
         Object {
@@ -56,9 +59,10 @@ impl Object {
         self.len
     }
 
-    /// The bytes, in order, as the parts in which they came.
+    /// The bytes, in order, as the parts in which they came: none is empty, and each begins where the one before it ends.
     pub fn segments(&self) -> &[Segment]
-        ensures { content_of (map part_of result.now) ≡ self.now }
+        ensures bytes { content_of (map part_of result.now) ≡ self.now }
+        ensures joined { AreJoined 0 (map part_of result.now) }
     {
         self.segments.as_slice()
     }
