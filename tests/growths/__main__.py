@@ -81,6 +81,11 @@ def wrote_nothing(answer):
     return answer == b""
 
 
+def told_no_words(answer):
+    """Of words that the program doesn't take: their text is told whole, or want of memory in its place."""
+    return answer == b""
+
+
 def never(_):
     """Of a test, which passes however memory is refused."""
     return False
@@ -97,6 +102,9 @@ def cases(program):
     check = f"{ADDRESS}  object\n{ADDRESS}  absent\n{ADDRESS}  abc\n".encode()
     yield [program, "sum"], OBJECT, wrote_nothing
     yield [program, "sum", "--length", "100"], OBJECT, wrote_nothing
+    yield [program, "sum", "--length", "+4"], OBJECT, told_no_words
+    yield [program, "sum", "--frob"], OBJECT, told_no_words
+    yield [program, "--help"], OBJECT, told_no_words
     yield [program, "check"], check, wrote_nothing
     yield [program, "audit"], journal, wrote_nothing
     yield [program, "migrate"], journal, wrote_nothing
@@ -151,7 +159,7 @@ def growths_of(refusing, words, data, may_have_written):
     """How many runs did as they must, how many of these ended for want of memory, and what the others did."""
     undisturbed, _ = refusing.run(words, data, 0)
     whole = (undisturbed.returncode, undisturbed.stdout, undisturbed.stderr)
-    if undisturbed.returncode > (0 if may_have_written is never else 1):
+    if undisturbed.returncode > {never: 0, told_no_words: 2}.get(may_have_written, 1):
         return 0, 0, [f"it fails where no growth is refused: {whole!r}"]
     passed, ended, failed = 0, 0, []
     for growth in range(1, MOST_GROWTHS):
