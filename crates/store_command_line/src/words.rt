@@ -1,13 +1,13 @@
 //! What the words of the command line say.
 
-ghost use Rattle.std.specs.Prelude.{◌≡◌, ◌↔◌, ◌^◌, ◌≤◌, ℕ, true, List, Option, None, IfOk, IfSome, OnOk, codes, map, option_map};
+ghost use Rattle.std.specs.Prelude.{◌≡◌, ◌↔◌, ◌^◌, ◌≤◌, ℕ, true, List, Option, None, IfOk, IfSome, IsErr, OnOk, codes, map, option_map};
 ghost use Rattle.clap.specs.Values.{kind_of};
 ghost use Rattle.clap.specs.Words.{found_of, first_of, one_of, rows_of, subcommand_of};
 ghost use Rattle.b3_check.specs.Names.{IsName};
 ghost use Rattle.store_command_line.specs.CommandLine.{IsTaken, command_line};
 ghost use Rattle.store_command_line.specs.Ranges.{AreWithin, InRange, IsWithin};
 ghost use Rattle.store_command_line.specs.Stated.{IsNotUsage, IsNumber, Says, SaysFlag, SaysMode, SaysName, SaysSum, SaysUpload, Spells, SpellsOr};
-ghost use Rattle.store_command_line.specs.declared.said.Fault.TheVariants.{NoMemory};
+ghost use Rattle.store_command_line.specs.declared.said.Fault.TheVariants.{NoMemory, Usage};
 ghost use Rattle.store_command_line.specs.declared.said.Options.{Options as Said};
 ghost use Rattle.store_command_line.specs.declared.said.SumMode.{SumMode as SaidMode};
 ghost use Rattle.store_command_line.specs.declared.said.SumOptions.{SumOptions as SaidSum};
@@ -22,7 +22,10 @@ use std::alloc::{AllocError, Global};
 use std::convert::AsStr;
 
 // The text of a usage fault, where there was memory for it.
-fn told(text: Result<String, AllocError>) -> Fault {
+fn told(text: Result<String, AllocError>) -> Fault
+    ensures usage { IfOk text (λ t. result ≡ Usage t) }
+    ensures memory { IsErr text → result ≡ NoMemory }
+{
     match text {
         Ok(text) => Fault::Usage(text),
         Err(_) => Fault::NoMemory,
