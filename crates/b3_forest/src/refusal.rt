@@ -99,7 +99,7 @@ pub struct Incomplete {
 /// The refusals of `Follow::note`, in the order in which they are checked.
 #[derive(Clone, Copy, PartialEq, Eq, Debug)]
 pub enum NoteFault {
-    /// F7: the part was made for a plan of another length.
+    /// F7: the part was made for another plan than that of an upload of just these bytes: of another length, or open.
     WrongPlan,
     /// F8: the least offset of the part that is noted already.
     Overlap { at: u64 },
