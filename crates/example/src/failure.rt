@@ -4,6 +4,8 @@ use b3_forest::{PartFault, PartRefused};
 use std::alloc::AllocError;
 use std::io;
 use store_core::{PutRefused, Refusal};
+use store_ledger::NotWhole;
+use store_shared::{UploadFault, UploadFaultKind};
 
 /// Why a backup was not made.
 #[derive(Clone, Copy, Debug)]
@@ -12,6 +14,10 @@ pub enum Failure {
     Store(Refusal),
     /// A part was refused when it was made.
     Part(PartFault),
+    /// An upload by several threads failed.
+    Upload(UploadFaultKind),
+    /// A share is not whole.
+    Share(NotWhole),
     /// Reading, writing or memory.
     System,
 }
@@ -31,6 +37,18 @@ impl From<PutRefused> for Failure {
 impl From<PartRefused> for Failure {
     fn from(refused: PartRefused) -> Failure {
         Failure::Part(refused.fault)
+    }
+}
+
+impl From<UploadFault> for Failure {
+    fn from(fault: UploadFault) -> Failure {
+        Failure::Upload(fault.kind)
+    }
+}
+
+impl From<NotWhole> for Failure {
+    fn from(missing: NotWhole) -> Failure {
+        Failure::Share(missing)
     }
 }
 

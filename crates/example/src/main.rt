@@ -1,16 +1,21 @@
 //! The crates as a library: a small backup tool. It reads standard input, puts it into a store in parts, the last part
-//! first, and seals it; then it does so again, from the first part on, as of a stream whose length is known at its end. It
-//! writes the address, what the store says of itself, and the bytes that the store gives back.
+//! first, and seals it; then it does so again, from the first part on, as of a stream whose length is known at its end; and
+//! once more by two threads, in a store that they share. It writes the address, what the stores say of themselves, and the
+//! bytes that the first store gives back.
 #![tactic(auto)]
 
 mod failure;
+mod sharing;
 
 use b3_core::Work;
 use b3_forest::{Plan, Prepared};
 use failure::Failure;
+use sharing::back_up_shared;
 use std::alloc::Global;
 use std::io;
 use std::io::{Read, Write};
+use std::sync::Wait;
+use std::thread::Threads;
 use store_core::{Address, Limits, Sealed, Store, TenantId, UploadId};
 
 // The bytes of a part. All parts but the last are whole chunks of 1024 bytes.
@@ -96,7 +101,7 @@ fn give_back<W: Write>(
     Ok(())
 }
 
-fn run(rt: &HostRuntime) -> Result<(), Failure> {
+fn run<T: Threads + Wait + Sync + Alloc>(rt: &HostRuntime, threads: &T) -> Result<(), Failure> {
     let alloc = rt.alloc();
     let mut work = Work::new(rt);
     let mut input = Vec::new(alloc);
@@ -107,6 +112,7 @@ fn run(rt: &HostRuntime) -> Result<(), Failure> {
     let sealed = back_up(alloc, &mut store, tenant, input.as_slice(), &mut work)?;
     let mut stream = input.as_slice();
     let _known = back_up_stream(alloc, &mut store, tenant, &mut stream, &mut work)?;
+    let (_same, accepted) = back_up_shared(threads, alloc, input.as_slice())?;
     let totals = store.totals();
     println!(rt; "{}", sealed.address)?;
     println!(rt;
@@ -118,6 +124,7 @@ fn run(rt: &HostRuntime) -> Result<(), Failure> {
         store.journal().len(),
         work.count()
     )?;
+    println!(rt; "accepted {} {}", accepted.bytes, accepted.calls)?;
     let mut writer = io::writer(rt);
     give_back(&store, tenant, sealed.address, &mut writer)?;
     writer.flush()?;
@@ -125,7 +132,7 @@ fn run(rt: &HostRuntime) -> Result<(), Failure> {
 }
 
 fn main(rt: HostRuntime) -> io::Result<()> {
-    match run(&rt) {
+    match run(&rt, &rt) {
         Ok(()) => Ok(()),
         Err(failure) => {
             eprintln!(rt; "refused: {failure:?}")?;

@@ -7,7 +7,7 @@ use Rattle.store_core.specs.Model.{Shown}
 use Rattle.store_ledger.specs.declared.holding.Holding.{Holding}
 use Rattle.store_shared.specs.Cuts.{cut_of}
 use Rattle.store_shared.specs.declared.fault.UploadFaultKind.{UploadFaultKind}
-use Rattle.store_engines.specs.Uploads.{IsTold, SomeRefusal, WroteRefusal, WroteUpload, is_memory, uploaded_text}
+use Rattle.store_engines.specs.Uploads.{IsTold, MayFail, SomeRefusal, WroteRefusal, WroteUpload, is_memory, uploaded_text}
 use Rattle.store_script.specs.declared.outcome.Cause.{Cause}
 use Rattle.store_script.specs.declared.outcome.Cause.TheVariants.{OutOfMemory}
 use Rattle.store_script.specs.declared.outcome.Verdict.{Verdict}
@@ -15,13 +15,13 @@ use Rattle.store_script.specs.declared.outcome.Verdict.TheVariants.{Refused}
 use Rattle.store_command_line.specs.declared.said.UploadOptions.{UploadOptions}
 
 -- a refusal that was told, and is not want of memory, is some refusal
-pub told : (r : Result Verdict Cause) (kind : UploadFaultKind) (old new : Option (List ℕ)) → OnOk r (WroteRefusal kind old new) → (is_memory kind ≡ true → r ≡ Err OutOfMemory) → r ≡ Ok Refused
-    → SomeRefusal old new
-told r kind old new wrote memory is = go (is_memory kind) refl
+pub told : (o : UploadOptions) (r : Result Verdict Cause) (kind : UploadFaultKind) (old new : Option (List ℕ)) → MayFail o kind → OnOk r (WroteRefusal kind old new) → (is_memory kind ≡ true → r ≡ Err OutOfMemory) → r ≡ Ok Refused
+    → SomeRefusal o old new
+told o r kind old new may wrote memory is = go (is_memory kind) refl
   where
-    go : (b : Bool) → is_memory kind ≡ b → SomeRefusal old new
+    go : (b : Bool) → is_memory kind ≡ b → SomeRefusal o old new
     go true e = let stopped = memory e in absurd (cc)
-    go false e = (kind, e, rw is at wrote)
+    go false e = (kind, may, e, rw is at wrote)
 
 -- what was written of an input that is known
 pub wrote : (o : UploadOptions) (known : Option (List ℕ)) (input text address : List ℕ) (share : Holding) (shown : Shown) (old new : Option (List ℕ))

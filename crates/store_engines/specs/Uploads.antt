@@ -10,10 +10,11 @@ use Rattle.store_core.specs.declared.refusal.Refusal.TheVariants as refusals
 use Rattle.store_journal.specs.Replay.{Kept, accepted_of, replay_of}
 use Rattle.store_journal.specs.declared.entry.Entry.{Entry}
 use Rattle.store_ledger.specs.declared.holding.Holding.{Holding}
-use Rattle.store_shared.specs.Cuts.{cut_of}
+use Rattle.store_shared.specs.Cuts.{IsBadCut, cut_of}
 use Rattle.store_shared.specs.Faults.{fault_text}
+use Rattle.store_shared.specs.Gates.{IsOwnFault}
 use Rattle.store_shared.specs.declared.fault.UploadFaultKind.{UploadFaultKind}
-use Rattle.store_shared.specs.declared.fault.UploadFaultKind.TheVariants.{NoMemory, Refused}
+use Rattle.store_shared.specs.declared.fault.UploadFaultKind.TheVariants.{BadCut, NoMemory, Refused}
 use Rattle.store_engines.specs.Audits.{accepted_text}
 use Rattle.store_command_line.specs.declared.said.UploadOptions.{UploadOptions}
 
@@ -60,6 +61,11 @@ is_memory _ = false
 abbrev pub WroteRefusal : UploadFaultKind → Option (List ℕ) → Option (List ℕ) → Type 0
 WroteRefusal kind old new = Appends old new (codes "refused " ++ (fault_text kind ++ codes "\n"))
 
--- by that of one that did not fail for want of memory
-abbrev pub SomeRefusal : Option (List ℕ) → Option (List ℕ) → Type 0
-SomeRefusal old new = (kind : UploadFaultKind) × (is_memory kind ≡ false) × WroteRefusal kind old new
+-- why an upload by these options may fail, whose gate passes all parts: a cut is bad only where it is
+abbrev pub MayFail : UploadOptions → UploadFaultKind → Type 0
+MayFail o BadCut = IsBadCut o.part_chunks o.workers 16
+MayFail o kind = IsOwnFault kind
+
+-- the writer grew by the line of an upload by these options that failed, and not for want of memory
+abbrev pub SomeRefusal : UploadOptions → Option (List ℕ) → Option (List ℕ) → Type 0
+SomeRefusal o old new = (kind : UploadFaultKind) × MayFail o kind × (is_memory kind ≡ false) × WroteRefusal kind old new

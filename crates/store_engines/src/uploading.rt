@@ -115,7 +115,7 @@ pub fn upload<B: Ledger, C: Ledger, T: Threads + Wait + Sync + Alloc, R: Read, W
     requires calls { (calls.name ≡ C.name) × (calls.parts ≡ C.parts) × (calls.parts ≡ all_parts) }
     ensures written { result ≡ Ok Verdict.Good → IfSome (R.remaining reader.old) (λ input.
         WroteUpload options input (W.contents writer.old) (W.contents writer.new)) }
-    ensures refused { result ≡ Ok Verdict.Refused → SomeRefusal (W.contents writer.old) (W.contents writer.new) }
+    ensures refused { result ≡ Ok Verdict.Refused → SomeRefusal options (W.contents writer.old) (W.contents writer.new) }
     ensures bad_cut { IsBadCut options.part_chunks options.workers 16 → result ≢ Ok Verdict.Good }
     ensures end { OnOk result (IsAtEnd (R.remaining reader.new)) }
     ensures silent { result ≡ Err Cause.CannotRead → W.contents writer.new ≡ W.contents writer.old }

@@ -9,7 +9,7 @@ use Rattle.store_engines.proofs.UploadTexts.{told, wrote}
 use Rattle.store_engines.proofs.uploading.upload.Goals as goal
 
 pub returns-in-Err-clause-refused : goal.returns-in-Err-clause-refused
-returns-in-Err-clause-refused g c = told c.refuse.result (kinds.Refused c.in-Err.refusal) _ _ c.refuse.ensures.told c.refuse.ensures.memory
+returns-in-Err-clause-refused g c = told c.args.options c.refuse.result (kinds.Refused c.in-Err.refusal) _ _ tt c.refuse.ensures.told c.refuse.ensures.memory
 
 pub returns-in-Ok-uploaded-clause-written : goal.returns-in-Ok-uploaded-clause-written
 returns-in-Ok-uploaded-clause-written g c = λ _.

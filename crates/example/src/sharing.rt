@@ -1,0 +1,63 @@
+//! A store that threads share.
+
+ghost use Rattle.std.specs.Prelude.{◌≡◌, IfOk, length};
+ghost use Rattle.b3_core.specs.Modes.{hash_of};
+ghost use Rattle.store_ledger.specs.Shares.{all_parts};
+
+use crate::failure::Failure;
+use std::alloc::Global;
+use std::marker::Brand;
+use std::sync::Wait;
+use std::sync::ledger::{Blank, Ledger};
+use std::thread::Threads;
+use store_core::{Address, Limits};
+use store_ledger::{ALL_PARTS, Accepted};
+use store_shared::{PassAll, Shared, lent_open_tenant, upload};
+
+// How many chunks of 1024 bytes a part has, and how many threads hash parts.
+const PART_CHUNKS: u64 = 1;
+
+const WORKERS: u64 = 2;
+
+// Files bytes in a new store by two threads, and answers their address and what the store says was accepted.
+pub fn back_up_shared<T: Threads + Wait + Sync + Alloc>(
+    threads: &T,
+    alloc: Global,
+    bytes: &[u8],
+) -> Result<(Address, Accepted), Failure>
+    ensures { IfOk result (λ told. (told.0 ≡ hash_of bytes.now) × (told.1.bytes ≡ length bytes.now)) }
+{
+    let (of_bytes, of_calls) = (Blank::new(ALL_PARTS), Blank::new(ALL_PARTS));
+    back_up_counted::<Brand, Brand, _>(threads, alloc, bytes, of_bytes, of_calls)
+}
+
+// The same, where the two ledgers of the store's book are parameters.
+fn back_up_counted<B: Ledger, C: Ledger, T: Threads + Wait + Sync + Alloc>(
+    threads: &T,
+    alloc: Global,
+    bytes: &[u8],
+    of_bytes: Blank,
+    of_calls: Blank,
+) -> Result<(Address, Accepted), Failure>
+    requires bytes { (of_bytes.name ≡ B.name) × (of_bytes.parts ≡ B.parts) × (of_bytes.parts ≡ all_parts) }
+    requires calls { (of_calls.name ≡ C.name) × (of_calls.parts ≡ C.parts) × (of_calls.parts ≡ all_parts) }
+    ensures { IfOk result (λ told. (told.0 ≡ hash_of bytes.now) × (told.1.bytes ≡ length bytes.now)) }
+{
+    let (shared, share) = Shared::<B, C>::new(alloc, Limits::full(), of_bytes, of_calls);
+    let tenant = lent_open_tenant(&mut *shared.lock(threads), 1 << 40)?;
+    let (share, uploaded) = upload(
+        threads,
+        alloc,
+        &shared,
+        share,
+        &PassAll,
+        tenant,
+        bytes,
+        PART_CHUNKS,
+        WORKERS,
+    );
+    let sealed = uploaded?;
+    let mut share = share;
+    let accepted = shared.close().settle(&mut share)?;
+    Ok((sealed.address, accepted))
+}
