@@ -1,5 +1,5 @@
-"""python3 tests/random PROGRAM [--cases N] [--seed S]: runs the program over random scripts, journals, check files and uploads,
-and compares what it writes with the plain second reading of tests/second_reading, which was written from docs/COMMANDS.md.
+"""python3 tests/random PROGRAM [--cases N] [--seed S]: runs the program over random scripts, journals, check files, uploads
+and inputs of `sum`, and compares what it writes with the plain second reading of tests/second_reading, which was written from docs/COMMANDS.md.
 
 A case that differs is printed with its seed; `--cases 1 --seed S` runs it again. The last line is `N passed, M failed`.
 """
@@ -15,9 +15,10 @@ sys.path.insert(0, os.path.join(os.path.dirname(os.path.dirname(os.path.abspath(
 import checks
 import journals
 import scripts
+import sums
 import uploads
 
-KINDS = (scripts, journals, checks, uploads)
+KINDS = (scripts, journals, checks, uploads, sums)
 SECONDS = 60
 
 

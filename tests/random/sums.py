@@ -1,0 +1,35 @@
+"""Random inputs of `sum` in its three modes, as long as whole blocks, chunks, subtrees and reads of the program, or about so long."""
+from blake3 import HASH, derived, keyed, output_of
+from check_files import escaped
+from script import pattern
+
+ENDS = (0, 64, 1024, 2048, 3072, 4096, 5120, 7168, 8192, 9216, 12288, 16384, 17408)
+NAMES = (b"-", b"a name", b"back\\slash", b"line\nfeed", b"return\r", "\u00e9".encode(), b"--name")
+CONTEXTS = (b"", b"b3store", "\u00e9".encode(), b"x" * 64, b"y" * 1025)
+LENGTHS = (1, 31, 32, 33, 63, 64, 65, 128, 1000)
+
+
+def mode_of(chance):
+    """The words of a mode, and the mode."""
+    kind = chance.randrange(3)
+    if kind == 0:
+        return [], HASH
+    if kind == 1:
+        key = bytes(chance.randrange(256) for _ in range(32))
+        digits = key.hex()
+        return ["--key", digits.upper() if chance.random() < 0.5 else digits], keyed(key)
+    context = chance.choice(CONTEXTS)
+    return [b"--context=" + context], derived(context)
+
+
+def case(chance):
+    end = 65536 if chance.random() < 0.04 else chance.choice(ENDS)
+    data = pattern(chance.randrange(251), max(0, end + chance.choice((-1, 0, 1, chance.randrange(1024)))))
+    words, mode = mode_of(chance)
+    if chance.random() < 0.5:
+        length = chance.choice(LENGTHS)
+        return ["sum", *words, "--length", str(length)], data, output_of(data, length, mode).hex().encode() + b"\n", 0
+    name = chance.choice(NAMES)
+    text = escaped(name)
+    mark = b"\\" if text != name else b""
+    return ["sum", *words, b"--name=" + name], data, mark + output_of(data, 32, mode).hex().encode() + b"  " + text + b"\n", 0
