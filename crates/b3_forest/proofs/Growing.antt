@@ -16,7 +16,7 @@ use Rattle.b3_forest.proofs.Maps.{put_here, put_apart, put_and_taken, length_put
 use Rattle.b3_forest.proofs.Merging.{some_same}
 
 -- z is what is held of x and of y, which have no chunk in common
-pub record AreJoined (x y z : ℕ → List ℕ) : Type 0 where
+pub record IsUnionOf (x y z : ℕ → List ℕ) : Type 0 where
   pub left : Extends x z
   pub right : Extends y z
   pub apart : (i : ℕ) → is_held x i ≡ true → is_held y i ≡ false
@@ -27,7 +27,7 @@ record Grows (y z : ℕ → List ℕ) (a : ℕ) (es : Subtrees) : Type 0 where
   pieces : ArePieces z es
   below : (i : ℕ) → HasChunk es i → is_held y i ≡ true → i < a
 
-grows_from : (x y z : ℕ → List ℕ) (a : ℕ) (es : Subtrees) → AreJoined x y z → ArePieces x es → Grows y z a es
+grows_from : (x y z : ℕ → List ℕ) (a : ℕ) (es : Subtrees) → IsUnionOf x y z → ArePieces x es → Grows y z a es
 grows_from x y z a es joined pieces = record {
   pieces = record {
     lawful = λ s n is. piece_same x z (piece_from (s, n)) joined.left (pieces.lawful s n is);
@@ -73,7 +73,7 @@ meets : (y z : ℕ → List ℕ) (a i : ℕ) (es : Subtrees) (p : Piece) → Gro
 meets y z a i es p grows piece behind has after before =
     omega (arith, grows.below i has (full_at y p.level p.first i piece.full after before), behind, after)
 
-grows_by : (x y z : ℕ → List ℕ) (a : ℕ) (es : Subtrees) (p : Piece) → AreJoined x y z → Grows y z a es → IsPiece y p → a ≤ p.first → piece_end p ≤ most_chunks
+grows_by : (x y z : ℕ → List ℕ) (a : ℕ) (es : Subtrees) (p : Piece) → IsUnionOf x y z → Grows y z a es → IsPiece y p → a ≤ p.first → piece_end p ≤ most_chunks
     → Grows y z (piece_end p) (put p es)
 unfolding Found
 grows_by x y z a es p joined grows piece behind most = record {
@@ -135,7 +135,7 @@ pub record IsGrown (z : ℕ → List ℕ) (ps : List Piece) (es : Subtrees) : Ty
 not_none : (es : Subtrees) (s t : ℕ) (m : Subtree) → subtree_at es s ≡ Some m → subtree_at es t ≡ None → s ≢ t
 not_none es s t m some none same = let bad = sym some ∙ ap (subtree_at es) same ∙ none in cc
 
-grown : (x y z : ℕ → List ℕ) (a : ℕ) (ps : List Piece) (es : Subtrees) → AreJoined x y z → Grows y z a es → IsRow y most_chunks a ps → IsGrown z ps es
+grown : (x y z : ℕ → List ℕ) (a : ℕ) (ps : List Piece) (es : Subtrees) → IsUnionOf x y z → Grows y z a es → IsRow y most_chunks a ps → IsGrown z ps es
 unfolding with_subtrees AreFresh Found put
 grown x y z a [] es joined grows row = record {
   are_fresh = tt;
@@ -166,7 +166,7 @@ grown x y z a (p ∷ ps) es joined grows row =
     }
 
 -- the pieces of a part put among those of the others: a canonical forest but for halves at the part's pieces
-pub grown_forest : (x y z : ℕ → List ℕ) (ps : List Piece) (es : Subtrees) → AreJoined x y z → AreForest x [] es → IsForest y root_level 0 ps
+pub grown_forest : (x y z : ℕ → List ℕ) (ps : List Piece) (es : Subtrees) → IsUnionOf x y z → AreForest x [] es → IsForest y root_level 0 ps
     → IsGrown z ps es × AreForest z (firsts ps) (with_subtrees ps es)
 grown_forest x y z ps es joined forest part =
     let g = grown x y z 0 ps es joined (grows_from x y z 0 es joined forest.pieces) part.row in (

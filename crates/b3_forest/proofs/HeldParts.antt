@@ -9,7 +9,7 @@ use Rattle.b3_forest.specs.Kept.{IsNew, without}
 use Rattle.b3_forest.specs.Subtrees.{AreChunks, is_held}
 use Rattle.b3_forest.specs.Parts.{Part, Fits, chunk_in, chunks_of, end_of, closed_plan}
 use Rattle.b3_forest.specs.Uploads.{ArePlaced, held_bytes, overlap_at, overlaps, with_part}
-use Rattle.b3_forest.proofs.Growing.{AreJoined}
+use Rattle.b3_forest.proofs.Growing.{IsUnionOf}
 use Rattle.b3_forest.proofs.OneForest.{bool_cases}
 
 -- ---- one part and a chunk
@@ -173,7 +173,7 @@ alone_in p i held = elim (in_or_out p i) [
   | inr out ↦ let none = alone_out p i out in cc
 ]
 
-pub parts_joined : (p : Part) (ps : List Part) → overlap_at p ps ≡ None → AreJoined (chunk_in ps) (chunks_of p) (chunk_in (with_part p ps))
+pub parts_joined : (p : Part) (ps : List Part) → overlap_at p ps ≡ None → IsUnionOf (chunk_in ps) (chunks_of p) (chunk_in (with_part p ps))
 parts_joined p ps none = record {
   left = λ i held. chunk_more_out p ps i (held_not_in p ps i none held);
   right = λ i held. let inside = alone_in p i held in chunk_more_in p ps i none inside ∙ sym (chunk_here p [] i inside);

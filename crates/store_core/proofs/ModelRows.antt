@@ -1,11 +1,11 @@
 -- The commands compute to worked scripts.
-use Rattle.std.proofs.Common.{◌≡◌, ◌∷◌, ◌^◌, ℕ, List, [], Ok, Err, Result, refl, true, false, replicate, Some, None}
+use Rattle.std.proofs.Common.{◌≡◌, ◌∷◌, ◌^◌, ℕ, List, [], Ok, Err, Result, arith, refl, true, false, replicate, Some, None}
 use Rattle.std.specs.Prelude.{⊤}
 use Rattle.b3_core.specs.Compression.{mix, columns, diagonals, message, rounds, compress_of}
 use Rattle.b3_core.specs.ExtendedOutput.{output_byte}
 use Rattle.b3_core.specs.Modes.{digest_of}
 use Rattle.b3_core.specs.Tree.{chain, chunk_top, parent_top, power_below, left_length, tree_top_within, tree_top}
-use Rattle.b3_forest.specs.Parts.{closed_plan, open_plan, planned}
+use Rattle.b3_forest.specs.Parts.{Part, closed_plan, open_plan, planned}
 use Rattle.b3_forest.specs.Uploads.{content_of, first_gap, last_end, overlap_at, with_part}
 use Rattle.store_core.specs.declared.store.Held.{Held}
 use Rattle.store_journal.specs.declared.replayed.Totals.{Totals}
@@ -13,7 +13,7 @@ use Rattle.store_core.specs.declared.store.Usage.{Usage}
 use Rattle.store_core.specs.declared.refusal.Refusal.{Refusal}
 use Rattle.store_core.specs.declared.refusal.Refusal.TheVariants.{BelowUse, Incomplete, LimitTooLarge, NoTenant, NoUpload, NotFixed, NotHeld, OverQuota, Overlap, PastLast, TooLong, WrongAddress, WrongPlan}
 use Rattle.store_core.specs.Commands.{Acceptance, abort_in, begin_in, begin_open_in, fix_in, forget_in, list_in, open_tenant_in, put_in, seal_as_in, seal_in, set_limit_in, usage_in}
-use Rattle.store_core.specs.Model.{ModelStore, totals_of}
+use Rattle.store_core.specs.Model.{AreJoined, ModelStore, totals_of}
 use Rattle.store_journal.specs.Replay.{with_holder, without_holder}
 
 unfoldable on_literals : ⊤
@@ -281,3 +281,20 @@ not_open = refl
 
 no_tenant : usage_in large_set 3 ≡ Err NoTenant
 no_tenant = refl
+
+-- ---- parts in a row
+
+abbrev part : ℕ → List ℕ → Part
+part offset xs = record { offset = offset; bytes = xs }
+
+in_a_row : AreJoined 0 (part 0 (7 ∷ 8 ∷ []) ∷ part 2 (9 ∷ []) ∷ [])
+in_a_row = (refl, omega arith, (refl, omega arith, tt))
+
+a_gap : AreJoined 0 (part 0 (7 ∷ 8 ∷ []) ∷ part 3 (9 ∷ []) ∷ []) → ⊥
+a_gap row = absurd (omega (arith, row.2.0))
+
+begun_late : AreJoined 0 (part 1 (7 ∷ []) ∷ []) → ⊥
+begun_late row = absurd (omega (arith, row.0))
+
+an_empty_part : AreJoined 0 (part 0 [] ∷ []) → ⊥
+an_empty_part row = absurd (omega (arith, row.1))

@@ -1,5 +1,5 @@
 -- What an upload writes.
-use Rattle.std.proofs.Common.{◌≡◌, ◌++◌, codes, refl, ℕ, Bool, true, false, List, Option, Some, None, Result, Ok, Err, ap, ap₂, subst, length, ◌∙◌}
+use Rattle.std.proofs.Common.{◌≡◌, ◌++◌, arith, codes, inl, inr, refl, ℕ, Bool, true, false, List, Option, Some, None, Result, Ok, Err, ap, ap₂, subst, length, ◌∙◌}
 use Rattle.std.specs.Prelude.{IfSome, OnOk}
 use Rattle.std.specs.Io.KnownBytes.{Appends}
 use Rattle.b3_core.specs.Modes.{hash_of}
@@ -7,6 +7,7 @@ use Rattle.store_core.specs.Model.{Shown}
 use Rattle.store_ledger.specs.declared.holding.Holding.{Holding}
 use Rattle.store_shared.specs.Cuts.{cut_of}
 use Rattle.store_shared.specs.declared.fault.UploadFaultKind.{UploadFaultKind}
+use Rattle.store_shared.specs.declared.fault.UploadFaultKind.TheVariants.{BadCut, Stopped}
 use Rattle.store_engines.specs.Uploads.{IsTold, MayFail, SomeRefusal, WroteRefusal, WroteUpload, is_memory, uploaded_text}
 use Rattle.store_script.specs.declared.outcome.Cause.{Cause}
 use Rattle.store_script.specs.declared.outcome.Cause.TheVariants.{OutOfMemory}
@@ -39,3 +40,20 @@ wrote o (Some left) input text address share shown old new same hash bytes calls
 -- three texts in a row
 pub in_a_row : (a b c x y z : List ℕ) → a ≡ x → b ≡ y → c ≡ z → a ++ (b ++ (codes "\n" ++ c)) ≡ x ++ (y ++ (codes "\n" ++ z))
 in_a_row a b c x y z first second third = rw (first, second, third) refl
+
+-- ---- worked rows
+
+abbrev by_workers : ℕ → UploadOptions
+by_workers n = record { part_chunks = 4; workers = n; journal = false }
+
+seventeen_workers : MayFail (by_workers 17) BadCut
+seventeen_workers = inr (inr (inr (omega arith)))
+
+sixteen_workers : MayFail (by_workers 16) BadCut → ⊥
+sixteen_workers (inl no_chunk) = absurd (omega (arith, no_chunk))
+sixteen_workers (inr (inl many_chunks)) = absurd (omega (arith, many_chunks))
+sixteen_workers (inr (inr (inl no_worker))) = absurd (omega (arith, no_worker))
+sixteen_workers (inr (inr (inr many_workers))) = absurd (omega (arith, many_workers))
+
+never_stopped : MayFail (by_workers 16) Stopped → ⊥
+never_stopped stopped = stopped
