@@ -151,34 +151,30 @@ impl Gate for Hold {
     }
 }
 
-/// Fails at all parts, with the part's number as code, but holds each until so many are asked for.
+/// Fails at all parts, with the part's number as code, but holds part 0 until another one is asked for.
 #[derive(Drop)]
-pub(crate) struct FailTogether {
-    parts: u64,
-    asked: AtomicU64,
+pub(crate) struct FailBoth {
+    other_asked: AtomicBool,
 }
 
-impl FailTogether {
-    pub(crate) fn new(parts: u64) -> FailTogether {
-        FailTogether {
-            parts,
-            asked: AtomicU64::new(0),
+impl FailBoth {
+    pub(crate) fn new() -> FailBoth {
+        FailBoth {
+            other_asked: AtomicBool::new(false),
         }
     }
 }
 
-impl Gate for FailTogether {
+impl Gate for FailBoth {
     ghost may_stop = { λ gate part. ⊥ };
 
     ghost may_fault = { λ gate part code. code ≡ part };
 
     fn passed(&self, part: u64) -> Result<(), GateStop> {
-        let _before = self.asked.fetch_add(1, Ordering::SeqCst);
-        for _ in 0..TURNS {
-            if self.asked.load(Ordering::SeqCst) >= self.parts {
-                break;
-            }
-            thread::yield_now();
+        if part == 0 {
+            let _is_asked = is_set(&self.other_asked);
+        } else {
+            self.other_asked.store(true, Ordering::SeqCst);
         }
         Err(GateStop::Fault(part))
     }
