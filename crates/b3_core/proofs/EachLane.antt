@@ -2,6 +2,7 @@
 use Rattle.std.proofs.Common.{◌≡◌, ℕ, zero, suc, ◌<◌, ◌≤◌, ◌+◌, ◌-◌, ◌*◌, ◌/◌, ◌%◌, ◌^◌, List, [], ◌∷◌, ◌++◌, length, take, drop, replicate, get_or, slice_index, slice_index_or, bit_or, Fits, w32, nat_lt, true, arith, refl, ap, sym, ◌∙◌}
 use Rattle.std.proofs.lemmas.Bool.Decides.{nat_tests}
 use Rattle.std.proofs.lemmas.List.{append-nil, length-map, length-drop, length-take-le, get_or-map, get_or-take, get_or-drop}
+use Rattle.std.proofs.Math.Nat.{mul-le-mul_left}
 use Rattle.b3_core.specs.Lanes.{lane, across, chunk_bytes}
 use Rattle.std.specs.Simd.Lanes.{Each1, zip2}
 use Rattle.std.proofs.lemmas.Simd.{below_from_Fits, Each1-get_or, get_or-zip2, get_or-replicate, length-replicate, length-zip2}
@@ -141,17 +142,31 @@ word_from x y n same o m within at =
     let e3 : slice_index y (o + 3) ≡ slice_index x (m + 3) = same (o + 3) (omega arith) ∙ ap (slice_index x) (omega arith) in
     rw (e0, e1, e2, e3) refl
 
--- the words at o of the bytes x, four in a row, and those that stand four chunks further on
-abbrev TwoRows : List ℕ → List ℕ → ℕ → Type 0
-TwoRows x a o =
-    ((i : ℕ) → i < 4 → slice_index a i ≡ word_at x (o + 4 * i))
-    × ((i : ℕ) → i < 4 → slice_index a (i + 4) ≡ word_at x (o + 4096 + 4 * i))
+-- the words at o of the bytes x, four in a row
+abbrev Row : List ℕ → List ℕ → ℕ → Type 0
+Row x a o = (i : ℕ) → i < 4 → slice_index a i ≡ word_at x (o + 4 * i)
 
--- such words of eight chunks, transposed
-pub words_across : (x a b c d : List ℕ) (o : ℕ) → TwoRows x a o → TwoRows x b (o + 1024) → TwoRows x c (o + 2048) → TwoRows x d (o + 3072)
-    → (i m : ℕ) → i < 4 → m ≡ o + 4 * i → (j : ℕ) → j < 8 → slice_index (across i a b c d ++ across (i + 4) a b c d) j ≡ word_at x (1024 * j + m)
-words_across x a b c d o ra rb rc rd i m h at =
-    below_eight (λ j. slice_index (across i a b c d ++ across (i + 4) a b c d) j ≡ word_at x (1024 * j + m))
+-- and those that stand f bytes further on
+abbrev TwoRows : List ℕ → List ℕ → ℕ → ℕ → Type 0
+TwoRows x a o f = Row x a o × ((i : ℕ) → i < 4 → slice_index a (i + 4) ≡ word_at x (o + f + 4 * i))
+
+-- such words of four chunks, s chunks apart, transposed
+pub four_across : (x a b c d : List ℕ) (o s : ℕ) → Row x a o → Row x b (o + 1024 * s) → Row x c (o + 2 * (1024 * s)) → Row x d (o + 3 * (1024 * s))
+    → (i m : ℕ) → i < 4 → m ≡ o + 4 * i → (j : ℕ) → j < 4 → slice_index (across i a b c d) j ≡ word_at x (1024 * (s * j) + m)
+four_across x a b c d o s ra rb rc rd i m h at =
+    below_four (λ j. slice_index (across i a b c d) j ≡ word_at x (1024 * (s * j) + m))
+    (ra i h ∙ ap (word_at x) (omega arith))
+    (rb i h ∙ ap (word_at x) (omega arith))
+    (rc i h ∙ ap (word_at x) (omega arith))
+    (rd i h ∙ ap (word_at x) (omega arith))
+
+-- and those of eight
+pub words_across : (x a b c d : List ℕ) (o s : ℕ)
+    → TwoRows x a o (4 * (1024 * s)) → TwoRows x b (o + 1024 * s) (4 * (1024 * s))
+    → TwoRows x c (o + 2 * (1024 * s)) (4 * (1024 * s)) → TwoRows x d (o + 3 * (1024 * s)) (4 * (1024 * s))
+    → (i m : ℕ) → i < 4 → m ≡ o + 4 * i → (j : ℕ) → j < 8 → slice_index (across i a b c d ++ across (i + 4) a b c d) j ≡ word_at x (1024 * (s * j) + m)
+words_across x a b c d o s ra rb rc rd i m h at =
+    below_eight (λ j. slice_index (across i a b c d ++ across (i + 4) a b c d) j ≡ word_at x (1024 * (s * j) + m))
     (ra.0 i h ∙ ap (word_at x) (omega arith))
     (rb.0 i h ∙ ap (word_at x) (omega arith))
     (rc.0 i h ∙ ap (word_at x) (omega arith))
@@ -160,6 +175,12 @@ words_across x a b c d o ra rb rc rd i m h at =
     (rb.1 i h ∙ ap (word_at x) (omega arith))
     (rc.1 i h ∙ ap (word_at x) (omega arith))
     (rd.1 i h ∙ ap (word_at x) (omega arith))
+
+-- the chunk of a lane lies within bytes that hold that of the last lane
+pub lane_within : (s j n l : ℕ) → j < n → 1024 + 1024 * (s * n) ≤ l + 1024 * s → 1024 * (s * j) + 1024 ≤ l
+lane_within s j n l below within =
+    let up : s * (j + 1) ≤ s * n = mul-le-mul_left s (omega arith) in
+    omega (arith, up, within)
 
 -- the words of a whole block y, which is in x from s + a on
 block_from : (x y : List ℕ) (s a : ℕ) → length y ≡ 64 → ((o : ℕ) → o < 64 → slice_index y o ≡ slice_index x (s + a + o))

@@ -8,7 +8,7 @@ use Rattle.std.proofs.Math.Pow.{pow_mono}
 use Rattle.std.proofs.Math.Seq.{take-add}
 use Rattle.b3_core.proofs.EachLane.{below_four}
 use Rattle.b3_core.specs.Lanes.{chunk_at, group_top}
-use Rattle.b3_core.specs.Tree.{Keying, Inputs, parent_top, tree_top}
+use Rattle.b3_core.specs.Tree.{Keying, Inputs, chunk_top, parent_top, tree_top}
 use Rattle.b3_core.proofs.Nodes.{top_short, top_join}
 
 -- two halves of some bytes, each 2 ^ k whole chunks
@@ -127,6 +127,24 @@ all_top x c w k n p len =
     let none : w * 0 ≡ 0 = omega arith in
     let first : c + k * 0 ≡ c = omega arith in
     rw (none, first) (ap (λ (y : List ℕ). tree_top y c p) (take_all n x (omega (arith, len))))
+
+-- chunk i of the bytes behind the first t chunks
+later_chunk : (x : List ℕ) (c t i : ℕ) (p : Keying) → chunk_at (drop (1024 * t) x) (c + t) p i ≡ chunk_at x c p (i + t)
+later_chunk x c t i p =
+    ap₂ (λ (y : List ℕ) (n : ℕ). chunk_top (take 1024 y) n p)
+    (drop-drop (1024 * i) (1024 * t) x ∙ ap (λ k. drop k x) (omega arith)) (omega arith)
+
+-- four chunks in a row, the first of which is chunk 4 j, under their three parents
+pub four_in_a_row : (x : List ℕ) (c j : ℕ) (p : Keying) → 4096 * j + 4096 ≤ length x
+    → let chunk = λ (t : ℕ). chunk_at (drop (1024 * t) x) (c + t) p (4 * j) in
+    parent_top (parent_top (chunk_at x c p (4 * j)) (chunk 1) p) (parent_top (chunk 2) (chunk 3) p) p ≡ group_top 4 x c p j
+four_in_a_row x c j p within =
+    let i = 4 * j in
+    let up = λ (l r : Inputs). parent_top l r p in
+    let chunk = λ (t : ℕ). later_chunk x c t i p ∙ eighth_one x c (i + t) p in
+    ap₂ up (ap₂ up (eighth_one x c i p) (chunk 1)) (ap₂ up (chunk 2) (chunk 3))
+    ∙ four_join x c 0 i p (omega (arith, within))
+    ∙ same_top (drop (1024 * 1 * i) x) (drop (1024 * 4 * j) x) 4096 4096 (c + 1 * i) (c + 4 * j) p (ap (λ k. take 4096 (drop k x)) (omega arith)) (omega arith)
 
 -- four chunks under their three parents
 pub four_chunks_join : (x : List ℕ) (c : ℕ) (p : Keying) → length x ≡ 4096

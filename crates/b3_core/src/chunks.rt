@@ -11,25 +11,25 @@ use crate::vectors::Words;
 use crate::words::word;
 use std::simd::{u32x4, u32x8};
 
-/// Vectors with a lane for each of some neighbouring chunks.
+/// Vectors with a lane for each of some chunks, which stand equally far from each other.
 pub(crate) trait Chunks: Words {
-    // Four words in a row of each chunk.
-    fn words_at(bytes: &[u8], at: usize) -> (Self, Self, Self, Self)
-        requires { at + 1024 * Self.LANES ≤ length bytes.now + 1008 }
-        ensures first { (j : ℕ) → j < Self.LANES → Self.word result.0 j ≡ word_at bytes.now (1024 * j + at) }
-        ensures second { (j : ℕ) → j < Self.LANES → Self.word result.1 j ≡ word_at bytes.now (1024 * j + (at + 4)) }
-        ensures third { (j : ℕ) → j < Self.LANES → Self.word result.2 j ≡ word_at bytes.now (1024 * j + (at + 8)) }
-        ensures fourth { (j : ℕ) → j < Self.LANES → Self.word result.3 j ≡ word_at bytes.now (1024 * j + (at + 12)) };
+    // Four words in a row of each lane's chunk. From one lane's chunk to the next lane's there are so many.
+    fn words_at(bytes: &[u8], at: usize, step: usize) -> (Self, Self, Self, Self)
+        requires { at + 16 + 1024 * (step * Self.LANES) ≤ length bytes.now + 1024 * step }
+        ensures first { (j : ℕ) → j < Self.LANES → Self.word result.0 j ≡ word_at bytes.now (1024 * (step * j) + at) }
+        ensures second { (j : ℕ) → j < Self.LANES → Self.word result.1 j ≡ word_at bytes.now (1024 * (step * j) + (at + 4)) }
+        ensures third { (j : ℕ) → j < Self.LANES → Self.word result.2 j ≡ word_at bytes.now (1024 * (step * j) + (at + 8)) }
+        ensures fourth { (j : ℕ) → j < Self.LANES → Self.word result.3 j ≡ word_at bytes.now (1024 * (step * j) + (at + 12)) };
 
-    // The low word of each chunk's number.
-    fn low_words(number: u64) -> Self
-        requires { number + Self.LANES ≤ 2 ^ 64 }
-        ensures { (j : ℕ) → j < Self.LANES → Self.word result j ≡ (number + j) % 2 ^ 32 };
+    // The low word of the number of each lane's chunk.
+    fn low_words(number: u64, step: u64) -> Self
+        requires { number + step * Self.LANES < 2 ^ 64 + step }
+        ensures { (j : ℕ) → j < Self.LANES → Self.word result j ≡ (number + step * j) % 2 ^ 32 };
 
-    // The high word of each chunk's number.
-    fn high_words(number: u64) -> Self
-        requires { number + Self.LANES ≤ 2 ^ 64 }
-        ensures { (j : ℕ) → j < Self.LANES → Self.word result j ≡ (number + j) / 2 ^ 32 };
+    // The high word of the number of each lane's chunk.
+    fn high_words(number: u64, step: u64) -> Self
+        requires { number + step * Self.LANES < 2 ^ 64 + step }
+        ensures { (j : ℕ) → j < Self.LANES → Self.word result j ≡ (number + step * j) / 2 ^ 32 };
 
     // A block of such vectors fits in memory.
     ghost is_small: { 16 * type_size Self.row < 2 ^ 63 };
@@ -39,29 +39,30 @@ impl Chunks for u32x4 {
     ghost is_small = { Prim.search rules };
 
     #[inline(always)]
-    fn words_at(bytes: &[u8], at: usize) -> (Self, Self, Self, Self) {
+    fn words_at(bytes: &[u8], at: usize, step: usize) -> (Self, Self, Self, Self) {
+        let gap = 1024 * step;
         let a = row(bytes, at);
-        let b = row(bytes, at + 1024);
-        let c = row(bytes, at + 2048);
-        let d = row(bytes, at + 3072);
+        let b = row(bytes, at + gap);
+        let c = row(bytes, at + 2 * gap);
+        let d = row(bytes, at + 3 * gap);
         transposed(a, b, c, d)
     }
 
-    fn low_words(number: u64) -> Self {
+    fn low_words(number: u64, step: u64) -> Self {
         u32x4::from_array([
             low(number),
-            low(number + 1),
-            low(number + 2),
-            low(number + 3),
+            low(number + step),
+            low(number + 2 * step),
+            low(number + 3 * step),
         ])
     }
 
-    fn high_words(number: u64) -> Self {
+    fn high_words(number: u64, step: u64) -> Self {
         u32x4::from_array([
             high(number),
-            high(number + 1),
-            high(number + 2),
-            high(number + 3),
+            high(number + step),
+            high(number + 2 * step),
+            high(number + 3 * step),
         ])
     }
 }
@@ -70,20 +71,27 @@ impl Chunks for u32x8 {
     ghost is_small = { Prim.search rules };
 
     #[inline(always)]
-    fn words_at(bytes: &[u8], at: usize) -> (Self, Self, Self, Self) {
-        let a = two_rows(bytes, at);
-        let b = two_rows(bytes, at + 1024);
-        let c = two_rows(bytes, at + 2048);
-        let d = two_rows(bytes, at + 3072);
+    fn words_at(bytes: &[u8], at: usize, step: usize) -> (Self, Self, Self, Self) {
+        let gap = 1024 * step;
+        let a = two_rows(bytes, at, 4 * gap);
+        let b = two_rows(bytes, at + gap, 4 * gap);
+        let c = two_rows(bytes, at + 2 * gap, 4 * gap);
+        let d = two_rows(bytes, at + 3 * gap, 4 * gap);
         transposed_halves(a, b, c, d)
     }
 
-    fn low_words(number: u64) -> Self {
-        joined(u32x4::low_words(number), u32x4::low_words(number + 4))
+    fn low_words(number: u64, step: u64) -> Self {
+        joined(
+            u32x4::low_words(number, step),
+            u32x4::low_words(number + 4 * step, step),
+        )
     }
 
-    fn high_words(number: u64) -> Self {
-        joined(u32x4::high_words(number), u32x4::high_words(number + 4))
+    fn high_words(number: u64, step: u64) -> Self {
+        joined(
+            u32x4::high_words(number, step),
+            u32x4::high_words(number + 4 * step, step),
+        )
     }
 }
 
@@ -110,14 +118,14 @@ fn row(bytes: &[u8], at: usize) -> u32x4
     ])
 }
 
-// Four words in a row, and behind them the four that stand four chunks further on.
+// Four words in a row, and behind them the four that stand so many bytes further on.
 #[inline(always)]
-fn two_rows(bytes: &[u8], at: usize) -> u32x8
-    requires { at + 4112 ≤ length bytes.now }
+fn two_rows(bytes: &[u8], at: usize, further: usize) -> u32x8
+    requires { at + further + 16 ≤ length bytes.now }
     ensures front { (i : ℕ) → i < 4 → slice_index result i ≡ word_at bytes.now (at + 4 * i) }
-    ensures back { (i : ℕ) → i < 4 → slice_index result (i + 4) ≡ word_at bytes.now (at + 4096 + 4 * i) }
+    ensures back { (i : ℕ) → i < 4 → slice_index result (i + 4) ≡ word_at bytes.now (at + further + 4 * i) }
 {
-    joined(row(bytes, at), row(bytes, at + 4096))
+    joined(row(bytes, at), row(bytes, at + further))
 }
 
 // Four vectors as the lanes of four others.

@@ -141,19 +141,19 @@ fn halves<V: Words>(v: [V; 16]) -> [V; 8]
     [w0, w1, w2, w3, w4, w5, w6, w7]
 }
 
-// Block `k` of each chunk.
+// Block `k` of each lane's chunk.
 #[inline(always)]
 #[rattlefmt::skip]
-fn blocks_at<V: Chunks>(bytes: &[u8], k: usize) -> [V; 16]
-    requires len { length bytes.now ≡ 1024 * V.LANES }
+fn blocks_at<V: Chunks, const STEP: usize>(bytes: &[u8], k: usize) -> [V; 16]
+    requires len { 1024 + 1024 * (STEP * V.LANES) ≤ length bytes.now + 1024 * STEP }
     requires block { k < 16 }
-    ensures { (j : ℕ) → j < V.LANES → lane V.word j result ≡ block_words_of (block (chunk_bytes bytes.now j) k) }
+    ensures { (j : ℕ) → j < V.LANES → lane V.word j result ≡ block_words_of (block (chunk_bytes bytes.now (STEP * j)) k) }
 {
     let at = 64 * k;
-    let (w0, w1, w2, w3) = V::words_at(bytes, at);
-    let (w4, w5, w6, w7) = V::words_at(bytes, at + 16);
-    let (w8, w9, w10, w11) = V::words_at(bytes, at + 32);
-    let (w12, w13, w14, w15) = V::words_at(bytes, at + 48);
+    let (w0, w1, w2, w3) = V::words_at(bytes, at, STEP);
+    let (w4, w5, w6, w7) = V::words_at(bytes, at + 16, STEP);
+    let (w8, w9, w10, w11) = V::words_at(bytes, at + 32, STEP);
+    let (w12, w13, w14, w15) = V::words_at(bytes, at + 48, STEP);
     [
         w0, w1, w2, w3,
         w4, w5, w6, w7,
@@ -177,40 +177,46 @@ fn keys<V: Words>(key: [u32; 8]) -> [V; 8]
     [k0, k1, k2, k3, k4, k5, k6, k7]
 }
 
-/// The chaining value of each chunk after all of its blocks but the last.
-pub(crate) fn chains<V: Chunks>(mode: &Mode, bytes: &[u8], number: u64, work: &mut Work) -> [V; 8]
-    requires len { length bytes.now ≡ 1024 * V.LANES }
-    requires number { number + V.LANES ≤ 2 ^ 64 }
-    ensures values { (j : ℕ) → j < V.LANES → lane V.word j result ≡ chain (chunk_bytes bytes.now j) (number + j) mode.now 15 }
-    ensures count { work.new ≡ counted work.old (15 * V.LANES) }
-{
-    let t_low = V::low_words(number);
-    let t_high = V::high_words(number);
-    let mut h = keys(mode.key());
-    // Its proof names the loop by the label.
-    'blocks: for k in 0..15 {
-        let m = blocks_at(bytes, k);
-        compress(&mut h, m, t_low, t_high, mode.flag() + start_flag(k), work);
-    }
-    h
-}
-
-/// The chaining value of each chunk.
-pub(crate) fn chunk_values<V: Chunks>(
+/// The chaining value of each lane's chunk after all of its blocks but the last. The first lane has the first chunk, of the
+/// given number, and from one lane's chunk to the next lane's there are `STEP`.
+pub(crate) fn chains<V: Chunks, const STEP: usize>(
     mode: &Mode,
     bytes: &[u8],
     number: u64,
     work: &mut Work,
 ) -> [V; 8]
-    requires len { length bytes.now ≡ 1024 * V.LANES }
-    requires number { number + V.LANES ≤ 2 ^ 64 }
-    ensures values { (j : ℕ) → j < V.LANES → lane V.word j result ≡ chaining_value_of (chunk_at bytes.now number mode.now j) }
+    requires len { 1024 + 1024 * (STEP * V.LANES) ≤ length bytes.now + 1024 * STEP }
+    requires number { number + STEP * V.LANES < 2 ^ 64 + STEP }
+    ensures values { (j : ℕ) → j < V.LANES → lane V.word j result ≡ chain (chunk_bytes bytes.now (STEP * j)) (number + STEP * j) mode.now 15 }
+    ensures count { work.new ≡ counted work.old (15 * V.LANES) }
+{
+    let t_low = V::low_words(number, STEP as u64);
+    let t_high = V::high_words(number, STEP as u64);
+    let mut h = keys(mode.key());
+    // Its proof names the loop by the label.
+    'blocks: for k in 0..15 {
+        let m = blocks_at::<V, STEP>(bytes, k);
+        compress(&mut h, m, t_low, t_high, mode.flag() + start_flag(k), work);
+    }
+    h
+}
+
+/// The chaining value of each lane's chunk, with the chunks and numbers as `chains` has them.
+pub(crate) fn chunk_values<V: Chunks, const STEP: usize>(
+    mode: &Mode,
+    bytes: &[u8],
+    number: u64,
+    work: &mut Work,
+) -> [V; 8]
+    requires len { 1024 + 1024 * (STEP * V.LANES) ≤ length bytes.now + 1024 * STEP }
+    requires number { number + STEP * V.LANES < 2 ^ 64 + STEP }
+    ensures values { (j : ℕ) → j < V.LANES → lane V.word j result ≡ chaining_value_of (chunk_at bytes.now number mode.now (STEP * j)) }
     ensures count { work.new ≡ counted work.old (16 * V.LANES) }
 {
-    let mut values = chains(mode, bytes, number, work);
-    let last_block = blocks_at(bytes, 15);
-    let t_low = V::low_words(number);
-    let t_high = V::high_words(number);
+    let mut values = chains::<V, STEP>(mode, bytes, number, work);
+    let last_block = blocks_at::<V, STEP>(bytes, 15);
+    let t_low = V::low_words(number, STEP as u64);
+    let t_high = V::high_words(number, STEP as u64);
     compress(
         &mut values,
         last_block,
@@ -219,6 +225,19 @@ pub(crate) fn chunk_values<V: Chunks>(
         mode.flag() + CHUNK_END,
         work,
     );
+    values
+}
+
+// The chaining values of eight parents, from their blocks.
+#[inline(always)]
+fn block_parents(mode: &Mode, block: [u32x8; 16], work: &mut Work) -> [u32x8; 8]
+    ensures values { (j : ℕ) (a b : Inputs) → j < 8 → lane slice_index j block ≡ chaining_value_of a ++ chaining_value_of b
+        → lane slice_index j result ≡ chaining_value_of (parent_top a b mode.now) }
+    ensures count { work.new ≡ counted work.old 8 }
+{
+    let none = u32x8::splat(0);
+    let mut values = keys(mode.key());
+    compress(&mut values, block, none, none, mode.flag() + PARENT, work);
     values
 }
 
@@ -235,11 +254,35 @@ pub(crate) fn parent_values(
         → lane slice_index (j + 4) result ≡ chaining_value_of (parent_top a b mode.now) }
     ensures count { work.new ≡ counted work.old 8 }
 {
-    let block = pairs(left, right);
-    let none = u32x8::splat(0);
-    let mut values = keys(mode.key());
-    compress(&mut values, block, none, none, mode.flag() + PARENT, work);
-    values
+    block_parents(mode, pairs(left, right), work)
+}
+
+/// The chaining values of the parents of sixteen nodes: of a lane of the first eight, and the same lane of the other eight.
+pub(crate) fn lane_parents(
+    mode: &Mode,
+    left: [u32x8; 8],
+    right: [u32x8; 8],
+    work: &mut Work,
+) -> [u32x8; 8]
+    ensures values { (j : ℕ) (a b : Inputs) → j < 8 → lane slice_index j left ≡ chaining_value_of a → lane slice_index j right ≡ chaining_value_of b
+        → lane slice_index j result ≡ chaining_value_of (parent_top a b mode.now) }
+    ensures count { work.new ≡ counted work.old 8 }
+{
+    block_parents(mode, stacked(left, right), work)
+}
+
+// The blocks of eight parents: the words of the same lane of both.
+#[inline(always)]
+#[rattlefmt::skip]
+fn stacked(left: [u32x8; 8], right: [u32x8; 8]) -> [u32x8; 16]
+    ensures { (j : ℕ) → j < 8 → lane slice_index j result ≡ lane slice_index j left ++ lane slice_index j right }
+{
+    let [l0, l1, l2, l3, l4, l5, l6, l7] = left;
+    let [r0, r1, r2, r3, r4, r5, r6, r7] = right;
+    [
+        l0, l1, l2, l3, l4, l5, l6, l7,
+        r0, r1, r2, r3, r4, r5, r6, r7,
+    ]
 }
 
 // The lanes of even numbers, and those of odd numbers, of sixteen.

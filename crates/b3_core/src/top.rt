@@ -84,7 +84,7 @@ impl Top {
         ensures nodes { result ≡ eight_chunks bytes.now number mode.now }
         ensures count { work.new ≡ counted work.old 120 }
     {
-        let values: [u32x8; 8] = chains(mode, bytes, number, work);
+        let values = chains::<u32x8, 1>(mode, bytes, number, work);
         let n0 = Top::of_lane(mode, bytes, number, &values, 0);
         let n1 = Top::of_lane(mode, bytes, number, &values, 1);
         let n2 = Top::of_lane(mode, bytes, number, &values, 2);

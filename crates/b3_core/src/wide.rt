@@ -7,7 +7,7 @@ ghost use Rattle.b3_core.specs.Tree.{Inputs, chaining_value_of, parent_top, tree
 ghost use Rattle.b3_core.specs.Work.{counted, hash_work};
 
 use crate::compression::CHUNK_LEN;
-use crate::lanes::{chunk_values, lane_words, parent_values};
+use crate::lanes::{chunk_values, lane_parents, lane_words, parent_values};
 use crate::mode::Mode;
 use crate::top::Top;
 use crate::tree::left_len;
@@ -54,6 +54,23 @@ fn eighth_level(len: usize) -> Option<u32>
     if whole == len { Some(level) } else { None }
 }
 
+// The chaining values of eight times four whole chunks, the first with the given number. A lane keeps to its four chunks, one
+// after the other, so that the processor reads each of eight places forwards, and fetches ahead.
+fn page_values(mode: &Mode, bytes: &[u8], number: u64, work: &mut Work) -> [u32x8; 8]
+    requires len { length bytes.now ≡ 32768 }
+    requires number { number + 32 < 2 ^ 64 }
+    ensures values { (j : ℕ) → j < 8 → lane slice_index j result ≡ chaining_value_of (group_top 4 bytes.now number mode.now j) }
+    ensures count { work.new ≡ counted work.old 536 }
+{
+    let first = chunk_values::<u32x8, 4>(mode, bytes, number, work);
+    let second = chunk_values::<u32x8, 4>(mode, &bytes[CHUNK_LEN..], number + 1, work);
+    let third = chunk_values::<u32x8, 4>(mode, &bytes[2 * CHUNK_LEN..], number + 2, work);
+    let fourth = chunk_values::<u32x8, 4>(mode, &bytes[3 * CHUNK_LEN..], number + 3, work);
+    let left = lane_parents(mode, first, second, work);
+    let right = lane_parents(mode, third, fourth, work);
+    lane_parents(mode, left, right, work)
+}
+
 // The chaining values of the eight eighths of bytes, of 2^level whole chunks each; the first chunk has the given number.
 fn eighth_values(mode: &Mode, bytes: &[u8], level: u32, number: u64, work: &mut Work) -> [u32x8; 8]
     requires len { length bytes.now ≡ 8192 * 2 ^ level }
@@ -62,7 +79,10 @@ fn eighth_values(mode: &Mode, bytes: &[u8], level: u32, number: u64, work: &mut 
     ensures count { work.new ≡ counted work.old (136 * 2 ^ level - 8) }
 {
     if level == 0 {
-        return chunk_values(mode, bytes, number, work);
+        return chunk_values::<u32x8, 1>(mode, bytes, number, work);
+    }
+    if level == 2 {
+        return page_values(mode, bytes, number, work);
     }
     let middle = bytes.len() / 2;
     let (left, right) = bytes.split_at(middle);
@@ -96,7 +116,7 @@ fn four_top(mode: &Mode, bytes: &[u8], number: u64, work: &mut Work) -> Top
     ensures node { result ≡ tree_top bytes.now number mode.now }
     ensures count { work.new ≡ counted work.old 66 }
 {
-    let values: [u32x4; 8] = chunk_values(mode, bytes, number, work);
+    let values = chunk_values::<u32x4, 1>(mode, bytes, number, work);
     let left = pair_value(mode, &values, 0, work);
     let right = pair_value(mode, &values, 1, work);
     Top::of_children(mode, left, right)

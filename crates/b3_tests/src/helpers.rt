@@ -31,7 +31,7 @@ pub(crate) struct Row {
     pub(crate) derived: &'static str,
 }
 
-pub(crate) const ROWS: [Row; 7] = [
+pub(crate) const ROWS: [Row; 8] = [
     Row {
         len: 0,
         hash: "af1349b9f5f9a1a6a0404dea36dcc9499bcb25c9adc112b7cc9a93cae41f3262",
@@ -73,6 +73,12 @@ pub(crate) const ROWS: [Row; 7] = [
         hash: "f875d6646de28985646f34ee13be9a576fd515f76b5b0a26bb324735041ddde4",
         keyed: "9e9fc4eb7cf081ea7c47d1807790ed211bfec56aa25bb7037784c13c4b707b0d",
         derived: "160e18b5878cd0df1c3af85eb25a0db5344d43a6fbd7a8ef4ed98d0714c3f7e1",
+    },
+    Row {
+        len: 102400,
+        hash: "bc3e3d41a1146b069abffad3c0d44860cf664390afce4d9661f7902e7943e085",
+        keyed: "1c35d1a5811083fd7119f5d5d1ba027b4d01c0c6c49fb6ff2cf75393ea5db4a7",
+        derived: "4652cff7a3f385a6103b5c260fc1593e13c778dbe608efb092fe7ee69df6e9c6",
     },
 ];
 

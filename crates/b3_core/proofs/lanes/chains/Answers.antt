@@ -1,4 +1,4 @@
-use Rattle.std.proofs.Common.{◌≡◌, ◌+◌, ap₂, ◌∙◌, arith}
+use Rattle.std.proofs.Common.{◌≡◌, ◌+◌, ◌*◌, ap₂, ◌∙◌, arith}
 use Rattle.b3_core.specs.Tree.{chain}
 use Rattle.b3_core.specs.Lanes.{chunk_bytes}
 use Rattle.b3_core.proofs.Nodes.{chain_step}
@@ -11,8 +11,8 @@ blocks-2-init g c = record { chained = λ j h. c.keys-h.ensures j h ∙ c.key.en
 pub blocks-2-preserved : goal.blocks-2-preserved
 blocks-2-preserved g c = record {
   chained = λ j h.
-      c.compress.ensures.values j (c.args.number + j) h (c.low_words-t_low.ensures j h) (c.high_words-t_high.ensures j h)
-      ∙ chain_step (chunk_bytes c.args.bytes.now j) (c.args.number + j) c.args.mode.now c.blocks-2.k _ _ _ (c.blocks-2.invariant.chained j h)
+      c.compress.ensures.values j (c.args.number + g.row.STEP * j) h (c.low_words-t_low.ensures j h) (c.high_words-t_high.ensures j h)
+      ∙ chain_step (chunk_bytes c.args.bytes.now (g.row.STEP * j)) (c.args.number + g.row.STEP * j) c.args.mode.now c.blocks-2.k _ _ _ (c.blocks-2.invariant.chained j h)
       (c.blocks_at-m.ensures j h)
       (ap₂ (λ a b. a + b) c.flag.ensures.value c.start_flag.ensures);
   work = omega arith;

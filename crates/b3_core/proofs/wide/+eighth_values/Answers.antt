@@ -1,7 +1,7 @@
 use Rattle.std.proofs.Common.{◌≡◌, ℕ, ◌+◌, ◌-◌, ◌*◌, ◌/◌, ◌^◌, ◌<◌, List, length, take, drop, slice_index, arith, ap, ap₂, sym, subst, ◌∙◌}
 use Rattle.std.proofs.lemmas.List.{length-drop, length-take-le}
 use Rattle.std.proofs.lemmas.Nat.{pow_pos}
-use Rattle.b3_core.specs.Lanes.{lane, group_top}
+use Rattle.b3_core.specs.Lanes.{lane, chunk_at, group_top}
 use Rattle.b3_core.specs.Tree.{chaining_value_of}
 use Rattle.b3_core.proofs.EachLane.{below_eight}
 use Rattle.b3_core.proofs.WholeChunks.{eighth_one, front_pair, back_pair, level_up}
@@ -11,7 +11,14 @@ pub returns-then-level-eq0-clause-values : goal.returns-then-level-eq0-clause-va
 returns-then-level-eq0-clause-values t c j h =
     let one : 2 ^ c.args.level ≡ 1 = ap (λ k. 2 ^ k) c.if-level-eq0.true in
     c.chunk_values.ensures.values j h
+    ∙ ap (λ i. chaining_value_of (chunk_at c.args.bytes.now c.args.number c.args.mode.now i)) (omega arith)
     ∙ ap chaining_value_of (eighth_one c.args.bytes.now c.args.number j c.args.mode.now ∙ ap (λ k. group_top k c.args.bytes.now c.args.number c.args.mode.now j) (sym one))
+
+pub returns-then-level-eq2-clause-values : goal.returns-then-level-eq2-clause-values
+returns-then-level-eq2-clause-values t c j h =
+    let four : 2 ^ c.args.level ≡ 4 = ap (λ k. 2 ^ k) c.if-level-eq2.true in
+    c.page_values.ensures.values j h
+    ∙ ap (λ k. chaining_value_of (group_top k c.args.bytes.now c.args.number c.args.mode.now j)) (sym four)
 
 pub eighth_values-left_values-requires : goal.eighth_values-left_values-requires
 eighth_values-left_values-requires t c =
