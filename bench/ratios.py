@@ -1,11 +1,12 @@
-"""Runs each measurement in turn, several times, and prints the ratios of the best times."""
+"""Runs each measurement in turn, several times, and prints ratios: of the best times, and the median of those of each turn."""
 import os
+import statistics
 import subprocess
 import sys
 import tempfile
 import time
 
-TURNS = 9
+TURNS = 25
 KIB = [1, 2, 4, 6, 8, 12, 16, 31, 32]
 MIB = int(sys.argv[1])
 
@@ -31,6 +32,12 @@ def peak_memory(path, *words):
         return usage.ru_maxrss * 1024
 
 
+def ratios(own, other):
+    """How much quicker the first times are than the others: by the best ones, and by the median of the turns."""
+    median = statistics.median(theirs / ours for ours, theirs in zip(own, other))
+    return f"{min(other) / min(own):.2f}, median {median:.2f}"
+
+
 def lengths(pairs):
     """A row for each of a few short lengths: GB/s of each program, and the ratio of each pair of them."""
     print("KiB   " + "  ".join(f"{name:>13}" for pair in pairs for name in pair))
@@ -42,8 +49,8 @@ def lengths(pairs):
                 for name, words in pair.items():
                     best[name] = min(best.get(name, 1 << 62), inner(*words, str(size), str(turns)))
         rates = "  ".join(f"{size * turns / best[name] / 1000:13.2f}" for pair in pairs for name in pair)
-        ratios = "  ".join(f"{best[theirs] / best[ours]:.2f}" for ours, theirs in pairs)
-        print(f"{kib:3}   {rates}   {ratios}")
+        quicker = "  ".join(f"{best[theirs] / best[ours]:.2f}" for ours, theirs in pairs)
+        print(f"{kib:3}   {rates}   {quicker}")
 
 
 def main():
@@ -57,24 +64,24 @@ def main():
         runs = {
             "hash": lambda: inner(ours.format("v2"), "hash", str(MIB)),
             "portable": lambda: inner(official.format("portable"), str(MIB)),
+            "make, v2": lambda: inner(ours.format("v2"), "make", str(MIB // 16)),
             "hash_wide, v2": lambda: inner(ours.format("v2"), "hash_wide", str(MIB)),
             "SSE4.1": lambda: inner(official.format("sse41"), str(MIB)),
-            "make, v2": lambda: inner(ours.format("v2"), "make", str(MIB // 16)),
-            "sum": lambda: whole(path, "target/b3store", "sum"),
-            "b3sum": lambda: whole(path, "b3sum", "--num-threads", "1"),
         }
         if os.path.exists(ours.format("v3")):
+            runs["make, v3"] = lambda: inner(ours.format("v3"), "make", str(MIB // 16))
             runs["hash_wide, v3"] = lambda: inner(ours.format("v3"), "hash_wide", str(MIB))
             runs["AVX2"] = lambda: inner(official.format("avx2"), str(MIB))
-            runs["make, v3"] = lambda: inner(ours.format("v3"), "make", str(MIB // 16))
-        best = {}
+        runs["sum"] = lambda: whole(path, "target/b3store", "sum")
+        runs["b3sum"] = lambda: whole(path, "b3sum", "--num-threads", "1")
+        micros = {name: [] for name in runs}
         for _ in range(TURNS):
             for name, run in runs.items():
-                best[name] = min(best.get(name, 1 << 62), run())
+                micros[name].append(run())
         memory = peak_memory(path, "target/b3store", "sum")
     size = MIB << 20
-    for name, micros in best.items():
-        print(f"{name:14} {size / micros / 1000:6.2f} GB/s")
+    for name, turns in micros.items():
+        print(f"{name:14} {size / min(turns) / 1000:6.2f} GB/s, median {size / statistics.median(turns) / 1000:.2f}")
     for name, other, goal in [
         ("hash", "portable", 1.1),
         ("hash_wide, v2", "SSE4.1", 0.65),
@@ -82,9 +89,9 @@ def main():
         ("make, v2", "hash_wide, v2", 0.95),
         ("make, v3", "hash_wide, v3", 0.95),
     ]:
-        if name in best:
-            print(f"{name} / {other}: {best[other] / best[name]:.2f}  (goal {goal})")
-    print(f"sum / b3sum --num-threads 1: {best['b3sum'] / best['sum']:.2f}  (whole processes; b3sum takes what the processor has)")
+        if name in micros:
+            print(f"{name} / {other}: {ratios(micros[name], micros[other])}  (goal {goal})")
+    print(f"sum / b3sum --num-threads 1: {ratios(micros['sum'], micros['b3sum'])}  (whole processes; b3sum takes what the processor has)")
     print(f"memory of sum / input: {memory / size:.2f}  (goal at most 2.1)")
     lengths(
         [
