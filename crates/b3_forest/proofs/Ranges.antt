@@ -3,7 +3,7 @@ use Rattle.std.proofs.Common.{◌≡◌, ℕ, zero, suc, ◌+◌, ◌-◌, ◌*�
 use Rattle.std.specs.Prelude.{Bool, nat_le, ◌&&◌, min, max}
 use Rattle.std.proofs.lemmas.Bool.Decides.{nat_tests}
 use Rattle.std.proofs.lemmas.Bool.{cases_lt}
-use Rattle.std.proofs.lemmas.List.{length-drop, length-take, drop-drop, length-append}
+use Rattle.std.proofs.lemmas.List.{append-nil, length-drop, length-take, drop-drop, length-append}
 use Rattle.std.proofs.Math.Seq.{take-add}
 use Rattle.std.proofs.Math.Nat.{two-pow-succ}
 use Rattle.std.proofs.lemmas.Nat.{pow_pos}
@@ -164,6 +164,36 @@ pieces_of-halved a b k w s width h some =
     let out : (s < a) ⊎ (end_from a (length b) < s + 2 ^ suc (k - 1)) = elim some [ inl l ↦ inl l | inr r ↦ inr (omega (arith, up)) ] in
     ap (λ i. pieces_of x i s) h.level ∙ pieces_of-halves x (k - 1) s (not_full a b (suc (k - 1)) s out)
     ∙ ap (λ i. pieces_of x (k - 1) s ++ pieces_of x (k - 1) (s + i)) (sym h.width)
+
+-- a range of more than one chunk has halves
+pub lower : (k w : ℕ) → 0 < k → w ≡ 2 ^ k → Halved k w
+lower k w some width =
+    let next : k ≡ suc (k - 1) = omega arith in
+    let power : 2 ^ k ≡ 2 ^ suc (k - 1) = ap (λ i. 2 ^ i) next in
+    let two = two-pow-succ (k - 1) in
+    let positive = pow_pos (k - 1) in
+    record {
+      level = next;
+      width = omega (arith, width, power, two);
+      twice = omega (arith, width, power, two);
+      some = omega (arith, width, power, two, positive);
+    }
+
+-- the pieces of a range are those of its left half, where the part ends there
+pub pieces_left : (a : ℕ) (b : List ℕ) (k w s : ℕ) → w ≡ 2 ^ k → Halved k w → end_from a (length b) ≤ s + w / 2
+    → pieces_of (chunks_of (part_from a b)) (k - 1) s ≡ pieces_of (chunks_of (part_from a b)) k s
+pieces_left a b k w s width h ends =
+    let left = pieces_of (chunks_of (part_from a b)) (k - 1) s in
+    sym (pieces_of-halved a b k w s width h (inr (omega (arith, ends, h.twice, h.some)))
+    ∙ ap (λ (r : List Piece). left ++ r) (pieces_of-none a b (k - 1) (s + w / 2) (inr ends)) ∙ append-nil left)
+
+-- and those of its right half, where the part begins there
+pub pieces_right : (a : ℕ) (b : List ℕ) (k w s : ℕ) → w ≡ 2 ^ k → Halved k w → s + w / 2 ≤ a
+    → pieces_of (chunks_of (part_from a b)) (k - 1) (s + w / 2) ≡ pieces_of (chunks_of (part_from a b)) k s
+pieces_right a b k w s width h begins =
+    let right = pieces_of (chunks_of (part_from a b)) (k - 1) (s + w / 2) in
+    sym (pieces_of-halved a b k w s width h (inl (omega (arith, begins, h.some)))
+    ∙ ap (λ (l : List Piece). l ++ right) (pieces_of-none a b (k - 1) s (inl (omega (arith, begins, h.width)))))
 
 -- a part has no more pieces in a range than chunks
 pub pieces_bound : (a : ℕ) (b : List ℕ) (k s : ℕ)

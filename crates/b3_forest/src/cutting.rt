@@ -4,9 +4,10 @@
 ghost use Rattle.std.specs.Prelude.{◌≡◌, ℕ, ◌+◌, ◌-◌, ◌*◌, ◌/◌, ◌^◌, ◌<◌, ◌≤◌, ◌++◌, OnOk, length, min, max};
 ghost use Rattle.b3_core.specs.Work.{counted};
 ghost use Rattle.b3_forest.specs.Parts.{chunks_of, most_part_bytes};
-ghost use Rattle.b3_forest.specs.Pieces.{most_chunks, part_work, piece_at, pieces_of};
+ghost use Rattle.b3_forest.specs.Pieces.{most_chunks, part_work, piece_at, piece_count, pieces_of, root_level};
 
 use crate::piece::Piece;
+use crate::plan::{MOST_CHUNKS, ROOT_LEVEL};
 use b3_core::{CHUNK_LEN, Mode, Top, Work};
 use std::alloc::AllocError;
 
@@ -24,8 +25,8 @@ fn piece_of(start: u64, bytes: &[u8], level: u32, width: u64, first: u64, work: 
     Piece { first, level, top }
 }
 
-/// Adds the pieces among 2^level chunks from the chunk `first` on, of a part that begins at the chunk `start`.
-pub(crate) fn push_pieces(
+// Adds the pieces among 2^level chunks from the chunk `first` on, of a part that begins at the chunk `start`.
+fn push_pieces(
     start: u64,
     bytes: &[u8],
     level: u32,
@@ -54,4 +55,34 @@ pub(crate) fn push_pieces(
     push_pieces(start, bytes, level - 1, half, first, pieces, work)?;
     push_pieces(start, bytes, level - 1, half, first + half, pieces, work)?;
     Ok(())
+}
+
+/// Adds the pieces of a part that begins at the chunk `start`. It begins with the smallest range that holds the whole part.
+pub(crate) fn push_all(
+    start: u64,
+    bytes: &[u8],
+    pieces: &mut Vec<Piece>,
+    work: &mut Work,
+) -> Result<(), AllocError>
+    requires len { (length bytes.now ≤ most_part_bytes) × (0 < length bytes.now) }
+    requires within { start + (length bytes.now + 1023) / 1024 ≤ most_chunks }
+    ensures pieces { OnOk result (pieces.new.items ≡ pieces.old.items ++ pieces_of (chunks_of (record { offset = 1024 * start; bytes = bytes.now })) root_level 0) }
+    ensures count { OnOk result (work.new ≡ counted work.old (part_work (length bytes.now)
+        (piece_count (chunks_of (record { offset = 1024 * start; bytes = bytes.now }))))) }
+{
+    let end = start + bytes.len().div_ceil(CHUNK_LEN) as u64;
+    let mut level = ROOT_LEVEL;
+    let mut width = MOST_CHUNKS;
+    let mut first = 0u64;
+    while level > 0 {
+        let half = width / 2;
+        if start >= first + half {
+            first += half;
+        } else if end > first + half {
+            break;
+        }
+        width = half;
+        level -= 1;
+    }
+    push_pieces(start, bytes, level, width, first, pieces, work)
 }

@@ -8,9 +8,9 @@ ghost use Rattle.b3_forest.specs.Parts.{Fits, PlannedPart, chunks_of, end_of, is
 ghost use Rattle.b3_forest.specs.Uploads.{part_of};
 ghost use Rattle.b3_forest.specs.Pieces.{IsPrepared, part_work, piece_count, pieces_of, root_level};
 
-use crate::cutting::push_pieces;
+use crate::cutting::push_all;
 use crate::piece::Piece;
-use crate::plan::{MOST_CHUNKS, Plan, ROOT_LEVEL};
+use crate::plan::Plan;
 use crate::refusal::{PartFault, PartRefused, fault_of};
 use crate::segment::Segment;
 use b3_core::Work;
@@ -65,15 +65,7 @@ impl Prepared {
         }
         let mut pieces = Vec::new(alloc);
         let start = offset / 1024;
-        let Ok(()) = push_pieces(
-            start,
-            bytes.as_slice(),
-            ROOT_LEVEL,
-            MOST_CHUNKS,
-            0,
-            &mut pieces,
-            work,
-        ) else {
+        let Ok(()) = push_all(start, bytes.as_slice(), &mut pieces, work) else {
             let fault = PartFault::NoMemory;
             return Err(PartRefused { fault, bytes });
         };
