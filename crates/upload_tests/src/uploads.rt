@@ -12,7 +12,7 @@ use std::sync::atomic::AtomicBool;
 use std::sync::ledger::{Blank, Ledger};
 use std::test::Fail;
 use std::thread::Threads;
-use store_core::{Address, Limits, Refusal, Store, TenantId};
+use store_core::{Address, Limits, Refusal, Sealed, Store, TenantId};
 use store_ledger::{Accepted, NotWhole};
 use store_shared::{Gate, PassAll, Shared, lent_open_tenant, upload};
 
@@ -69,6 +69,25 @@ fn filed(address: [u8; 32], bytes: u64, calls: u64) -> Seen {
     }
 }
 
+// What a store shows of an upload that tenant 1 sealed.
+fn seen_in(
+    rt: &impl AllocGlobal,
+    store: &Store,
+    sealed: Sealed,
+    accepted: Accepted,
+    row: &[u8],
+) -> Result<Seen, Fail> {
+    let address = sealed.address;
+    Ok(Seen {
+        address,
+        is_new: sealed.new,
+        accepted,
+        entries: store.journal().len() as u64,
+        held_by_0: is_held(rt, store, TenantId::new(0), address, row)?,
+        held_by_1: is_held(rt, store, TenantId::new(1), address, row)?,
+    })
+}
+
 // Uploads a pattern for tenant 1 in parts of one chunk, with the whole share, which settles.
 fn sealed<B: Ledger, C: Ledger, G: Gate + Sync, R: Threads + Wait + Sync + AllocGlobal>(
     rt: &R,
@@ -92,15 +111,7 @@ fn sealed<B: Ledger, C: Ledger, G: Gate + Sync, R: Threads + Wait + Sync + Alloc
     let mut share = share;
     let mut locked = shared.close();
     let accepted = locked.settle(&mut share).ok().ok_or("not whole")?;
-    let address = sealed.address;
-    Ok(Seen {
-        address,
-        is_new: sealed.new,
-        accepted,
-        entries: locked.store().journal().len() as u64,
-        held_by_0: is_held(rt, locked.store(), TenantId::new(0), address, row)?,
-        held_by_1: is_held(rt, locked.store(), tenant, address, row)?,
-    })
+    seen_in(rt, locked.store(), sealed, accepted, row)
 }
 
 #[test]
