@@ -16,7 +16,8 @@ use std::sync::Wait;
 use std::sync::ledger::{Blank, Ledger};
 use std::test::Fail;
 use std::thread::Threads;
-use store_core::{Limits, Refusal, Store, replay};
+use store_core::{Limits, Refusal, Store, TenantId, replay};
+use store_ledger::Share;
 use store_shared::{PassAll, Shared, UploadFault, UploadFaultKind, lent_open_tenant};
 
 // Whether an upload has told want of memory and left nothing.
@@ -35,6 +36,26 @@ fn has_objects(alloc: Global, store: &Store, objects: u64) -> Result<bool, Alloc
     Ok(is_empty && totals.objects == objects && replayed.totals() == totals)
 }
 
+// Uploads once more, after an upload that has told want of memory and is gone. Whether this one is sealed.
+fn uploaded_again<B: Ledger, C: Ledger, R: Threads + Wait + Sync + AllocGlobal + Abort>(
+    rt: &R,
+    shared: &Shared<B, C>,
+    share: Share<B, C>,
+    fault: UploadFault,
+    row: &[u8],
+    workers: u64,
+) -> Result<(Share<B, C>, bool), AllocError> {
+    let alloc = rt.alloc();
+    assert!(rt; is_want_of_memory(fault), "{fault:?}");
+    let is_gone = has_objects(alloc, shared.lock(rt).store(), 0);
+    assert!(rt; is_gone?);
+    let put = share.bytes();
+    let tenant = TenantId::new(0);
+    let (share, again) = upload_row(rt, alloc, shared, share, &PassAll, tenant, row, workers);
+    assert_eq!(rt; share.bytes(), put.saturating_add(2049));
+    Ok((share, again.is_ok()))
+}
+
 fn sealed_in_the_end<B: Ledger, C: Ledger, R: Threads + Wait + Sync + AllocGlobal + Abort>(
     rt: &R,
     bytes: Blank,
@@ -51,18 +72,11 @@ fn sealed_in_the_end<B: Ledger, C: Ledger, R: Threads + Wait + Sync + AllocGloba
     let opened = lent_open_tenant(&mut *shared.lock(rt), 4098);
     let tenant = opened.ok().ok_or(AllocError)?;
     let (share, answer) = upload_row(rt, alloc, &shared, share, &PassAll, tenant, row, workers);
-    let put = share.bytes();
+    let (share, is_sealed) = match answer {
+        Ok(_) => (share, true),
+        Err(fault) => uploaded_again(rt, &shared, share, fault, row, workers)?,
+    };
     let mut share = share;
-    let mut is_sealed = answer.is_ok();
-    if let Err(fault) = answer {
-        assert!(rt; is_want_of_memory(fault), "{fault:?}");
-        let is_gone = has_objects(alloc, shared.lock(rt).store(), 0);
-        assert!(rt; is_gone?);
-        let (again, second) = upload_row(rt, alloc, &shared, share, &PassAll, tenant, row, workers);
-        assert_eq!(rt; again.bytes(), put.saturating_add(2049));
-        share = again;
-        is_sealed = second.is_ok();
-    }
     let mut locked = shared.close();
     let is_settled = locked.settle(&mut share).is_ok();
     let is_filed = has_objects(alloc, locked.store(), 1)?;
