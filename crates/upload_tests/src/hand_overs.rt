@@ -6,6 +6,7 @@ ghost use Rattle.store_board.specs.Passes.{IsGiverOf, IsTakerOf};
 use b3_core::Work;
 use b3_forest::{Plan, Prepared};
 use std::alloc::{AllocError, Global};
+use std::process::Abort;
 use std::sync::{Mutex, Wait};
 use std::test::Fail;
 use std::thread;
@@ -62,15 +63,31 @@ fn a_full_queue_hands_the_part_back(rt: HostRuntime) -> Result<(), Fail> {
     Ok(())
 }
 
+// Gives three parts, the second one by another giver. There is room for each.
+fn give_three<R: Wait + AllocGlobal + Abort>(
+    rt: &R,
+    hand_over: &HandOver,
+    first: &mut GivePass,
+    second: &mut GivePass,
+) -> Result<(), Fail>
+    requires first { IsGiverOf hand_over.now first.old }
+    requires second { IsGiverOf hand_over.now second.old }
+    ensures first { IsGiverOf hand_over.now first.new }
+    ensures second { IsGiverOf hand_over.now second.new }
+{
+    let one = given(rt, hand_over, first, 1)?;
+    let two = given(rt, hand_over, second, 2)?;
+    let three = given(rt, hand_over, first, 3)?;
+    assert_eq!(rt; (one, two, three), (None, None, None));
+    Ok(())
+}
+
 #[test]
 fn parts_come_in_the_order_in_which_they_were_given(rt: HostRuntime) -> Result<(), Fail> {
     let (hand_over, mut givers, mut taker) = HandOver::new(rt.alloc(), 3, 2)?;
     let mut second = givers.pop().expect(&rt, "two givers");
     let mut first = givers.pop().expect(&rt, "two givers");
-    let one = given(&rt, &hand_over, &mut first, 1)?;
-    let two = given(&rt, &hand_over, &mut second, 2)?;
-    let three = given(&rt, &hand_over, &mut first, 3)?;
-    assert_eq!(rt; (one, two, three), (None, None, None));
+    give_three(&rt, &hand_over, &mut first, &mut second)?;
     assert_eq!(rt; taken(&rt, &hand_over, &mut taker), Some((0, 1024)));
     assert_eq!(rt; taken(&rt, &hand_over, &mut taker), Some((1, 2048)));
     let moved = hand_over.close(&rt, vec![in rt.alloc(); first, second]?, taker);
