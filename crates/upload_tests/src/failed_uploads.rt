@@ -3,16 +3,18 @@
 ghost use Rattle.std.specs.Prelude.{◌≡◌, ◌^◌};
 
 use crate::gates::{Counting, FailAll, FailAt, FailBoth, StopAt};
-use crate::reports::{aborted_after, fault_text, store_text};
+use crate::reports::{aborted_after, fault_text, left_text};
 use b3_tests::pattern;
+use std::alloc::Global;
 use std::marker::Brand;
 use std::process::Abort;
 use std::sync::Wait;
 use std::sync::ledger::{Blank, Ledger};
 use std::test::Fail;
 use std::thread::Threads;
-use store_core::Limits;
-use store_shared::{Gate, PassAll, Shared, lent_open_tenant, upload};
+use store_core::{Limits, Sealed, TenantId};
+use store_ledger::Share;
+use store_shared::{Gate, Locked, PassAll, Shared, UploadFault, lent_open_tenant, upload};
 
 // The tenant's limit, bytes of a pattern, how many chunks a part has, and how many workers there are.
 #[derive(Clone, Copy)]
@@ -23,7 +25,20 @@ struct Cut {
     workers: u64,
 }
 
-// Uploads a pattern with the whole share, which settles, and looks at what is left.
+// The fault of an upload that failed, and what it left in a store whose whole share settles.
+fn failed_text<B: Ledger, C: Ledger>(
+    alloc: Global,
+    answer: Result<Sealed, UploadFault>,
+    locked: &mut Locked<B, C>,
+    share: &mut Share<B, C>,
+) -> Result<String, Fail> {
+    let fault = answer.err().ok_or("sealed")?;
+    let told = fault_text(alloc, &fault)?;
+    let left = left_text(alloc, locked, share)?;
+    Ok(format!(in alloc; "{}, {}", told.as_str(), left.as_str())?)
+}
+
+// Uploads a pattern for tenant 0 with the whole share. Where that tenant isn't opened, the upload is refused by S1.
 fn failed<B: Ledger, C: Ledger, G: Gate + Sync, R: Threads + Wait + Sync + AllocGlobal>(
     rt: &R,
     bytes: Blank,
@@ -37,28 +52,22 @@ fn failed<B: Ledger, C: Ledger, G: Gate + Sync, R: Threads + Wait + Sync + Alloc
 {
     let alloc = rt.alloc();
     let input = pattern(alloc, 0, cut.len)?;
-    let row = input.as_slice();
     let (shared, share) = Shared::<B, C>::new(alloc, limits, bytes, calls);
-    let opened = lent_open_tenant(&mut *shared.lock(rt), cut.limit);
-    let tenant = opened.ok().ok_or("no tenant")?;
+    let _opened = lent_open_tenant(&mut *shared.lock(rt), cut.limit);
     let (share, answer) = upload(
         rt,
         alloc,
         &shared,
         share,
         gate,
-        tenant,
-        row,
+        TenantId::new(0),
+        input.as_slice(),
         cut.part_chunks,
         cut.workers,
     );
-    let fault = answer.err().ok_or("sealed")?;
     let mut share = share;
     let mut locked = shared.close();
-    let accepted = locked.settle(&mut share).ok().ok_or("not whole")?;
-    let told = fault_text(alloc, &fault)?;
-    let left = store_text(alloc, accepted, locked.store())?;
-    Ok(format!(in alloc; "{}, {}", told.as_str(), left.as_str())?)
+    failed_text(alloc, answer, &mut locked, &mut share)
 }
 
 // What an upload leaves that fails.

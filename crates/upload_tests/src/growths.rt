@@ -36,24 +36,46 @@ fn has_objects(alloc: Global, store: &Store, objects: u64) -> Result<bool, Alloc
     Ok(is_empty && totals.objects == objects && replayed.totals() == totals)
 }
 
-// Uploads once more, after an upload that has told want of memory and is gone. Whether this one is sealed.
-fn uploaded_again<B: Ledger, C: Ledger, R: Threads + Wait + Sync + AllocGlobal + Abort>(
+// Opens a tenant, and once more where that is refused memory.
+fn open_in_the_end<B: Ledger, C: Ledger, R: Wait>(rt: &R, shared: &Shared<B, C>) {
+    let mut locked = shared.lock(rt);
+    if lent_open_tenant(&mut *locked, 4098).is_err() {
+        let _opened = lent_open_tenant(&mut *locked, 4098);
+    }
+}
+
+// Uploads once more, after an upload that has told want of memory. Whether that one is gone and this one is sealed.
+fn uploaded_again<B: Ledger, C: Ledger, R: Threads + Wait + Sync + AllocGlobal>(
     rt: &R,
     shared: &Shared<B, C>,
     share: Share<B, C>,
     fault: UploadFault,
     row: &[u8],
     workers: u64,
-) -> Result<(Share<B, C>, bool), AllocError> {
+) -> (Share<B, C>, Result<bool, AllocError>) {
     let alloc = rt.alloc();
-    assert!(rt; is_want_of_memory(fault), "{fault:?}");
     let is_gone = has_objects(alloc, shared.lock(rt).store(), 0);
-    assert!(rt; is_gone?);
     let put = share.bytes();
     let tenant = TenantId::new(0);
     let (share, again) = upload_row(rt, alloc, shared, share, &PassAll, tenant, row, workers);
-    assert_eq!(rt; share.bytes(), put.saturating_add(2049));
-    Ok((share, again.is_ok()))
+    let is_risen = share.bytes() == put.saturating_add(2049);
+    let is_well = is_want_of_memory(fault) && is_risen && again.is_ok();
+    match is_gone {
+        Ok(is_gone) => (share, Ok(is_gone && is_well)),
+        Err(AllocError) => (share, Err(AllocError)),
+    }
+}
+
+// Whether all went well, unless it can't be told for want of memory.
+fn ended<R: Abort>(
+    rt: &R,
+    is_sealed: Result<bool, AllocError>,
+    is_settled: bool,
+    is_filed: Result<bool, AllocError>,
+) -> Result<(), AllocError> {
+    let (is_sealed, is_filed) = (is_sealed?, is_filed?);
+    assert!(rt; is_sealed && is_settled && is_filed);
+    Ok(())
 }
 
 fn sealed_in_the_end<B: Ledger, C: Ledger, R: Threads + Wait + Sync + AllocGlobal + Abort>(
@@ -69,19 +91,18 @@ fn sealed_in_the_end<B: Ledger, C: Ledger, R: Threads + Wait + Sync + AllocGloba
     let input = pattern(alloc, 0, 2049)?;
     let row = input.as_slice();
     let (shared, share) = Shared::<B, C>::new(alloc, Limits::full(), bytes, calls);
-    let opened = lent_open_tenant(&mut *shared.lock(rt), 4098);
-    let tenant = opened.ok().ok_or(AllocError)?;
+    open_in_the_end(rt, &shared);
+    let tenant = TenantId::new(0);
     let (share, answer) = upload_row(rt, alloc, &shared, share, &PassAll, tenant, row, workers);
     let (share, is_sealed) = match answer {
-        Ok(_) => (share, true),
-        Err(fault) => uploaded_again(rt, &shared, share, fault, row, workers)?,
+        Ok(_) => (share, Ok(true)),
+        Err(fault) => uploaded_again(rt, &shared, share, fault, row, workers),
     };
     let mut share = share;
     let mut locked = shared.close();
     let is_settled = locked.settle(&mut share).is_ok();
-    let is_filed = has_objects(alloc, locked.store(), 1)?;
-    assert!(rt; is_sealed && is_settled && is_filed);
-    Ok(())
+    let is_filed = has_objects(alloc, locked.store(), 1);
+    ended(rt, is_sealed, is_settled, is_filed)
 }
 
 // Whatever growth is refused, the upload is sealed in the end.

@@ -1,9 +1,11 @@
 //! What an upload leaves, as text.
 
 use std::alloc::{AllocError, Global};
+use std::sync::ledger::Ledger;
+use std::test::Fail;
 use store_core::{Entry, Store};
-use store_ledger::Accepted;
-use store_shared::UploadFault;
+use store_ledger::{Accepted, Share};
+use store_shared::{Locked, UploadFault};
 
 /// A fault, and the upload that it leaves.
 pub(crate) fn fault_text(alloc: Global, fault: &UploadFault) -> Result<String, AllocError> {
@@ -25,16 +27,22 @@ fn journal_text(alloc: Global, entries: &[Entry]) -> Result<String, AllocError> 
     Ok(text)
 }
 
-/// What was accepted, what the store holds, and its journal.
-pub(crate) fn store_text(
-    alloc: Global,
-    accepted: Accepted,
-    store: &Store,
-) -> Result<String, AllocError> {
+// What was accepted, what the store holds, and its journal.
+fn store_text(alloc: Global, accepted: Accepted, store: &Store) -> Result<String, AllocError> {
     let Accepted { bytes, calls } = accepted;
     let totals = store.totals();
     let journal = journal_text(alloc, store.journal())?;
     format!(in alloc; "accepted {bytes} {calls}, {totals}, {}", journal.as_str())
+}
+
+/// What the whole share of a store settles at, what the store holds, and its journal.
+pub(crate) fn left_text<B: Ledger, C: Ledger>(
+    alloc: Global,
+    locked: &mut Locked<B, C>,
+    share: &mut Share<B, C>,
+) -> Result<String, Fail> {
+    let accepted = locked.settle(share).ok().ok_or("not whole")?;
+    Ok(store_text(alloc, accepted, locked.store())?)
 }
 
 // Offset and length of a part of the pattern of 2049 bytes, cut into parts of one chunk.

@@ -13,7 +13,7 @@ use std::sync::ledger::{Blank, Ledger};
 use std::test::Fail;
 use std::thread;
 use std::thread::Threads;
-use store_core::{Address, Limits, Object, Refusal, TenantId, UploadId};
+use store_core::{Address, Limits, Object, Refusal, TenantId, UploadId, Usage};
 use store_ledger::{Accepted, NotWhole, Share};
 use store_shared::{
     Shared, lent_abort, lent_begin, lent_begin_open, lent_fix, lent_forget, lent_open_tenant,
@@ -64,7 +64,8 @@ fn begin_two_chunks<B: Ledger, C: Ledger, R: Wait>(
     Ok(())
 }
 
-// Two threads put a half each, with a share each, the one at `first` in the first thread.
+// Two threads put a half each, with a share each, the one at `first` in the first thread. Where the upload isn't begun, both
+// are refused by S7.
 fn two_halves<
     B: Ledger + Send + Sync,
     C: Ledger + Send + Sync,
@@ -74,13 +75,13 @@ fn two_halves<
     requires calls { (calls.name ≡ C.name) × (calls.parts ≡ C.parts) × (calls.parts ≡ 2 ^ 32) }
     requires first { first ≤ 1024 }
 {
-    let (shared, mut share) = Shared::<B, C>::new(rt.alloc(), Limits::full(), bytes, calls);
-    let other = share.split(1);
-    begin_two_chunks(rt, &shared).ok().ok_or("not begun")?;
     let one = half(rt, first)?;
     let two = half(rt, 1024 - first)?;
     let work_one = Work::new(rt);
     let work_two = Work::new(rt);
+    let (shared, mut share) = Shared::<B, C>::new(rt.alloc(), Limits::full(), bytes, calls);
+    let other = share.split(1);
+    let _begun = begin_two_chunks(rt, &shared);
     let both = &shared;
     let ((mut share, done_one), (other, done_two)) = thread::join(
         rt,
@@ -91,21 +92,22 @@ fn two_halves<
             ensures { (result.0.bytes < other.bytes + 2 ^ 63) × (result.0.calls ≤ other.calls + 1) }
         { put_one(rt, both, other, two, work_two) },
     );
-    assert!(rt; done_one && done_two);
-    sealed_and_forgotten(rt, &shared, &mut share)?;
+    let filed = sealed_and_forgotten(rt, &shared, &mut share);
     let mut locked = shared.close();
+    let before = locked.settle(&mut share);
+    share.join(other);
+    let after = locked.settle(&mut share);
+    assert!(rt; done_one && done_two);
     let missing = NotWhole {
         bytes: 1024,
         calls: 1,
     };
-    assert_eq!(rt; locked.settle(&mut share), Err(missing));
-    share.join(other);
     let accepted = Accepted {
         bytes: 2048,
         calls: 2,
     };
-    assert_eq!(rt; locked.settle(&mut share), Ok(accepted));
-    Ok(())
+    assert_eq!(rt; (before, after), (Err(missing), Ok(accepted)));
+    filed
 }
 
 // Whether an object has the bytes of the pattern of 2048.
@@ -156,77 +158,126 @@ fn two_threads_put_the_other_way_round(rt: HostRuntime) -> Result<(), Fail> {
     two_halves::<Brand, Brand, _>(&rt, Blank::new(1 << 32), Blank::new(1 << 32), 1024)
 }
 
-// A part that was put and given up counts as accepted.
-fn aborted<B: Ledger, C: Ledger, R: Wait + AllocGlobal + Abort>(
+// What became of an upload that is aborted with one part, and of the share that put it.
+#[derive(Clone, Copy, Debug, PartialEq, Eq)]
+struct GivenUp {
+    is_put: bool,
+    not_sealed: Option<Refusal>,
+    is_aborted: bool,
+    settled: Result<Accepted, NotWhole>,
+}
+
+// Puts one of two parts, and aborts the upload. Where it isn't begun, all that follows is refused by S7.
+fn aborted<B: Ledger, C: Ledger, R: Wait + AllocGlobal>(
     rt: &R,
     bytes: Blank,
     calls: Blank,
-) -> Result<(), Fail>
+) -> Result<GivenUp, Fail>
     requires bytes { (bytes.name ≡ B.name) × (bytes.parts ≡ B.parts) × (bytes.parts ≡ 2 ^ 32) }
     requires calls { (calls.name ≡ C.name) × (calls.parts ≡ C.parts) × (calls.parts ≡ 2 ^ 32) }
 {
+    let part = half(rt, 1024)?;
+    let mut work = Work::new(rt);
     let (shared, mut share) = Shared::<B, C>::new(rt.alloc(), Limits::full(), bytes, calls);
-    begin_two_chunks(rt, &shared).ok().ok_or("not begun")?;
+    let _begun = begin_two_chunks(rt, &shared);
     let mut locked = shared.close();
     let upload = UploadId::new(0);
-    let part = half(rt, 1024)?;
-    let put = lent_put(&mut locked, &mut share, upload, part, &mut Work::new(rt));
-    assert!(rt; put.is_ok());
+    let is_put = lent_put(&mut locked, &mut share, upload, part, &mut work).is_ok();
     let address = Address::new(PATTERN_2048);
-    let sealed = lent_seal_as(&mut locked, upload, address, &mut Work::new(rt));
-    assert_eq!(rt; sealed.err(), Some(Refusal::Incomplete { missing: 0 }));
-    assert!(rt; lent_abort(&mut locked, upload).is_ok());
+    Ok(GivenUp {
+        is_put,
+        not_sealed: lent_seal_as(&mut locked, upload, address, &mut work).err(),
+        is_aborted: lent_abort(&mut locked, upload).is_ok(),
+        settled: locked.settle(&mut share),
+    })
+}
+
+// A part that was put and given up counts as accepted.
+#[test]
+fn an_aborted_part_was_accepted(rt: HostRuntime) -> Result<(), Fail> {
+    let seen = aborted::<Brand, Brand, _>(&rt, Blank::new(1 << 32), Blank::new(1 << 32))?;
     let accepted = Accepted {
         bytes: 1024,
         calls: 1,
     };
-    assert_eq!(rt; locked.settle(&mut share), Ok(accepted));
+    let wanted = GivenUp {
+        is_put: true,
+        not_sealed: Some(Refusal::Incomplete { missing: 0 }),
+        is_aborted: true,
+        settled: Ok(accepted),
+    };
+    assert_eq!(rt; seen, wanted);
     Ok(())
 }
 
-#[test]
-fn an_aborted_part_was_accepted(rt: HostRuntime) -> Result<(), Fail> {
-    aborted::<Brand, Brand, _>(&rt, Blank::new(1 << 32), Blank::new(1 << 32))
+// What an upload came to whose length is fixed later. The book and the share tell its parts alone.
+#[derive(Clone, Copy, Debug, PartialEq, Eq)]
+struct FixedLater {
+    before: Accepted,
+    are_put: bool,
+    fixed: Result<(), Refusal>,
+    accepted: Accepted,
+    usage: Result<Usage, Refusal>,
+    is_sealed: bool,
+    settled: Result<Accepted, NotWhole>,
 }
 
-// Begins an upload whose length is fixed later, puts both its parts, and fixes its length. The book and the share tell the parts
-// alone.
-fn fixed_later<B: Ledger, C: Ledger, R: Wait + AllocGlobal + Abort>(
+// Begins an upload whose length is fixed later, puts both its parts, and fixes its length. Where it isn't begun, all that
+// follows is refused by S7.
+fn fixed_later<B: Ledger, C: Ledger, R: Wait + AllocGlobal>(
     rt: &R,
     bytes: Blank,
     calls: Blank,
-) -> Result<(), Fail>
+) -> Result<FixedLater, Fail>
     requires bytes { (bytes.name ≡ B.name) × (bytes.parts ≡ B.parts) × (bytes.parts ≡ 2 ^ 32) }
     requires calls { (calls.name ≡ C.name) × (calls.parts ≡ C.parts) × (calls.parts ≡ 2 ^ 32) }
 {
+    let plan = Plan::open(4096).ok().ok_or("no plan")?;
+    let second = chunk(rt, &plan, 1024)?;
+    let first = chunk(rt, &plan, 0)?;
+    let mut work = Work::new(rt);
     let (shared, mut share) = Shared::<B, C>::new(rt.alloc(), Limits::full(), bytes, calls);
     let mut locked = shared.close();
-    let tenant = lent_open_tenant(&mut locked, 8192).ok().ok_or("no tenant")?;
-    let begun = lent_begin_open(&mut locked, tenant, 4096);
-    let (upload, plan) = begun.ok().ok_or("not begun")?;
-    let nothing = Accepted { bytes: 0, calls: 0 };
-    assert_eq!(rt; locked.accepted(&mut share), nothing);
-    for offset in [1024u64, 0] {
-        let part = chunk(rt, &plan, offset)?;
-        let put = lent_put(&mut locked, &mut share, upload, part, &mut Work::new(rt));
-        assert!(rt; put.is_ok());
-    }
-    assert_eq!(rt; lent_fix(&mut locked, upload, 2048), Ok(()));
-    let accepted = Accepted {
-        bytes: 2048,
-        calls: 2,
-    };
-    assert_eq!(rt; locked.accepted(&mut share), accepted);
-    let usage = locked.store().usage(tenant).ok().ok_or("no tenant")?;
-    assert_eq!(rt; (usage.used, usage.reserved), (0, 2048));
+    let (tenant, upload) = (TenantId::new(0), UploadId::new(0));
+    let _opened = lent_open_tenant(&mut locked, 8192);
+    let _begun = lent_begin_open(&mut locked, tenant, 4096);
+    let before = locked.accepted(&mut share);
+    let one = lent_put(&mut locked, &mut share, upload, second, &mut work).is_ok();
+    let two = lent_put(&mut locked, &mut share, upload, first, &mut work).is_ok();
+    let fixed = lent_fix(&mut locked, upload, 2048);
     let address = Address::new(PATTERN_2048);
-    let sealed = lent_seal_as(&mut locked, upload, address, &mut Work::new(rt));
-    assert!(rt; sealed.is_ok());
-    assert_eq!(rt; locked.settle(&mut share), Ok(accepted));
-    Ok(())
+    Ok(FixedLater {
+        before,
+        are_put: one && two,
+        fixed,
+        accepted: locked.accepted(&mut share),
+        usage: locked.store().usage(tenant),
+        is_sealed: lent_seal_as(&mut locked, upload, address, &mut work).is_ok(),
+        settled: locked.settle(&mut share),
+    })
 }
 
 #[test]
 fn a_length_is_fixed_under_the_lock(rt: HostRuntime) -> Result<(), Fail> {
-    fixed_later::<Brand, Brand, _>(&rt, Blank::new(1 << 32), Blank::new(1 << 32))
+    let seen = fixed_later::<Brand, Brand, _>(&rt, Blank::new(1 << 32), Blank::new(1 << 32))?;
+    let accepted = Accepted {
+        bytes: 2048,
+        calls: 2,
+    };
+    let usage = Usage {
+        used: 0,
+        reserved: 2048,
+        limit: 8192,
+    };
+    let wanted = FixedLater {
+        before: Accepted { bytes: 0, calls: 0 },
+        are_put: true,
+        fixed: Ok(()),
+        accepted,
+        usage: Ok(usage),
+        is_sealed: true,
+        settled: Ok(accepted),
+    };
+    assert_eq!(rt; seen, wanted);
+    Ok(())
 }

@@ -4,8 +4,8 @@ ghost use Rattle.std.specs.Prelude.{◌≡◌, ◌^◌};
 
 use crate::gates::{Hold, TURNS, is_set};
 use crate::hashes::PATTERN_2049;
-use crate::reports::{fault_text, store_text};
-use crate::uploads_in_threads::upload_row;
+use crate::reports::{fault_text, left_text};
+use crate::uploads_in_threads::{accepted_by, upload_row};
 use b3_core::Work;
 use b3_forest::{Plan, Prepared};
 use b3_tests::pattern;
@@ -19,9 +19,10 @@ use std::test::Fail;
 use std::thread;
 use std::thread::Threads;
 use store_core::{Address, Limits, TenantId, UploadId};
-use store_ledger::Share;
+use store_ledger::{Accepted, Share};
 use store_shared::{
-    Shared, UploadFault, lent_abort, lent_begin, lent_forget, lent_open_tenant, lent_put, lent_seal,
+    Locked, Shared, UploadFault, lent_abort, lent_begin, lent_forget, lent_open_tenant, lent_put,
+    lent_seal,
 };
 
 // What the stranger does while the gate holds what is left of upload 0.
@@ -146,18 +147,37 @@ fn meanwhile<B: Ledger, C: Ledger, R: Wait + Alloc>(
 }
 
 // What an upload was told that tells whether its bytes were new, and by how much its share rose.
-fn told_text<B: Ledger, C: Ledger>(
+fn told_text(
     alloc: Global,
     answer: Result<bool, UploadFault>,
-    share: &Share<B, C>,
+    put: Accepted,
 ) -> Result<String, AllocError> {
     let told = match answer {
         Ok(true) => String::from_str(alloc, "new")?,
         Ok(false) => String::from_str(alloc, "known")?,
         Err(fault) => fault_text(alloc, &fault)?,
     };
-    format!(in alloc; "{} {} {}", told.as_str(), share.bytes(), share.calls())
+    format!(in alloc; "{} {} {}", told.as_str(), put.bytes, put.calls)
 }
+
+// What an upload was told, and what it and the stranger left in a store whose whole share settles.
+fn beside_text<B: Ledger, C: Ledger>(
+    alloc: Global,
+    answer: Result<bool, UploadFault>,
+    put: Accepted,
+    done: bool,
+    locked: &mut Locked<B, C>,
+    share: &mut Share<B, C>,
+) -> Result<String, Fail> {
+    if !done {
+        return Err("the stranger was refused")?;
+    }
+    let told = told_text(alloc, answer, put)?;
+    let left = left_text(alloc, locked, share)?;
+    Ok(format!(in alloc; "{}, {}", told.as_str(), left.as_str())?)
+}
+
+// An upload for tenant 0, and what the stranger does. Where that tenant isn't opened, the upload is refused by S1.
 
 fn uploaded_beside<
     B: Ledger + Send + Sync,
@@ -179,8 +199,8 @@ fn uploaded_beside<
     let input = pattern(alloc, 0, len)?;
     let (shared, mut one) = Shared::<B, C>::new(alloc, Limits::full(), bytes, calls);
     let other = one.split(1);
-    let opened = lent_open_tenant(&mut *shared.lock(rt), len.saturating_mul(2));
-    let tenant = opened.ok().ok_or("no tenant")?;
+    let _opened = lent_open_tenant(&mut *shared.lock(rt), len.saturating_mul(2));
+    let tenant = TenantId::new(0);
     let (both, row) = (&shared, input.as_slice());
     let ((one, answer), (other, done)) = thread::join(
         rt,
@@ -189,16 +209,11 @@ fn uploaded_beside<
         },
         move || -> (Share<B, C>, bool) { meanwhile(rt, alloc, both, other, gate, deed) },
     );
-    if !done {
-        return Err("the stranger was refused")?;
-    }
     let mut share = one;
-    let told = told_text(alloc, answer, &share)?;
+    let put = accepted_by(&share);
     let mut locked = shared.close();
     locked.join(&mut share, other);
-    let accepted = locked.settle(&mut share).ok().ok_or("not whole")?;
-    let left = store_text(alloc, accepted, locked.store())?;
-    Ok(format!(in alloc; "{}, {}", told.as_str(), left.as_str())?)
+    beside_text(alloc, answer, put, done, &mut locked, &mut share)
 }
 
 // What an upload of so many bytes was told and what it left.

@@ -4,17 +4,17 @@ ghost use Rattle.std.specs.Prelude.{◌≡◌, ◌^◌};
 
 use crate::gates::HoldFirst;
 use crate::hashes::{NO_BYTES, PATTERN_2048, PATTERN_2049};
+use crate::uploads_in_threads::accepted_by;
 use b3_tests::pattern;
 use std::marker::Brand;
-use std::process::Abort;
 use std::sync::Wait;
 use std::sync::atomic::AtomicBool;
 use std::sync::ledger::{Blank, Ledger};
 use std::test::Fail;
 use std::thread::Threads;
 use store_core::{Address, Limits, Refusal, Sealed, Store, TenantId};
-use store_ledger::{Accepted, NotWhole};
-use store_shared::{Gate, PassAll, Shared, lent_open_tenant, upload};
+use store_ledger::{Accepted, NotWhole, Share};
+use store_shared::{Gate, Locked, PassAll, Shared, UploadFault, lent_open_tenant, upload};
 
 /// Opens the tenants 0 and 1.
 pub(crate) fn open_two_tenants<B: Ledger, C: Ledger, R: Wait>(
@@ -69,15 +69,17 @@ fn filed(address: [u8; 32], bytes: u64, calls: u64) -> Seen {
     }
 }
 
-// What a store shows of an upload that tenant 1 sealed.
-fn seen_in(
-    rt: &impl AllocGlobal,
-    store: &Store,
-    sealed: Sealed,
-    accepted: Accepted,
+// What a store shows, whose whole share settles, of an upload that was sealed.
+fn seen_in<B: Ledger, C: Ledger, R: AllocGlobal>(
+    rt: &R,
+    answer: Result<Sealed, UploadFault>,
+    locked: &mut Locked<B, C>,
+    share: &mut Share<B, C>,
     row: &[u8],
 ) -> Result<Seen, Fail> {
-    let address = sealed.address;
+    let sealed = answer.ok().ok_or("not sealed")?;
+    let accepted = locked.settle(share).ok().ok_or("not whole")?;
+    let (store, address) = (locked.store(), sealed.address);
     Ok(Seen {
         address,
         is_new: sealed.new,
@@ -88,7 +90,8 @@ fn seen_in(
     })
 }
 
-// Uploads a pattern for tenant 1 in parts of one chunk, with the whole share, which settles.
+// Uploads a pattern for tenant 1 in parts of one chunk, with the whole share. Where that tenant isn't opened, the upload is
+// refused by S1.
 fn sealed<B: Ledger, C: Ledger, G: Gate + Sync, R: Threads + Wait + Sync + AllocGlobal>(
     rt: &R,
     bytes: Blank,
@@ -104,14 +107,12 @@ fn sealed<B: Ledger, C: Ledger, G: Gate + Sync, R: Threads + Wait + Sync + Alloc
     let input = pattern(alloc, 0, len)?;
     let row = input.as_slice();
     let (shared, share) = Shared::<B, C>::new(alloc, Limits::full(), bytes, calls);
-    open_two_tenants(rt, &shared).ok().ok_or("no tenants")?;
+    let _opened = open_two_tenants(rt, &shared);
     let tenant = TenantId::new(1);
     let (share, answer) = upload(rt, alloc, &shared, share, gate, tenant, row, 1, workers);
-    let sealed = answer.ok().ok_or("not sealed")?;
     let mut share = share;
     let mut locked = shared.close();
-    let accepted = locked.settle(&mut share).ok().ok_or("not whole")?;
-    seen_in(rt, locked.store(), sealed, accepted, row)
+    seen_in(rt, answer, &mut locked, &mut share, row)
 }
 
 #[test]
@@ -163,12 +164,23 @@ fn workers_overlap(rt: HostRuntime) -> Result<(), Fail> {
     Ok(())
 }
 
-// Uploads with a share of one part.
-fn with_one_part<B: Ledger, C: Ledger, R: Threads + Wait + Sync + AllocGlobal + Abort>(
+// What an upload with a share of one part came to, and how the share of the others settles before and after it is joined.
+#[derive(Clone, Copy, Debug, PartialEq, Eq)]
+struct OnePart {
+    most_workers: u64,
+    is_sealed: bool,
+    parts: u64,
+    accepted: Accepted,
+    before: Result<Accepted, NotWhole>,
+    is_whole_after: bool,
+}
+
+// Uploads with a share of one part. Where the tenant isn't opened, the upload is refused by S1.
+fn with_one_part<B: Ledger, C: Ledger, R: Threads + Wait + Sync + AllocGlobal>(
     rt: &R,
     bytes: Blank,
     calls: Blank,
-) -> Result<(), Fail>
+) -> Result<OnePart, Fail>
     requires bytes { (bytes.name ≡ B.name) × (bytes.parts ≡ B.parts) × (bytes.parts ≡ 2 ^ 32) }
     requires calls { (calls.name ≡ C.name) × (calls.parts ≡ C.parts) × (calls.parts ≡ 2 ^ 32) }
 {
@@ -176,25 +188,37 @@ fn with_one_part<B: Ledger, C: Ledger, R: Threads + Wait + Sync + AllocGlobal + 
     let input = pattern(alloc, 0, 2049)?;
     let row = input.as_slice();
     let (shared, mut share) = Shared::<B, C>::new(alloc, Limits::full(), bytes, calls);
-    assert_eq!(rt; shared.workers(), 16);
-    open_two_tenants(rt, &shared).ok().ok_or("no tenants")?;
+    let most_workers = shared.workers();
+    let _opened = open_two_tenants(rt, &shared);
     let one = share.split(1);
     let tenant = TenantId::new(0);
     let (one, answer) = upload(rt, alloc, &shared, one, &PassAll, tenant, row, 1, 3);
-    assert!(rt; answer.is_ok());
-    assert_eq!(rt; (one.parts(), one.bytes(), one.calls()), (1, 2049, 3));
+    let (parts, accepted) = (one.parts(), accepted_by(&one));
     let mut locked = shared.close();
-    let missing = NotWhole {
-        bytes: 2049,
-        calls: 3,
-    };
-    assert_eq!(rt; locked.settle(&mut share), Err(missing));
+    let before = locked.settle(&mut share);
     locked.join(&mut share, one);
-    assert!(rt; locked.settle(&mut share).is_ok());
-    Ok(())
+    Ok(OnePart {
+        most_workers,
+        is_sealed: answer.is_ok(),
+        parts,
+        accepted,
+        before,
+        is_whole_after: locked.settle(&mut share).is_ok(),
+    })
 }
 
 #[test]
 fn a_share_of_one_part_serves(rt: HostRuntime) -> Result<(), Fail> {
-    with_one_part::<Brand, Brand, _>(&rt, Blank::new(1 << 32), Blank::new(1 << 32))
+    let seen = with_one_part::<Brand, Brand, _>(&rt, Blank::new(1 << 32), Blank::new(1 << 32))?;
+    let (bytes, calls) = (2049, 3);
+    let wanted = OnePart {
+        most_workers: 16,
+        is_sealed: true,
+        parts: 1,
+        accepted: Accepted { bytes, calls },
+        before: Err(NotWhole { bytes, calls }),
+        is_whole_after: true,
+    };
+    assert_eq!(rt; seen, wanted);
+    Ok(())
 }

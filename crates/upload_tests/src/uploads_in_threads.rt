@@ -7,14 +7,13 @@ use crate::uploads::{is_held, open_two_tenants};
 use b3_tests::pattern;
 use std::alloc::Global;
 use std::marker::Brand;
-use std::process::Abort;
 use std::sync::Wait;
 use std::sync::ledger::{Blank, Ledger};
 use std::test::Fail;
 use std::thread;
 use std::thread::Threads;
 use store_core::{Address, Entry, Limits, Store, TenantId};
-use store_ledger::{Accepted, Share};
+use store_ledger::{Accepted, NotWhole, Share};
 use store_shared::{Gate, PassAll, Shared, UploadFault, upload};
 
 /// Uploads bytes in parts of one chunk, and tells whether they were new.
@@ -73,12 +72,30 @@ fn is_filed_once(
     Ok(is_told && is_held_by_0 && is_held_by_other && store.totals().objects == 1)
 }
 
-// Tenant 0 and another, or the same, upload the same bytes at one time.
+// What two uploads of the same bytes came to: by how much their shares rose, and how these settle together.
+#[derive(Clone, Copy, Debug, PartialEq, Eq)]
+struct TwoUploads {
+    are_new_and_known: bool,
+    of_one: Accepted,
+    of_two: Accepted,
+    settled: Result<Accepted, NotWhole>,
+    is_filed_once: bool,
+}
+
+/// What a share has taken in.
+pub(crate) fn accepted_by<B: Ledger, C: Ledger>(share: &Share<B, C>) -> Accepted {
+    Accepted {
+        bytes: share.bytes(),
+        calls: share.calls(),
+    }
+}
+
+// Tenant 0 and another, or the same, upload the same bytes at one time. Where they aren't opened, both are refused by S1.
 fn uploaded_twice<
     B: Ledger + Send + Sync,
     C: Ledger + Send + Sync,
-    R: Threads + Wait + Sync + AllocGlobal + Abort,
->(rt: &R, bytes: Blank, calls: Blank, other: TenantId, workers: u64) -> Result<(), Fail>
+    R: Threads + Wait + Sync + AllocGlobal,
+>(rt: &R, bytes: Blank, calls: Blank, other: TenantId, workers: u64) -> Result<TwoUploads, Fail>
     requires bytes { (bytes.name ≡ B.name) × (bytes.parts ≡ B.parts) × (bytes.parts ≡ 2 ^ 32) }
     requires calls { (calls.name ≡ C.name) × (calls.parts ≡ C.parts) × (calls.parts ≡ 2 ^ 32) }
 {
@@ -86,7 +103,7 @@ fn uploaded_twice<
     let input = pattern(alloc, 0, 2049)?;
     let (shared, mut one) = Shared::<B, C>::new(alloc, Limits::full(), bytes, calls);
     let two = one.split(1);
-    open_two_tenants(rt, &shared).ok().ok_or("no tenants")?;
+    let _opened = open_two_tenants(rt, &shared);
     let (both, gate, row) = (&shared, &PassAll, input.as_slice());
     let ((one, first), (two, second)) = thread::join(
         rt,
@@ -97,35 +114,44 @@ fn uploaded_twice<
             upload_row(rt, alloc, both, two, gate, other, row, workers)
         },
     );
-    assert!(rt; are_new_and_known(first, second));
     let mut share = one;
-    assert_eq!(rt;
-        (share.bytes(), share.calls(), two.bytes(), two.calls()),
-        (2049, 3, 2049, 3)
-    );
-    share.join(two);
+    let (of_one, of_two) = (accepted_by(&share), accepted_by(&two));
     let mut locked = shared.close();
-    let accepted = Accepted {
-        bytes: 4098,
-        calls: 6,
-    };
-    assert_eq!(rt; locked.settle(&mut share), Ok(accepted));
-    let is_filed_once = is_filed_once(rt, locked.store(), other, row)?;
-    assert!(rt; is_filed_once);
-    Ok(())
+    locked.join(&mut share, two);
+    Ok(TwoUploads {
+        are_new_and_known: are_new_and_known(first, second),
+        of_one,
+        of_two,
+        settled: locked.settle(&mut share),
+        is_filed_once: is_filed_once(rt, locked.store(), other, row)?,
+    })
 }
 
 #[test]
 fn the_same_bytes_are_uploaded_twice(rt: HostRuntime) -> Result<(), Fail> {
+    let (bytes, calls) = (2049, 3);
+    let each = Accepted { bytes, calls };
+    let both = Accepted {
+        bytes: 4098,
+        calls: 6,
+    };
+    let wanted = TwoUploads {
+        are_new_and_known: true,
+        of_one: each,
+        of_two: each,
+        settled: Ok(both),
+        is_filed_once: true,
+    };
     for workers in [1, 2, 16] {
         for other in [0, 1] {
-            uploaded_twice::<Brand, Brand, _>(
+            let seen = uploaded_twice::<Brand, Brand, _>(
                 &rt,
                 Blank::new(1 << 32),
                 Blank::new(1 << 32),
                 TenantId::new(other),
                 workers,
             )?;
+            assert_eq!(rt; seen, wanted);
         }
     }
     Ok(())
