@@ -178,7 +178,6 @@ fn beside_text<B: Ledger, C: Ledger>(
 }
 
 // An upload for tenant 0, and what the stranger does. Where that tenant isn't opened, the upload is refused by S1.
-
 fn uploaded_beside<
     B: Ledger + Send + Sync,
     C: Ledger + Send + Sync,
