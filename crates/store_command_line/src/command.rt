@@ -19,38 +19,24 @@ fn value_argument<'a>(alloc: Global, id: &'a str, value_name: &'a str, help: &'a
         .help(help)
 }
 
+// An argument is made where it is taken, so that none is in hand where an earlier one is refused memory.
 fn sum_command<'a>(alloc: Global) -> Result<Command<'a>, AllocError>
     ensures shape { IfOk result (λ c. app_of c ≡ sum_line) }
     ensures local { IfOk result (λ c. (fields_of c).has_globals ≡ false) }
 {
-    let name = value_argument(alloc, "name", "NAME", "Write this name in the check line");
-    let key = value_argument(
-        alloc,
-        "key",
-        "HEX64",
-        "Hash with this key of 32 bytes, in 64 hexadecimal digits",
-    );
-    let context = value_argument(
-        alloc,
-        "context",
-        "TEXT",
-        "Derive a key in this context from the input; not with --key",
-    );
-    let length = value_argument(
-        alloc,
-        "length",
-        "N",
-        "Write this many bytes of the extended output as digits, and no name (1 to 65536)",
-    )
-    .value_parser(value_parser!(u32).range(1..65537));
+    let about =
+        "Read standard input, and write its check line: the BLAKE3 hash and a name, - by default";
+    let key = "Hash with this key of 32 bytes, in 64 hexadecimal digits";
+    let context = "Derive a key in this context from the input; not with --key";
+    let length = "Write this many bytes of the extended output as digits, and no name (1 to 65536)";
     Command::new(alloc, "sum")
-        .about(
-            "Read standard input, and write its check line: the BLAKE3 hash and a name, - by default",
-        )
-        .arg(name)?
-        .arg(key)?
-        .arg(context)?
-        .arg(length)
+        .about(about)
+        .arg(value_argument(alloc, "name", "NAME", "Write this name in the check line"))?
+        .arg(value_argument(alloc, "key", "HEX64", key))?
+        .arg(value_argument(alloc, "context", "TEXT", context))?
+        .arg(value_argument(alloc, "length", "N", length).value_parser(value_parser!(u32).range(
+            1..65537,
+        )))
 }
 
 fn run_command<'a>(alloc: Global) -> Command<'a>
@@ -77,28 +63,20 @@ fn upload_command<'a>(alloc: Global) -> Result<Command<'a>, AllocError>
     ensures shape { IfOk result (λ c. app_of c ≡ upload_line) }
     ensures local { IfOk result (λ c. (fields_of c).has_globals ≡ false) }
 {
-    let workers = value_argument(
-        alloc,
-        "workers",
-        "W",
-        "Hash parts by this many threads (1 to 16, 4 by default)",
-    )
-    .value_parser(value_parser!(u32).range(1..17));
-    let part_chunks = value_argument(
-        alloc,
-        "part-chunks",
-        "P",
-        "Cut the input into parts of this many chunks of 1024 bytes (1 to 16384, 64 by default)",
-    )
-    .value_parser(value_parser!(u32).range(1..16385));
-    let journal = flag_argument(alloc, "journal", "Write the journal's text too");
+    let about =
+        "Read standard input, upload it in parts into a store, and write its check line and what was accepted";
+    let workers = "Hash parts by this many threads (1 to 16, 4 by default)";
+    let part_chunks =
+        "Cut the input into parts of this many chunks of 1024 bytes (1 to 16384, 64 by default)";
     Command::new(alloc, "upload")
-        .about(
-            "Read standard input, upload it in parts into a store, and write its check line and what was accepted",
-        )
-        .arg(workers)?
-        .arg(part_chunks)?
-        .arg(journal)
+        .about(about)
+        .arg(value_argument(alloc, "workers", "W", workers).value_parser(value_parser!(u32).range(
+            1..17,
+        )))?
+        .arg(value_argument(alloc, "part-chunks", "P", part_chunks).value_parser(value_parser!(
+            u32
+        ).range(1..16385)))?
+        .arg(flag_argument(alloc, "journal", "Write the journal's text too"))
 }
 
 // What stands at the end of the help of `check`.
@@ -144,12 +122,12 @@ fn storing_program<'a>(alloc: Global) -> Result<Command<'a>, AllocError>
     ensures local { IfOk result (λ c. (fields_of c).has_globals ≡ false) }
 {
     let sum = sum_command(alloc)?;
-    let upload = upload_command(alloc)?;
-    Command::new(alloc, "b3store")
+    let program = Command::new(alloc, "b3store")
         .about("A content-addressed store: objects under their BLAKE3 hash")
         .subcommand(sum)?
-        .subcommand(run_command(alloc))?
-        .subcommand(upload)
+        .subcommand(run_command(alloc))?;
+    let upload = upload_command(alloc)?;
+    program.subcommand(upload)
 }
 
 /// The command line of the program.

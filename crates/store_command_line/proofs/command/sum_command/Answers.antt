@@ -8,18 +8,18 @@ use Rattle.store_command_line.proofs.command.sum_command.Goals as goal
 pub returns-clause-shape : goal.returns-clause-shape
 returns-clause-shape c =
     let start : app_of c.about.result ≡ new_app (codes "sum") = search rules in
-    let length : rule_of c.value_parser-length.result ≡ number_rule (codes "length") 65536 = search rules in
-    let named = c.in_ok-arg.ensures.shape c.value_argument-name.ensures.local ∙ ap₂ with_rule start c.value_argument-name.ensures.rule in
-    let keyed = c.in_ok-arg-2.ensures.shape c.value_argument-key.ensures.local ∙ ap₂ with_rule named c.value_argument-key.ensures.rule in
-    let derived = c.in_ok-arg-3.ensures.shape c.value_argument-context.ensures.local ∙ ap₂ with_rule keyed c.value_argument-context.ensures.rule in
+    let length : rule_of c.value_parser-2.result ≡ number_rule (codes "length") 65536 = search rules in
+    let named = c.in_ok-arg.ensures.shape c.value_argument.ensures.local ∙ ap₂ with_rule start c.value_argument.ensures.rule in
+    let keyed = c.in_ok-arg-2.ensures.shape c.value_argument-2.ensures.local ∙ ap₂ with_rule named c.value_argument-2.ensures.rule in
+    let derived = c.in_ok-arg-3.ensures.shape c.value_argument-3.ensures.local ∙ ap₂ with_rule keyed c.value_argument-3.ensures.rule in
     IfOk-weaker c.arg-4.result _ _ (λ m h. h.shape (search rules) ∙ ap₂ with_rule derived length) c.arg-4.ensures
 
 pub returns-clause-local : goal.returns-clause-local
 returns-clause-local c =
     let or = λ (a b : Bool). a || b in
     let start : (fields_of c.about.result).has_globals ≡ false = search rules in
-    let length : c.value_parser-length.result.global ≡ false = search rules in
-    let named = c.in_ok-arg.ensures.globals ∙ ap₂ or start c.value_argument-name.ensures.local in
-    let keyed = c.in_ok-arg-2.ensures.globals ∙ ap₂ or named c.value_argument-key.ensures.local in
-    let derived = c.in_ok-arg-3.ensures.globals ∙ ap₂ or keyed c.value_argument-context.ensures.local in
+    let length : c.value_parser-2.result.global ≡ false = search rules in
+    let named = c.in_ok-arg.ensures.globals ∙ ap₂ or start c.value_argument.ensures.local in
+    let keyed = c.in_ok-arg-2.ensures.globals ∙ ap₂ or named c.value_argument-2.ensures.local in
+    let derived = c.in_ok-arg-3.ensures.globals ∙ ap₂ or keyed c.value_argument-3.ensures.local in
     IfOk-weaker c.arg-4.result _ _ (λ m h. h.globals ∙ ap₂ or derived length) c.arg-4.ensures
