@@ -1,0 +1,120 @@
+"""The commands that tests/growths runs, each with its input and with its answer where no growth is refused, which the second
+reading gives."""
+import typing
+
+from blake3 import address_of, output_of
+from check_files import check_answer
+from journal import ANSWERS, HEADER
+from script import answers_of, call_of, pattern
+from store import Refused, Store
+
+OBJECT = pattern(0, 2049)
+ADDRESS = address_of(OBJECT)
+FILES = {"object": OBJECT, "abc": b"abc"}
+SIGNED = b"b3store: a number is decimal digits, without a sign; see b3store sum --help\n"
+SCRIPT = f"""tenant 4096
+tenant 4096
+begin 0 2049
+put 0 1024 p:1024
+put 0 0 p:1024
+put 0 2048 p:1
+seal 0
+open 1 4096
+put 1 0 p:2048
+fix 1 2049
+put 1 2048 p:1
+sealas 1 {ADDRESS}
+fetch 1 {ADDRESS}
+list 0
+usage 1
+forget 0 {ADDRESS}
+begin 0 3
+put 2 0 x:616263
+abort 2
+limit 1 5000
+stat
+journal
+"""
+
+
+class Answer(typing.NamedTuple):
+    """The status, standard output, and how standard error begins, which is all of it where that is empty."""
+
+    status: int
+    stdout: bytes
+    stderr: bytes
+
+
+class Case(typing.NamedTuple):
+    """A run: its words and its input, its answer where no growth is refused, and what may stand on standard output where the run
+    ended for want of memory."""
+
+    words: list
+    data: bytes
+    answer: Answer
+    may_have_written: typing.Callable
+
+
+def is_beginning_by_the_model(answer):
+    """Whether these are the answers to a beginning of the script, of which some commands were refused memory."""
+    store, lines = Store(), answer.decode(errors="replace").splitlines()
+    for line in SCRIPT.splitlines():
+        if not lines:
+            return True
+        if lines[0] == "refused S14":
+            lines.pop(0)
+            continue
+        name, values = call_of(line)
+        try:
+            told = getattr(store, name)(*values)
+        except Refused as refused:
+            told = [f"refused {refused}"]
+        if lines[: len(told)] != told[: len(lines)]:
+            return False
+        lines = lines[len(told) :]
+    return not lines
+
+
+def wrote_nothing(answer):
+    return answer == b""
+
+
+def told_a_refusal(answer):
+    return answer in (b"", b"refused U5\n", b"refused U1 S14\n")
+
+
+def good(text):
+    """Of a command that ends well."""
+    return Answer(0, text.encode(), b"")
+
+
+def usage(beginning):
+    """Of words that the program doesn't take: their text is told whole, or want of memory in its place."""
+    return Answer(2, b"", beginning)
+
+
+def read(told):
+    """Of an engine that reads all before it writes, by what the second reading says: the output, and the status."""
+    output, status = told
+    return Answer(status, output, b"")
+
+
+def cases(program):
+    answers, status, store = answers_of(SCRIPT)
+    journal = HEADER + b"\n" + "".join(f"{entry}\n" for entry in store.journal).encode()
+    check = f"{ADDRESS}  object\n{ADDRESS}  absent\n{ADDRESS}  abc\n".encode()
+    digests = {name.encode(): address_of(content).encode() for name, content in FILES.items()}
+    script = Answer(status, "".join(f"{answer}\n" for answer in answers).encode(), b"")
+    frob = usage(b"error: unexpected argument '--frob' found\n")
+    yield Case([program, "sum"], OBJECT, good(f"{ADDRESS}  -\n"), wrote_nothing)
+    yield Case([program, "sum", "--length", "100"], OBJECT, good(output_of(OBJECT, 100).hex() + "\n"), wrote_nothing)
+    yield Case([program, "sum", "--length", "+4"], OBJECT, usage(SIGNED), wrote_nothing)
+    yield Case([program, "sum", "--frob"], OBJECT, frob, wrote_nothing)
+    yield Case([program, "--help"], OBJECT, usage(b"A content-addressed store: "), wrote_nothing)
+    yield Case([program, "check"], check, read(check_answer(check, digests)), wrote_nothing)
+    yield Case([program, "audit"], journal, read(ANSWERS["audit"](journal)), wrote_nothing)
+    yield Case([program, "migrate"], journal, read(ANSWERS["migrate"](journal)), wrote_nothing)
+    yield Case([program, "run"], SCRIPT.encode(), script, is_beginning_by_the_model)
+    for words, parts in (["--workers", "1"], 1), (["--workers", "3", "--part-chunks", "1"], 3):
+        told = good(f"{ADDRESS}  -\naccepted {len(OBJECT)} {parts}\n")
+        yield Case([program, "upload", *words], OBJECT, told, told_a_refusal)
