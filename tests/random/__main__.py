@@ -1,7 +1,9 @@
 """python3 tests/random PROGRAM [--cases N] [--seed S]: runs the program over random scripts, journals, check files, uploads
-and inputs of `sum`, and compares what it writes with the plain second reading of tests/second_reading, which was written from docs/COMMANDS.md.
+and inputs of `sum`, and compares what it writes with the plain second reading of tests/second_reading, which was written from
+docs/COMMANDS.md.
 
-A case that differs is printed with its seed; `--cases 1 --seed S` runs it again. The last line is `N passed, M failed`.
+A case that differs is printed behind FAILED with its seed; `--cases 1 --seed S` runs it again. The last line is
+`N passed, M failed`.
 """
 import argparse
 import os
@@ -11,12 +13,14 @@ import sys
 import tempfile
 
 sys.dont_write_bytecode = True
-sys.path.insert(0, os.path.join(os.path.dirname(os.path.dirname(os.path.abspath(__file__))), "second_reading"))
+TESTS = os.path.dirname(os.path.dirname(os.path.abspath(__file__)))
+sys.path[1:1] = [os.path.join(TESTS, "common"), os.path.join(TESTS, "second_reading")]
 import checks
 import journals
 import scripts
 import sums
 import uploads
+from python_needed import end_where_older
 
 KINDS = (scripts, journals, checks, uploads, sums)
 SECONDS = 60
@@ -25,17 +29,28 @@ SECONDS = 60
 def difference(program, folder, kind, case):
     """What the program does otherwise, or None."""
     words, data, wanted, status = case
-    run = subprocess.run([program] + words, input=data, capture_output=True, cwd=folder, timeout=SECONDS)
+    try:
+        run = subprocess.run([program] + words, input=data, capture_output=True, cwd=folder, timeout=SECONDS)
+    except (OSError, subprocess.TimeoutExpired) as fault:
+        return f"input {data!r}\n{fault}"
     differs = kind.differs(run.stdout, wanted, data) if kind is uploads else run.stdout != wanted
     if not differs and run.returncode == status and not run.stderr:
         return None
     return f"input {data!r}\nwanted {status} {wanted!r}\nanswered {run.returncode} {run.stdout!r} {run.stderr!r}"
 
 
+def count(text):
+    """A number of cases, of which there is one at least."""
+    if int(text) < 1:
+        raise argparse.ArgumentTypeError("there is one case at least")
+    return int(text)
+
+
 def main():
+    end_where_older()
     parser = argparse.ArgumentParser(description=__doc__.split("\n\n")[0])
     parser.add_argument("program")
-    parser.add_argument("--cases", type=int, default=500)
+    parser.add_argument("--cases", type=count, default=500)
     parser.add_argument("--seed", type=int, default=1)
     options = parser.parse_args()
     program, failed = os.path.abspath(options.program), 0
@@ -48,7 +63,7 @@ def main():
             found = difference(program, folder, kind, kind.case(random.Random(seed)))
             if found:
                 failed += 1
-                print(f"{kind.__name__}, seed {seed}: {found}")
+                print(f"FAILED {kind.__name__}, seed {seed}: {found}")
     print(f"{options.cases - failed} passed, {failed} failed")
     return 1 if failed else 0
 
