@@ -1,0 +1,146 @@
+"""python3 tests/of_tests: shows that tests/growths, tests/random and tests/program fail where they must: over `true` and `cat` in
+the program's place, where no growth can be refused, and where there is no C compiler or no test program. Each is run so, and must
+end with status 1 and a last line `N passed, M failed`, where M is not 0 and no more pass than is said here.
+
+A stand-in (stand_in.c) gives the answers that tests/growths wants, and grows once. With it tests/growths passes; linked statically
+it can't be refused that growth. The last line is `N passed, M failed`, which counts these trials. It needs a C compiler, `cc`.
+"""
+import os
+import re
+import shutil
+import subprocess
+import sys
+import tempfile
+
+sys.dont_write_bytecode = True
+TESTS = os.path.dirname(os.path.dirname(os.path.abspath(__file__)))
+sys.path[1:1] = [os.path.join(TESTS, name) for name in ("common", "growths", "second_reading")]
+from commands import Answer, cases
+from python_needed import end_where_older
+from test_programs import PASSED, tests_in_sources
+
+SECONDS = 300
+STAND_IN = os.path.join(TESTS, "of_tests", "stand_in.c")
+NOT_THE_STORE = ("true", "cat")
+FEW_CASES = 50
+MOST_OF_A_HUNDRED = 3
+"""So much of tests/program may pass with any program, which is 12 of its 414 cases. Ten ask nothing of it: they compare the manual
+page, the code of docs/LIBRARY.md and the second reading with what else is in the repository. One wants no output of no lines."""
+
+
+def row_of(words, answer, is_test):
+    """A row of the stand-in's table."""
+    said = "".join(f"{word} " for word in words).encode()
+    texts = ['"' + "".join(f"\\{byte:03o}" for byte in text) + '"' for text in (said, answer.stdout, answer.stderr)]
+    numbers = f"{answer.status}, {int(is_test)}, {len(answer.stdout)}, {len(answer.stderr)}"
+    return f"{{{texts[0]}, {numbers}, {texts[1]}, {texts[2]}}},\n"
+
+
+def build_stand_in(path, tests, *flags):
+    """Whether a stand-in could be built that is the program, and a test program that has these tests."""
+    listed = Answer(0, "".join(f"{name}: test\n" for name in tests).encode(), b"")
+    rows = [row_of(case.words[1:], case.answer, False) for case in cases("")]
+    rows += [row_of(["--list"], listed, True)] + [row_of([name], PASSED, True) for name in tests]
+    with open(path + ".table", "w", encoding="utf-8") as table:
+        table.writelines(rows)
+    words = ["cc", *flags, f'-DANSWERS="{path}.table"', "-o", path, STAND_IN]
+    return subprocess.run(words, stderr=subprocess.DEVNULL).returncode == 0
+
+
+def put_test_programs(folder, program):
+    """Puts a program as each test program that tests/growths looks for, below a folder, and gives that."""
+    for crate, _ in tests_in_sources():
+        os.makedirs(os.path.join(folder, crate, "out"))
+        shutil.copy(program, os.path.join(folder, crate, "out", f"{crate}_tests"))
+    return folder
+
+
+def run_tests(words, path):
+    """The status of a program of tests, the two numbers of its last line, and all that it told."""
+    try:
+        run = subprocess.run(
+            [sys.executable, *words], stdin=subprocess.DEVNULL, stdout=subprocess.PIPE, stderr=subprocess.STDOUT, timeout=SECONDS,
+            env={**os.environ, "PATH": path},
+        )
+    except subprocess.TimeoutExpired:
+        return None, 0, 0, "it did not end"
+    text = run.stdout.decode(errors="replace")
+    found = re.search(r"(?:^|\n)(\d+) passed, (\d+) failed\n$", text)
+    passed, failed = map(int, found.groups()) if found else (0, 0)
+    return run.returncode, passed, failed, text
+
+
+class Trials:
+    """Runs the programs of tests, and counts which of them ended as they must."""
+
+    def __init__(self):
+        self.passed = self.failed = 0
+
+    def note(self, name, ended, faults):
+        status, passed, failed, text = ended
+        print(f"{name}: status {status}, {passed} passed, {failed} failed")
+        if faults:
+            print(f"FAILED {name}: {', '.join(faults)}; it ends with {text[-400:]!r}")
+        self.failed += bool(faults)
+        self.passed += not faults
+
+    def passes(self, name, words):
+        ended = run_tests(words, os.environ["PATH"])
+        self.note(name, ended, [] if ended[0] == 0 and ended[1] > 0 and ended[2] == 0 else ["it did not pass"])
+
+    def fails(self, name, words, tells="", wanted=None, most=0, path=os.environ["PATH"]):
+        """It must fail and tell why, with so many failures where a number is wanted; of a hundred no more than so many may pass."""
+        status, passed, failed, text = ended = run_tests(words, path)
+        faults = [] if status == 1 and failed > 0 else ["it did not fail"]
+        if wanted is None and 100 * passed > most * (passed + failed):
+            faults.append(f"more than {most} of a hundred passed")
+        if wanted not in (None, failed):
+            faults.append(f"{wanted} are to fail")
+        if not re.search(f"(?m)^FAILED .*{tells}", text):
+            faults.append(f"it does not tell that {tells}")
+        self.note(name, ended, faults)
+
+
+def try_growths(trials, folder):
+    growths = os.path.join(TESTS, "growths")
+    tests = [name for _, names in tests_in_sources() for name in names]
+    right, unlisted, linked = (os.path.join(folder, name) for name in ("right", "unlisted", "linked"))
+    is_static = build_stand_in(linked, tests, "-static")
+    is_built = is_static or build_stand_in(linked, tests, "-DGROW=alloca")
+    if not is_built or not build_stand_in(right, tests) or not build_stand_in(unlisted, tests[1:]):
+        trials.note("growths", (1, 0, 1, ""), ["no C compiler builds the stand-in"])
+        return
+    crates = {path: put_test_programs(path + ".crates", path) for path in (right, unlisted, linked)}
+    empty = os.path.join(folder, "empty")
+    os.mkdir(empty)
+    trials.passes("growths over the stand-in", [growths, right, "--crates", crates[right]])
+    trials.passes("growths over the stand-in alone", [growths, right, "--program-alone"])
+    count = len(tests)
+    trials.fails("growths without test programs", [growths, right, "--crates", empty], "can't be run", count)
+    trials.fails("growths and a test that is not listed", [growths, right, "--crates", crates[unlisted]], "does not list it", 1)
+    how = "linked statically" if is_static else "that never grows, since cc -static builds none"
+    trials.fails(f"growths over a stand-in {how}", [growths, linked, "--crates", crates[linked]], "no growth was refused")
+    trials.fails("growths without a compiler", [growths, right, "--crates", crates[right]], "there is no C compiler", path=empty)
+
+
+def try_programs(trials):
+    for name in NOT_THE_STORE:
+        program = shutil.which(name)
+        growths, random = (os.path.join(TESTS, folder) for folder in ("growths", "random"))
+        trials.fails(f"growths over {name}", [growths, program, "--program-alone"], "where no growth is refused")
+        trials.fails(f"random over {name}", [random, program, "--cases", str(FEW_CASES)])
+        trials.fails(f"program over {name}", [os.path.join(TESTS, "program"), program], most=MOST_OF_A_HUNDRED)
+
+
+def main():
+    end_where_older()
+    trials = Trials()
+    with tempfile.TemporaryDirectory() as folder:
+        try_growths(trials, folder)
+    try_programs(trials)
+    print(f"{trials.passed} passed, {trials.failed} failed")
+    return 1 if trials.failed else 0
+
+
+if __name__ == "__main__":
+    sys.exit(main())
