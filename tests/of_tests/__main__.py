@@ -44,7 +44,7 @@ def build_stand_in(path, tests, *flags):
     with open(path + ".table", "w", encoding="utf-8") as table:
         table.writelines(rows)
     words = ["cc", *flags, f'-DANSWERS="{path}.table"', "-o", path, STAND_IN]
-    return subprocess.run(words, stderr=subprocess.DEVNULL).returncode == 0
+    return shutil.which("cc") is not None and subprocess.run(words, stderr=subprocess.DEVNULL).returncode == 0
 
 
 def put_test_programs(folder, program):
