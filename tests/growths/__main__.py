@@ -24,7 +24,7 @@ sys.path[1:1] = [os.path.join(TESTS, "common"), os.path.join(TESTS, "second_read
 from commands import FILES, cases
 from python_needed import end_where_older
 from refusing import CannotRefuse, Refusing
-from test_programs import CRATES, tests
+from test_programs import CRATES, NoTests, tests
 
 MOST_GROWTHS = 5000
 TELLS = b"b3store: out of memory\n"
@@ -114,7 +114,10 @@ def try_all(options, folder, tally):
     if options.program_alone:
         print("the tests in modules growths are skipped: --program-alone")
         return
-    found, faults = tests(options.crates)
+    try:
+        found, faults = tests(options.crates)
+    except NoTests as fault:
+        found, faults = [], [("tests", fault)]
     for case in found:
         try_case(refusing, case, tally)
     for name, why in faults:

@@ -12,6 +12,10 @@ TEST = re.compile(r"^#\[test\]\n(?:(?:#\[|//).*\n)*fn (\w+)", re.MULTILINE)
 PASSED = Answer(0, b"\ntest result: ok\n", b"")
 
 
+class NoTests(Exception):
+    """The sources have no tests that are to be run, or none that can be told."""
+
+
 def never(_):
     """Of a test, which passes however memory is refused."""
     return False
@@ -19,13 +23,16 @@ def never(_):
 
 def tests_in_sources():
     """The crate of each module `growths`, and the names of its tests."""
-    for path in sorted(glob.glob(os.path.join(CRATES, "*", "src", "**", "growths.rt"), recursive=True)):
+    paths = sorted(glob.glob(os.path.join(CRATES, "*", "src", "**", "growths.rt"), recursive=True))
+    if not paths:
+        raise NoTests(f"{CRATES}: no crate has a module growths")
+    for path in paths:
         crate, _, *modules = os.path.relpath(path, CRATES)[: -len(".rt")].split(os.sep)
         with open(path, encoding="utf-8") as source:
             text = source.read()
         names = TEST.findall(text)
         if not names or len(names) != text.count("#[test]"):
-            raise ValueError(f"{path}: its tests are not found in its text")
+            raise NoTests(f"{path}: its tests are not found in its text")
         yield crate, ["::".join([*modules, name]) for name in names]
 
 
