@@ -24,8 +24,8 @@ STAND_IN = os.path.join(TESTS, "of_tests", "stand_in.c")
 NOT_THE_STORE = ("true", "cat")
 FEW_CASES = 50
 MOST_OF_A_HUNDRED = 3
-"""So much of tests/program may pass with any program, which is 12 of its 414 cases. Ten ask nothing of it: they compare the manual
-page, the code of docs/LIBRARY.md and the second reading with what else is in the repository. One wants no output of no lines."""
+"""So much of tests/program may pass with any program: a dozen cases ask nothing of it. They compare the manual page, the code of
+docs/LIBRARY.md and the second reading with what else is in the repository, and one wants no output of no lines."""
 
 
 def row_of(words, answer, is_test):
