@@ -11,6 +11,8 @@ from store import Refused, Store
 OBJECT = pattern(0, 2049)
 ADDRESS = address_of(OBJECT)
 FILES = {"object": OBJECT, "abc": b"abc"}
+FROB = b"error: unexpected argument '--frob' found\n"
+HELP = b"A content-addressed store: objects under their BLAKE3 hash\n\nUsage: "
 SIGNED = b"b3store: a number is decimal digits, without a sign; see b3store sum --help\n"
 SCRIPT = f"""tenant 4096
 tenant 4096
@@ -105,12 +107,11 @@ def cases(program):
     check = f"{ADDRESS}  object\n{ADDRESS}  absent\n{ADDRESS}  abc\n".encode()
     digests = {name.encode(): address_of(content).encode() for name, content in FILES.items()}
     script = Answer(status, "".join(f"{answer}\n" for answer in answers).encode(), b"")
-    frob = usage(b"error: unexpected argument '--frob' found\n")
     yield Case([program, "sum"], OBJECT, good(f"{ADDRESS}  -\n"), wrote_nothing)
     yield Case([program, "sum", "--length", "100"], OBJECT, good(output_of(OBJECT, 100).hex() + "\n"), wrote_nothing)
     yield Case([program, "sum", "--length", "+4"], OBJECT, usage(SIGNED), wrote_nothing)
-    yield Case([program, "sum", "--frob"], OBJECT, frob, wrote_nothing)
-    yield Case([program, "--help"], OBJECT, usage(b"A content-addressed store: "), wrote_nothing)
+    yield Case([program, "sum", "--frob"], OBJECT, usage(FROB), wrote_nothing)
+    yield Case([program, "--help"], OBJECT, usage(HELP), wrote_nothing)
     yield Case([program, "check"], check, read(check_answer(check, digests)), wrote_nothing)
     yield Case([program, "audit"], journal, read(ANSWERS["audit"](journal)), wrote_nothing)
     yield Case([program, "migrate"], journal, read(ANSWERS["migrate"](journal)), wrote_nothing)
