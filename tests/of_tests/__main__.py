@@ -11,6 +11,8 @@ import shutil
 import subprocess
 import sys
 import tempfile
+import threading
+from concurrent.futures import ThreadPoolExecutor
 
 sys.dont_write_bytecode = True
 TESTS = os.path.dirname(os.path.dirname(os.path.abspath(__file__)))
@@ -75,14 +77,16 @@ class Trials:
 
     def __init__(self):
         self.passed = self.failed = 0
+        self.lock = threading.Lock()
 
     def note(self, name, ended, faults):
         status, passed, failed, text = ended
-        print(f"{name}: status {status}, {passed} passed, {failed} failed")
-        if faults:
-            print(f"FAILED {name}: {', '.join(faults)}; it ends with {text[-400:]!r}")
-        self.failed += bool(faults)
-        self.passed += not faults
+        with self.lock:
+            print(f"{name}: status {status}, {passed} passed, {failed} failed")
+            if faults:
+                print(f"FAILED {name}: {', '.join(faults)}; it ends with {text[-400:]!r}")
+            self.failed += bool(faults)
+            self.passed += not faults
 
     def passes(self, name, words):
         ended = run_tests(words, os.environ["PATH"])
@@ -123,13 +127,12 @@ def try_growths(trials, folder):
     trials.fails("growths without a compiler", [growths, right, "--crates", crates[right]], "there is no C compiler", path=empty)
 
 
-def try_programs(trials):
-    for name in NOT_THE_STORE:
-        program = shutil.which(name)
-        growths, random = (os.path.join(TESTS, folder) for folder in ("growths", "random"))
-        trials.fails(f"growths over {name}", [growths, program, "--program-alone"], "where no growth is refused")
-        trials.fails(f"random over {name}", [random, program, "--cases", str(FEW_CASES)])
-        trials.fails(f"program over {name}", [os.path.join(TESTS, "program"), program], most=MOST_OF_A_HUNDRED)
+def try_program(trials, name):
+    program = shutil.which(name)
+    growths, random = (os.path.join(TESTS, folder) for folder in ("growths", "random"))
+    trials.fails(f"growths over {name}", [growths, program, "--program-alone"], "where no growth is refused")
+    trials.fails(f"random over {name}", [random, program, "--cases", str(FEW_CASES)])
+    trials.fails(f"program over {name}", [os.path.join(TESTS, "program"), program], most=MOST_OF_A_HUNDRED)
 
 
 def main():
@@ -137,7 +140,8 @@ def main():
     trials = Trials()
     with tempfile.TemporaryDirectory() as folder:
         try_growths(trials, folder)
-    try_programs(trials)
+    with ThreadPoolExecutor() as pool:
+        list(pool.map(lambda name: try_program(trials, name), NOT_THE_STORE))
     print(f"{trials.passed} passed, {trials.failed} failed")
     return 1 if trials.failed else 0
 
