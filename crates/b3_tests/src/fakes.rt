@@ -15,6 +15,17 @@ pub fn pattern(alloc: Global, first: u64, len: u64) -> Result<Vec<u8>, AllocErro
     Ok(bytes)
 }
 
+/// Whether these are as many bytes of the pattern, from `first` on.
+pub fn is_pattern(bytes: &[u8], first: u64, len: u64) -> bool {
+    let mut next = (first % 251) as u8;
+    let mut is_same = bytes.len() as u64 == len;
+    for byte in bytes {
+        is_same = is_same && *byte == next;
+        next = if next >= 250 { 0 } else { next + 1 };
+    }
+    is_same
+}
+
 /// A writer that takes a byte a call, and whose calls fail from the one with the number `fails` on.
 #[derive(Drop)]
 pub struct FailingWriter {

@@ -1,140 +1,151 @@
 //! Parts of bytes that are lent.
 
 use crate::fakes::pattern;
-use crate::helpers::{COUNTS, digest, open_plan, part_of_pattern, planned_part};
+use crate::scripts::{Answers, cut, number, told, two_numbers};
 use b3_core::Work;
-use b3_forest::{Follow, Incomplete, NoteFault};
+use b3_forest::{Follow, NoteFault, PartFault, Plan, Prepared};
+use std::alloc::{AllocError, Global};
+use std::process::Abort;
 use std::test::Fail;
 
-// Notes a part of a pattern, and answers the merges, and the compressions of the note.
-fn noted(
-    rt: &impl AllocGlobal,
-    follow: &mut Follow<'_>,
-    offset: u64,
-    size: u64,
-) -> Result<(u64, u64), Fail> {
-    let part = part_of_pattern(rt.alloc(), 2049, offset, size, &mut Work::new(rt))?;
-    let mut work = Work::new(rt);
-    let merges = follow.note(&part, &mut work).ok().ok_or("refused")?;
-    Ok((merges, work.count()))
+// `note` makes a part of the pattern and notes it, `missing` tells what is not noted, and `root` the hash.
+#[derive(Drop)]
+struct Lent<'a> {
+    alloc: Global,
+    follow: Follow<'a>,
+    work: Work,
 }
 
-// Follows the pattern of 2049 bytes, of which these parts are noted in this order, and answers the compressions of each.
-fn followed<'a>(
-    rt: &impl AllocGlobal,
-    bytes: &'a [u8],
-    parts: &[(u64, u64)],
-) -> Result<(Follow<'a>, Vec<u64>), Fail> {
-    let mut follow = Follow::new(rt.alloc(), bytes).ok().ok_or("bytes")?;
-    let mut counts = Vec::new(rt.alloc());
-    for (offset, size) in parts {
-        let (merges, count) = noted(rt, &mut follow, *offset, *size)?;
-        counts.push(if count == merges.wrapping_mul(2) {
-            count
+impl Answers for Lent<'_> {
+    fn answer(&mut self, command: &str) -> Result<String, AllocError> {
+        let (word, rest) = cut(command);
+        match word {
+            "note" => self.note(rest),
+            "missing" => self.missing(),
+            _ => self.root(),
+        }
+    }
+}
+
+impl Lent<'_> {
+    fn note(&mut self, part: &str) -> Result<String, AllocError> {
+        let (kind, rest) = cut(part);
+        let (bound, rest) = cut(rest);
+        let (offset, size) = two_numbers(rest);
+        let plan = if kind == "open" {
+            Plan::open(number(bound))
         } else {
-            9
-        })?;
+            Plan::new(number(bound))
+        };
+        let Ok(plan) = plan else {
+            return format!(in self.alloc; "F1");
+        };
+        let bytes = pattern(self.alloc, offset, size)?;
+        match Prepared::make(self.alloc, &plan, offset, bytes, &mut self.work) {
+            Ok(part) => self.note_part(&part),
+            Err(refused) if refused.fault == PartFault::NoMemory => Err(AllocError),
+            Err(refused) => format!(in self.alloc; "{}", refused.fault),
+        }
     }
-    Ok((follow, counts))
+
+    // Notes a part, and once more where memory is refused, which leaves all as it was.
+    fn note_part(&mut self, part: &Prepared) -> Result<String, AllocError> {
+        let (before, missing) = (self.work.count(), self.follow.first_missing());
+        let mut noted = self.follow.note(part, &mut self.work);
+        if noted == Err(NoteFault::NoMemory) && self.follow.first_missing() == missing {
+            noted = self.follow.note(part, &mut self.work);
+        }
+        let count = self.work.count().wrapping_sub(before);
+        match noted {
+            Ok(merges) => format!(in self.alloc; "{merges} merges by {count}"),
+            Err(fault) => format!(in self.alloc; "{fault:?} by {count}"),
+        }
+    }
+
+    fn missing(&mut self) -> Result<String, AllocError> {
+        let missing = self.follow.first_missing();
+        format!(in self.alloc; "{missing:?}")
+    }
+
+    fn root(&mut self) -> Result<String, AllocError> {
+        let before = self.work.count();
+        match self.follow.finish(&mut self.work) {
+            Ok(top) => {
+                let digest = hex::encode(self.alloc, top.root32(&mut self.work))?;
+                let count = self.work.count().wrapping_sub(before);
+                format!(in self.alloc; "{digest} by {count}")
+            }
+            Err(incomplete) => {
+                let count = self.work.count().wrapping_sub(before);
+                format!(in self.alloc; "{incomplete:?} by {count}")
+            }
+        }
+    }
 }
 
-// The refusal of a part of a pattern.
-fn refused(
-    rt: &impl AllocGlobal,
-    follow: &mut Follow<'_>,
-    len: u64,
-    offset: u64,
-    size: u64,
-) -> Result<NoteFault, Fail> {
-    let mut work = Work::new(rt);
-    let part = part_of_pattern(rt.alloc(), len, offset, size, &mut work)?;
-    Ok(follow.note(&part, &mut work).err().ok_or("noted")?)
+// What is told of the script over these bytes.
+fn told_of<R: AllocGlobal>(rt: &R, bytes: &[u8], script: &str) -> Result<String, AllocError> {
+    let Ok(follow) = Follow::new(rt.alloc(), bytes) else {
+        return format!(in rt.alloc(); "F1");
+    };
+    let mut lent = Lent {
+        alloc: rt.alloc(),
+        follow,
+        work: Work::new(rt),
+    };
+    told(rt.alloc(), &mut lent, script)
 }
 
-// The pattern of 2049 bytes, of whose first chunk the last byte is another.
-fn with_a_strange_chunk(rt: &impl AllocGlobal) -> Result<Vec<u8>, Fail> {
-    let mut bytes = pattern(rt.alloc(), 0, 2049)?;
-    if let Some(byte) = bytes.get_mut(1023) {
-        *byte ^= 1;
-    }
-    Ok(bytes)
+/// Over these bytes the script's lines are answered as they say. Where the test's own memory is refused, all is done again.
+pub(crate) fn holds<R: AllocGlobal + Abort>(
+    rt: &R,
+    bytes: &[u8],
+    script: &str,
+) -> Result<(), Fail> {
+    let told = match told_of(rt, bytes, script) {
+        Ok(told) => told,
+        Err(_) => told_of(rt, bytes, script)?,
+    };
+    assert_eq!(rt; told.as_str(), script);
+    Ok(())
 }
 
 #[test]
 fn parts_are_noted_in_any_order(rt: HostRuntime) -> Result<(), Fail> {
     let bytes = pattern(rt.alloc(), 0, 2049)?;
-    let parts = [(1024, 1024), (0, 1024), (2048, 1)];
-    let (follow, counts) = followed(&rt, bytes.as_slice(), &parts)?;
-    assert!(rt; counts.as_slice() == [0, 2, 0].as_slice());
-    let mut work = Work::new(&rt);
-    let top = follow.finish(&mut work).ok().ok_or("not whole")?;
-    assert_eq!(rt;
-        (top.root32(&mut work), work.count()),
-        (digest(COUNTS[5].hash)?, 3)
-    );
-    Ok(())
+    holds(
+        &rt,
+        bytes.as_slice(),
+        "missing > Some(0)
+note closed 2049 1024 1024 > 0 merges by 0
+root > Incomplete { missing: 0 } by 0
+note closed 2049 0 1024 > 1 merges by 2
+root > Incomplete { missing: 2048 } by 0
+note closed 2049 2048 1 > 0 merges by 0
+missing > None
+root > 5f4d72f40d7a5f82b15ca2b2e44b1de3c2ef86c426c95c1af0b6879522563030 by 3
+",
+    )
 }
 
-#[test]
-fn what_is_not_noted_is_told(rt: HostRuntime) -> Result<(), Fail> {
-    let bytes = pattern(rt.alloc(), 0, 2049)?;
-    let (follow, _) = followed(&rt, bytes.as_slice(), &[(0, 2048)])?;
-    let incomplete = follow.finish(&mut Work::new(&rt)).err();
-    assert_eq!(rt; incomplete, Some(Incomplete { missing: 2048 }));
-    assert_eq!(rt; follow.first_missing(), Some(2048));
-    Ok(())
-}
-
-#[test]
-fn nothing_is_missing_where_all_is_noted(rt: HostRuntime) -> Result<(), Fail> {
-    let bytes = pattern(rt.alloc(), 0, 2049)?;
-    let (follow, _) = followed(&rt, bytes.as_slice(), &[(0, 2049)])?;
-    assert_eq!(rt; follow.first_missing(), None);
-    Ok(())
-}
-
+// Of the first chunk the last bit is another. A part of another plan is told first, then one that overlaps.
 #[test]
 fn strangers_are_refused(rt: HostRuntime) -> Result<(), Fail> {
-    let bytes = with_a_strange_chunk(&rt)?;
-    let (mut follow, _) = followed(&rt, bytes.as_slice(), &[(1024, 1024)])?;
-    assert_eq!(rt;
-        refused(&rt, &mut follow, 2049, 0, 1024)?,
-        NoteFault::Stranger
-    );
-    Ok(())
-}
-
-// The part is a stranger too, which comes behind.
-#[test]
-fn overlaps_are_refused(rt: HostRuntime) -> Result<(), Fail> {
-    let bytes = with_a_strange_chunk(&rt)?;
-    let (mut follow, _) = followed(&rt, bytes.as_slice(), &[(1024, 1024)])?;
-    let overlap = NoteFault::Overlap { at: 1024 };
-    assert_eq!(rt; refused(&rt, &mut follow, 2049, 0, 2048)?, overlap);
-    Ok(())
-}
-
-#[test]
-fn parts_of_another_plan_are_refused(rt: HostRuntime) -> Result<(), Fail> {
-    let bytes = with_a_strange_chunk(&rt)?;
-    let (mut follow, _) = followed(&rt, bytes.as_slice(), &[])?;
-    assert_eq!(rt;
-        refused(&rt, &mut follow, 8192, 0, 1024)?,
-        NoteFault::WrongPlan
-    );
-    Ok(())
-}
-
-// A plan of the same number, under which the length is fixed later.
-#[test]
-fn parts_of_open_plans_are_refused(rt: HostRuntime) -> Result<(), Fail> {
-    let bytes = pattern(rt.alloc(), 0, 2049)?;
-    let (mut follow, _) = followed(&rt, bytes.as_slice(), &[])?;
-    let mut work = Work::new(&rt);
-    let part = planned_part(rt.alloc(), &open_plan(2049)?, 0, 1024, &mut work)?;
-    assert_eq!(rt;
-        follow.note(&part, &mut work).err(),
-        Some(NoteFault::WrongPlan)
-    );
-    Ok(())
+    let mut bytes = pattern(rt.alloc(), 0, 2049)?;
+    if let Some(byte) = bytes.get_mut(1023) {
+        *byte ^= 1;
+    }
+    holds(
+        &rt,
+        bytes.as_slice(),
+        "note closed 2049 1024 1024 > 0 merges by 0
+note closed 2049 0 1024 > Stranger by 0
+note closed 2049 0 2048 > Overlap { at: 1024 } by 0
+note closed 8192 0 1024 > WrongPlan by 0
+note open 2049 0 1024 > WrongPlan by 0
+missing > Some(0)
+note closed 2049 2048 1 > 0 merges by 0
+root > Incomplete { missing: 0 } by 0
+",
+    )
 }

@@ -1,205 +1,293 @@
-//! Forests of parts.
+//! Forests of parts, whose upload has its length from the start or at the end. The digests are from outside.
 
 use crate::fakes::pattern;
-use crate::helpers::{
-    COUNTS, added, closed_plan, digest, forest_of, part_of_pattern, refused, root,
-};
-use b3_core::{Mode, Top, Work, hash};
-use b3_forest::{AddFault, FinishFault, Forest};
+use crate::forest_scripts::holds;
+use crate::scripts::number;
+use b3_core::{Mode, Work, hash};
+use b3_forest::{Forest, Plan, Prepared};
+use std::alloc::Global;
 use std::test::Fail;
 
-fn forest(rt: &impl AllocGlobal, len: u64) -> Result<Forest, Fail> {
-    Ok(Forest::new(rt.alloc(), closed_plan(len)?))
+// Adds a part of the pattern.
+fn add(
+    alloc: Global,
+    forest: &mut Forest,
+    offset: u64,
+    size: u64,
+    work: &mut Work,
+) -> Result<(), Fail> {
+    let bytes = pattern(alloc, offset, size)?;
+    let part = Prepared::make(alloc, &forest.plan(), offset, bytes, work)?;
+    let _merges = forest.add(part, work).ok().ok_or("refused")?;
+    Ok(())
 }
 
-// The top over what a whole forest holds.
-fn top_of(rt: &impl AllocGlobal, forest: &Forest) -> Result<Top, Fail> {
-    let top = forest.finish(&mut Work::new(rt));
-    Ok(top.ok().ok_or("not whole")?)
-}
-
-// The hash of so many bytes of a pattern.
-fn hash_of_pattern(rt: &impl AllocGlobal, len: u64) -> Result<[u8; 32], Fail> {
-    let bytes = pattern(rt.alloc(), 0, len)?;
-    Ok(hash(&Mode::hash(), bytes.as_slice(), &mut Work::new(rt)))
-}
-
-// What is held: the first offset that is missing, the bytes and the parts.
-fn held(forest: &Forest) -> (Option<u64>, u64, usize) {
-    (forest.first_missing(), forest.held(), forest.parts())
-}
-
-// A forest of three parts of 2049 bytes, which come in this order.
-fn in_order(rt: &impl AllocGlobal, order: &[u64]) -> Result<Forest, Fail> {
-    let mut forest = forest(rt, 2049)?;
-    for number in order {
-        let size = if *number == 2 { 1 } else { 1024 };
-        let _ = added(rt, &mut forest, number.wrapping_mul(1024), size)?;
-    }
-    Ok(forest)
-}
-
-// A pattern in one part: the compressions of the part, of it and its top, and of it, its top and the root; and whether
-// the root is the hash.
-fn one_part(rt: &impl AllocGlobal, len: u64) -> Result<String, Fail> {
-    let mut work = Work::new(rt);
-    let part = part_of_pattern(rt.alloc(), len, 0, len, &mut work)?;
-    let made = work.count();
-    let mut forest = forest(rt, len)?;
-    let _merges = forest.add(part, &mut work).ok().ok_or("refused")?;
-    let top = forest.finish(&mut work).ok().ok_or("not whole")?;
-    let finished = work.count();
-    let is_hash = top.root32(&mut work) == hash_of_pattern(rt, len)?;
-    let all = work.count();
-    Ok(format!(in rt.alloc(); "{made} {finished} {all} {is_hash}")?)
-}
-
-// The root of a pattern that is cut into parts of `size` bytes, which come in turns of `step`.
-fn root_of_cut(rt: &impl AllocGlobal, len: u64, size: u64, step: u64) -> Result<[u8; 32], Fail> {
-    let mut forest = forest(rt, len)?;
+// Adds all parts of `size` bytes, in turns of `step`.
+fn add_all(
+    alloc: Global,
+    forest: &mut Forest,
+    size: u64,
+    step: u64,
+    work: &mut Work,
+) -> Result<(), Fail> {
+    let len = forest.length();
     for turn in 0..step {
         for number in 0..17u64 {
             let offset = size.wrapping_mul(number);
-            if offset < len && number.checked_rem(step) == Some(step - 1 - turn) {
-                let _ = added(rt, &mut forest, offset, size.min(len - offset))?;
+            if offset < len && number.checked_rem(step) == Some(turn) {
+                add(alloc, forest, offset, size.min(len - offset), work)?;
             }
         }
     }
-    Ok(root(rt, &forest)?.0)
+    Ok(())
 }
 
+// Cut into parts of that size, which come in turns of `step`, the pattern has its hash.
+fn has_its_hash(
+    alloc: Global,
+    len: u64,
+    size: u64,
+    step: u64,
+    work: &mut Work,
+) -> Result<bool, Fail> {
+    let plan = Plan::new(len).ok().ok_or("no plan")?;
+    let mut forest = Forest::new(alloc, plan);
+    let added = add_all(alloc, &mut forest, size, step, work);
+    let top = forest.finish(work);
+    added?;
+    let bytes = pattern(alloc, 0, len)?;
+    Ok(top.ok().ok_or("not whole")?.root32(work) == hash(&Mode::hash(), bytes.as_slice(), work))
+}
+
+#[test]
+fn plans_up_to_two_to_the_forty_four(rt: HostRuntime) -> Result<(), Fail> {
+    holds(
+        &rt,
+        "closed 17592186044416 > closed 17592186044416
+closed 17592186044417 > F1
+open 17592186044416 > open 17592186044416
+open 17592186044417 > F1
+state > end None length 17592186044416 missing Some(0) held 0 parts 0
+",
+    )
+}
+
+#[test]
+fn parts_that_are_refused(rt: HostRuntime) -> Result<(), Fail> {
+    holds(
+        &rt,
+        "closed 4096 > closed 4096
+make 1024 0 > F2 back true
+make 512 0 > F2 back true
+make 512 1024 > F3 back true
+make 4608 100 > F3 back true
+make 3072 2048 > F4 back true
+make 18446744073709550592 1024 > F4 back true
+make 0 1500 > F5 back true
+closed 33554432 > closed 33554432
+make 0 16778240 > F6 back true
+open 2048 > open 2048
+make 1024 1025 > F4 back true
+",
+    )
+}
+
+#[test]
+fn pieces_and_compressions_of_parts(rt: HostRuntime) -> Result<(), Fail> {
+    holds(
+        &rt,
+        "closed 4096 > closed 4096
+make 0 4096 > 1 pieces by 66 true
+make 3072 1024 > 1 pieces by 15 true
+open 4096 > open 4096
+make 0 1500 > 1 pieces by 24 true
+make 1024 1 > 1 pieces by 0 true
+make 1024 2049 > 2 pieces by 32 true
+",
+    )
+}
+
+// Together as many as one hash of the 4096 bytes: 64 blocks and 4 chunks.
 #[test]
 fn four_chunks_from_the_middle(rt: HostRuntime) -> Result<(), Fail> {
-    let parts = [(1024, 2048), (0, 1024), (3072, 1024)];
-    let (forest, counts) = forest_of(&rt, closed_plan(4096)?, &parts)?;
-    assert!(rt; counts.as_slice() == [0, 2, 4].as_slice());
-    assert_eq!(rt; root(&rt, &forest)?, (hash_of_pattern(&rt, 4096)?, 1));
-    Ok(())
+    holds(
+        &rt,
+        "closed 4096 > closed 4096
+state > end Some(4096) length 4096 missing Some(0) held 0 parts 0
+add 1024 2048 > 2 pieces by 30 true, 0 merges by 0 true
+add 0 1024 > 1 pieces by 15 true, 1 merges by 2 true
+state > end Some(4096) length 4096 missing Some(3072) held 3072 parts 2
+root > Incomplete { missing: 3072 } by 0
+add 0 2048 > Overlap { at: 0 } by 0 back true true
+add 2048 2048 > Overlap { at: 2048 } by 0 back true true
+other closed 8192 > closed 8192
+stray 3072 1024 > WrongPlan by 0 back true true
+other open 4096 > open 4096
+stray 3072 1024 > WrongPlan by 0 back true true
+state > end Some(4096) length 4096 missing Some(3072) held 3072 parts 2
+add 3072 1024 > 1 pieces by 15 true, 2 merges by 4 true
+state > end Some(4096) length 4096 missing None held 4096 parts 3
+segments > [0 1024 true][1024 2048 true][3072 1024 true]
+root > 015094013f57a5277b59d8475c0501042c0b642e531b0a1c8f58d2163229e969 by 1
+closed 4096 > closed 4096
+add 1024 1024 > 1 pieces by 15 true, 0 merges by 0 true
+add 0 2048 > Overlap { at: 1024 } by 0 back true true
+add 1024 2048 > Overlap { at: 1024 } by 0 back true true
+",
+    )
 }
 
-#[test]
-fn what_is_missing_is_told(rt: HostRuntime) -> Result<(), Fail> {
-    let (forest, _) = forest_of(&rt, closed_plan(4096)?, &[(1024, 2048), (0, 1024)])?;
-    assert_eq!(rt; held(&forest), (Some(3072), 3072, 2));
-    let incomplete = forest.finish(&mut Work::new(&rt)).err();
-    assert_eq!(rt; incomplete, Some(FinishFault::Incomplete { missing: 3072 }));
-    Ok(())
-}
-
-#[test]
-fn nothing_is_held_at_first(rt: HostRuntime) -> Result<(), Fail> {
-    let forest = forest(&rt, 4096)?;
-    assert_eq!(rt; held(&forest), (Some(0), 0, 0));
-    Ok(())
-}
-
-#[test]
-fn nothing_is_missing_where_all_is_held(rt: HostRuntime) -> Result<(), Fail> {
-    let (forest, _) = forest_of(&rt, closed_plan(4096)?, &[(0, 4096)])?;
-    assert_eq!(rt; held(&forest), (None, 4096, 1));
-    Ok(())
-}
-
+// Each order has one top.
 #[test]
 fn three_parts_in_any_order(rt: HostRuntime) -> Result<(), Fail> {
-    let wanted = digest(COUNTS[5].hash)?;
-    let top = top_of(&rt, &in_order(&rt, &[0, 1, 2])?)?;
-    for order in [
-        [0, 1, 2],
-        [0, 2, 1],
-        [1, 0, 2],
-        [1, 2, 0],
-        [2, 0, 1],
-        [2, 1, 0],
-    ] {
-        let forest = in_order(&rt, &order)?;
-        assert!(rt; top_of(&rt, &forest)? == top);
-        assert_eq!(rt; root(&rt, &forest)?, (wanted, 3));
-    }
-    Ok(())
+    holds(
+        &rt,
+        "closed 2049 > closed 2049
+add 0 1024 > 1 pieces by 15 true, 0 merges by 0 true
+add 1024 1024 > 1 pieces by 15 true, 1 merges by 2 true
+add 2048 1 > 1 pieces by 0 true, 0 merges by 0 true
+root > 5f4d72f40d7a5f82b15ca2b2e44b1de3c2ef86c426c95c1af0b6879522563030 by 3
+closed 2049 > closed 2049
+add 0 1024 > 1 pieces by 15 true, 0 merges by 0 true
+add 2048 1 > 1 pieces by 0 true, 0 merges by 0 true
+add 1024 1024 > 1 pieces by 15 true, 1 merges by 2 true
+root > 5f4d72f40d7a5f82b15ca2b2e44b1de3c2ef86c426c95c1af0b6879522563030 by 3 again
+closed 2049 > closed 2049
+add 1024 1024 > 1 pieces by 15 true, 0 merges by 0 true
+add 0 1024 > 1 pieces by 15 true, 1 merges by 2 true
+add 2048 1 > 1 pieces by 0 true, 0 merges by 0 true
+root > 5f4d72f40d7a5f82b15ca2b2e44b1de3c2ef86c426c95c1af0b6879522563030 by 3 again
+closed 2049 > closed 2049
+add 1024 1024 > 1 pieces by 15 true, 0 merges by 0 true
+add 2048 1 > 1 pieces by 0 true, 0 merges by 0 true
+add 0 1024 > 1 pieces by 15 true, 1 merges by 2 true
+root > 5f4d72f40d7a5f82b15ca2b2e44b1de3c2ef86c426c95c1af0b6879522563030 by 3 again
+closed 2049 > closed 2049
+add 2048 1 > 1 pieces by 0 true, 0 merges by 0 true
+add 0 1024 > 1 pieces by 15 true, 0 merges by 0 true
+add 1024 1024 > 1 pieces by 15 true, 1 merges by 2 true
+root > 5f4d72f40d7a5f82b15ca2b2e44b1de3c2ef86c426c95c1af0b6879522563030 by 3 again
+open 8192 > open 8192
+add 2048 1 > 1 pieces by 0 true, 0 merges by 0 true
+add 1024 1024 > 1 pieces by 15 true, 0 merges by 0 true
+add 0 1024 > 1 pieces by 15 true, 1 merges by 2 true
+segments > [0 1024 true][1024 1024 true][2048 1 true]
+root > 5f4d72f40d7a5f82b15ca2b2e44b1de3c2ef86c426c95c1af0b6879522563030 by 3 again
+",
+    )
 }
 
-#[test]
-fn segments_stand_by_offset(rt: HostRuntime) -> Result<(), Fail> {
-    let forest = in_order(&rt, &[2, 0, 1])?;
-    assert_eq!(rt; forest.segments().len(), 3);
-    let mut next = 0u64;
-    for segment in forest.segments() {
-        assert_eq!(rt; segment.offset, next);
-        let bytes = pattern(rt.alloc(), next, segment.bytes.len() as u64)?;
-        assert!(rt; segment.bytes.as_slice() == bytes.as_slice());
-        next = next.wrapping_add(1024);
-    }
-    Ok(())
-}
-
-#[test]
-fn no_bytes_are_whole(rt: HostRuntime) -> Result<(), Fail> {
-    let forest = forest(&rt, 0)?;
-    assert_eq!(rt; root(&rt, &forest)?, (digest(COUNTS[0].hash)?, 1));
-    Ok(())
-}
-
-#[test]
-fn overlaps_are_refused(rt: HostRuntime) -> Result<(), Fail> {
-    let plan = closed_plan(4096)?;
-    let (mut forest, _) = forest_of(&rt, plan, &[(1024, 1024)])?;
-    let overlap = AddFault::Overlap { at: 1024 };
-    for offset in [0, 1024] {
-        assert_eq!(rt; refused(&rt, &mut forest, &plan, offset, 2048)?, overlap);
-    }
-    Ok(())
-}
-
-#[test]
-fn parts_of_another_plan_are_refused(rt: HostRuntime) -> Result<(), Fail> {
-    let mut forest = forest(&rt, 4096)?;
-    assert_eq!(rt;
-        refused(&rt, &mut forest, &closed_plan(8192)?, 1024, 1024)?,
-        AddFault::WrongPlan
-    );
-    Ok(())
-}
-
+// Together as many as one hash of the 16384 bytes: 256 blocks and 16 chunks.
 #[test]
 fn even_chunks_first(rt: HostRuntime) -> Result<(), Fail> {
-    let mut parts = Vec::new(rt.alloc());
-    for chunk in [0u64, 2, 4, 6, 8, 10, 12, 14, 15, 13, 11, 9, 7, 5, 3, 1] {
-        parts.push((1024 * chunk, 1024u64))?;
-    }
-    let (forest, counts) = forest_of(&rt, closed_plan(16_384)?, parts.as_slice())?;
-    let wanted = [0, 0, 0, 0, 0, 0, 0, 0, 2, 4, 2, 6, 2, 4, 2, 8];
-    assert!(rt; counts.as_slice() == wanted.as_slice());
-    assert_eq!(rt; root(&rt, &forest)?.1, 1);
-    Ok(())
+    holds(
+        &rt,
+        "closed 16384 > closed 16384
+add 0 1024 > 1 pieces by 15 true, 0 merges by 0 true
+add 2048 1024 > 1 pieces by 15 true, 0 merges by 0 true
+add 4096 1024 > 1 pieces by 15 true, 0 merges by 0 true
+add 6144 1024 > 1 pieces by 15 true, 0 merges by 0 true
+add 8192 1024 > 1 pieces by 15 true, 0 merges by 0 true
+add 10240 1024 > 1 pieces by 15 true, 0 merges by 0 true
+add 12288 1024 > 1 pieces by 15 true, 0 merges by 0 true
+add 14336 1024 > 1 pieces by 15 true, 0 merges by 0 true
+add 15360 1024 > 1 pieces by 15 true, 1 merges by 2 true
+add 13312 1024 > 1 pieces by 15 true, 2 merges by 4 true
+add 11264 1024 > 1 pieces by 15 true, 1 merges by 2 true
+add 9216 1024 > 1 pieces by 15 true, 3 merges by 6 true
+add 7168 1024 > 1 pieces by 15 true, 1 merges by 2 true
+add 5120 1024 > 1 pieces by 15 true, 2 merges by 4 true
+add 3072 1024 > 1 pieces by 15 true, 1 merges by 2 true
+add 1024 1024 > 1 pieces by 15 true, 4 merges by 8 true
+root > f875d6646de28985646f34ee13be9a576fd515f76b5b0a26bb324735041ddde4 by 1
+",
+    )
 }
 
 #[test]
-fn one_long_part(rt: HostRuntime) -> Result<(), Fail> {
-    let (forest, counts) = forest_of(&rt, closed_plan(16_777_216)?, &[(0, 16_777_216)])?;
-    assert!(rt; counts.as_slice() == [0].as_slice());
-    assert_eq!(rt; root(&rt, &forest)?.1, 1);
-    Ok(())
+fn one_part_is_the_whole(rt: HostRuntime) -> Result<(), Fail> {
+    holds(
+        &rt,
+        "closed 0 > closed 0
+state > end Some(0) length 0 missing None held 0 parts 0
+root > af1349b9f5f9a1a6a0404dea36dcc9499bcb25c9adc112b7cc9a93cae41f3262 by 1
+closed 9217 > closed 9217
+add 0 9217 > 2 pieces by 151 true, 0 merges by 0 true
+root > d42c90aa30bee83ecb52ad31b685d566145649496764878873598cef582d4d8f by 3
+closed 16777216 > closed 16777216
+add 0 16777216 > 1 pieces by 278526 true, 0 merges by 0 true
+root > 869b1292c8bed5bdb2e0075e0c50ccf8b24b33a0f81071c86206bd8fdb269579 by 1
+",
+    )
+}
+
+// A part that is no multiple of a chunk fixes the end, unless it ends before a part that is held.
+#[test]
+fn a_ragged_part_fixes_the_end(rt: HostRuntime) -> Result<(), Fail> {
+    holds(
+        &rt,
+        "open 4096 > open 4096
+state > end None length 4096 missing Some(0) held 0 parts 0
+add 1024 1024 > 1 pieces by 15 true, 0 merges by 0 true
+add 0 1000 > PastLast { end: 2048 } by 0 back true true
+state > end None length 4096 missing Some(0) held 1024 parts 1
+add 2048 1 > 1 pieces by 0 true, 0 merges by 0 true
+state > end Some(2049) length 2049 missing Some(0) held 1025 parts 2
+add 3072 1024 > PastLast { end: 2049 } by 0 back true true
+add 0 1000 > PastLast { end: 2049 } by 0 back true true
+other closed 4096 > closed 4096
+stray 0 1024 > WrongPlan by 0 back true true
+state > end Some(2049) length 2049 missing Some(0) held 1025 parts 2
+add 0 1024 > 1 pieces by 15 true, 1 merges by 2 true
+state > end Some(2049) length 2049 missing None held 2049 parts 3
+",
+    )
 }
 
 #[test]
-fn ten_chunks_in_one_part(rt: HostRuntime) -> Result<(), Fail> {
-    assert_eq!(rt; one_part(&rt, 9217)?.as_str(), "151 153 154 true");
-    Ok(())
+fn an_end_is_fixed_by_a_call(rt: HostRuntime) -> Result<(), Fail> {
+    holds(
+        &rt,
+        "open 4096 > open 4096
+root > NotFixed by 0
+fix 0 > None true
+state > end Some(0) length 0 missing None held 0 parts 0
+root > af1349b9f5f9a1a6a0404dea36dcc9499bcb25c9adc112b7cc9a93cae41f3262 by 1
+open 2048 > open 2048
+add 0 2048 > 1 pieces by 32 true, 0 merges by 0 true
+state > end None length 2048 missing None held 2048 parts 1
+root > NotFixed by 0
+fix 2048 > None true
+root > e776b6028c7cd22a4d0ba182a8bf62205d2ef576467e838ed6f2529b85fba24a by 1
+open 4096 > open 4096
+add 0 2048 > 1 pieces by 32 true, 0 merges by 0 true
+fix 4097 > Some(TooLong) true
+fix 2047 > Some(PastLast { end: 2048 }) true
+fix 3072 > None true
+fix 3072 > None true
+fix 2048 > Some(PastLast { end: 3072 }) true
+fix 3071 > Some(PastLast { end: 3072 }) true
+fix 3073 > Some(PastLast { end: 3072 }) true
+fix 4096 > Some(PastLast { end: 3072 }) true
+state > end Some(3072) length 3072 missing Some(2048) held 2048 parts 1
+root > Incomplete { missing: 2048 } by 0
+closed 4096 > closed 4096
+fix 4096 > None true
+fix 4095 > Some(PastLast { end: 4096 }) true
+",
+    )
 }
 
+// The last size makes one part of each length.
 #[test]
 fn cuttings_and_orders_agree_with_the_hash(rt: HostRuntime) -> Result<(), Fail> {
-    let lengths = [
-        1u64, 1023, 1024, 1025, 2048, 2049, 3072, 3073, 4095, 4096, 4097, 5120, 5121, 8191, 8192,
-        8193, 9216, 9217, 16_383, 16_384, 16_385,
-    ];
-    for len in lengths {
-        let hash = hash_of_pattern(&rt, len)?;
-        // The last size makes one part of each length.
+    let lengths = "1 1023 1024 1025 2049 3073 4096 4097 5121 8191 8192 8193 9217 16383 16384 16385";
+    for len in lengths.split_whitespace() {
         for size in [1024u64, 2048, 3072, 5120, 17_408] {
-            for step in [1u64, 2, 3] {
-                assert_eq!(rt; root_of_cut(&rt, len, size, step)?, hash);
+            for step in [1u64, 3] {
+                let work = &mut Work::new(&rt);
+                let is_same = has_its_hash(rt.alloc(), number(len), size, step, work)?;
+                assert!(rt; is_same, "{len} {size} {step}");
             }
         }
     }

@@ -1,19 +1,35 @@
-//! Hashes in three modes, at once and in pieces.
+//! Hashes in three modes, at once and in pieces, and eight chunks at a time.
 
 use crate::fakes::pattern;
-use crate::helpers::{ABC, CONTEXT, COUNTS, KEY, ROWS, digest};
+use crate::helpers::{CONTEXT, KEY, digest};
+use crate::scripts::{cut, number};
 use b3_core::{Hasher, Mode, OutputReader, Top, Work, compress, hash, hash_wide};
 use std::process::Abort;
 use std::test::Fail;
 
+// Of lengths of the pattern: the compressions of its hash, and the hash in the three modes, as the reference implementation's
+// command gives them, with the key and the context of the official test vectors.
+const HASHES: &str =
+    "0 1 af1349b9f5f9a1a6a0404dea36dcc9499bcb25c9adc112b7cc9a93cae41f3262 92b2b75604ed3c761f9d6f62392c8a9227ad0ea3f09573e783f1498a4ed60d26 2cc39783c223154fea8dfb7c1b1660f2ac2dcbd1c1de8277b0b0dd39b7e50d7d
+1 1 2d3adedff11b61f14c886e35afa036736dcd87a74d27b5c1510225d0f592e213 6d7878dfff2f485635d39013278ae14f1454b8c0a3a2d34bc1ab38228a80c95b b3e2e340a117a499c6cf2398a19ee0d29cca2bb7404c73063382693bf66cb06c
+1024 16 42214739f095a406f3fc83deb889744ac00df831c10daa55189b5d121c855af7 75c46f6f3d9eb4f55ecaaee480db732e6c2105546f1e675003687c31719c7ba4 7356cd7720d5b66b6d0697eb3177d9f8d73a4a5c5e968896eb6a689684302706
+1025 18 d00278ae47eb27b34faecf67b4fe263f82d5412916c1ffd97c8cb7fb814b8444 357dc55de0c7e382c900fd6e320acc04146be01db6a8ce7210b7189bd664ea69 effaa245f065fbf82ac186839a249707c3bddf6d3fdda22d1b95a3c970379bcb
+2048 33 e776b6028c7cd22a4d0ba182a8bf62205d2ef576467e838ed6f2529b85fba24a 879cf1fa2ea0e79126cb1063617a05b6ad9d0b696d0d757cf053439f60a99dd1 7b2945cb4fef70885cc5d78a87bf6f6207dd901ff239201351ffac04e1088a23
+2049 35 5f4d72f40d7a5f82b15ca2b2e44b1de3c2ef86c426c95c1af0b6879522563030 9f29700902f7c86e514ddc4df1e3049f258b2472b6dd5267f61bf13983b78dd5 2ea477c5515cc3dd606512ee72bb3e0e758cfae7232826f35fb98ca1bcbdf273
+8191 135 bae8dc916e8643c6cf024097237cde1cba35c05b5d84c02834cb6b886edb76d9 c3385eef7eecadd83b7ab86aa3610cb5c6ee1dc13dfff4b3b4283d5b75a4c812 866032735116a2192652b87a61d0cb1886905e823eadc067917d01e30de34914
+8192 135 aae792484c8efe4f19e2ca7d371d8c467ffb10748d8a5a1ae579948f718a2a63 dc9637c8845a770b4cbf76b8daec0eebf7dc2eac11498517f08d44c8fc00d58a ad01d7ae4ad059b0d33baa3c01319dcf8088094d0359e5fd45d6aeaa8b2d0c3d
+8193 137 bab6c09cb8ce8cf459261398d2e7aef35700bf488116ceb94a36d0f5f1b7bc3b 954a2a75420c8d6547e3ba5b98d963e6fa6491addc8c023189cc519821b4a1f5 af1e0346e389b17c23200270a64aa4e1ead98c61695d917de7d5b00491c9b0f1
+9217 154 d42c90aa30bee83ecb52ad31b685d566145649496764878873598cef582d4d8f b54d1d99dad847130773e50a3cd10958e26e9e9bfc9c9ab35cd201137fe24dd8 3ba784c9fc7b3a438f6143715a0dcf560cb554d185f360c7c718ac169a0c594c
+16384 271 f875d6646de28985646f34ee13be9a576fd515f76b5b0a26bb324735041ddde4 9e9fc4eb7cf081ea7c47d1807790ed211bfec56aa25bb7037784c13c4b707b0d 160e18b5878cd0df1c3af85eb25a0db5344d43a6fbd7a8ef4ed98d0714c3f7e1
+102400 1699 bc3e3d41a1146b069abffad3c0d44860cf664390afce4d9661f7902e7943e085 1c35d1a5811083fd7119f5d5d1ba027b4d01c0c6c49fb6ff2cf75393ea5db4a7 4652cff7a3f385a6103b5c260fc1593e13c778dbe608efb092fe7ee69df6e9c6
+";
+
 // The first 32 bytes of the extended output.
-fn first_output(mode: &Mode, bytes: &[u8], work: &mut Work) -> Option<[u8; 32]> {
+fn first_output(mode: &Mode, bytes: &[u8], work: &mut Work) -> [u8; 32] {
     let mut reader = OutputReader::new(Top::of_input(mode, bytes, work));
     let mut output = [0u8; 32];
-    match reader.fill(&mut output, work) {
-        Ok(()) => Some(output),
-        Err(_) => None,
-    }
+    let _filled = reader.fill(&mut output, work);
+    output
 }
 
 // The hash of bytes that come in two pieces.
@@ -25,21 +41,31 @@ fn in_pieces(mode: &Mode, bytes: &[u8], work: &mut Work) -> [u8; 32] {
     hasher.top(work).root32(work)
 }
 
-// Both bodies of the hash, the hasher and the output give these digits.
-fn gives<R: AllocGlobal + Abort>(
-    rt: &R,
-    mode: &Mode,
-    bytes: &[u8],
-    digits: &str,
-) -> Result<(), Fail> {
-    let wanted = digest(digits)?;
-    let mut work = Work::new(rt);
-    let plain = hash(mode, bytes, &mut work);
-    let wide = hash_wide(mode, bytes, &mut work);
-    let output = first_output(mode, bytes, &mut work);
-    let pieces = in_pieces(mode, bytes, &mut work);
-    let are_all = plain == wanted && wide == wanted && pieces == wanted && output == Some(wanted);
-    assert!(rt; are_all, "{digits}");
+// Both bodies of the hash, the hasher and the output give this digest, each by so many compressions.
+fn are_all(mode: &Mode, bytes: &[u8], wanted: &[u8; 32], count: u64, work: &mut Work) -> bool {
+    let before = work.count();
+    let is_plain = hash(mode, bytes, work) == *wanted && work.count().wrapping_sub(before) == count;
+    let is_wide = hash_wide(mode, bytes, work) == *wanted;
+    let is_output = first_output(mode, bytes, work) == *wanted;
+    let are_pieces = in_pieces(mode, bytes, work) == *wanted;
+    let is_count = work.count().wrapping_sub(before) == count.wrapping_mul(4);
+    is_plain && is_wide && is_output && are_pieces && is_count
+}
+
+// The pattern of this length has that many compressions, and these hashes in the three modes.
+fn has_hashes<R: AllocGlobal + Abort>(rt: &R, row: &str) -> Result<(), Fail> {
+    let (len, row) = cut(row);
+    let (count, row) = cut(row);
+    let (plain, row) = cut(row);
+    let (keyed, derived) = cut(row);
+    let (plain, keyed, derived) = (digest(plain)?, digest(keyed)?, digest(derived)?);
+    let bytes = pattern(rt.alloc(), 0, number(len))?;
+    let (bytes, count, mut work) = (bytes.as_slice(), number(count), Work::new(rt));
+    let derive = Mode::derive(CONTEXT, &mut work);
+    let is_plain = are_all(&Mode::hash(), bytes, &plain, count, &mut work);
+    let is_keyed = are_all(&Mode::keyed(KEY), bytes, &keyed, count, &mut work);
+    let is_derived = are_all(&derive, bytes, &derived, count, &mut work);
+    assert!(rt; is_plain && is_keyed && is_derived, "{len}");
     Ok(())
 }
 
@@ -82,39 +108,20 @@ fn root_of_eight(mode: &Mode, bytes: &[u8; 8192], work: &mut Work) -> [u8; 32] {
 
 #[test]
 fn patterns_in_three_modes(rt: HostRuntime) -> Result<(), Fail> {
-    let keyed = Mode::keyed(KEY);
-    let derive = Mode::derive(CONTEXT, &mut Work::new(&rt));
-    for row in &ROWS {
-        let bytes = pattern(rt.alloc(), 0, row.len)?;
-        gives(&rt, &Mode::hash(), &bytes, row.hash)?;
-        gives(&rt, &keyed, &bytes, row.keyed)?;
-        gives(&rt, &derive, &bytes, row.derived)?;
+    let mut rows = 0u64;
+    for row in HASHES.lines() {
+        has_hashes(&rt, row)?;
+        rows = rows.wrapping_add(1);
     }
-    gives(&rt, &Mode::hash(), b"abc", ABC)
-}
-
-#[test]
-fn counts_of_patterns(rt: HostRuntime) -> Result<(), Fail> {
-    for row in &COUNTS {
-        let mut work = Work::new(&rt);
-        let bytes = pattern(rt.alloc(), 0, row.len)?;
-        let _hash = hash(&Mode::hash(), &bytes, &mut work);
-        assert_eq!(rt; work.count(), row.work);
-        gives(&rt, &Mode::hash(), &bytes, row.hash)?;
-    }
+    assert_eq!(rt; rows, 12);
     Ok(())
-}
-
-#[test]
-fn a_short_context_is_one_compression(rt: HostRuntime) {
-    let mut work = Work::new(&rt);
-    let _derive = Mode::derive(CONTEXT, &mut work);
-    assert_eq!(rt; work.count(), 1);
 }
 
 #[test]
 fn one_compression(rt: HostRuntime) {
     let mut work = Work::new(&rt);
+    let _derive = Mode::derive(CONTEXT, &mut work);
+    assert_eq!(rt; work.count(), 1);
     let initial = [
         0x6a09_e667,
         0xbb67_ae85,
@@ -130,24 +137,7 @@ fn one_compression(rt: HostRuntime) {
     let words = compress(&initial, &block, 0, 3, 1 + 2 + 8, &mut work);
     let (chaining_value, _) = words.split_at(8);
     assert!(rt; chaining_value == HASH_OF_ABC.as_slice());
-    assert_eq!(rt; work.count(), 1);
-}
-
-#[test]
-fn two_chunks_and_their_parent(rt: HostRuntime) -> Result<(), Fail> {
-    let mut work = Work::new(&rt);
-    let mode = Mode::hash();
-    let bytes = pattern(rt.alloc(), 0, 1025)?;
-    let (whole, rest) = bytes.as_slice().as_chunks::<1024>();
-    let first = whole.first().ok_or("no chunk")?;
-    let left = Top::of_chunk(&mode, first, 0, &mut work);
-    let right = Top::of_subtree(&mode, rest, 1, &mut work);
-    let in_chunks = work.count();
-    let top = Top::parent(&mode, &left, &right, &mut work);
-    let in_all = work.count();
-    assert_eq!(rt; (in_chunks, in_all), (15, 17));
-    assert_eq!(rt; top.root32(&mut work), digest(COUNTS[3].hash)?);
-    Ok(())
+    assert_eq!(rt; work.count(), 2);
 }
 
 #[test]

@@ -2,10 +2,12 @@
 #![tactic(auto)]
 
 #[cfg(test)]
-mod check_lines;
+mod check_files;
 mod fakes;
 #[cfg(test)]
 mod follows;
+#[cfg(test)]
+mod forest_scripts;
 #[cfg(test)]
 mod forests;
 #[cfg(test)]
@@ -17,12 +19,10 @@ mod hashing;
 #[cfg(test)]
 mod helpers;
 #[cfg(test)]
-mod open_forests;
+mod nodes;
 #[cfg(test)]
 mod outputs;
-#[cfg(test)]
-mod parts;
-#[cfg(test)]
-mod reports;
+mod scripts;
 
-pub use fakes::{FailingWriter, pattern};
+pub use fakes::{FailingWriter, is_pattern, pattern};
+pub use scripts::{Answers, cut, number, told, two_numbers};

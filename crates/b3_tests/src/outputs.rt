@@ -1,99 +1,104 @@
 //! Extended outputs.
 
-ghost use Rattle.std.specs.Prelude.{◌≤◌};
-
-use crate::helpers::{ABC, ABC_FROM_64};
+use crate::scripts::{Answers, cut, number, told};
 use b3_core::{Mode, OutputReader, Top, Work};
-use std::fmt::Write;
+use std::alloc::{AllocError, Global};
 use std::process::Abort;
 use std::test::Fail;
 
-// The node of `abc`.
-fn top_of_abc(work: &mut Work) -> Top {
-    Top::of_chunk(&Mode::hash(), b"abc", 0, work)
+// A reader of the output of `abc`: `at` sets its position, `fill` fills so many bytes, and tells them where they are few.
+#[derive(Drop)]
+struct Output {
+    alloc: Global,
+    reader: OutputReader,
+    work: Work,
 }
 
-// The output's first 131 bytes, in two pieces.
-fn in_two_pieces(cut: usize, work: &mut Work) -> Option<[u8; 131]>
-    requires { cut ≤ 131 }
-{
-    let mut bytes = [0u8; 131];
-    let mut reader = OutputReader::new(top_of_abc(work));
-    let (first, rest) = bytes.split_at_mut(cut);
-    match (reader.fill(first, work), reader.fill(rest, work)) {
-        (Ok(()), Ok(())) => Some(bytes),
-        _ => None,
+impl Answers for Output {
+    fn answer(&mut self, command: &str) -> Result<String, AllocError> {
+        let (word, rest) = cut(command);
+        if word == "at" {
+            self.reader.set_position(number(rest));
+            let position = self.reader.position();
+            return format!(in self.alloc; "{position}");
+        }
+        self.fill(number(rest))
     }
 }
 
-fn hex(rt: &impl AllocGlobal, bytes: &[u8]) -> Result<String, Fail> {
-    let mut text = String::new(rt.alloc());
-    for byte in bytes {
-        write!(text, "{byte:02x}")?;
+impl Output {
+    // The compressions, the position behind, and the bytes; of a refused fill those that stood there before.
+    fn fill(&mut self, len: u64) -> Result<String, AllocError> {
+        let mut bytes = Vec::new(self.alloc);
+        for _ in 0..len {
+            bytes.push(7u8)?;
+        }
+        let before = self.work.count();
+        let is_filled = self.reader.fill(&mut bytes, &mut self.work).is_ok();
+        let (count, position) = (
+            self.work.count().wrapping_sub(before),
+            self.reader.position(),
+        );
+        let digits = if len > 131 {
+            String::new(self.alloc)
+        } else {
+            hex::encode(self.alloc, bytes)?
+        };
+        format!(in self.alloc; "{is_filled} by {count} up to {position} [{digits}]")
     }
-    Ok(text)
 }
 
-// The compressions of `len` bytes of output from a place on.
-fn filled<R: AllocGlobal + Abort>(rt: &R, position: u64, len: usize) -> Result<u64, Fail> {
-    let mut reader = OutputReader::new(top_of_abc(&mut Work::new(rt)));
-    reader.set_position(position);
-    let mut buffer = vec![in rt.alloc(); 0u8; len]?;
+// The script's lines are answered as they say.
+fn holds<R: AllocGlobal + Abort>(rt: &R, script: &str) -> Result<(), Fail> {
     let mut work = Work::new(rt);
-    reader.fill(&mut buffer, &mut work).ok().ok_or("no output")?;
-    Ok(work.count())
-}
-
-#[test]
-fn output_of_abc(rt: HostRuntime) -> Result<(), Fail> {
-    let whole = in_two_pieces(131, &mut Work::new(&rt)).ok_or("no output")?;
-    let (first, rest) = whole.split_at(32);
-    let (_, rest) = rest.split_at(32);
-    assert_eq!(rt; hex(&rt, first)?.as_str(), ABC);
-    assert_eq!(rt; hex(&rt, rest)?.as_str(), ABC_FROM_64);
+    let top = Top::of_chunk(&Mode::hash(), b"abc", 0, &mut work);
+    let mut output = Output {
+        alloc: rt.alloc(),
+        reader: OutputReader::new(top),
+        work,
+    };
+    let told = told(rt.alloc(), &mut output, script)?;
+    assert_eq!(rt; told.as_str(), script);
     Ok(())
 }
 
+// At each cut the two pieces are the output; its first 131 bytes are those of the reference implementation's command.
 #[test]
-fn output_in_pieces(rt: HostRuntime) {
-    let mut work = Work::new(&rt);
-    let whole = in_two_pieces(131, &mut work);
-    for cut in [1usize, 63, 64, 65] {
-        let pieces = in_two_pieces(cut, &mut work);
-        assert!(rt; pieces == whole, "cut at {cut}");
-    }
+fn output_of_abc_in_pieces(rt: HostRuntime) -> Result<(), Fail> {
+    holds(
+        &rt,
+        "fill 131 > true by 3 up to 131 [6437b3ac38465133ffb63b75273a8db548c558465d79db03fd359c6cd5bd9d851fb250ae7393f5d02813b65d521a0d492d9ba09cf7ce7f4cffd900f23374bf0bc08a1fb0b38ed276181ccbd9f7b7edbddf9f86404ad7929605f6ffa3fb1ac87983105f013384f2f11d38879c985d47003804b905f0c38975e28d36804bb60d8c303653]
+at 0 > 0
+fill 1 > true by 1 up to 1 [64]
+fill 130 > true by 3 up to 131 [37b3ac38465133ffb63b75273a8db548c558465d79db03fd359c6cd5bd9d851fb250ae7393f5d02813b65d521a0d492d9ba09cf7ce7f4cffd900f23374bf0bc08a1fb0b38ed276181ccbd9f7b7edbddf9f86404ad7929605f6ffa3fb1ac87983105f013384f2f11d38879c985d47003804b905f0c38975e28d36804bb60d8c303653]
+at 0 > 0
+fill 63 > true by 1 up to 63 [6437b3ac38465133ffb63b75273a8db548c558465d79db03fd359c6cd5bd9d851fb250ae7393f5d02813b65d521a0d492d9ba09cf7ce7f4cffd900f23374bf]
+fill 68 > true by 3 up to 131 [0bc08a1fb0b38ed276181ccbd9f7b7edbddf9f86404ad7929605f6ffa3fb1ac87983105f013384f2f11d38879c985d47003804b905f0c38975e28d36804bb60d8c303653]
+at 0 > 0
+fill 64 > true by 1 up to 64 [6437b3ac38465133ffb63b75273a8db548c558465d79db03fd359c6cd5bd9d851fb250ae7393f5d02813b65d521a0d492d9ba09cf7ce7f4cffd900f23374bf0b]
+fill 67 > true by 2 up to 131 [c08a1fb0b38ed276181ccbd9f7b7edbddf9f86404ad7929605f6ffa3fb1ac87983105f013384f2f11d38879c985d47003804b905f0c38975e28d36804bb60d8c303653]
+at 0 > 0
+fill 65 > true by 2 up to 65 [6437b3ac38465133ffb63b75273a8db548c558465d79db03fd359c6cd5bd9d851fb250ae7393f5d02813b65d521a0d492d9ba09cf7ce7f4cffd900f23374bf0bc0]
+fill 66 > true by 2 up to 131 [8a1fb0b38ed276181ccbd9f7b7edbddf9f86404ad7929605f6ffa3fb1ac87983105f013384f2f11d38879c985d47003804b905f0c38975e28d36804bb60d8c303653]
+at 63 > 63
+fill 2 > true by 2 up to 65 [0bc0]
+at 7 > 7
+fill 0 > true by 0 up to 7 []
+at 0 > 0
+fill 65536 > true by 1024 up to 65536 []
+",
+    )
 }
 
 #[test]
-fn work_of_output(rt: HostRuntime) -> Result<(), Fail> {
-    let few = (filled(&rt, 0, 64)?, filled(&rt, 63, 2)?, filled(&rt, 7, 0)?);
-    assert_eq!(rt; few, (1, 2, 0));
-    assert_eq!(rt; filled(&rt, 0, 65536)?, 1024);
-    Ok(())
-}
-
-#[test]
-fn output_ends(rt: HostRuntime) {
-    let mut work = Work::new(&rt);
-    let mut reader = OutputReader::new(top_of_abc(&mut work));
-    let mut bytes = [7u8; 2];
-    reader.set_position(18_446_744_073_709_551_614);
-    assert!(rt; reader.fill(&mut bytes, &mut work).is_err());
-    assert_eq!(rt; (bytes, work.count()), ([7, 7], 0));
-    assert_eq!(rt; reader.position(), 18_446_744_073_709_551_614);
-}
-
-#[test]
-fn the_last_byte_of_output(rt: HostRuntime) {
-    let mut work = Work::new(&rt);
-    let mut reader = OutputReader::new(top_of_abc(&mut work));
-    reader.set_position(18_446_744_073_709_551_614);
-    let is_filled = reader.fill(&mut [7], &mut work).is_ok();
-    let is_filled_by_nothing = reader.fill(&mut [], &mut work).is_ok();
-    let is_filled_beyond = reader.fill(&mut [7], &mut work).is_ok();
-    assert_eq!(rt;
-        (is_filled, is_filled_by_nothing, is_filled_beyond),
-        (true, true, false)
-    );
-    assert_eq!(rt; reader.position(), 18_446_744_073_709_551_615);
+fn output_ends_before_two_to_the_sixty_four(rt: HostRuntime) -> Result<(), Fail> {
+    holds(
+        &rt,
+        "at 18446744073709551614 > 18446744073709551614
+fill 2 > false by 0 up to 18446744073709551614 [0707]
+fill 1 > true by 1 up to 18446744073709551615 [58]
+fill 0 > true by 0 up to 18446744073709551615 []
+fill 1 > false by 0 up to 18446744073709551615 [07]
+",
+    )
 }

@@ -1,0 +1,144 @@
+//! Lines of check files, and reports on them. What is outside the grammar stands in tests/cases/check-lines.table.
+
+use crate::fakes::FailingWriter;
+use crate::helpers::{ABC, THREE_LINES, digest};
+use b3_check::{
+    CheckFile, Fault, Line, NameFault, Names, ReadError, Report, read_line, verify, write,
+};
+use std::alloc::{AllocError, Global};
+use std::test::Fail;
+
+// A line of the hash of `abc`.
+fn line_of_abc(alloc: Global, name: &[u8]) -> Result<Line, Fail> {
+    let digest = digest(ABC)?;
+    match Line::new(digest, Vec::from_slice(alloc, name)?) {
+        Ok(line) => Ok(line),
+        Err(_) => Err(Fail::new("no name")),
+    }
+}
+
+// Nothing where a line has the name and gives it back, or the fault with which its bytes come back.
+fn named(alloc: Global, name: &[u8]) -> Result<&'static str, AllocError> {
+    match Line::new([0; 32], Vec::from_slice(alloc, name)?) {
+        Ok(line) => {
+            let is_named = line.name.as_bytes() == name;
+            if is_named && line.name.into_bytes().as_slice() == name {
+                Ok("")
+            } else {
+                Ok("another name")
+            }
+        }
+        Err(refused) => {
+            if refused.bytes.as_slice() == name {
+                Ok(refused.fault.code())
+            } else {
+                Ok("other bytes")
+            }
+        }
+    }
+}
+
+// The digest and the name of a line, or why it is none.
+fn read(alloc: Global, line: &[u8]) -> Result<String, AllocError> {
+    match read_line(alloc, line) {
+        Ok(line) => {
+            let digits = hex::encode(alloc, line.digest)?;
+            let name = hex::encode(alloc, line.name.as_bytes())?;
+            format!(in alloc; "{digits} {name}")
+        }
+        Err(error) => format!(in alloc; "{error}"),
+    }
+}
+
+// Answers for `f` alone, and counts its calls.
+#[derive(Drop)]
+struct Table {
+    answer: Result<Option<[u8; 32]>, NameFault>,
+    calls: u64,
+}
+
+impl Names for Table {
+    ghost gives = { λ _ _ _ _. Unit {0} };
+
+    fn digest_of(&mut self, name: &[u8]) -> Result<Option<[u8; 32]>, NameFault> {
+        self.calls = self.calls.wrapping_add(1);
+        if name == b"f".as_slice() {
+            self.answer
+        } else {
+            Ok(None)
+        }
+    }
+}
+
+fn report_on(
+    alloc: Global,
+    answer: Result<Option<[u8; 32]>, NameFault>,
+    calls: u64,
+) -> Result<Option<Report>, Fail> {
+    let mut names = Table { answer, calls: 0 };
+    let file = CheckFile::read(alloc, THREE_LINES)?;
+    let report = verify(alloc, &file, &mut names);
+    if names.calls != calls {
+        return Err(Fail::new("other calls"));
+    }
+    Ok(report.ok())
+}
+
+#[test]
+fn names_and_lines(rt: HostRuntime) -> Result<(), Fail> {
+    let alloc = rt.alloc();
+    assert_eq!(rt; named(alloc, b"a\\b")?, "");
+    assert_eq!(rt; named(alloc, b"a\0")?, "C7");
+    assert_eq!(rt; named(alloc, b"")?, "C5");
+    let line = format!(in alloc; "{ABC} 66")?;
+    assert_eq!(rt; read(alloc, &THREE_LINES[..67])?, line);
+    assert_eq!(rt; read(alloc, b"short")?.as_str(), "C2");
+    assert_eq!(rt; Fault::BadEscape.code(), "C6");
+    let text = ReadError::NoMemory.to_string(alloc)?;
+    assert_eq!(rt; text.as_str(), "out of memory");
+    let mut file = Vec::new(alloc);
+    let lines = vec![in alloc; line_of_abc(alloc, b"f")?]?;
+    write(alloc, lines.as_slice(), &mut file)?;
+    assert!(rt; file.as_slice() == &THREE_LINES[..68]);
+    Ok(())
+}
+
+#[test]
+fn a_file_is_verified(rt: HostRuntime) -> Result<(), Fail> {
+    let alloc = rt.alloc();
+    let report = report_on(alloc, Ok(Some(digest(ABC)?)), 2)?.ok_or("no report")?;
+    assert_eq!(rt;
+        (report.verdicts().len(), report.counts().is_all_good()),
+        (3, false)
+    );
+    let mut text = Vec::new(alloc);
+    report.write(alloc, &mut text)?;
+    let wanted: &[u8] =
+        b"good f\nfault 2 C2\nmissing g\ngood 1 bad 0 missing 1 unreadable 0 faults 1\n";
+    assert!(rt; text.as_slice() == wanted);
+    Ok(())
+}
+
+#[test]
+fn names_without_memory_end_it(rt: HostRuntime) -> Result<(), Fail> {
+    assert!(rt; report_on(rt.alloc(), Err(NameFault::NoMemory), 1)?.is_none());
+    Ok(())
+}
+
+#[test]
+fn a_failed_write_is_the_last(rt: HostRuntime) -> Result<(), Fail> {
+    let alloc = rt.alloc();
+    let lines = vec![in alloc; line_of_abc(alloc, b"x")?]?;
+    for fails in 1..68u64 {
+        let mut writer = FailingWriter { calls: 0, fails };
+        assert!(rt; write(alloc, lines.as_slice(), &mut writer).is_err());
+        assert_eq!(rt; writer.calls, fails);
+    }
+    let report = report_on(alloc, Ok(None), 2)?.ok_or("no report")?;
+    for fails in 1..77u64 {
+        let mut writer = FailingWriter { calls: 0, fails };
+        assert!(rt; report.write(alloc, &mut writer).is_err());
+        assert_eq!(rt; writer.calls, fails);
+    }
+    Ok(())
+}

@@ -1,0 +1,230 @@
+//! Scripts of one upload. `closed` and `open` begin it, `make` makes a part of the pattern and `add` adds one too, `stray` adds one
+//! of the plan that `other` gave, `fix` fixes the end, and `state`, `segments` and `root` tell what is there.
+
+use crate::fakes::{is_pattern, pattern};
+use crate::scripts::{Answers, cut, number, told, two_numbers};
+use b3_core::{Top, Work};
+use b3_forest::{AddFault, AddRefused, Forest, PartFault, PartRefused, Plan, Prepared, TooLong};
+use std::alloc::{AllocError, Global};
+use std::process::Abort;
+use std::test::Fail;
+
+// A forest, another plan, the part that was made last, the top that was told last, the compressions, and those of that part.
+#[derive(Drop)]
+struct Upload {
+    alloc: Global,
+    forest: Forest,
+    other: Plan,
+    part: Option<Prepared>,
+    top: Option<Top>,
+    work: Work,
+    count: u64,
+}
+
+impl Answers for Upload {
+    fn answer(&mut self, command: &str) -> Result<String, AllocError> {
+        let (word, rest) = cut(command);
+        let (first, second) = two_numbers(rest);
+        let (plan, other) = (self.forest.plan(), self.other);
+        match word {
+            "closed" => self.begin(Plan::new(first)),
+            "open" => self.begin(Plan::open(first)),
+            "make" => self.make(plan, first, second),
+            "add" => self.add(plan, first, second),
+            "other" => self.plan_other(cut(rest).0, number(cut(rest).1)),
+            "stray" => self.add(other, first, second),
+            "fix" => self.fix(first),
+            "state" => self.state(),
+            "segments" => self.segments(),
+            _ => self.root(),
+        }
+    }
+}
+
+fn kind_text(plan: &Plan) -> &'static str {
+    if plan.is_open() { "open" } else { "closed" }
+}
+
+impl Upload {
+    fn begin(&mut self, plan: Result<Plan, TooLong>) -> Result<String, AllocError> {
+        let Ok(plan) = plan else {
+            return format!(in self.alloc; "F1");
+        };
+        self.forest = Forest::new(self.alloc, plan);
+        format!(in self.alloc; "{} {}", kind_text(&plan), plan.bound())
+    }
+
+    fn plan_other(&mut self, kind: &str, bound: u64) -> Result<String, AllocError> {
+        let plan = if kind == "open" {
+            Plan::open(bound)
+        } else {
+            Plan::new(bound)
+        };
+        if let Ok(plan) = plan {
+            self.other = plan;
+        }
+        format!(in self.alloc; "{} {}", kind_text(&self.other), self.other.bound())
+    }
+
+    // Makes a part, and once more of the bytes that come back where memory is refused. Leaves the compressions of the last time.
+    fn made(&mut self, plan: Plan, offset: u64, bytes: Vec<u8>) -> Result<Prepared, PartRefused> {
+        let before = self.work.count();
+        let made = Prepared::make(self.alloc, &plan, offset, bytes, &mut self.work);
+        self.count = self.work.count().wrapping_sub(before);
+        let bytes = match made {
+            Err(
+                PartRefused {
+                    fault: PartFault::NoMemory,
+                    bytes,
+                },
+            ) => bytes,
+            made => return made,
+        };
+        let before = self.work.count();
+        let made = Prepared::make(self.alloc, &plan, offset, bytes, &mut self.work);
+        self.count = self.work.count().wrapping_sub(before);
+        made
+    }
+
+    // Makes a part and keeps it, or tells why there is none, and whether its bytes came back.
+    fn make(&mut self, plan: Plan, offset: u64, size: u64) -> Result<String, AllocError> {
+        let bytes = pattern(self.alloc, offset, size)?;
+        match self.made(plan, offset, bytes) {
+            Ok(part) => {
+                let (pieces, count) = (part.pieces(), self.count);
+                let is_wanted = is_part(&part, &plan, offset, size);
+                self.part = Some(part);
+                format!(in self.alloc; "{pieces} pieces by {count} {is_wanted}")
+            }
+            Err(refused) => {
+                let is_back = is_pattern(refused.bytes.as_slice(), offset, size);
+                format!(in self.alloc; "{} back {is_back}", refused.fault)
+            }
+        }
+    }
+
+    // Adds a part, and once more where memory is refused, which leaves all as it was.
+    fn added(&mut self, part: Prepared) -> Result<u64, AddRefused> {
+        let before = (
+            self.forest.end(),
+            self.forest.held(),
+            self.forest.first_missing(),
+        );
+        let part = match self.forest.add(part, &mut self.work) {
+            Err(
+                AddRefused {
+                    fault: AddFault::NoMemory,
+                    part,
+                },
+            ) => part,
+            added => return added,
+        };
+        let after = (
+            self.forest.end(),
+            self.forest.held(),
+            self.forest.first_missing(),
+        );
+        if after != before {
+            return Err(AddRefused {
+                fault: AddFault::NoMemory,
+                part,
+            });
+        }
+        self.forest.add(part, &mut self.work)
+    }
+
+    // Makes a part and adds it, and tells the merges, or why it was not added, and which part came back.
+    fn add(&mut self, plan: Plan, offset: u64, size: u64) -> Result<String, AllocError> {
+        let made = self.make(plan, offset, size)?;
+        let Some(part) = self.part.take() else {
+            return Ok(made);
+        };
+        let told = self.forest.refusal_of(&part);
+        let before = self.work.count();
+        let added = self.added(part);
+        let count = self.work.count().wrapping_sub(before);
+        match added {
+            Ok(merges) => {
+                let is_told = told.is_none();
+                format!(in self.alloc; "{made}, {merges} merges by {count} {is_told}")
+            }
+            Err(refused) => {
+                let is_back = is_part(&refused.part, &plan, offset, size);
+                let is_told = told == Some(refused.fault);
+                format!(in self.alloc; "{:?} by {count} back {is_back} {is_told}", refused.fault)
+            }
+        }
+    }
+
+    fn fix(&mut self, len: u64) -> Result<String, AllocError> {
+        let told = self.forest.fix_refusal_of(len);
+        let fault = self.forest.fix(len).err();
+        let is_told = told == fault;
+        format!(in self.alloc; "{fault:?} {is_told}")
+    }
+
+    fn state(&mut self) -> Result<String, AllocError> {
+        let (end, len) = (self.forest.end(), self.forest.length());
+        let (missing, held) = (self.forest.first_missing(), self.forest.held());
+        let parts = self.forest.parts();
+        format!(in self.alloc;
+            "end {end:?} length {len} missing {missing:?} held {held} parts {parts}"
+        )
+    }
+
+    fn segments(&mut self) -> Result<String, AllocError> {
+        let mut text = String::new(self.alloc);
+        for segment in self.forest.segments() {
+            let (offset, size) = (segment.offset, segment.bytes.len() as u64);
+            let is_wanted = is_pattern(segment.bytes.as_slice(), offset, size);
+            text.push_str(format!(in self.alloc; "[{offset} {size} {is_wanted}]")?.as_str())?;
+        }
+        Ok(text)
+    }
+
+    // The hash, its compressions, and whether its top is the one that was told last.
+    fn root(&mut self) -> Result<String, AllocError> {
+        let before = self.work.count();
+        let top = match self.forest.finish(&mut self.work) {
+            Ok(top) => top,
+            Err(fault) => {
+                let count = self.work.count().wrapping_sub(before);
+                return format!(in self.alloc; "{fault:?} by {count}");
+            }
+        };
+        let digest = hex::encode(self.alloc, top.root32(&mut self.work))?;
+        let count = self.work.count().wrapping_sub(before);
+        let again = if self.top == Some(top) { " again" } else { "" };
+        self.top = Some(top);
+        format!(in self.alloc; "{digest} by {count}{again}")
+    }
+}
+
+fn is_part(part: &Prepared, plan: &Plan, offset: u64, size: u64) -> bool {
+    part.plan() == *plan && part.offset() == offset && is_pattern(part.bytes(), offset, size)
+}
+
+// What is told of the script.
+fn told_of<R: AllocGlobal>(rt: &R, plan: Plan, script: &str) -> Result<String, AllocError> {
+    let mut on = Upload {
+        alloc: rt.alloc(),
+        forest: Forest::new(rt.alloc(), plan),
+        other: plan,
+        part: None,
+        top: None,
+        work: Work::new(rt),
+        count: 0,
+    };
+    told(rt.alloc(), &mut on, script)
+}
+
+/// The script's lines are answered as they say. Where the test's own memory is refused, all is done again.
+pub(crate) fn holds<R: AllocGlobal + Abort>(rt: &R, script: &str) -> Result<(), Fail> {
+    let plan = Plan::new(0).ok().ok_or("no plan")?;
+    let told = match told_of(rt, plan, script) {
+        Ok(told) => told,
+        Err(_) => told_of(rt, plan, script)?,
+    };
+    assert_eq!(rt; told.as_str(), script);
+    Ok(())
+}

@@ -1,0 +1,37 @@
+//! Scripts: each line is a command and, behind ` > `, the answer that it must have.
+
+use std::alloc::{AllocError, Global};
+
+/// What is told of such lines.
+pub trait Answers {
+    /// The answer to a command.
+    fn answer(&mut self, command: &str) -> Result<String, AllocError>;
+}
+
+/// The script again, as its commands are answered; a line that has no answer is told as one that has none.
+pub fn told<A: Answers>(alloc: Global, on: &mut A, script: &str) -> Result<String, AllocError> {
+    let mut told = String::new(alloc);
+    for line in script.lines() {
+        let (command, _) = line.split_once(" > ").unwrap_or((line, ""));
+        let answer = on.answer(command)?;
+        let (command, answer) = (command, answer.as_str());
+        told.push_str(format!(in alloc; "{command} > {answer}\n")?.as_str())?;
+    }
+    Ok(told)
+}
+
+/// A text up to its first space, and what stands behind that.
+pub fn cut(text: &str) -> (&str, &str) {
+    text.split_once(' ').unwrap_or((text, ""))
+}
+
+/// A number; what is none is the greatest.
+pub fn number(text: &str) -> u64 {
+    text.parse::<u64>().unwrap_or(u64::MAX)
+}
+
+/// The first two numbers of a text.
+pub fn two_numbers(text: &str) -> (u64, u64) {
+    let (first, rest) = cut(text);
+    (number(first), number(cut(rest).0))
+}
