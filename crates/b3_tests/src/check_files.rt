@@ -2,9 +2,7 @@
 
 use crate::fakes::FailingWriter;
 use crate::helpers::{ABC, THREE_LINES, digest};
-use b3_check::{
-    CheckFile, Fault, Line, NameFault, Names, ReadError, Report, read_line, verify, write,
-};
+use b3_check::{CheckFile, Line, NameFault, Names, ReadError, Report, read_line, verify, write};
 use std::alloc::{AllocError, Global};
 use std::test::Fail;
 
@@ -41,13 +39,22 @@ fn named(alloc: Global, name: &[u8]) -> Result<&'static str, AllocError> {
 // The digest and the name of a line, or why it is none.
 fn read(alloc: Global, line: &[u8]) -> Result<String, AllocError> {
     match read_line(alloc, line) {
-        Ok(line) => {
-            let digits = hex::encode(alloc, line.digest)?;
-            let name = hex::encode(alloc, line.name.as_bytes())?;
-            format!(in alloc; "{digits} {name}")
-        }
+        Ok(line) => line_text(alloc, &line),
         Err(error) => format!(in alloc; "{error}"),
     }
+}
+
+fn line_text(alloc: Global, line: &Line) -> Result<String, AllocError> {
+    let digits = hex::encode(alloc, line.digest)?;
+    let name = hex::encode(alloc, line.name.as_bytes())?;
+    format!(in alloc; "{digits} {name}")
+}
+
+fn written(alloc: Global) -> Result<Vec<u8>, Fail> {
+    let lines = vec![in alloc; line_of_abc(alloc, b"f")?]?;
+    let mut file = Vec::new(alloc);
+    write(alloc, lines.as_slice(), &mut file)?;
+    Ok(file)
 }
 
 // Answers for `f` alone, and counts its calls.
@@ -85,21 +92,40 @@ fn report_on(
 }
 
 #[test]
-fn names_and_lines(rt: HostRuntime) -> Result<(), Fail> {
+fn names_are_kept_or_come_back(rt: HostRuntime) -> Result<(), Fail> {
     let alloc = rt.alloc();
     assert_eq!(rt; named(alloc, b"a\\b")?, "");
     assert_eq!(rt; named(alloc, b"a\0")?, "C7");
     assert_eq!(rt; named(alloc, b"")?, "C5");
-    let line = format!(in alloc; "{ABC} 66")?;
-    assert_eq!(rt; read(alloc, &THREE_LINES[..67])?, line);
-    assert_eq!(rt; read(alloc, b"short")?.as_str(), "C2");
-    assert_eq!(rt; Fault::BadEscape.code(), "C6");
-    let text = ReadError::NoMemory.to_string(alloc)?;
-    assert_eq!(rt; text.as_str(), "out of memory");
-    let mut file = Vec::new(alloc);
-    let lines = vec![in alloc; line_of_abc(alloc, b"f")?]?;
-    write(alloc, lines.as_slice(), &mut file)?;
-    assert!(rt; file.as_slice() == &THREE_LINES[..68]);
+    Ok(())
+}
+
+#[test]
+fn a_line_is_read(rt: HostRuntime) -> Result<(), Fail> {
+    let line = read(
+        rt.alloc(),
+        b"6437b3ac38465133ffb63b75273a8db548c558465d79db03fd359c6cd5bd9d85  f",
+    )?;
+    assert_eq!(rt;
+        line.as_str(),
+        "6437b3ac38465133ffb63b75273a8db548c558465d79db03fd359c6cd5bd9d85 66"
+    );
+    Ok(())
+}
+
+#[test]
+fn faults_have_texts(rt: HostRuntime) -> Result<(), Fail> {
+    let (short, none) = (read(rt.alloc(), b"short")?, ReadError::NoMemory);
+    let text = format!(in rt.alloc(); "{short} {none}")?;
+    assert_eq!(rt; text.as_str(), "C2 out of memory");
+    Ok(())
+}
+
+#[test]
+fn a_line_is_written(rt: HostRuntime) -> Result<(), Fail> {
+    let file = written(rt.alloc())?;
+    let wanted: &[u8] = b"6437b3ac38465133ffb63b75273a8db548c558465d79db03fd359c6cd5bd9d85  f\n";
+    assert!(rt; file.as_slice() == wanted);
     Ok(())
 }
 

@@ -49,12 +49,22 @@ impl Lent<'_> {
     }
 
     // Notes a part, and once more where memory is refused, which leaves all as it was.
-    fn note_part(&mut self, part: &Prepared) -> Result<String, AllocError> {
-        let (before, missing) = (self.work.count(), self.follow.first_missing());
-        let mut noted = self.follow.note(part, &mut self.work);
-        if noted == Err(NoteFault::NoMemory) && self.follow.first_missing() == missing {
-            noted = self.follow.note(part, &mut self.work);
+    fn noted(&mut self, part: &Prepared) -> Result<u64, NoteFault> {
+        let missing = self.follow.first_missing();
+        match self.follow.note(part, &mut self.work) {
+            Ok(merges) => Ok(merges),
+            Err(fault) => {
+                if fault != NoteFault::NoMemory || self.follow.first_missing() != missing {
+                    return Err(fault);
+                }
+                self.follow.note(part, &mut self.work)
+            }
         }
+    }
+
+    fn note_part(&mut self, part: &Prepared) -> Result<String, AllocError> {
+        let before = self.work.count();
+        let noted = self.noted(part);
         let count = self.work.count().wrapping_sub(before);
         match noted {
             Ok(merges) => format!(in self.alloc; "{merges} merges by {count}"),

@@ -66,24 +66,30 @@ impl Upload {
         format!(in self.alloc; "{} {}", kind_text(&self.other), self.other.bound())
     }
 
-    // Makes a part, and once more of the bytes that come back where memory is refused. Leaves the compressions of the last time.
-    fn made(&mut self, plan: Plan, offset: u64, bytes: Vec<u8>) -> Result<Prepared, PartRefused> {
-        let before = self.work.count();
-        let made = Prepared::make(self.alloc, &plan, offset, bytes, &mut self.work);
-        self.count = self.work.count().wrapping_sub(before);
-        let bytes = match made {
-            Err(
-                PartRefused {
-                    fault: PartFault::NoMemory,
-                    bytes,
-                },
-            ) => bytes,
-            made => return made,
-        };
+    // Makes a part, and notes the compressions.
+    fn made_once(
+        &mut self,
+        plan: Plan,
+        offset: u64,
+        bytes: Vec<u8>,
+    ) -> Result<Prepared, PartRefused> {
         let before = self.work.count();
         let made = Prepared::make(self.alloc, &plan, offset, bytes, &mut self.work);
         self.count = self.work.count().wrapping_sub(before);
         made
+    }
+
+    // Makes a part, and once more of the bytes that come back where memory is refused.
+    fn made(&mut self, plan: Plan, offset: u64, bytes: Vec<u8>) -> Result<Prepared, PartRefused> {
+        match self.made_once(plan, offset, bytes) {
+            Ok(part) => Ok(part),
+            Err(refused) => {
+                if refused.fault != PartFault::NoMemory {
+                    return Err(refused);
+                }
+                self.made_once(plan, offset, refused.bytes)
+            }
+        }
     }
 
     // Makes a part and keeps it, or tells why there is none, and whether its bytes came back.

@@ -12,12 +12,22 @@ pub trait Answers {
 pub fn told<A: Answers>(alloc: Global, on: &mut A, script: &str) -> Result<String, AllocError> {
     let mut told = String::new(alloc);
     for line in script.lines() {
-        let (command, _) = line.split_once(" > ").unwrap_or((line, ""));
-        let answer = on.answer(command)?;
-        let (command, answer) = (command, answer.as_str());
-        told.push_str(format!(in alloc; "{command} > {answer}\n")?.as_str())?;
+        told.push_str(told_line(alloc, on, command_of(line))?.as_str())?;
     }
     Ok(told)
+}
+
+fn told_line<A: Answers>(alloc: Global, on: &mut A, command: &str) -> Result<String, AllocError> {
+    let answer = on.answer(command)?;
+    let answer = answer.as_str();
+    format!(in alloc; "{command} > {answer}\n")
+}
+
+fn command_of(line: &str) -> &str {
+    match line.split_once(" > ") {
+        Some((command, _)) => command,
+        None => line,
+    }
 }
 
 /// A text up to its first space, and what stands behind that.
