@@ -1,165 +1,296 @@
-//! What several of these files need: hashes from outside, and a store whose calls answer as texts.
+//! Scripts of a store with one tenant. Behind each answer stand two counts of compressions: those of making a part, and those of the
+//! store. Where memory is refused to a command, all must be as before, and the same command is given again.
 
 use b3_core::Work;
-use b3_forest::Prepared;
-use b3_tests::pattern;
+use b3_forest::{PartFault, Plan, Prepared};
+use b3_tests::{Answers, cut, is_pattern, number, pattern, told, two_numbers};
+use hex::FromHex;
 use std::alloc::{AllocError, Global};
+use std::process::Abort;
 use std::test::Fail;
 use store_core::{
-    Address, Held, Limits, PutRefused, Refusal, Sealed, Store, TenantId, UploadId, entry_lines,
+    Address, BadLimits, Held, Limits, PutRefused, ReadError, Refusal, ReplayError, Sealed, Store,
+    TenantId, UploadId, read_journal, replay, write_journal,
 };
 
-/// The BLAKE3 hash of no bytes.
-pub(crate) const NOTHING: &str = "af1349b9f5f9a1a6a0404dea36dcc9499bcb25c9adc112b7cc9a93cae41f3262";
-
-/// The BLAKE3 hash of one byte 0.
-pub(crate) const ZERO: &str = "2d3adedff11b61f14c886e35afa036736dcd87a74d27b5c1510225d0f592e213";
-
-/// A store, the compressions of making its parts, and its own. Its calls answer as texts.
+// A store, a part that came back for want of memory, the compressions of making parts, and the store's own.
 #[derive(Drop)]
-pub(crate) struct Fixture {
-    pub(crate) alloc: Global,
+struct Scripted {
+    alloc: Global,
     store: Store,
-    pub(crate) making: Work,
-    pub(crate) work: Work,
+    part: Option<Prepared>,
+    making: Work,
+    work: Work,
 }
 
-/// A fixture whose store has no tenant yet.
-pub(crate) fn store_with<R: AllocGlobal>(rt: &R, limits: Limits) -> Fixture {
-    Fixture {
-        alloc: rt.alloc(),
-        store: Store::new(rt.alloc(), limits),
-        making: Work::new(rt),
-        work: Work::new(rt),
+impl Answers for Scripted {
+    fn answer(&mut self, command: &str) -> Result<String, AllocError> {
+        let before = self.all()?;
+        let answer = self.counted(command)?;
+        if !answer.starts_with("S14") {
+            return Ok(answer);
+        }
+        let after = self.all()?;
+        if after != before {
+            return format!(in self.alloc; "{after}");
+        }
+        self.counted(command)
     }
 }
 
-impl Fixture {
-    pub(crate) fn open_tenant(&mut self, limit: u64) -> Result<String, AllocError> {
+impl Scripted {
+    fn counted(&mut self, command: &str) -> Result<String, AllocError> {
+        let (making, work) = (self.making.count(), self.work.count());
+        let (word, rest) = cut(command);
+        let answer = self.reply(word, rest)?;
+        let making = self.making.count().wrapping_sub(making);
+        let work = self.work.count().wrapping_sub(work);
+        format!(in self.alloc; "{answer} [{making} {work}]")
+    }
+
+    fn reply(&mut self, word: &str, rest: &str) -> Result<String, AllocError> {
+        let (first, second) = two_numbers(rest);
+        match word {
+            "put" => self.put(UploadId::new(first), rest),
+            "stray" => self.stray(UploadId::new(first), UploadId::new(second)),
+            "seal" => self.seal(UploadId::new(first)),
+            "sealas" => self.seal_as(UploadId::new(first), cut(rest).1),
+            "limits" => self.begin_with(first, second, cut(cut(rest).1).1),
+            "begin" => self.begin(first),
+            "open" => self.begin_open(first),
+            "tenant" => self.open_tenant(first),
+            "forget" => self.forget(rest),
+            "fetch" => self.fetch(rest),
+            _ => self.told(word, first, second),
+        }
+    }
+
+    // Commands that have nothing to tell, and questions.
+    fn told(&mut self, word: &str, first: u64, second: u64) -> Result<String, AllocError> {
+        let (alloc, upload) = (self.alloc, UploadId::new(first));
+        match word {
+            "limit" => done_text(alloc, self.store.set_limit(tenant(), first)),
+            "fix" => done_text(alloc, self.store.fix(upload, second)),
+            "abort" => done_text(alloc, self.store.abort(upload).map(|_| ())),
+            "usage" => self.usage(),
+            "list" => self.list(),
+            "read" => self.read(),
+            "replay" => self.replay(),
+            _ => self.state(),
+        }
+    }
+
+    // An empty store.
+    fn begin_with(
+        &mut self,
+        tenants: u64,
+        entries: u64,
+        workers: &str,
+    ) -> Result<String, AllocError> {
+        match Limits::new(tenants, entries, number(workers)) {
+            Ok(limits) => {
+                self.store = Store::new(self.alloc, limits);
+                let is_full = limits == Limits::full();
+                format!(in self.alloc; "full {is_full}")
+            }
+            Err(BadLimits) => format!(in self.alloc; "S0"),
+        }
+    }
+
+    fn open_tenant(&mut self, limit: u64) -> Result<String, AllocError> {
         match self.store.open_tenant(limit) {
             Ok(tenant) => format!(in self.alloc; "tenant {tenant}"),
             Err(refusal) => format!(in self.alloc; "{refusal}"),
         }
     }
 
-    pub(crate) fn begin(&mut self, len: u64) -> Result<String, AllocError> {
-        match self.store.begin(tenant(), len) {
-            Ok((upload, plan)) => format!(in self.alloc; "upload {upload} of {}", plan.bound()),
-            Err(refusal) => format!(in self.alloc; "{refusal}"),
-        }
+    fn begin(&mut self, len: u64) -> Result<String, AllocError> {
+        begun_text(self.alloc, self.store.begin(tenant(), len))
     }
 
-    pub(crate) fn begin_open(&mut self, at_most: u64) -> Result<String, AllocError> {
-        match self.store.begin_open(tenant(), at_most) {
-            Ok((upload, plan)) => {
-                let (bound, is_open) = (plan.bound(), plan.is_open());
-                format!(in self.alloc; "upload {upload} of {bound} open {is_open}")
-            }
-            Err(refusal) => format!(in self.alloc; "{refusal}"),
-        }
+    fn begin_open(&mut self, at_most: u64) -> Result<String, AllocError> {
+        begun_text(self.alloc, self.store.begin_open(tenant(), at_most))
     }
 
-    /// Fixes the length of the first upload.
-    pub(crate) fn fix(&mut self, len: u64) -> Result<String, AllocError> {
-        done_text(self.alloc, self.store.fix(UploadId::new(0), len))
-    }
-
-    /// Puts a part of the pattern to the first upload.
-    pub(crate) fn put(&mut self, offset: u64, len: u64) -> Result<String, Fail> {
-        let upload = UploadId::new(0);
-        let plan = self.store.plan(upload)?;
+    // Makes a part of the pattern by an upload's plan.
+    fn make(
+        &mut self,
+        of: UploadId,
+        offset: u64,
+        len: u64,
+    ) -> Result<Option<Prepared>, AllocError> {
+        let Ok(plan) = self.store.plan(of) else {
+            return Ok(None);
+        };
         let bytes = pattern(self.alloc, offset, len)?;
-        let part = Prepared::make(self.alloc, &plan, offset, bytes, &mut self.making)?;
-        Ok(held_text(self.alloc, self.store.put(upload, part, &mut self.work))?)
+        match Prepared::make(self.alloc, &plan, offset, bytes, &mut self.making) {
+            Ok(part) => Ok(Some(part)),
+            Err(refused) if refused.fault == PartFault::NoMemory => Err(AllocError),
+            Err(_) => Ok(None),
+        }
     }
 
-    pub(crate) fn seal(&mut self) -> Result<String, AllocError> {
-        sealed_text(
-            self.alloc,
-            self.store.seal(UploadId::new(0), &mut self.work),
-        )
+    // Puts the part that came back last, where there is one.
+    fn put(&mut self, upload: UploadId, numbers: &str) -> Result<String, AllocError> {
+        let (offset, len) = two_numbers(cut(numbers).1);
+        let part = match self.part.take() {
+            Some(part) => part,
+            None => match self.make(upload, offset, len)? {
+                Some(part) => part,
+                None => return format!(in self.alloc; "no part"),
+            },
+        };
+        let is_wanted = part.offset() == offset && is_pattern(part.bytes(), offset, len);
+        match self.store.put(upload, part, &mut self.work) {
+            Ok(Held { held, missing }) => {
+                format!(in self.alloc; "held {held} missing {missing:?} {is_wanted}")
+            }
+            Err(refused) => self.back(refused),
+        }
     }
 
-    pub(crate) fn seal_as(&mut self, address: Address) -> Result<String, AllocError> {
-        sealed_text(
-            self.alloc,
-            self.store
-                .seal_as(UploadId::new(0), address, &mut self.work),
-        )
+    // A refusal, and which part came back with it, which is kept for want of memory.
+    fn back(&mut self, refused: PutRefused) -> Result<String, AllocError> {
+        let PutRefused { refusal, part } = refused;
+        let (offset, len) = (part.offset(), part.bytes().len());
+        if refusal == Refusal::NoMemory {
+            self.part = Some(part);
+        }
+        format!(in self.alloc; "{refusal} back {offset} {len}")
     }
 
-    pub(crate) fn set_limit(&mut self, limit: u64) -> Result<String, AllocError> {
-        done_text(self.alloc, self.store.set_limit(tenant(), limit))
+    // Puts a part of another upload's plan.
+    fn stray(&mut self, to: UploadId, of: UploadId) -> Result<String, AllocError> {
+        let Some(part) = self.make(of, 0, 1024)? else {
+            return format!(in self.alloc; "no part");
+        };
+        match self.store.put(to, part, &mut self.work) {
+            Ok(_) => format!(in self.alloc; "held"),
+            Err(refused) => self.back(refused),
+        }
     }
 
-    pub(crate) fn abort(&mut self, upload: u64) -> Result<String, AllocError> {
-        let aborted = self.store.abort(UploadId::new(upload));
-        done_text(self.alloc, aborted.map(|_| ()))
+    fn seal(&mut self, upload: UploadId) -> Result<String, AllocError> {
+        sealed_text(self.alloc, self.store.seal(upload, &mut self.work))
     }
 
-    pub(crate) fn forget(&mut self, address: Address) -> Result<String, AllocError> {
-        done_text(self.alloc, self.store.forget(tenant(), address))
+    fn seal_as(&mut self, upload: UploadId, digits: &str) -> Result<String, AllocError> {
+        let Ok(bytes) = <[u8; 32]>::from_hex(digits) else {
+            return format!(in self.alloc; "no address");
+        };
+        let sealed = self
+            .store
+            .seal_as(upload, Address::new(bytes), &mut self.work);
+        sealed_text(self.alloc, sealed)
     }
 
-    pub(crate) fn fetch(&self, address: Address) -> Result<String, Fail> {
-        let object = self.store.fetch(tenant(), address)?;
-        Ok(format!(in self.alloc; "{} {}", object.address(), object.len())?)
+    fn forget(&mut self, digits: &str) -> Result<String, AllocError> {
+        let Ok(bytes) = <[u8; 32]>::from_hex(digits) else {
+            return format!(in self.alloc; "no address");
+        };
+        done_text(self.alloc, self.store.forget(tenant(), Address::new(bytes)))
     }
 
-    /// The address of the first object.
-    pub(crate) fn first(&self) -> Result<Address, Fail> {
-        let list = self.store.list(tenant())?;
-        let (address, _) = list.first().ok_or("no object")?;
-        Ok(*address)
+    fn fetch(&self, digits: &str) -> Result<String, AllocError> {
+        let Ok(bytes) = <[u8; 32]>::from_hex(digits) else {
+            return format!(in self.alloc; "no address");
+        };
+        match self.store.fetch(tenant(), Address::new(bytes)) {
+            Ok(object) => format!(in self.alloc; "{} {}", object.address(), object.len()),
+            Err(refusal) => format!(in self.alloc; "{refusal}"),
+        }
     }
 
-    pub(crate) fn usage(&self) -> Result<String, Fail> {
-        let usage = self.store.usage(tenant())?;
-        Ok(format!(in self.alloc; "{} {} {}", usage.used, usage.reserved, usage.limit)?)
+    fn usage(&self) -> Result<String, AllocError> {
+        match self.store.usage(tenant()) {
+            Ok(usage) => format!(in self.alloc;
+                "{} {} {}",
+                usage.used, usage.reserved, usage.limit
+            ),
+            Err(refusal) => format!(in self.alloc; "{refusal}"),
+        }
     }
 
-    pub(crate) fn state(&self) -> Result<String, AllocError> {
+    fn list(&self) -> Result<String, AllocError> {
+        match self.store.list(tenant()) {
+            Ok(objects) => objects_text(self.alloc, objects.as_slice()),
+            Err(refusal) => format!(in self.alloc; "{refusal}"),
+        }
+    }
+
+    // Whether the journal's text is read as the journal.
+    fn read(&self) -> Result<String, AllocError> {
+        let mut text = Vec::new(self.alloc);
+        if write_journal(self.store.journal(), &mut text).is_err() {
+            return Err(AllocError);
+        }
+        match read_journal(self.alloc, text.as_slice()) {
+            Ok(entries) => {
+                let is_same = entries.as_slice() == self.store.journal();
+                format!(in self.alloc; "same {is_same}")
+            }
+            Err(ReadError::NoMemory) => format!(in self.alloc; "S14"),
+            Err(refusal) => format!(in self.alloc; "{refusal}"),
+        }
+    }
+
+    // The totals of what the journal leads to.
+    fn replay(&self) -> Result<String, AllocError> {
+        match replay(self.alloc, self.store.journal()) {
+            Ok(replayed) => format!(in self.alloc; "{}", replayed.totals()),
+            Err(ReplayError::NoMemory) => format!(in self.alloc; "S14"),
+            Err(refusal) => format!(in self.alloc; "{refusal}"),
+        }
+    }
+
+    // The totals, and the number of the journal's entries.
+    fn state(&self) -> Result<String, AllocError> {
         let (totals, entries) = (self.store.totals(), self.store.journal().len());
         format!(in self.alloc; "{totals} journal {entries}")
     }
 
-    /// The compressions of the store.
-    pub(crate) fn count(&self) -> u64 {
-        self.work.count()
+    // All that the store answers, and what its journal leads to.
+    fn all(&self) -> Result<String, AllocError> {
+        let mut text = self.state()?;
+        text.push_str(self.usage()?.as_str())?;
+        text.push_str(self.list()?.as_str())?;
+        text.push_str(self.replay()?.as_str())?;
+        for entry in self.store.journal() {
+            text.push_str(format!(in self.alloc; "{entry}, ")?.as_str())?;
+        }
+        Ok(text)
     }
+}
 
-    /// The journal's lines.
-    pub(crate) fn lines(&self) -> Result<Vec<u8>, AllocError> {
-        entry_lines(self.alloc, self.store.journal())
+fn objects_text(alloc: Global, objects: &[(Address, u64)]) -> Result<String, AllocError> {
+    let mut text = String::new(alloc);
+    for (address, len) in objects {
+        text.push_str(format!(in alloc; "[{address} {len}]")?.as_str())?;
     }
+    Ok(text)
 }
 
 fn tenant() -> TenantId {
     TenantId::new(0)
 }
 
-fn done_text(alloc: Global, answer: Result<(), Refusal>) -> Result<String, AllocError> {
+fn begun_text(
+    alloc: Global,
+    answer: Result<(UploadId, Plan), Refusal>,
+) -> Result<String, AllocError> {
     match answer {
-        Ok(()) => format!(in alloc; "ok"),
+        Ok((upload, plan)) => {
+            let (bound, is_open) = (plan.bound(), plan.is_open());
+            format!(in alloc; "upload {upload} of {bound} open {is_open}")
+        }
         Err(refusal) => format!(in alloc; "{refusal}"),
     }
 }
 
-fn held_text(alloc: Global, answer: Result<Held, PutRefused>) -> Result<String, AllocError> {
+fn done_text(alloc: Global, answer: Result<(), Refusal>) -> Result<String, AllocError> {
     match answer {
-        Ok(
-            Held {
-                held,
-                missing: None,
-            },
-        ) => format!(in alloc; "held {held} all"),
-        Ok(
-            Held {
-                held,
-                missing: Some(at),
-            },
-        ) => format!(in alloc; "held {held} missing {at}"),
-        Err(refused) => format!(in alloc; "{}", refused.refusal),
+        Ok(()) => format!(in alloc; "ok"),
+        Err(refusal) => format!(in alloc; "{refusal}"),
     }
 }
 
@@ -173,16 +304,25 @@ fn sealed_text(alloc: Global, answer: Result<Sealed, Refusal>) -> Result<String,
     }
 }
 
-/// Puts a part of another upload's plan, and tells what comes back.
-pub(crate) fn put_a_stranger(on: &mut Fixture, to: u64, planned_by: u64) -> Result<String, Fail> {
-    let plan = on.store.plan(UploadId::new(planned_by))?;
-    let bytes = pattern(on.alloc, 0, 1024)?;
-    let part = Prepared::make(on.alloc, &plan, 0, bytes, &mut on.making)?;
-    match on.store.put(UploadId::new(to), part, &mut on.work) {
-        Ok(_) => Ok(format!(in on.alloc; "held")?),
-        Err(PutRefused { refusal, part }) => {
-            let (offset, bytes) = (part.offset(), part.bytes().len());
-            Ok(format!(in on.alloc; "{refusal}, back {offset} {bytes}")?)
-        }
-    }
+// What is told of the script.
+fn told_of<R: AllocGlobal>(rt: &R, script: &str) -> Result<String, AllocError> {
+    let mut on = Scripted {
+        alloc: rt.alloc(),
+        store: Store::new(rt.alloc(), Limits::full()),
+        part: None,
+        making: Work::new(rt),
+        work: Work::new(rt),
+    };
+    told(rt.alloc(), &mut on, script)
+}
+
+/// The script's lines are answered as they say, at first by a store within the widest limits. Where the test's own memory is
+/// refused, all is done again.
+pub(crate) fn holds<R: AllocGlobal + Abort>(rt: &R, script: &str) -> Result<(), Fail> {
+    let told = match told_of(rt, script) {
+        Ok(told) => told,
+        Err(_) => told_of(rt, script)?,
+    };
+    assert_eq!(rt; told.as_str(), script);
+    Ok(())
 }

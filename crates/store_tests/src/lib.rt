@@ -8,8 +8,6 @@ mod helpers;
 #[cfg(test)]
 mod journal;
 #[cfg(test)]
-mod open_uploads;
-#[cfg(test)]
 mod replay;
 #[cfg(test)]
 mod store;

@@ -1,163 +1,159 @@
-//! The store's commands and questions. Scripts of them stand in tests/cases/run-*.table.
+//! What the program's scripts can't show of the store's commands: compressions, narrow limits, and parts of another plan. All else
+//! stands in tests/cases/run-*.table. The digests are from outside.
 
-use crate::helpers::{Fixture, NOTHING, put_a_stranger, store_with};
-use std::process::Abort;
+use crate::helpers::holds;
 use std::test::Fail;
-use store_core::{Address, BadLimits, Limits};
-
-fn full<R: AllocGlobal + Abort>(rt: &R, on: &mut Fixture) -> Result<(), Fail> {
-    assert_eq!(rt; on.open_tenant(10)?.as_str(), "tenant 0");
-    assert_eq!(rt; on.open_tenant(10)?.as_str(), "S2");
-    assert_eq!(rt; on.begin(5)?.as_str(), "upload 0 of 5");
-    assert_eq!(rt; on.abort(0)?.as_str(), "S13");
-    assert_eq!(rt; on.put(0, 5)?.as_str(), "S13");
-    Ok(())
-}
-
-fn begun_and_aborted<R: AllocGlobal + Abort>(rt: &R, on: &mut Fixture) -> Result<(), Fail> {
-    assert_eq!(rt; on.open_tenant(4096)?.as_str(), "tenant 0");
-    assert_eq!(rt; on.set_limit(2048)?.as_str(), "ok");
-    assert_eq!(rt; on.begin(1024)?.as_str(), "upload 0 of 1024");
-    assert_eq!(rt; on.usage()?.as_str(), "0 1024 2048");
-    assert_eq!(rt; on.abort(0)?.as_str(), "ok");
-    assert_eq!(rt;
-        on.state()?.as_str(),
-        "objects 0 bytes 0 uploads 0 held 0 parts 0 journal 4"
-    );
-    Ok(())
-}
-
-fn filed_and_forgotten<R: AllocGlobal + Abort>(rt: &R, on: &mut Fixture) -> Result<(), Fail> {
-    assert_eq!(rt; on.open_tenant(4096)?.as_str(), "tenant 0");
-    assert_eq!(rt; on.begin(0)?.as_str(), "upload 0 of 0");
-    let sealed = format!(in on.alloc; "{NOTHING} true 0")?;
-    assert_eq!(rt; on.seal()?, sealed);
-    assert_eq!(rt; on.work.count(), 1);
-    let address = on.first()?;
-    let fetched = format!(in on.alloc; "{NOTHING} 0")?;
-    assert_eq!(rt; on.fetch(address)?, fetched);
-    assert_eq!(rt; on.forget(address)?.as_str(), "ok");
-    assert_eq!(rt;
-        on.state()?.as_str(),
-        "objects 0 bytes 0 uploads 0 held 0 parts 0 journal 4"
-    );
-    Ok(())
-}
-
-fn put_in_reverse<R: AllocGlobal + Abort>(rt: &R, on: &mut Fixture) -> Result<(), Fail> {
-    assert_eq!(rt; on.open_tenant(4096)?.as_str(), "tenant 0");
-    assert_eq!(rt; on.begin(1025)?.as_str(), "upload 0 of 1025");
-    assert_eq!(rt; on.put(1024, 1)?.as_str(), "held 1 missing 0");
-    assert_eq!(rt; on.seal()?.as_str(), "S10 missing 0");
-    assert_eq!(rt; on.work.count(), 0);
-    assert_eq!(rt; on.put(0, 1024)?.as_str(), "held 1025 all");
-    assert_eq!(rt; on.work.count(), 2);
-    Ok(())
-}
-
-fn sealed_as<R: AllocGlobal + Abort>(rt: &R, on: &mut Fixture) -> Result<(), Fail> {
-    put_in_reverse(rt, on)?;
-    let found = "S11 found d00278ae47eb27b34faecf67b4fe263f82d5412916c1ffd97c8cb7fb814b8444";
-    assert_eq!(rt; on.seal_as(Address::new([0; 32]))?.as_str(), found);
-    assert_eq!(rt; on.work.count(), 3);
-    Ok(())
-}
-
-fn put_chunks<R: AllocGlobal + Abort>(rt: &R, on: &mut Fixture) -> Result<(), Fail> {
-    let chunks = [0u64, 2, 4, 6, 8, 10, 12, 14, 15, 13, 11, 9, 7, 5, 3, 1];
-    let counts = [0u64, 0, 0, 0, 0, 0, 0, 0, 2, 6, 8, 14, 16, 20, 22, 30];
-    for (chunk, count) in chunks.into_iter().zip(counts) {
-        let _held = on.put(1024 * chunk, 1024)?;
-        assert_eq!(rt; on.work.count(), count);
-    }
-    Ok(())
-}
-
-fn chunks_sealed<R: AllocGlobal + Abort>(rt: &R, on: &mut Fixture) -> Result<(), Fail> {
-    let _tenant = on.open_tenant(16_384)?;
-    let _upload = on.begin(16_384)?;
-    put_chunks(rt, on)?;
-    let _sealed = on.seal()?;
-    assert_eq!(rt; on.making.count(), 240);
-    assert_eq!(rt; on.work.count(), 31);
-    Ok(())
-}
-
-fn three_parts_sealed<R: AllocGlobal + Abort>(rt: &R, on: &mut Fixture) -> Result<(), Fail> {
-    let _tenant = on.open_tenant(4096)?;
-    let _upload = on.begin(2049)?;
-    for (offset, len, count) in [(2048, 1, 0), (0, 1024, 0), (1024, 1024, 2)] {
-        let _held = on.put(offset, len)?;
-        assert_eq!(rt; on.work.count(), count);
-    }
-    let _sealed = on.seal()?;
-    assert_eq!(rt; on.work.count(), 5);
-    assert_eq!(rt; on.making.count(), 30);
-    Ok(())
-}
-
-fn greatest_part_sealed<R: AllocGlobal + Abort>(rt: &R, on: &mut Fixture) -> Result<(), Fail> {
-    let _tenant = on.open_tenant(1 << 24)?;
-    let _upload = on.begin(1 << 24)?;
-    assert_eq!(rt; on.put(0, 1 << 24)?.as_str(), "held 16777216 all");
-    assert_eq!(rt; on.work.count(), 0);
-    let _sealed = on.seal()?;
-    assert_eq!(rt; on.work.count(), 1);
-    Ok(())
-}
-
-fn stranger_refused<R: AllocGlobal + Abort>(rt: &R, on: &mut Fixture) -> Result<(), Fail> {
-    let _tenant = on.open_tenant(4096)?;
-    let _first = on.begin(2048)?;
-    let _second = on.begin(1024)?;
-    assert_eq!(rt; put_a_stranger(on, 0, 1)?.as_str(), "S8, back 0 1024");
-    Ok(())
-}
-
-#[test]
-fn limits_are_within_bounds(rt: HostRuntime) {
-    assert_eq!(rt; Limits::new(0, 2, 1), Err(BadLimits));
-    assert_eq!(rt; Limits::new(65537, 2, 1), Err(BadLimits));
-    assert_eq!(rt; Limits::new(65536, 4294967296, 16), Ok(Limits::full()));
-}
 
 #[test]
 fn a_full_store_refuses(rt: HostRuntime) -> Result<(), Fail> {
-    full(&rt, &mut store_with(&rt, Limits::new(1, 2, 1)?))
+    holds(
+        &rt,
+        "limits 0 2 1 > S0 [0 0]
+limits 1 0 1 > S0 [0 0]
+limits 1 2 0 > S0 [0 0]
+limits 65537 2 1 > S0 [0 0]
+limits 1 4294967297 1 > S0 [0 0]
+limits 1 2 17 > S0 [0 0]
+limits 65536 4294967296 16 > full true [0 0]
+limits 1 2 1 > full false [0 0]
+tenant 10 > tenant 0 [0 0]
+tenant 10 > S2 [0 0]
+begin 5 > upload 0 of 5 open false [0 0]
+abort 0 > S13 [0 0]
+put 0 0 5 > S13 back 0 5 [0 0]
+limit 9 > S13 [0 0]
+limit 4 > S4 use 5 [0 0]
+begin 5 > S13 [0 0]
+begin 6 > S6 free 5 [0 0]
+fix 0 5 > S13 [0 0]
+seal 0 > S10 missing 0 [0 0]
+state > objects 0 bytes 0 uploads 1 held 0 parts 0 journal 2 [0 0]
+limits 1 2 1 > full false [0 0]
+tenant 4096 > tenant 0 [0 0]
+open 2048 > upload 0 of 2048 open true [0 0]
+fix 0 2049 > S5 [0 0]
+fix 0 2048 > S13 [0 0]
+open 2049 > S6 free 2048 [0 0]
+open 2048 > S13 [0 0]
+usage > 0 2048 4096 [0 0]
+limits 1 2 1 > full false [0 0]
+tenant 0 > tenant 0 [0 0]
+begin 0 > upload 0 of 0 open false [0 0]
+seal 0 > S13 [0 1]
+state > objects 0 bytes 0 uploads 1 held 0 parts 0 journal 2 [0 0]
+",
+    )
+}
+
+// Together as many as one hash of the bytes: of 2049 that are 33 blocks and 3 chunks.
+#[test]
+fn compressions_of_few_parts(rt: HostRuntime) -> Result<(), Fail> {
+    holds(
+        &rt,
+        "tenant 16384 > tenant 0 [0 0]
+begin 1025 > upload 0 of 1025 open false [0 0]
+put 0 1024 1 > held 1 missing Some(0) true [0 0]
+put 0 1024 1 > S9 at 1024 back 1024 1 [0 0]
+seal 0 > S10 missing 0 [0 0]
+put 0 0 1024 > held 1025 missing None true [15 2]
+sealas 0 0000000000000000000000000000000000000000000000000000000000000000 > S11 found d00278ae47eb27b34faecf67b4fe263f82d5412916c1ffd97c8cb7fb814b8444 [0 1]
+seal 0 > d00278ae47eb27b34faecf67b4fe263f82d5412916c1ffd97c8cb7fb814b8444 true 1025 [0 1]
+begin 2049 > upload 1 of 2049 open false [0 0]
+put 1 2048 1 > held 1 missing Some(0) true [0 0]
+put 1 0 1024 > held 1025 missing Some(1024) true [15 0]
+put 1 1024 1024 > held 2049 missing None true [15 2]
+seal 1 > 5f4d72f40d7a5f82b15ca2b2e44b1de3c2ef86c426c95c1af0b6879522563030 true 2049 [0 3]
+begin 0 > upload 2 of 0 open false [0 0]
+seal 2 > af1349b9f5f9a1a6a0404dea36dcc9499bcb25c9adc112b7cc9a93cae41f3262 true 0 [0 1]
+begin 1025 > upload 3 of 1025 open false [0 0]
+put 3 0 1025 > held 1025 missing None true [17 0]
+sealas 3 d00278ae47eb27b34faecf67b4fe263f82d5412916c1ffd97c8cb7fb814b8444 > d00278ae47eb27b34faecf67b4fe263f82d5412916c1ffd97c8cb7fb814b8444 false 1025 [0 1]
+seal 3 > S7 [0 0]
+usage > 3074 0 16384 [0 0]
+state > objects 3 bytes 3074 uploads 0 held 0 parts 0 journal 15 [0 0]
+",
+    )
+}
+
+// `make` makes 240, the store 31: together as many as one hash of the 16384 bytes.
+#[test]
+fn compressions_of_sixteen_chunks(rt: HostRuntime) -> Result<(), Fail> {
+    holds(
+        &rt,
+        "tenant 16384 > tenant 0 [0 0]
+begin 16384 > upload 0 of 16384 open false [0 0]
+put 0 0 1024 > held 1024 missing Some(1024) true [15 0]
+put 0 2048 1024 > held 2048 missing Some(1024) true [15 0]
+put 0 4096 1024 > held 3072 missing Some(1024) true [15 0]
+put 0 6144 1024 > held 4096 missing Some(1024) true [15 0]
+put 0 8192 1024 > held 5120 missing Some(1024) true [15 0]
+put 0 10240 1024 > held 6144 missing Some(1024) true [15 0]
+put 0 12288 1024 > held 7168 missing Some(1024) true [15 0]
+put 0 14336 1024 > held 8192 missing Some(1024) true [15 0]
+put 0 15360 1024 > held 9216 missing Some(1024) true [15 2]
+put 0 13312 1024 > held 10240 missing Some(1024) true [15 4]
+put 0 11264 1024 > held 11264 missing Some(1024) true [15 2]
+put 0 9216 1024 > held 12288 missing Some(1024) true [15 6]
+put 0 7168 1024 > held 13312 missing Some(1024) true [15 2]
+put 0 5120 1024 > held 14336 missing Some(1024) true [15 4]
+put 0 3072 1024 > held 15360 missing Some(1024) true [15 2]
+put 0 1024 1024 > held 16384 missing None true [15 8]
+seal 0 > f875d6646de28985646f34ee13be9a576fd515f76b5b0a26bb324735041ddde4 true 16384 [0 1]
+",
+    )
 }
 
 #[test]
-fn an_upload_is_begun_and_aborted(rt: HostRuntime) -> Result<(), Fail> {
-    begun_and_aborted(&rt, &mut store_with(&rt, Limits::full()))
+fn compressions_of_the_greatest_part(rt: HostRuntime) -> Result<(), Fail> {
+    holds(
+        &rt,
+        "tenant 16777216 > tenant 0 [0 0]
+begin 16777216 > upload 0 of 16777216 open false [0 0]
+put 0 0 16777216 > held 16777216 missing None true [278526 0]
+seal 0 > 869b1292c8bed5bdb2e0075e0c50ccf8b24b33a0f81071c86206bd8fdb269579 true 16777216 [0 1]
+",
+    )
 }
 
+// A plan of another number, and one of the same number and of the other kind.
 #[test]
-fn an_object_is_filed_and_forgotten(rt: HostRuntime) -> Result<(), Fail> {
-    filed_and_forgotten(&rt, &mut store_with(&rt, Limits::full()))
+fn parts_of_another_plan_come_back(rt: HostRuntime) -> Result<(), Fail> {
+    holds(
+        &rt,
+        "tenant 16384 > tenant 0 [0 0]
+begin 2048 > upload 0 of 2048 open false [0 0]
+begin 2049 > upload 1 of 2049 open false [0 0]
+open 2048 > upload 2 of 2048 open true [0 0]
+stray 0 1 > S8 back 0 1024 [15 0]
+stray 0 2 > S8 back 0 1024 [15 0]
+stray 2 0 > S8 back 0 1024 [15 0]
+stray 3 0 > S7 back 0 1024 [15 0]
+state > objects 0 bytes 0 uploads 3 held 0 parts 0 journal 4 [0 0]
+",
+    )
 }
 
+// As many compressions as an upload takes whose length stands from the start, and none where it has no end.
 #[test]
-fn an_object_is_sealed_as_its_address(rt: HostRuntime) -> Result<(), Fail> {
-    sealed_as(&rt, &mut store_with(&rt, Limits::full()))
-}
-
-#[test]
-fn chunks_make_the_compressions_of_their_merges(rt: HostRuntime) -> Result<(), Fail> {
-    chunks_sealed(&rt, &mut store_with(&rt, Limits::full()))
-}
-
-// Together as many as one hash of the 2049 bytes: 33 blocks and 3 chunks.
-#[test]
-fn three_parts_make_the_compressions_of_one_hash(rt: HostRuntime) -> Result<(), Fail> {
-    three_parts_sealed(&rt, &mut store_with(&rt, Limits::full()))
-}
-
-#[test]
-fn the_greatest_part_is_one_piece(rt: HostRuntime) -> Result<(), Fail> {
-    greatest_part_sealed(&rt, &mut store_with(&rt, Limits::full()))
-}
-
-#[test]
-fn a_part_of_another_plan_comes_back(rt: HostRuntime) -> Result<(), Fail> {
-    stranger_refused(&rt, &mut store_with(&rt, Limits::full()))
+fn compressions_of_open_uploads(rt: HostRuntime) -> Result<(), Fail> {
+    holds(
+        &rt,
+        "tenant 8192 > tenant 0 [0 0]
+open 4096 > upload 0 of 4096 open true [0 0]
+usage > 0 4096 8192 [0 0]
+put 0 0 1024 > held 1024 missing Some(1024) true [15 0]
+seal 0 > S16 [0 0]
+sealas 0 0000000000000000000000000000000000000000000000000000000000000000 > S16 [0 0]
+put 0 1024 1 > held 1025 missing None true [0 2]
+usage > 0 1025 8192 [0 0]
+seal 0 > d00278ae47eb27b34faecf67b4fe263f82d5412916c1ffd97c8cb7fb814b8444 true 1025 [0 1]
+open 2048 > upload 1 of 2048 open true [0 0]
+put 1 0 1024 > held 1024 missing Some(1024) true [15 0]
+put 1 1024 1024 > held 2048 missing None true [15 2]
+fix 1 2047 > S15 end 2048 [0 0]
+fix 1 2048 > ok [0 0]
+seal 1 > e776b6028c7cd22a4d0ba182a8bf62205d2ef576467e838ed6f2529b85fba24a true 2048 [0 1]
+usage > 3073 0 8192 [0 0]
+",
+    )
 }
