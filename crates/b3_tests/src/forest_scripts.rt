@@ -188,21 +188,24 @@ impl Upload {
         Ok(text)
     }
 
-    // The hash, its compressions, and whether its top is the one that was told last.
+    // The hash, the compressions of its node and its own, and whether the node is the one that was told last.
     fn root(&mut self) -> Result<String, AllocError> {
         let before = self.work.count();
-        let top = match self.forest.finish(&mut self.work) {
-            Ok(top) => top,
-            Err(fault) => {
-                let count = self.work.count().wrapping_sub(before);
-                return format!(in self.alloc; "{fault:?} by {count}");
-            }
-        };
-        let digest = hex::encode(self.alloc, top.root32(&mut self.work))?;
+        let finished = self.forest.finish(&mut self.work);
         let count = self.work.count().wrapping_sub(before);
+        match finished {
+            Ok(top) => self.root_of(top, count),
+            Err(fault) => format!(in self.alloc; "{fault:?} by {count}"),
+        }
+    }
+
+    fn root_of(&mut self, top: Top, count: u64) -> Result<String, AllocError> {
+        let before = self.work.count();
+        let digest = hex::encode(self.alloc, top.root32(&mut self.work))?;
+        let own = self.work.count().wrapping_sub(before);
         let again = if self.top == Some(top) { " again" } else { "" };
         self.top = Some(top);
-        format!(in self.alloc; "{digest} by {count}{again}")
+        format!(in self.alloc; "{digest} by {count} and {own}{again}")
     }
 }
 

@@ -128,7 +128,7 @@ state > end Some(4096) length 4096 missing Some(3072) held 3072 parts 2
 add 3072 1024 > 1 pieces by 15 true, 2 merges by 4 true
 state > end Some(4096) length 4096 missing None held 4096 parts 3
 segments > [0 1024 true][1024 2048 true][3072 1024 true]
-root > 015094013f57a5277b59d8475c0501042c0b642e531b0a1c8f58d2163229e969 by 1
+root > 015094013f57a5277b59d8475c0501042c0b642e531b0a1c8f58d2163229e969 by 0 and 1
 closed 4096 > closed 4096
 add 1024 1024 > 1 pieces by 15 true, 0 merges by 0 true
 add 0 2048 > Overlap { at: 1024 } by 0 back true true
@@ -146,33 +146,33 @@ fn three_parts_in_any_order(rt: HostRuntime) -> Result<(), Fail> {
 add 0 1024 > 1 pieces by 15 true, 0 merges by 0 true
 add 1024 1024 > 1 pieces by 15 true, 1 merges by 2 true
 add 2048 1 > 1 pieces by 0 true, 0 merges by 0 true
-root > 5f4d72f40d7a5f82b15ca2b2e44b1de3c2ef86c426c95c1af0b6879522563030 by 3
+root > 5f4d72f40d7a5f82b15ca2b2e44b1de3c2ef86c426c95c1af0b6879522563030 by 2 and 1
 closed 2049 > closed 2049
 add 0 1024 > 1 pieces by 15 true, 0 merges by 0 true
 add 2048 1 > 1 pieces by 0 true, 0 merges by 0 true
 add 1024 1024 > 1 pieces by 15 true, 1 merges by 2 true
-root > 5f4d72f40d7a5f82b15ca2b2e44b1de3c2ef86c426c95c1af0b6879522563030 by 3 again
+root > 5f4d72f40d7a5f82b15ca2b2e44b1de3c2ef86c426c95c1af0b6879522563030 by 2 and 1 again
 closed 2049 > closed 2049
 add 1024 1024 > 1 pieces by 15 true, 0 merges by 0 true
 add 0 1024 > 1 pieces by 15 true, 1 merges by 2 true
 add 2048 1 > 1 pieces by 0 true, 0 merges by 0 true
-root > 5f4d72f40d7a5f82b15ca2b2e44b1de3c2ef86c426c95c1af0b6879522563030 by 3 again
+root > 5f4d72f40d7a5f82b15ca2b2e44b1de3c2ef86c426c95c1af0b6879522563030 by 2 and 1 again
 closed 2049 > closed 2049
 add 1024 1024 > 1 pieces by 15 true, 0 merges by 0 true
 add 2048 1 > 1 pieces by 0 true, 0 merges by 0 true
 add 0 1024 > 1 pieces by 15 true, 1 merges by 2 true
-root > 5f4d72f40d7a5f82b15ca2b2e44b1de3c2ef86c426c95c1af0b6879522563030 by 3 again
+root > 5f4d72f40d7a5f82b15ca2b2e44b1de3c2ef86c426c95c1af0b6879522563030 by 2 and 1 again
 closed 2049 > closed 2049
 add 2048 1 > 1 pieces by 0 true, 0 merges by 0 true
 add 0 1024 > 1 pieces by 15 true, 0 merges by 0 true
 add 1024 1024 > 1 pieces by 15 true, 1 merges by 2 true
-root > 5f4d72f40d7a5f82b15ca2b2e44b1de3c2ef86c426c95c1af0b6879522563030 by 3 again
+root > 5f4d72f40d7a5f82b15ca2b2e44b1de3c2ef86c426c95c1af0b6879522563030 by 2 and 1 again
 open 8192 > open 8192
 add 2048 1 > 1 pieces by 0 true, 0 merges by 0 true
 add 1024 1024 > 1 pieces by 15 true, 0 merges by 0 true
 add 0 1024 > 1 pieces by 15 true, 1 merges by 2 true
 segments > [0 1024 true][1024 1024 true][2048 1 true]
-root > 5f4d72f40d7a5f82b15ca2b2e44b1de3c2ef86c426c95c1af0b6879522563030 by 3 again
+root > 5f4d72f40d7a5f82b15ca2b2e44b1de3c2ef86c426c95c1af0b6879522563030 by 2 and 1 again
 ",
     )
 }
@@ -199,7 +199,7 @@ add 7168 1024 > 1 pieces by 15 true, 1 merges by 2 true
 add 5120 1024 > 1 pieces by 15 true, 2 merges by 4 true
 add 3072 1024 > 1 pieces by 15 true, 1 merges by 2 true
 add 1024 1024 > 1 pieces by 15 true, 4 merges by 8 true
-root > f875d6646de28985646f34ee13be9a576fd515f76b5b0a26bb324735041ddde4 by 1
+root > f875d6646de28985646f34ee13be9a576fd515f76b5b0a26bb324735041ddde4 by 0 and 1
 ",
     )
 }
@@ -210,13 +210,13 @@ fn one_part_is_the_whole(rt: HostRuntime) -> Result<(), Fail> {
         &rt,
         "closed 0 > closed 0
 state > end Some(0) length 0 missing None held 0 parts 0
-root > af1349b9f5f9a1a6a0404dea36dcc9499bcb25c9adc112b7cc9a93cae41f3262 by 1
+root > af1349b9f5f9a1a6a0404dea36dcc9499bcb25c9adc112b7cc9a93cae41f3262 by 0 and 1
 closed 9217 > closed 9217
 add 0 9217 > 2 pieces by 151 true, 0 merges by 0 true
-root > d42c90aa30bee83ecb52ad31b685d566145649496764878873598cef582d4d8f by 3
+root > d42c90aa30bee83ecb52ad31b685d566145649496764878873598cef582d4d8f by 2 and 1
 closed 16777216 > closed 16777216
 add 0 16777216 > 1 pieces by 278526 true, 0 merges by 0 true
-root > 869b1292c8bed5bdb2e0075e0c50ccf8b24b33a0f81071c86206bd8fdb269579 by 1
+root > 869b1292c8bed5bdb2e0075e0c50ccf8b24b33a0f81071c86206bd8fdb269579 by 0 and 1
 ",
     )
 }
@@ -252,13 +252,13 @@ fn an_end_is_fixed_by_a_call(rt: HostRuntime) -> Result<(), Fail> {
 root > NotFixed by 0
 fix 0 > None true
 state > end Some(0) length 0 missing None held 0 parts 0
-root > af1349b9f5f9a1a6a0404dea36dcc9499bcb25c9adc112b7cc9a93cae41f3262 by 1
+root > af1349b9f5f9a1a6a0404dea36dcc9499bcb25c9adc112b7cc9a93cae41f3262 by 0 and 1
 open 2048 > open 2048
 add 0 2048 > 1 pieces by 32 true, 0 merges by 0 true
 state > end None length 2048 missing None held 2048 parts 1
 root > NotFixed by 0
 fix 2048 > None true
-root > e776b6028c7cd22a4d0ba182a8bf62205d2ef576467e838ed6f2529b85fba24a by 1
+root > e776b6028c7cd22a4d0ba182a8bf62205d2ef576467e838ed6f2529b85fba24a by 0 and 1
 open 4096 > open 4096
 add 0 2048 > 1 pieces by 32 true, 0 merges by 0 true
 fix 4097 > Some(TooLong) true

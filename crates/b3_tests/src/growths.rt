@@ -44,7 +44,7 @@ add 3072 1024 > 1 pieces by 15 true, 0 merges by 0 true
 add 1024 2048 > 2 pieces by 30 true, 3 merges by 6 true
 state > end Some(4096) length 4096 missing None held 4096 parts 3
 segments > [0 1024 true][1024 2048 true][3072 1024 true]
-root > 015094013f57a5277b59d8475c0501042c0b642e531b0a1c8f58d2163229e969 by 1
+root > 015094013f57a5277b59d8475c0501042c0b642e531b0a1c8f58d2163229e969 by 0 and 1
 ",
     )
 }
@@ -59,7 +59,7 @@ add 0 1024 > 1 pieces by 15 true, 0 merges by 0 true
 add 3072 100 > 1 pieces by 1 true, 0 merges by 0 true
 add 1024 2048 > 2 pieces by 30 true, 3 merges by 6 true
 state > end Some(3172) length 3172 missing None held 3172 parts 3
-root > c72bfb392903b97ad63dc0c75dc5a42fdeda0c259757f93e56b6efc353658e58 by 1
+root > c72bfb392903b97ad63dc0c75dc5a42fdeda0c259757f93e56b6efc353658e58 by 0 and 1
 ",
     )
 }
