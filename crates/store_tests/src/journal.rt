@@ -42,9 +42,13 @@ Fix { upload: UploadId { number: 7 }, len: 1025 }
 fn fields_of(alloc: Global, entries: &[Entry]) -> Result<String, AllocError> {
     let mut text = String::new(alloc);
     for entry in entries {
-        text.push_str(format!(in alloc; "{entry:?}\n")?.as_str())?;
+        text.push_str(fields(alloc, entry)?.as_str())?;
     }
     Ok(text)
+}
+
+fn fields(alloc: Global, entry: &Entry) -> Result<String, AllocError> {
+    format!(in alloc; "{entry:?}\n")
 }
 
 // The lines of entries, of which each is read back.

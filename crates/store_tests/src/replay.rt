@@ -2,7 +2,7 @@
 
 use std::alloc::{AllocError, Global};
 use std::test::Fail;
-use store_journal::{FiledObject, LeftUpload, Replayed, TenantId, read_journal, replay};
+use store_journal::{FiledObject, LeftUpload, Replayed, read_journal, replay};
 
 // Has every kind of entry but a forget entry; leaves an upload of a closed plan, one without an end, and one whose end is below
 // its bound.
@@ -28,39 +28,22 @@ fix 5 1025
 
 const LEFT: &str = "limit 5
 limit 9000
-object 0000000000000000000000000000000000000000000000000000000000000000 5 of [0, 1]
-upload 2 of 1 bound 2049 end Some(2049)
-part 0 1024
-part 2048 1
-upload 4 of 1 bound 2048 end None
-upload 5 of 1 bound 2049 end Some(1025)
+object 0000000000000000000000000000000000000000000000000000000000000000 5 of [TenantId { number: 0 }, TenantId { number: 1 }]
+upload 2 of 1 bound 2049 end Some(2049) parts [HeldPart { offset: 0, len: 1024 }, HeldPart { offset: 2048, len: 1 }]
+upload 4 of 1 bound 2048 end None parts []
+upload 5 of 1 bound 2049 end Some(1025) parts []
 objects 1 bytes 5 uploads 3 held 1025 parts 2, accepted 1035 4
 ";
 
-fn numbers_of(alloc: Global, tenants: &[TenantId]) -> Result<Vec<u64>, AllocError> {
-    let mut numbers = Vec::new(alloc);
-    for tenant in tenants {
-        numbers.push(tenant.number())?;
-    }
-    Ok(numbers)
-}
-
 fn object_text(alloc: Global, object: &FiledObject) -> Result<String, AllocError> {
-    let holders = numbers_of(alloc, object.holders())?;
-    format!(in alloc;
-        "object {} {} of {holders:?}\n",
-        object.address(),
-        object.length()
-    )
+    let (address, len, holders) = (object.address(), object.length(), object.holders());
+    format!(in alloc; "object {address} {len} of {holders:?}\n")
 }
 
 fn upload_text(alloc: Global, left: &LeftUpload) -> Result<String, AllocError> {
     let (upload, tenant, bound, end) = (left.upload(), left.tenant(), left.bound(), left.end());
-    let mut text = format!(in alloc; "upload {upload} of {tenant} bound {bound} end {end:?}\n")?;
-    for part in left.parts() {
-        text.push_str(format!(in alloc; "part {} {}\n", part.offset, part.len)?.as_str())?;
-    }
-    Ok(text)
+    let parts = left.parts();
+    format!(in alloc; "upload {upload} of {tenant} bound {bound} end {end:?} parts {parts:?}\n")
 }
 
 // All that is left.
