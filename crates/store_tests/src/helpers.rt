@@ -25,8 +25,8 @@ struct Scripted {
 
 impl Answers for Scripted {
     fn answer(&mut self, command: &str) -> Result<String, AllocError> {
-        let before = self.all()?;
-        let answer = self.counted(command)?;
+        let (before, making) = (self.all()?, self.making.count());
+        let answer = self.counted(command, making)?;
         if !answer.starts_with("S14") {
             return Ok(answer);
         }
@@ -34,13 +34,14 @@ impl Answers for Scripted {
         if after != before {
             return format!(in self.alloc; "{after}");
         }
-        self.counted(command)
+        self.counted(command, making)
     }
 }
 
 impl Scripted {
-    fn counted(&mut self, command: &str) -> Result<String, AllocError> {
-        let (making, work) = (self.making.count(), self.work.count());
+    // The answer, the compressions of making a part since `making`, and the store's for this command.
+    fn counted(&mut self, command: &str, making: u64) -> Result<String, AllocError> {
+        let work = self.work.count();
         let (word, rest) = cut(command);
         let answer = self.reply(word, rest)?;
         let making = self.making.count().wrapping_sub(making);
