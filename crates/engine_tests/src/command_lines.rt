@@ -1,117 +1,64 @@
 //! What the words of a command line say.
 
-use std::process::Abort;
+use std::alloc::{AllocError, Global};
+use std::test::Fail;
 use store_command_line::{Fault, Options, SumMode, SumOptions, UploadOptions, options};
 
-// The digits of the key `whats the Elvish word for friend`.
-const KEY_DIGITS: &str = "77686174732074686520456c7669736820776f726420666f7220667269656e64";
-
-fn sum_options<'a, R: AllocGlobal + Abort>(rt: &R, words: &'a [&str]) -> SumOptions<'a> {
-    match options(rt.alloc(), words) {
-        Ok(Options::Sum(said)) => said,
-        _ => panic!(rt; "no options of sum"),
+// What the options of `sum` are: the name, the mode and the length.
+fn sum_text(alloc: Global, said: SumOptions<'_>) -> Result<String, AllocError> {
+    let SumOptions { name, mode, length } = said;
+    match mode {
+        SumMode::Hash => format!(in alloc; "sum {name} hash {length:?}"),
+        SumMode::Keyed(key) => format!(in alloc; "sum {name} key {key:?} {length:?}"),
+        SumMode::Derive(text) => format!(in alloc; "sum {name} context {text} {length:?}"),
     }
 }
 
-fn upload_options<R: AllocGlobal + Abort>(rt: &R, words: &[&str]) -> UploadOptions {
-    match options(rt.alloc(), words) {
-        Ok(Options::Upload(said)) => said,
-        _ => panic!(rt; "no options of upload"),
-    }
-}
-
-#[test]
-fn sum_alone(rt: HostRuntime) {
-    let said = sum_options(&rt, &["b3store", "sum"]);
-    assert_eq!(rt; said.name, "-");
-    assert!(rt; matches!(said.mode, SumMode::Hash));
-    assert_eq!(rt; said.length, None);
-}
-
-#[test]
-fn sum_with_a_key_a_name_and_the_longest_length(rt: HostRuntime) {
-    let words = [
-        "b3store",
-        "sum",
-        "--length",
-        "65536",
-        "--key",
-        KEY_DIGITS,
-        "--name",
-        "two words\n",
-    ];
-    let said = sum_options(&rt, &words);
-    assert_eq!(rt; said.name, "two words\n");
-    assert_eq!(rt; said.length, Some(65536));
-    match said.mode {
-        SumMode::Keyed(key) => assert_eq!(rt; key, *b"whats the Elvish word for friend"),
-        _ => panic!(rt; "no key"),
-    }
-}
-
-#[test]
-fn sum_in_an_empty_context(rt: HostRuntime) {
-    match sum_options(&rt, &["b3store", "sum", "--context", ""]).mode {
-        SumMode::Derive(text) => assert_eq!(rt; text, ""),
-        _ => panic!(rt; "no context"),
-    }
-}
-
-#[test]
-fn upload_alone(rt: HostRuntime) {
-    let said = upload_options(&rt, &["b3store", "upload"]);
-    assert_eq!(rt; said.workers, 4);
-    assert_eq!(rt; said.part_chunks, 64);
-    assert!(rt; !said.journal);
-}
-
-#[test]
-fn upload_with_all_options(rt: HostRuntime) {
-    let words = [
-        "b3store",
-        "upload",
-        "--journal",
-        "--workers",
-        "16",
-        "--part-chunks",
-        "16384",
-    ];
-    let said = upload_options(&rt, &words);
-    assert_eq!(rt; said.workers, 16);
-    assert_eq!(rt; said.part_chunks, 16384);
-    assert!(rt; said.journal);
-}
-
-#[test]
-fn subcommands_without_options(rt: HostRuntime) {
-    assert!(rt;
-        matches!(
-            options(rt.alloc(), &["b3store", "check"]),
-            Ok(Options::Check)
-        )
-    );
-    assert!(rt; matches!(options(rt.alloc(), &["b3store", "run"]), Ok(Options::Run)));
-    assert!(rt;
-        matches!(
-            options(rt.alloc(), &["b3store", "audit"]),
-            Ok(Options::Audit)
-        )
-    );
-    assert!(rt;
-        matches!(
-            options(rt.alloc(), &["b3store", "migrate"]),
-            Ok(Options::Migrate)
-        )
-    );
-}
-
-// No process can be given such a word.
-#[test]
-fn names_with_a_byte_0_are_usage(rt: HostRuntime) {
-    for name in ["\0", "a\0b"] {
-        match options(rt.alloc(), &["b3store", "sum", "--name", name]) {
-            Err(Fault::Usage(text)) => assert!(rt; !text.is_empty()),
-            _ => panic!(rt; "no usage fault"),
+// What the words say. A fault of usage has a text.
+fn said(alloc: Global, words: &[&str]) -> Result<String, AllocError> {
+    match options(alloc, words) {
+        Ok(Options::Sum(said)) => sum_text(alloc, said),
+        Ok(Options::Upload(said)) => {
+            let UploadOptions {
+                workers,
+                part_chunks,
+                journal,
+            } = said;
+            format!(in alloc; "upload {workers} {part_chunks} {journal}")
         }
+        Ok(_) => String::from_str(alloc, "no options"),
+        Err(Fault::Usage(text)) => {
+            if text.is_empty() {
+                return String::from_str(alloc, "no text");
+            }
+            String::from_str(alloc, "usage")
+        }
+        Err(Fault::NoMemory) => Err(AllocError),
     }
+}
+
+// What the program does can't tell these: the options' own values, the greatest length, and a byte 0, with which no process can
+// be given a word.
+const SAID: &[(&[&str], &str)] = &[
+    (&["b3store", "sum"], "sum - hash None"),
+    (
+        &["b3store", "sum", "--length", "65536", "--context", ""],
+        "sum - context  Some(65536)",
+    ),
+    (&["b3store", "upload"], "upload 4 64 false"),
+    (
+        &["b3store", "upload", "--journal", "--workers", "16"],
+        "upload 16 64 true",
+    ),
+    (&["b3store", "sum", "--name", "\0"], "usage"),
+    (&["b3store", "sum", "--name", "a\0b"], "usage"),
+];
+
+#[test]
+fn words_say_options(rt: HostRuntime) -> Result<(), Fail> {
+    for (words, wanted) in SAID {
+        let text = said(rt.alloc(), words)?;
+        assert_eq!(rt; text.as_str(), *wanted);
+    }
+    Ok(())
 }

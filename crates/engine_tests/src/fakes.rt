@@ -1,63 +1,42 @@
-//! Readers and writers that fail at a call, that give and take one byte at a time, or that are interrupted, and names over memory.
+//! A reader and a writer that give and take one byte a call, fail at a call or are interrupted, a writer that allocates nothing,
+//! and names that are not there.
 
 use b3_check::{NameFault, Names};
 use std::alloc::Global;
 use std::io;
 use std::io::{ErrorKind, Read, Write};
 
-/// Gives one byte a call. The call with the number `fails_at`, from 0, and all later ones fail.
+/// Gives one byte a call. The call with the number `fails_at`, from 0, and all later ones fail. One that is interrupted answers
+/// `Interrupted` before each byte and before the end.
 #[derive(Drop)]
-pub struct FailingReader<'a> {
+pub struct ByteReader<'a> {
     pub bytes: &'a [u8],
     pub calls: u64,
     pub fails_at: u64,
-}
-
-impl<'a> FailingReader<'a> {
-    pub fn new(bytes: &'a [u8], fails_at: u64) -> FailingReader<'a> {
-        FailingReader {
-            bytes,
-            calls: 0,
-            fails_at,
-        }
-    }
-}
-
-impl Read for FailingReader<'_> {
-    fn read(&mut self, buf: &mut [u8]) -> io::Result<usize> {
-        if self.calls >= self.fails_at {
-            return Err(io::Error::from(ErrorKind::Other));
-        }
-        self.calls += 1;
-        if buf.is_empty() || self.bytes.is_empty() {
-            return Ok(0);
-        }
-        buf[0] = self.bytes[0];
-        self.bytes = &self.bytes[1..];
-        Ok(1)
-    }
-}
-
-/// Gives one byte a call, and answers `Interrupted` before each of them and before the end.
-#[derive(Drop)]
-pub struct InterruptedReader<'a> {
-    pub bytes: &'a [u8],
+    pub is_interrupted: bool,
     pub gives_next: bool,
 }
 
-impl<'a> InterruptedReader<'a> {
-    pub fn new(bytes: &'a [u8]) -> InterruptedReader<'a> {
-        InterruptedReader {
+impl<'a> ByteReader<'a> {
+    pub fn new(bytes: &'a [u8], fails_at: u64, is_interrupted: bool) -> ByteReader<'a> {
+        ByteReader {
             bytes,
+            calls: 0,
+            fails_at,
+            is_interrupted,
             gives_next: false,
         }
     }
 }
 
-impl Read for InterruptedReader<'_> {
+impl Read for ByteReader<'_> {
     fn read(&mut self, buf: &mut [u8]) -> io::Result<usize> {
+        if self.calls >= self.fails_at {
+            return Err(io::Error::from(ErrorKind::Other));
+        }
+        self.calls += 1;
         self.gives_next = !self.gives_next;
-        if self.gives_next {
+        if self.is_interrupted && self.gives_next {
             return Err(io::Error::from(ErrorKind::Interrupted));
         }
         if buf.is_empty() || self.bytes.is_empty() {
@@ -71,16 +50,16 @@ impl Read for InterruptedReader<'_> {
 
 /// Takes one byte a write. The call with the number `fails_at`, from 0, be it a write or a flush, and all later ones fail.
 #[derive(Drop)]
-pub struct FailingWriter {
+pub struct ByteWriter {
     pub taken: Vec<u8>,
     pub calls: u64,
     pub fails_at: u64,
     pub failed: u64,
 }
 
-impl FailingWriter {
-    pub fn new(alloc: Global, fails_at: u64) -> FailingWriter {
-        FailingWriter {
+impl ByteWriter {
+    pub fn new(alloc: Global, fails_at: u64) -> ByteWriter {
+        ByteWriter {
             taken: Vec::new(alloc),
             calls: 0,
             fails_at,
@@ -104,7 +83,7 @@ impl FailingWriter {
     }
 }
 
-impl Write for FailingWriter {
+impl Write for ByteWriter {
     fn write(&mut self, buf: &[u8]) -> io::Result<usize> {
         self.count()?;
         if buf.is_empty() {
@@ -130,22 +109,22 @@ impl FixedWriter {
     /// How many bytes at its beginning are those of a text.
     pub fn common(&self, text: &[u8]) -> usize {
         for (i, (taken, byte)) in self.taken.iter().zip(text).enumerate() {
-            if taken != byte {
+            if i >= self.len || taken != byte {
                 return i;
             }
         }
         text.len()
     }
 
-    /// Whether it goes on with a text behind so many bytes.
-    pub fn goes_on_with(&self, behind: usize, text: &[u8]) -> bool {
+    /// Whether a text, and nothing more, stands behind so many bytes.
+    pub fn ends_with(&self, behind: usize, text: &[u8]) -> bool {
         for (i, byte) in text.iter().enumerate() {
             match self.taken.get(behind.saturating_add(i)) {
                 Some(taken) if taken == byte => {}
                 _ => return false,
             }
         }
-        true
+        self.len == behind.saturating_add(text.len())
     }
 }
 
@@ -164,32 +143,31 @@ impl Write for FixedWriter {
     }
 }
 
-/// Gives the answer that stands beside a name, and `None` for every other name.
+/// Names of which none is there, or for which there is no memory.
 #[derive(Drop)]
-pub struct Table<'a> {
-    pub answers: &'a [(&'a [u8], Result<[u8; 32], NameFault>)],
+pub struct NoNames {
+    pub has_memory: bool,
     pub calls: u64,
 }
 
-impl<'a> Table<'a> {
-    pub fn new(answers: &'a [(&'a [u8], Result<[u8; 32], NameFault>)]) -> Table<'a> {
-        Table { answers, calls: 0 }
+impl NoNames {
+    pub fn new(has_memory: bool) -> NoNames {
+        NoNames {
+            has_memory,
+            calls: 0,
+        }
     }
 }
 
-impl Names for Table<'_> {
+impl Names for NoNames {
     ghost gives = { λ _ _ _ _. Unit {0} };
 
-    fn digest_of(&mut self, name: &[u8]) -> Result<Option<[u8; 32]>, NameFault> {
+    fn digest_of(&mut self, _name: &[u8]) -> Result<Option<[u8; 32]>, NameFault> {
         self.calls = self.calls.saturating_add(1);
-        for (known, answer) in self.answers {
-            if *known == name {
-                return match answer {
-                    Ok(digest) => Ok(Some(*digest)),
-                    Err(fault) => Err(*fault),
-                };
-            }
+        if self.has_memory {
+            Ok(None)
+        } else {
+            Err(NameFault::NoMemory)
         }
-        Ok(None)
     }
 }

@@ -1,8 +1,7 @@
 //! Tests of command lines and engines, that of scripts among them, over the public calls of `store_command_line` and `store_engines`.
+//! What text in and text out of a process can show stands in tests/cases.
 #![tactic(auto)]
 
-#[cfg(test)]
-mod audits;
 #[cfg(test)]
 mod checks;
 #[cfg(test)]
@@ -10,14 +9,8 @@ mod command_lines;
 #[cfg(test)]
 mod fakes;
 #[cfg(test)]
-mod files;
-#[cfg(test)]
 mod growths;
 #[cfg(test)]
-mod runs;
-#[cfg(test)]
-mod sums;
+mod streams;
 #[cfg(test)]
 mod uploads;
-#[cfg(test)]
-mod vectors;

@@ -1,0 +1,160 @@
+//! All engines with a reader or a writer that fails at a call, and with those that give and take one byte a call.
+
+use crate::fakes::{ByteReader, ByteWriter, NoNames};
+use crate::uploads::uploaded;
+use b3_core::Work;
+use std::io::BufReader;
+use std::sync::Wait;
+use std::thread::Threads;
+use store_command_line::{SumMode, SumOptions, UploadOptions};
+use store_engines::{Cause, Verdict, audit, check, migrate, run, sum};
+
+#[derive(Clone, Copy, Debug, PartialEq, Eq)]
+enum Engine {
+    Audit,
+    Check,
+    Migrate,
+    Run,
+    Sum,
+    Upload,
+}
+
+const ENGINES: [Engine; 6] = [
+    Engine::Audit,
+    Engine::Check,
+    Engine::Migrate,
+    Engine::Run,
+    Engine::Sum,
+    Engine::Upload,
+];
+
+// What an engine reads.
+fn input(engine: Engine) -> &'static [u8] {
+    match engine {
+        Engine::Audit | Engine::Migrate => b"tenant 0 5\n",
+        Engine::Check => b"6437b3ac38465133ffb63b75273a8db548c558465d79db03fd359c6cd5bd9d85  f",
+        Engine::Run => b"tenant 5\nbegin 0 1\n",
+        Engine::Sum | Engine::Upload => b"abc",
+    }
+}
+
+// What it writes of that.
+fn output(engine: Engine) -> &'static [u8] {
+    match engine {
+        Engine::Audit => b"objects 0 bytes 0 uploads 0 held 0 parts 0\naccepted 0 0\n",
+        Engine::Check => b"missing f\ngood 0 bad 0 missing 1 unreadable 0 faults 0\n",
+        Engine::Migrate => b"b3store-journal 2\ntenant 0 5\n",
+        Engine::Run => b"tenant 0\nupload 0\n",
+        Engine::Sum => b"6437b3ac38465133ffb63b75273a8db548c558465d79db03fd359c6cd5bd9d85  -\n",
+        Engine::Upload => {
+            b"6437b3ac38465133ffb63b75273a8db548c558465d79db03fd359c6cd5bd9d85  -\naccepted 3 1\n"
+        }
+    }
+}
+
+// How many calls of a writer that takes one byte a call that takes. A flush follows each answer of a script, and all else.
+fn writes(engine: Engine) -> u64 {
+    let flushes = if engine == Engine::Run { 2u64 } else { 1 };
+    flushes.saturating_add(output(engine).len() as u64)
+}
+
+// What it writes where the read of this number fails, of one byte each. A script's line of 9 bytes is answered once it was
+// read, and then its line of 10.
+fn answered(engine: Engine, fails_at: u64) -> &'static [u8] {
+    if engine != Engine::Run || fails_at < 9 {
+        return b"";
+    }
+    if fails_at < 19 {
+        return b"tenant 0\n";
+    }
+    output(engine)
+}
+
+const PLAIN: SumOptions<'static> = SumOptions {
+    name: "-",
+    mode: SumMode::Hash,
+    length: None,
+};
+
+const ONE_WORKER: UploadOptions = UploadOptions {
+    workers: 1,
+    part_chunks: 1,
+    journal: false,
+};
+
+// How an engine ends.
+fn ended<R: Threads + Wait + Sync + AllocGlobal>(
+    rt: &R,
+    engine: Engine,
+    names: &mut NoNames,
+    reader: &mut ByteReader<'_>,
+    writer: &mut ByteWriter,
+) -> Result<Verdict, Cause> {
+    let alloc = rt.alloc();
+    let mut work = Work::new(rt);
+    match engine {
+        Engine::Audit => audit(alloc, reader, writer),
+        Engine::Check => check(alloc, names, reader, writer),
+        Engine::Migrate => migrate(alloc, reader, writer),
+        Engine::Run => {
+            let Ok(mut lines) = BufReader::new(alloc, reader) else {
+                return Err(Cause::OutOfMemory);
+            };
+            run(alloc, &mut lines, writer, &mut work)
+        }
+        Engine::Sum => match sum(alloc, &PLAIN, reader, writer, &mut work) {
+            Ok(()) => Ok(Verdict::Good),
+            Err(cause) => Err(cause),
+        },
+        Engine::Upload => uploaded(rt, ONE_WORKER, reader, writer),
+    }
+}
+
+#[test]
+fn each_read_that_fails_is_told(rt: HostRuntime) {
+    for engine in ENGINES {
+        let text = input(engine);
+        for fails_at in 0..(text.len() as u64).saturating_add(1) {
+            let mut names = NoNames::new(true);
+            let mut reader = ByteReader::new(text, fails_at, false);
+            let mut writer = ByteWriter::new(rt.alloc(), u64::MAX);
+            let found = ended(&rt, engine, &mut names, &mut reader, &mut writer);
+            assert_eq!(rt; found, Err(Cause::CannotRead), "{engine:?} {fails_at}");
+            assert_eq!(rt; names.calls, 0);
+            assert_eq!(rt; writer.taken.as_slice(), answered(engine, fails_at));
+        }
+    }
+}
+
+#[test]
+fn each_write_that_fails_is_the_last(rt: HostRuntime) {
+    for engine in ENGINES {
+        for fails_at in 0..writes(engine) {
+            let mut names = NoNames::new(true);
+            let mut reader = ByteReader::new(input(engine), u64::MAX, false);
+            let mut writer = ByteWriter::new(rt.alloc(), fails_at);
+            let found = ended(&rt, engine, &mut names, &mut reader, &mut writer);
+            assert_eq!(rt; found, Err(Cause::CannotWrite), "{engine:?} {fails_at}");
+            assert!(rt; writer.has_stopped_in(output(engine)));
+        }
+    }
+}
+
+#[test]
+fn one_byte_a_call_and_interrupted_reads_are_no_fault(rt: HostRuntime) {
+    for engine in ENGINES {
+        for is_interrupted in [false, true] {
+            let mut names = NoNames::new(true);
+            let mut reader = ByteReader::new(input(engine), u64::MAX, is_interrupted);
+            let mut writer = ByteWriter::new(rt.alloc(), u64::MAX);
+            let found = ended(&rt, engine, &mut names, &mut reader, &mut writer);
+            let verdict = if engine == Engine::Check {
+                Verdict::Refused
+            } else {
+                Verdict::Good
+            };
+            assert_eq!(rt; found, Ok(verdict), "{engine:?} {is_interrupted}");
+            assert_eq!(rt; writer.taken.as_slice(), output(engine));
+        }
+    }
+}
