@@ -9,6 +9,7 @@ use std::thread;
 use std::thread::Threads;
 use store_board::{Board, BoardRefusal, BoardSeat, Drawn};
 
+// Both seats draw until they are done, and once more; the second is done before the first is. Done seats see a stop, too.
 #[test]
 fn seats_draw_in_turn(rt: HostRuntime) -> Result<(), Fail> {
     let (board, mut seats) = Board::new(rt.alloc(), 3, 2)?;
@@ -20,8 +21,16 @@ fn seats_draw_in_turn(rt: HostRuntime) -> Result<(), Fail> {
         board.claim(&mut first),
         board.claim(&mut second),
         board.claim(&mut first),
+        board.claim(&mut second),
     ];
-    assert_eq!(rt; drawn, [Some(0), Some(1), Some(2), None, None]);
+    assert_eq!(rt; drawn, [Some(0), Some(1), Some(2), None, None, None]);
+    let before = board.stopped(&mut second);
+    board.stop(&mut first);
+    let after = board.stopped(&mut second);
+    assert_eq!(rt;
+        (before, after, board.claim(&mut second)),
+        (false, true, None)
+    );
     let drawn = board.close(vec![in rt.alloc(); first, second]?);
     assert_eq!(rt; (drawn.handed, drawn.spent), (3, true));
     Ok(())
@@ -71,17 +80,6 @@ fn counts_are_limited(rt: HostRuntime) {
     assert_eq!(rt; seats_of(&rt, 1, 16), Ok(16));
     assert_eq!(rt; seats_of(&rt, 1, 17), Err(BoardRefusal::BadSeats));
     assert_eq!(rt; seats_of(&rt, 1, 0), Err(BoardRefusal::BadSeats));
-}
-
-#[test]
-fn refusals_have_texts(rt: HostRuntime) -> Result<(), Fail> {
-    let too_many = BoardRefusal::TooManyParts.to_string(rt.alloc())?;
-    let seats = BoardRefusal::BadSeats.to_string(rt.alloc())?;
-    let memory = BoardRefusal::NoMemory.to_string(rt.alloc())?;
-    assert_eq!(rt; too_many.as_str(), "too many parts");
-    assert_eq!(rt; seats.as_str(), "no seats or too many");
-    assert_eq!(rt; memory.as_str(), "out of memory");
-    Ok(())
 }
 
 // Draws until nothing is left, and counts each number that it drew.

@@ -5,7 +5,6 @@ ghost use Rattle.std.specs.Prelude.{◌≡◌, ◌^◌};
 use std::marker::Brand;
 use std::process::Abort;
 use std::sync::ledger::{Blank, Ledger};
-use std::test::Fail;
 use store_ledger::{ALL_PARTS, Accepted, Book, BookFull, NotWhole};
 
 fn share_and_book<B: Ledger, C: Ledger, R: Abort>(rt: &R, bytes: Blank, calls: Blank)
@@ -26,6 +25,11 @@ fn share_and_book<B: Ledger, C: Ledger, R: Abort>(rt: &R, bytes: Blank, calls: B
     share.join(other);
     let accepted = Accepted { bytes: 5, calls: 1 };
     assert_eq!(rt; book.settle(&mut share), Ok(accepted));
+    // Far more than fits, and one byte more.
+    let far = book.record(&mut share, u64::MAX);
+    let near = book.record(&mut share, u64::MAX - 4);
+    assert_eq!(rt; (far, near), (Err(BookFull), Err(BookFull)));
+    assert_eq!(rt; (share.bytes(), share.calls()), (5, 1));
     assert_eq!(rt; book.accepted(&mut share), accepted);
 }
 
@@ -56,18 +60,4 @@ fn joined_at_the_book<B: Ledger, C: Ledger, R: Abort>(rt: &R, bytes: Blank, call
 #[test]
 fn a_book_joins_its_shares_up_to_its_limit(rt: HostRuntime) {
     joined_at_the_book::<Brand, Brand, _>(&rt, Blank::new(ALL_PARTS), Blank::new(ALL_PARTS));
-}
-
-#[test]
-fn refusals_have_texts(rt: HostRuntime) -> Result<(), Fail> {
-    let missing = NotWhole { bytes: 5, calls: 1 }.to_string(rt.alloc())?;
-    assert_eq!(rt;
-        missing.as_str(),
-        "the share is not whole: missing bytes 5, calls 1"
-    );
-    assert_eq!(rt;
-        BookFull.to_string(rt.alloc())?.as_str(),
-        "the book is full"
-    );
-    Ok(())
 }

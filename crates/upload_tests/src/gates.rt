@@ -1,110 +1,42 @@
 //! Gates that stop an upload, fail, or hold a part.
 
-ghost use Rattle.std.specs.Prelude.{◌≡◌};
-
 use std::sync::atomic::{AtomicBool, AtomicU64, Ordering};
-use std::thread;
+use std::{fs, thread};
 use store_shared::{Gate, GateStop};
 
 /// How often one who waits for another thread looks before it gives up.
 pub(crate) const TURNS: u64 = 1 << 24;
 
-/// Waits until a flag is set, for so many turns.
-pub(crate) fn is_set(flag: &AtomicBool) -> bool {
-    for _ in 0..TURNS {
-        if flag.load(Ordering::SeqCst) {
-            return true;
-        }
-        thread::yield_now();
-    }
-    false
-}
-
-/// Answers Stop at one part.
-#[derive(Drop)]
-pub(crate) struct StopAt(pub(crate) u64);
-
-impl Gate for StopAt {
-    ghost may_stop = { λ gate part. part ≡ gate.0 };
-
-    ghost may_fault = { λ gate part code. ⊥ };
-
-    fn passed(&self, part: u64) -> Result<(), GateStop> {
-        if part == self.0 {
-            return Err(GateStop::Stop);
-        }
-        Ok(())
-    }
-}
-
-/// Fails at one part, with the code 9.
-#[derive(Drop)]
-pub(crate) struct FailAt(pub(crate) u64);
-
-impl Gate for FailAt {
-    ghost may_stop = { λ gate part. ⊥ };
-
-    ghost may_fault = { λ gate part code. (part ≡ gate.0) × (code ≡ 9) };
-
-    fn passed(&self, part: u64) -> Result<(), GateStop> {
-        if part == self.0 {
-            return Err(GateStop::Fault(9));
-        }
-        Ok(())
-    }
-}
-
-/// Holds part 0 until part 1 has passed, or else fails with the code 1.
-#[derive(Drop)]
-pub(crate) struct HoldFirst {
-    pub(crate) second_passed: AtomicBool,
-}
-
-impl Gate for HoldFirst {
-    ghost may_stop = { λ gate part. ⊥ };
-
-    ghost may_fault = { λ gate part code. (part ≡ 0) × (code ≡ 1) };
-
-    fn passed(&self, part: u64) -> Result<(), GateStop> {
-        if part == 1 {
-            self.second_passed.store(true, Ordering::SeqCst);
-        }
-        if part != 0 || is_set(&self.second_passed) {
-            return Ok(());
-        }
-        Err(GateStop::Fault(1))
-    }
-}
-
-/// Holds the parts of some numbers until they are let pass, or else fails with the code 1. At one part, if there is one of that
-/// number, it waits until no part was asked for in many turns, as when the queue is full; then it lets the others pass, and stops.
-#[derive(Drop)]
-pub(crate) struct Hold {
-    pub(crate) first: u64,
-    pub(crate) last: u64,
-    pub(crate) stop: u64,
-    pub(crate) released: AtomicBool,
-    asked: AtomicU64,
-}
-
 // In how many turns no part was asked for where none will be.
 const STILL_TURNS: u64 = 2000;
 
-impl Hold {
-    pub(crate) fn new(first: u64, last: u64, stop: u64) -> Hold {
-        Hold {
-            first,
-            last,
-            stop,
-            released: AtomicBool::new(false),
+/// How many parts a gate was asked for, and whether it lets those pass that it holds.
+#[derive(Drop)]
+pub(crate) struct Signal {
+    asked: AtomicU64,
+    released: AtomicBool,
+}
+
+impl Signal {
+    pub(crate) fn new() -> Signal {
+        Signal {
             asked: AtomicU64::new(0),
+            released: AtomicBool::new(false),
         }
+    }
+
+    pub(crate) fn asked(&self) -> u64 {
+        self.asked.load(Ordering::SeqCst)
+    }
+
+    pub(crate) fn release(&self) {
+        self.released.store(true, Ordering::SeqCst);
     }
 
     /// Waits until a part was asked for, for so many turns.
     pub(crate) fn is_reached(&self) -> bool {
         for _ in 0..TURNS {
-            if self.asked.load(Ordering::SeqCst) > 0 {
+            if self.asked() > 0 {
                 return true;
             }
             thread::yield_now();
@@ -112,12 +44,23 @@ impl Hold {
         false
     }
 
-    // Waits until no part is asked for any more.
+    /// Waits until the parts that are held may pass, for so many turns.
+    pub(crate) fn is_released(&self) -> bool {
+        for _ in 0..TURNS {
+            if self.released.load(Ordering::SeqCst) {
+                return true;
+            }
+            thread::yield_now();
+        }
+        false
+    }
+
+    // Waits until no part is asked for any more, as when the queue is full.
     fn wait_until_still(&self) {
         let mut seen = 0u64;
         let mut turns = 0u64;
         for _ in 0..TURNS {
-            let asked = self.asked.load(Ordering::SeqCst);
+            let asked = self.asked();
             turns = if asked == seen {
                 turns.saturating_add(1)
             } else {
@@ -132,101 +75,180 @@ impl Hold {
     }
 }
 
-impl Gate for Hold {
-    ghost may_stop = { λ gate part. part ≡ gate.stop };
-
-    ghost may_fault = { λ gate part code. code ≡ 1 };
-
-    fn passed(&self, part: u64) -> Result<(), GateStop> {
-        let _before = self.asked.fetch_add(1, Ordering::SeqCst);
-        if part == self.stop {
-            self.wait_until_still();
-            self.released.store(true, Ordering::SeqCst);
-            return Err(GateStop::Stop);
-        }
-        if part < self.first || part > self.last || is_set(&self.released) {
-            return Ok(());
-        }
-        Err(GateStop::Fault(1))
-    }
+/// What a gate does.
+#[derive(Clone, Copy, Debug)]
+pub(crate) enum Rule {
+    /// Passes all parts.
+    Pass,
+    /// Answers Stop at one part.
+    Stop(u64),
+    /// Fails at one part, with the code 9.
+    Fail(u64),
+    /// Fails at all parts, with the part's number as code.
+    FailAll,
+    /// Holds part 0 until part 1 has passed.
+    HoldFirst,
+    /// Holds the parts from one number on.
+    HoldFrom(u64),
+    /// Holds part 0. Stops at part 1, once no part is asked for any more, and lets part 0 pass.
+    StopWhenStill,
+    /// Takes some time at each part, and answers Stop at one.
+    Slow(u64),
 }
 
-/// Fails at all parts, with the part's number as code, but holds part 0 until another one is asked for.
+/// A gate that does as a rule says.
 #[derive(Drop)]
-pub(crate) struct FailBoth {
-    other_asked: AtomicBool,
+pub(crate) struct Checkpoint<'a> {
+    pub(crate) rule: Rule,
+    pub(crate) signal: &'a Signal,
 }
 
-impl FailBoth {
-    pub(crate) fn new() -> FailBoth {
-        FailBoth {
-            other_asked: AtomicBool::new(false),
+impl Checkpoint<'_> {
+    // Holds a part until it may pass, or else fails with the code 1.
+    fn held(&self) -> Option<GateStop> {
+        if self.signal.is_released() {
+            return None;
+        }
+        Some(GateStop::Fault(1))
+    }
+
+    // What is answered for a part that does not pass.
+    fn found(&self, part: u64) -> Option<GateStop> {
+        match self.rule {
+            Rule::Pass => None,
+            Rule::Stop(at) => {
+                if part == at {
+                    return Some(GateStop::Stop);
+                }
+                None
+            }
+            Rule::Fail(at) => {
+                if part == at {
+                    return Some(GateStop::Fault(9));
+                }
+                None
+            }
+            Rule::FailAll => Some(GateStop::Fault(part)),
+            Rule::HoldFirst => {
+                if part == 0 {
+                    return self.held();
+                }
+                self.signal.release();
+                None
+            }
+            Rule::HoldFrom(first) => {
+                if part >= first {
+                    return self.held();
+                }
+                None
+            }
+            Rule::StopWhenStill => self.stopped_when_still(part),
+            Rule::Slow(at) => {
+                if part == at {
+                    return Some(GateStop::Stop);
+                }
+                take_time();
+                None
+            }
         }
     }
-}
 
-impl Gate for FailBoth {
-    ghost may_stop = { λ gate part. ⊥ };
-
-    ghost may_fault = { λ gate part code. code ≡ part };
-
-    fn passed(&self, part: u64) -> Result<(), GateStop> {
+    fn stopped_when_still(&self, part: u64) -> Option<GateStop> {
         if part == 0 {
-            let _is_asked = is_set(&self.other_asked);
-        } else {
-            self.other_asked.store(true, Ordering::SeqCst);
+            return self.held();
         }
-        Err(GateStop::Fault(part))
+        if part > 1 {
+            return None;
+        }
+        self.signal.wait_until_still();
+        self.signal.release();
+        Some(GateStop::Stop)
     }
 }
 
-/// Fails at all parts, with the part's number as code.
-#[derive(Drop)]
-pub(crate) struct FailAll;
+fn take_time() {
+    for _ in 0..100 {
+        thread::yield_now();
+    }
+}
 
-impl Gate for FailAll {
-    ghost may_stop = { λ gate part. ⊥ };
+impl Gate for Checkpoint<'_> {
+    ghost may_stop = { λ gate part. Unit {0} };
 
-    ghost may_fault = { λ gate part code. code ≡ part };
+    ghost may_fault = { λ gate part code. Unit {0} };
 
     fn passed(&self, part: u64) -> Result<(), GateStop> {
-        Err(GateStop::Fault(part))
+        let _before = self.signal.asked.fetch_add(1, Ordering::SeqCst);
+        let Some(found) = self.found(part) else {
+            return Ok(());
+        };
+        match found {
+            GateStop::Stop => Err(GateStop::Stop),
+            GateStop::Fault(code) => Err(GateStop::Fault(code)),
+        }
     }
 }
 
-/// Counts how often it is asked, answers Stop at one part, and takes some time for each other.
+// The system's number of the calling thread, or 0. A thread that is started later has a higher one, until the numbers have
+// all been used and begin again.
+fn thread_number(rt: &HostRuntime) -> u64 {
+    let Ok(text) = fs::read_to_string(rt, "/proc/thread-self/stat") else {
+        return 0;
+    };
+    match text.as_str().split_once(' ') {
+        Some((digits, _)) => digits.parse::<u64>().unwrap_or(0),
+        None => 0,
+    }
+}
+
+/// Fails at the parts 0 and 1, once each is made by a thread of its own, with the number of the thread as code.
 #[derive(Drop)]
-pub(crate) struct Counting {
-    stop: u64,
-    asked: AtomicU64,
+pub(crate) struct FailBoth<'a> {
+    rt: &'a HostRuntime,
+    first: AtomicU64,
+    second: AtomicU64,
 }
 
-impl Counting {
-    pub(crate) fn new(stop: u64) -> Counting {
-        Counting {
-            stop,
-            asked: AtomicU64::new(0),
+impl<'a> FailBoth<'a> {
+    pub(crate) fn new(rt: &'a HostRuntime) -> FailBoth<'a> {
+        FailBoth {
+            rt,
+            first: AtomicU64::new(0),
+            second: AtomicU64::new(0),
         }
     }
 
-    pub(crate) fn asked(&self) -> u64 {
-        self.asked.load(Ordering::SeqCst)
+    /// The numbers of the threads that made part 0 and part 1.
+    pub(crate) fn threads(&self) -> (u64, u64) {
+        let first = self.first.load(Ordering::SeqCst);
+        (first, self.second.load(Ordering::SeqCst))
     }
-}
 
-impl Gate for Counting {
-    ghost may_stop = { λ gate part. part ≡ gate.stop };
-
-    ghost may_fault = { λ gate part code. ⊥ };
-
-    fn passed(&self, part: u64) -> Result<(), GateStop> {
-        let _before = self.asked.fetch_add(1, Ordering::SeqCst);
-        if part == self.stop {
-            return Err(GateStop::Stop);
-        }
-        for _ in 0..100 {
+    // Waits until both parts are made, for so many turns.
+    fn wait_for_both(&self) {
+        for _ in 0..TURNS {
+            let (first, second) = self.threads();
+            if first > 0 && second > 0 {
+                return;
+            }
             thread::yield_now();
         }
-        Ok(())
+    }
+}
+
+impl Gate for FailBoth<'_> {
+    ghost may_stop = { λ gate part. ⊥ };
+
+    ghost may_fault = { λ gate part code. Unit {0} };
+
+    fn passed(&self, part: u64) -> Result<(), GateStop> {
+        let number = thread_number(self.rt);
+        if part == 0 {
+            self.first.store(number, Ordering::SeqCst);
+        } else {
+            self.second.store(number, Ordering::SeqCst);
+        }
+        self.wait_for_both();
+        Err(GateStop::Fault(number))
     }
 }

@@ -7,7 +7,7 @@
 
 ghost use Rattle.std.specs.Prelude.{◌≡◌, ◌^◌};
 
-use crate::uploads_in_threads::upload_row;
+use crate::uploading::upload_row;
 use b3_tests::pattern;
 use std::alloc::{AllocError, Global};
 use std::marker::Brand;
@@ -57,7 +57,7 @@ fn uploaded_again<B: Ledger, C: Ledger, R: Threads + Wait + Sync + AllocGlobal>(
     let is_gone = has_objects(alloc, shared.lock(rt).store(), 0);
     let put = share.bytes();
     let tenant = TenantId::new(0);
-    let (share, again) = upload_row(rt, alloc, shared, share, &PassAll, tenant, row, workers);
+    let (share, again) = upload_row(rt, alloc, shared, share, &PassAll, tenant, row, 1, workers);
     let is_risen = share.bytes() == put.saturating_add(2049);
     let is_well = is_want_of_memory(fault) && is_risen && again.is_ok();
     match is_gone {
@@ -93,7 +93,7 @@ fn sealed_in_the_end<B: Ledger, C: Ledger, R: Threads + Wait + Sync + AllocGloba
     let (shared, share) = Shared::<B, C>::new(alloc, Limits::full(), bytes, calls);
     open_in_the_end(rt, &shared);
     let tenant = TenantId::new(0);
-    let (share, answer) = upload_row(rt, alloc, &shared, share, &PassAll, tenant, row, workers);
+    let (share, answer) = upload_row(rt, alloc, &shared, share, &PassAll, tenant, row, 1, workers);
     let (share, is_sealed) = match answer {
         Ok(_) => (share, Ok(true)),
         Err(fault) => uploaded_again(rt, &shared, share, fault, row, workers),

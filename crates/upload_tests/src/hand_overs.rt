@@ -3,6 +3,7 @@
 ghost use Rattle.std.specs.Prelude.{◌≡◌, All, vec_len};
 ghost use Rattle.store_board.specs.Passes.{IsGiverOf, IsTakerOf};
 
+use crate::parts::part_at;
 use b3_core::Work;
 use b3_forest::{Plan, Prepared};
 use std::alloc::{AllocError, Global};
@@ -14,13 +15,9 @@ use std::thread::Threads;
 use store_board::{GivePass, HandOver, HandOverRefusal, TakePass};
 
 // The part of one chunk with that number.
-fn part(alloc: Global, number: u64, work: &mut Work) -> Result<Prepared, AllocError> {
-    let Ok(plan) = Plan::new(1_048_576) else {
-        return Err(AllocError);
-    };
-    let bytes = Vec::from_elem(alloc, 7u8, 1024)?;
-    let offset = number.wrapping_mul(1024);
-    Prepared::make(alloc, &plan, offset, bytes, work).map_err(|_| AllocError)
+fn part(alloc: Global, number: u64, work: &mut Work) -> Option<Prepared> {
+    let plan = Plan::new(1_048_576).ok()?;
+    part_at(alloc, &plan, number.wrapping_mul(1024), 1024, work)
 }
 
 // Which giver's part was taken, and its offset.
@@ -32,8 +29,7 @@ fn taken<R: Wait>(rt: &R, hand_over: &HandOver, pass: &mut TakePass) -> Option<(
     Some((taken.giver, taken.part.offset()))
 }
 
-// Gives the part of one chunk with that number, and tells whether there was room, or else the offset of the part that
-// came back.
+// Gives the part of one chunk with that number, and tells the offset of the part that came back, if there was no room.
 fn given<R: Wait + AllocGlobal>(
     rt: &R,
     hand_over: &HandOver,
@@ -43,55 +39,87 @@ fn given<R: Wait + AllocGlobal>(
     requires { IsGiverOf hand_over.now pass.old }
     ensures { IsGiverOf hand_over.now pass.new }
 {
-    let part = part(rt.alloc(), number, &mut Work::new(rt))?;
+    let Some(part) = part(rt.alloc(), number, &mut Work::new(rt)) else {
+        return Err(AllocError);
+    };
     match hand_over.give(rt, pass, part) {
         Ok(()) => Ok(None),
         Err(part) => Ok(Some(part.offset())),
     }
 }
 
+// Gives two parts where there is room for one, and takes twice.
+fn give_two<R: Wait + AllocGlobal + Abort>(
+    rt: &R,
+    hand_over: &HandOver,
+    giver: &mut GivePass,
+    taker: &mut TakePass,
+) -> Result<(), AllocError>
+    requires giver { IsGiverOf hand_over.now giver.old }
+    requires taker { IsTakerOf hand_over.now taker.old }
+    ensures giver { IsGiverOf hand_over.now giver.new }
+    ensures taker { IsTakerOf hand_over.now taker.new }
+{
+    let one = given(rt, hand_over, giver, 1)?;
+    let two = given(rt, hand_over, giver, 2)?;
+    assert_eq!(rt; (one, two), (None, Some(2048)));
+    let first = taken(rt, hand_over, taker);
+    let second = taken(rt, hand_over, taker);
+    assert_eq!(rt; (first, second), (Some((0, 1024)), None));
+    Ok(())
+}
+
 #[test]
 fn a_full_queue_hands_the_part_back(rt: HostRuntime) -> Result<(), Fail> {
     let (hand_over, mut givers, mut taker) = HandOver::new(rt.alloc(), 1, 1)?;
     let mut giver = givers.pop().expect(&rt, "one giver");
-    assert_eq!(rt; given(&rt, &hand_over, &mut giver, 0)?, None);
-    assert_eq!(rt; given(&rt, &hand_over, &mut giver, 1)?, Some(1024));
-    assert_eq!(rt; taken(&rt, &hand_over, &mut taker), Some((0, 0)));
-    assert_eq!(rt; taken(&rt, &hand_over, &mut taker), None);
+    give_two(&rt, &hand_over, &mut giver, &mut taker)?;
     let moved = hand_over.close(&rt, vec![in rt.alloc(); giver]?, taker);
     assert_eq!(rt; (moved.given, moved.taken), (1, 1));
     Ok(())
 }
 
-// Gives three parts, the second one by another giver. There is room for each.
-fn give_three<R: Wait + AllocGlobal + Abort>(
+// Gives four parts, the second and the last by another giver, where there is room for two. The last stays in the queue.
+fn give_four<R: Wait + AllocGlobal + Abort>(
     rt: &R,
     hand_over: &HandOver,
     first: &mut GivePass,
     second: &mut GivePass,
-) -> Result<(), Fail>
+    taker: &mut TakePass,
+) -> Result<(), AllocError>
     requires first { IsGiverOf hand_over.now first.old }
     requires second { IsGiverOf hand_over.now second.old }
+    requires taker { IsTakerOf hand_over.now taker.old }
     ensures first { IsGiverOf hand_over.now first.new }
     ensures second { IsGiverOf hand_over.now second.new }
+    ensures taker { IsTakerOf hand_over.now taker.new }
 {
     let one = given(rt, hand_over, first, 1)?;
     let two = given(rt, hand_over, second, 2)?;
+    let full = given(rt, hand_over, first, 3)?;
+    assert_eq!(rt; (one, two, full), (None, None, Some(3072)));
+    let taken_one = taken(rt, hand_over, taker);
     let three = given(rt, hand_over, first, 3)?;
-    assert_eq!(rt; (one, two, three), (None, None, None));
+    assert_eq!(rt; (taken_one, three), (Some((0, 1024)), None));
+    let taken_two = taken(rt, hand_over, taker);
+    let taken_three = taken(rt, hand_over, taker);
+    let nothing = taken(rt, hand_over, taker);
+    assert_eq!(rt;
+        (taken_two, taken_three, nothing),
+        (Some((1, 2048)), Some((0, 3072)), None)
+    );
+    assert_eq!(rt; given(rt, hand_over, second, 4)?, None);
     Ok(())
 }
 
 #[test]
 fn parts_come_in_the_order_in_which_they_were_given(rt: HostRuntime) -> Result<(), Fail> {
-    let (hand_over, mut givers, mut taker) = HandOver::new(rt.alloc(), 3, 2)?;
+    let (hand_over, mut givers, mut taker) = HandOver::new(rt.alloc(), 2, 2)?;
     let mut second = givers.pop().expect(&rt, "two givers");
     let mut first = givers.pop().expect(&rt, "two givers");
-    give_three(&rt, &hand_over, &mut first, &mut second)?;
-    assert_eq!(rt; taken(&rt, &hand_over, &mut taker), Some((0, 1024)));
-    assert_eq!(rt; taken(&rt, &hand_over, &mut taker), Some((1, 2048)));
+    give_four(&rt, &hand_over, &mut first, &mut second, &mut taker)?;
     let moved = hand_over.close(&rt, vec![in rt.alloc(); first, second]?, taker);
-    assert_eq!(rt; (moved.given, moved.taken), (3, 2));
+    assert_eq!(rt; (moved.given, moved.taken), (4, 3));
     Ok(())
 }
 
@@ -104,15 +132,6 @@ fn refused(rt: &impl AllocGlobal, capacity: usize, givers: u64) -> Option<HandOv
 fn a_hand_over_needs_room_and_a_giver(rt: HostRuntime) {
     assert_eq!(rt; refused(&rt, 0, 1), Some(HandOverRefusal::BadCapacity));
     assert_eq!(rt; refused(&rt, 1, 0), Some(HandOverRefusal::BadCapacity));
-}
-
-#[test]
-fn refusals_have_texts(rt: HostRuntime) -> Result<(), Fail> {
-    let capacity = HandOverRefusal::BadCapacity.to_string(rt.alloc())?;
-    let memory = HandOverRefusal::NoMemory.to_string(rt.alloc())?;
-    assert_eq!(rt; capacity.as_str(), "no capacity or no giver");
-    assert_eq!(rt; memory.as_str(), "out of memory");
-    Ok(())
 }
 
 // Gives one part, waiting while the queue is full.
@@ -131,12 +150,7 @@ fn give_one<R: Wait>(rt: &R, hand_over: &HandOver, pass: &mut GivePass, part: Pr
 }
 
 // Makes a part with the work that the threads share.
-fn part_under<R: Wait>(
-    rt: &R,
-    alloc: Global,
-    number: u64,
-    work: &Mutex<Work>,
-) -> Result<Prepared, AllocError> {
+fn part_under<R: Wait>(rt: &R, alloc: Global, number: u64, work: &Mutex<Work>) -> Option<Prepared> {
     let mut work = work.lock(rt);
     part(alloc, number, &mut work)
 }
@@ -154,7 +168,7 @@ fn give_hundred<R: Wait>(
     ensures { IsGiverOf hand_over.now pass.new }
 {
     for number in 0..100 {
-        let Ok(part) = part_under(rt, alloc, number, work) else {
+        let Some(part) = part_under(rt, alloc, number, work) else {
             break;
         };
         give_one(rt, hand_over, pass, part);

@@ -8,8 +8,6 @@ mod books;
 #[cfg(test)]
 mod failed_uploads;
 #[cfg(test)]
-mod faults;
-#[cfg(test)]
 mod gates;
 #[cfg(test)]
 mod growths;
@@ -18,12 +16,14 @@ mod hand_overs;
 #[cfg(test)]
 mod hashes;
 #[cfg(test)]
+mod parts;
+#[cfg(test)]
 mod reports;
 #[cfg(test)]
 mod shared_stores;
 #[cfg(test)]
 mod strangers;
 #[cfg(test)]
-mod uploads;
+mod uploading;
 #[cfg(test)]
-mod uploads_in_threads;
+mod uploads;

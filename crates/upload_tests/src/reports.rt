@@ -7,12 +7,26 @@ use store_core::{Entry, Store};
 use store_ledger::{Accepted, Share};
 use store_shared::{Locked, UploadFault};
 
-/// A fault, and the upload that it leaves.
-pub(crate) fn fault_text(alloc: Global, fault: &UploadFault) -> Result<String, AllocError> {
+// A fault, and the upload that it leaves.
+fn fault_text(alloc: Global, fault: &UploadFault) -> Result<String, AllocError> {
     match fault.left {
         Some(upload) => format!(in alloc; "{} left {upload}", fault.kind),
         None => fault.kind.to_string(alloc),
     }
+}
+
+/// What an upload was told that tells whether its bytes were new, and by how much its share rose.
+pub(crate) fn told_text(
+    alloc: Global,
+    answer: Result<bool, UploadFault>,
+    put: Accepted,
+) -> Result<String, AllocError> {
+    let told = match answer {
+        Ok(true) => String::from_str(alloc, "new")?,
+        Ok(false) => String::from_str(alloc, "known")?,
+        Err(fault) => fault_text(alloc, &fault)?,
+    };
+    format!(in alloc; "{} {} {}", told.as_str(), put.bytes, put.calls)
 }
 
 // How many entries there are, and their lines in order.
@@ -68,6 +82,6 @@ pub(crate) fn aborted_after(alloc: Global, fault: &str, parts: &str) -> Result<S
     let entries = calls.saturating_add(3);
     let (nothing, puts) = ("objects 0 bytes 0 uploads 0 held 0 parts 0", puts.as_str());
     format!(in alloc;
-        "{fault}, accepted {bytes} {calls}, {nothing}, entries {entries}: tenant 0 4098 / begin 0 0 2049 / {puts}abort 0"
+        "{fault} {bytes} {calls}, accepted {bytes} {calls}, {nothing}, entries {entries}: tenant 0 4098 / begin 0 0 2049 / {puts}abort 0"
     )
 }

@@ -1,45 +1,50 @@
 //! Uploads, and what another thread does under the lock meanwhile.
 
-ghost use Rattle.std.specs.Prelude.{◌≡◌, ◌^◌};
-
-use crate::gates::{Hold, TURNS, is_set};
+use crate::gates::{Rule, Signal, TURNS};
 use crate::hashes::PATTERN_2049;
-use crate::reports::{fault_text, left_text};
-use crate::uploads_in_threads::{accepted_by, upload_row};
+use crate::parts::part_at;
+use crate::uploading::{Cut, left_by, three_parts, upload_row};
 use b3_core::Work;
-use b3_forest::{Plan, Prepared};
-use b3_tests::pattern;
-use std::alloc::{AllocError, Global};
-use std::marker::Brand;
+use b3_forest::Plan;
+use std::alloc::Global;
 use std::process::Abort;
 use std::sync::Wait;
-use std::sync::atomic::Ordering;
-use std::sync::ledger::{Blank, Ledger};
+use std::sync::ledger::Ledger;
 use std::test::Fail;
 use std::thread;
 use std::thread::Threads;
-use store_core::{Address, Limits, TenantId, UploadId};
-use store_ledger::{Accepted, Share};
-use store_shared::{
-    Locked, Shared, UploadFault, lent_abort, lent_begin, lent_forget, lent_open_tenant, lent_put,
-    lent_seal,
-};
+use store_core::{Address, TenantId, UploadId};
+use store_ledger::Share;
+use store_shared::{PassAll, Shared, lent_abort, lent_begin, lent_forget, lent_put, lent_seal};
 
-// What the stranger does while the gate holds what is left of upload 0.
-#[derive(Clone, Copy, PartialEq, Eq)]
-enum Deed {
-    // Aborts it.
+/// What the stranger does.
+#[derive(Clone, Copy, Debug, PartialEq, Eq)]
+pub(crate) enum Deed {
+    /// Nothing.
+    Nothing,
+    /// Uploads the same bytes for a tenant, at the same time.
+    Upload(u64),
+    /// Aborts upload 0 while the gate holds all its parts.
     Abort,
-    // Puts its last part.
+    /// Puts the last part of upload 0 while the gate holds it.
     Put,
-    // Puts its last part and seals it.
+    /// Puts it and seals upload 0.
     Seal,
-    // Files the same bytes by an upload of its own.
+    /// Files the same bytes meanwhile, by an upload of its own.
     File,
-    // Files them, and forgets them.
+    /// Files them, and forgets them.
     FileAndForget,
-    // Keeps the lock until the gate lets all parts pass, and some turns longer.
+    /// Keeps the lock until the gate lets all parts pass, and some turns longer.
     KeepLock,
+}
+
+/// What became of the deed. Of an upload it is told whether its bytes were new.
+#[derive(Clone, Copy, Debug, PartialEq, Eq)]
+pub(crate) enum Outcome {
+    Refused,
+    Done,
+    New,
+    Known,
 }
 
 // Puts bytes of the pattern to an upload of all 2049.
@@ -54,11 +59,9 @@ fn put_one<B: Ledger, C: Ledger, R: Wait + Alloc>(
     let Ok(plan) = Plan::new(2049) else {
         return false;
     };
-    let Ok(bytes) = pattern(alloc, offset, 2049u64.saturating_sub(offset)) else {
-        return false;
-    };
+    let len = 2049u64.saturating_sub(offset);
     let mut work = Work::new(rt);
-    let Some(part) = Prepared::make(alloc, &plan, offset, bytes, &mut work).ok() else {
+    let Some(part) = part_at(alloc, &plan, offset, len, &mut work) else {
         return false;
     };
     lent_put(&mut *shared.lock(rt), share, upload, part, &mut work).is_ok()
@@ -85,9 +88,13 @@ fn file_all<B: Ledger, C: Ledger, R: Wait + Alloc>(
 }
 
 // Keeps the lock, so that no part can be put.
-fn keeps_lock<B: Ledger, C: Ledger, R: Wait>(rt: &R, shared: &Shared<B, C>, gate: &Hold) -> bool {
+fn keeps_lock<B: Ledger, C: Ledger, R: Wait>(
+    rt: &R,
+    shared: &Shared<B, C>,
+    signal: &Signal,
+) -> bool {
     let _guard = shared.lock(rt);
-    let is_released = is_set(&gate.released);
+    let is_released = signal.is_released();
     for _ in 0..1000 {
         thread::yield_now();
     }
@@ -105,147 +112,131 @@ fn holds<B: Ledger, C: Ledger, R: Wait>(rt: &R, shared: &Shared<B, C>, bytes: u6
     false
 }
 
+// Does it, and then lets the gate pass all parts. What is put or filed comes behind the parts that the gate does not hold.
 fn is_done<B: Ledger, C: Ledger, R: Wait + Alloc>(
     rt: &R,
     alloc: Global,
     shared: &Shared<B, C>,
     share: &mut Share<B, C>,
-    gate: &Hold,
+    signal: &Signal,
     deed: Deed,
 ) -> bool {
-    let (tenant, upload) = (TenantId::new(0), UploadId::new(0));
+    let upload = UploadId::new(0);
     match deed {
+        Deed::Nothing | Deed::Upload(_) => false,
         Deed::Abort => lent_abort(&mut *shared.lock(rt), upload).is_ok(),
-        Deed::Put => put_one(rt, alloc, shared, share, upload, 2048),
+        Deed::KeepLock => keeps_lock(rt, shared, signal),
+        Deed::Put => holds(rt, shared, 2048) && put_one(rt, alloc, shared, share, upload, 2048),
         Deed::Seal => {
-            put_one(rt, alloc, shared, share, upload, 2048) && seal_one(rt, shared, upload)
+            holds(rt, shared, 2048)
+                && put_one(rt, alloc, shared, share, upload, 2048)
+                && seal_one(rt, shared, upload)
         }
-        Deed::File => file_all(rt, alloc, shared, share),
+        Deed::File => holds(rt, shared, 2048) && file_all(rt, alloc, shared, share),
         Deed::FileAndForget => {
-            let address = Address::new(PATTERN_2049);
-            file_all(rt, alloc, shared, share)
+            let (tenant, address) = (TenantId::new(0), Address::new(PATTERN_2049));
+            holds(rt, shared, 2048)
+                && file_all(rt, alloc, shared, share)
                 && lent_forget(&mut *shared.lock(rt), tenant, address).is_ok()
         }
-        Deed::KeepLock => keeps_lock(rt, shared, gate),
     }
 }
 
-// Does it once the parts before those that the gate holds are put, and then lets the gate pass.
-fn meanwhile<B: Ledger, C: Ledger, R: Wait + Alloc>(
+/// Does it beside an upload of these bytes. What is no upload is done once the gate was asked.
+pub(crate) fn meanwhile<B: Ledger, C: Ledger, R: Threads + Wait + Sync + Alloc>(
     rt: &R,
     alloc: Global,
     shared: &Shared<B, C>,
     share: Share<B, C>,
-    gate: &Hold,
+    signal: &Signal,
     deed: Deed,
-) -> (Share<B, C>, bool) {
-    let mut share = share;
-    let is_time = gate.is_reached() && holds(rt, shared, gate.first.saturating_mul(1024));
-    let done = is_time && is_done(rt, alloc, shared, &mut share, gate, deed);
-    gate.released.store(true, Ordering::SeqCst);
-    (share, done)
-}
-
-// What an upload was told that tells whether its bytes were new, and by how much its share rose.
-fn told_text(
-    alloc: Global,
-    answer: Result<bool, UploadFault>,
-    put: Accepted,
-) -> Result<String, AllocError> {
-    let told = match answer {
-        Ok(true) => String::from_str(alloc, "new")?,
-        Ok(false) => String::from_str(alloc, "known")?,
-        Err(fault) => fault_text(alloc, &fault)?,
-    };
-    format!(in alloc; "{} {} {}", told.as_str(), put.bytes, put.calls)
-}
-
-// What an upload was told, and what it and the stranger left in a store whose whole share settles.
-fn beside_text<B: Ledger, C: Ledger>(
-    alloc: Global,
-    answer: Result<bool, UploadFault>,
-    put: Accepted,
-    done: bool,
-    locked: &mut Locked<B, C>,
-    share: &mut Share<B, C>,
-) -> Result<String, Fail> {
-    if !done {
-        return Err("the stranger was refused")?;
+    row: &[u8],
+    workers: u64,
+) -> (Share<B, C>, Outcome) {
+    if deed == Deed::Nothing {
+        return (share, Outcome::Done);
     }
-    let told = told_text(alloc, answer, put)?;
-    let left = left_text(alloc, locked, share)?;
-    Ok(format!(in alloc; "{}, {}", told.as_str(), left.as_str())?)
+    if let Deed::Upload(tenant) = deed {
+        let tenant = TenantId::new(tenant);
+        let (share, answer) = upload_row(
+            rt, alloc, shared, share, &PassAll, tenant, row, 1, workers,
+        );
+        return match answer {
+            Ok(true) => (share, Outcome::New),
+            Ok(false) => (share, Outcome::Known),
+            Err(_) => (share, Outcome::Refused),
+        };
+    }
+    let mut share = share;
+    let is_done = signal.is_reached() && is_done(rt, alloc, shared, &mut share, signal, deed);
+    signal.release();
+    if is_done {
+        (share, Outcome::Done)
+    } else {
+        (share, Outcome::Refused)
+    }
 }
 
-// An upload for tenant 0, and what the stranger does. Where that tenant isn't opened, the upload is refused by S1.
-fn uploaded_beside<
-    B: Ledger + Send + Sync,
-    C: Ledger + Send + Sync,
-    R: Threads + Wait + Sync + AllocGlobal,
->(
-    rt: &R,
-    bytes: Blank,
-    calls: Blank,
-    gate: &Hold,
+// A deed, and what the upload is told and leaves with it: before its journal, and behind its first two parts.
+#[derive(Clone, Copy)]
+struct Beside {
     deed: Deed,
-    len: u64,
-    workers: u64,
-) -> Result<String, Fail>
-    requires bytes { (bytes.name ≡ B.name) × (bytes.parts ≡ B.parts) × (bytes.parts ≡ 2 ^ 32) }
-    requires calls { (calls.name ≡ C.name) × (calls.parts ≡ C.parts) × (calls.parts ≡ 2 ^ 32) }
-{
-    let alloc = rt.alloc();
-    let input = pattern(alloc, 0, len)?;
-    let (shared, mut one) = Shared::<B, C>::new(alloc, Limits::full(), bytes, calls);
-    let other = one.split(1);
-    let _opened = lent_open_tenant(&mut *shared.lock(rt), len.saturating_mul(2));
-    let tenant = TenantId::new(0);
-    let (both, row) = (&shared, input.as_slice());
-    let ((one, answer), (other, done)) = thread::join(
-        rt,
-        move || -> (Share<B, C>, Result<bool, UploadFault>) {
-            upload_row(rt, alloc, both, one, gate, tenant, row, workers)
-        },
-        move || -> (Share<B, C>, bool) { meanwhile(rt, alloc, both, other, gate, deed) },
-    );
-    let mut share = one;
-    let put = accepted_by(&share);
-    let mut locked = shared.close();
-    locked.join(&mut share, other);
-    beside_text(alloc, answer, put, done, &mut locked, &mut share)
+    told: &'static str,
+    rest: &'static str,
 }
 
-// What an upload of so many bytes was told and what it left.
-fn left_beside<R: Threads + Wait + Sync + AllocGlobal>(
-    rt: &R,
-    gate: &Hold,
-    deed: Deed,
-    len: u64,
-    workers: u64,
-) -> Result<String, Fail> {
-    let (bytes, calls) = (Blank::new(1 << 32), Blank::new(1 << 32));
-    uploaded_beside::<Brand, Brand, R>(rt, bytes, calls, gate, deed, len, workers)
-}
+const BESIDE: &[Beside] = &[
+    Beside {
+        deed: Deed::Put,
+        told: "U1 S9 at 2048 2048 2, accepted 2049 3, objects 0 bytes 0 uploads 0 held 0 parts 0, entries 6",
+        rest: "put 0 2048 1 / abort 0",
+    },
+    Beside {
+        deed: Deed::Seal,
+        told: "U1 S7 2048 2, accepted 2049 3, objects 1 bytes 2049 uploads 0 held 0 parts 0, entries 6",
+        rest: "put 0 2048 1 / seal 0 5f4d72f40d7a5f82b15ca2b2e44b1de3c2ef86c426c95c1af0b6879522563030 new",
+    },
+    Beside {
+        deed: Deed::File,
+        told: "known 2049 3, accepted 4098 4, objects 1 bytes 2049 uploads 0 held 0 parts 0, entries 9",
+        rest: "begin 1 0 2049 / put 1 0 2049 / seal 1 5f4d72f40d7a5f82b15ca2b2e44b1de3c2ef86c426c95c1af0b6879522563030 new / put 0 2048 1 / seal 0 5f4d72f40d7a5f82b15ca2b2e44b1de3c2ef86c426c95c1af0b6879522563030 known",
+    },
+    Beside {
+        deed: Deed::FileAndForget,
+        told: "new 2049 3, accepted 4098 4, objects 1 bytes 2049 uploads 0 held 0 parts 0, entries 10",
+        rest: "begin 1 0 2049 / put 1 0 2049 / seal 1 5f4d72f40d7a5f82b15ca2b2e44b1de3c2ef86c426c95c1af0b6879522563030 new / forget 0 5f4d72f40d7a5f82b15ca2b2e44b1de3c2ef86c426c95c1af0b6879522563030 / put 0 2048 1 / seal 0 5f4d72f40d7a5f82b15ca2b2e44b1de3c2ef86c426c95c1af0b6879522563030 new",
+    },
+];
 
-// Several workers may put parts 0 and 1 in either order, before the gate holds part 2. The stranger comes when both are put.
+// What is left by an upload that is held at its last part while the stranger acts, the other two parts put in this order.
 fn leaves<R: Threads + Wait + Sync + AllocGlobal + Abort>(
     rt: &R,
-    deed: Deed,
-    told: &str,
-    rest: &str,
+    beside: Beside,
+    workers: u64,
 ) -> Result<(), Fail> {
+    let (told, rest) = (beside.told, beside.rest);
     let begun = "tenant 0 4098 / begin 0 0 2049";
     let (one, two) = ("put 0 0 1024", "put 0 1024 1024");
     let ordered = format!(in rt.alloc(); "{told}: {begun} / {one} / {two} / {rest}")?;
     let swapped = format!(in rt.alloc(); "{told}: {begun} / {two} / {one} / {rest}")?;
-    for workers in [1, 2, 16] {
-        let left = left_beside(rt, &Hold::new(2, 2, u64::MAX), deed, 2049, workers)?;
-        let is_swapped = workers > 1 && left.as_str() == swapped.as_str();
-        assert!(rt;
-            is_swapped || left.as_str() == ordered.as_str(),
-            "{workers}: {}",
-            left.as_str()
-        );
+    let cut = three_parts(workers);
+    let left = left_by(rt, Rule::HoldFrom(2), &Signal::new(), beside.deed, cut)?;
+    let is_swapped = workers > 1 && left.as_str() == swapped.as_str();
+    assert!(rt;
+        is_swapped || left.as_str() == ordered.as_str(),
+        "{workers}: {}",
+        left.as_str()
+    );
+    Ok(())
+}
+
+// Several workers may put parts 0 and 1 in either order. The stranger comes when both are put.
+#[test]
+fn an_upload_meets_what_was_done_meanwhile(rt: HostRuntime) -> Result<(), Fail> {
+    for beside in BESIDE {
+        for workers in [1, 2, 16] {
+            leaves(&rt, *beside, workers)?;
+        }
     }
     Ok(())
 }
@@ -254,8 +245,8 @@ fn leaves<R: Threads + Wait + Sync + AllocGlobal + Abort>(
 #[test]
 fn an_upload_that_was_aborted_is_refused(rt: HostRuntime) -> Result<(), Fail> {
     for workers in [1, 2, 16] {
-        let gate = Hold::new(0, 2, u64::MAX);
-        let left = left_beside(&rt, &gate, Deed::Abort, 2049, workers)?;
+        let cut = three_parts(workers);
+        let left = left_by(&rt, Rule::HoldFrom(0), &Signal::new(), Deed::Abort, cut)?;
         assert_eq!(rt;
             left.as_str(),
             "U1 S7 0 0, accepted 0 0, objects 0 bytes 0 uploads 0 held 0 parts 0, entries 3: tenant 0 4098 / begin 0 0 2049 / abort 0"
@@ -264,61 +255,69 @@ fn an_upload_that_was_aborted_is_refused(rt: HostRuntime) -> Result<(), Fail> {
     Ok(())
 }
 
-#[test]
-fn a_part_that_was_put_is_refused(rt: HostRuntime) -> Result<(), Fail> {
-    let told =
-        "U1 S9 at 2048 2048 2, accepted 2049 3, objects 0 bytes 0 uploads 0 held 0 parts 0, entries 6";
-    leaves(&rt, Deed::Put, told, "put 0 2048 1 / abort 0")
+// Whether a part that passed was dropped, by an upload of 128 parts that is stopped at part 1. While the lock is kept, the workers
+// fill the queue and wait for room. Then the one at part 1 stops, and part 0 is let pass.
+fn is_dropped<R: Threads + Wait + Sync + AllocGlobal + Abort>(
+    rt: &R,
+    workers: u64,
+) -> Result<bool, Fail> {
+    let cut = Cut {
+        limit: 131072,
+        len: 131072,
+        ..three_parts(workers)
+    };
+    let signal = Signal::new();
+    let left = left_by(rt, Rule::StopWhenStill, &signal, Deed::KeepLock, cut)?;
+    let left = left.as_str();
+    let is_ended = left.starts_with("U3 ") && left.ends_with(" / abort 0");
+    assert!(rt; is_ended && !left.contains(" put 0 1024 "), "{left}");
+    let passed = signal.asked().saturating_sub(1);
+    let all = format!(in rt.alloc(); "U3 {} {passed}, ", passed.saturating_mul(1024))?;
+    Ok(!left.starts_with(all.as_str()))
 }
 
-#[test]
-fn an_upload_that_was_sealed_is_refused(rt: HostRuntime) -> Result<(), Fail> {
-    let told =
-        "U1 S7 2048 2, accepted 2049 3, objects 1 bytes 2049 uploads 0 held 0 parts 0, entries 6";
-    leaves(
-        &rt,
-        Deed::Seal,
-        told,
-        "put 0 2048 1 / seal 0 5f4d72f40d7a5f82b15ca2b2e44b1de3c2ef86c426c95c1af0b6879522563030 new",
-    )
-}
-
-#[test]
-fn bytes_that_were_filed_are_known(rt: HostRuntime) -> Result<(), Fail> {
-    let told =
-        "known 2049 3, accepted 4098 4, objects 1 bytes 2049 uploads 0 held 0 parts 0, entries 9";
-    leaves(
-        &rt,
-        Deed::File,
-        told,
-        "begin 1 0 2049 / put 1 0 2049 / seal 1 5f4d72f40d7a5f82b15ca2b2e44b1de3c2ef86c426c95c1af0b6879522563030 new / put 0 2048 1 / seal 0 5f4d72f40d7a5f82b15ca2b2e44b1de3c2ef86c426c95c1af0b6879522563030 known",
-    )
-}
-
-#[test]
-fn bytes_that_were_forgotten_are_new(rt: HostRuntime) -> Result<(), Fail> {
-    let told =
-        "new 2049 3, accepted 4098 4, objects 1 bytes 2049 uploads 0 held 0 parts 0, entries 10";
-    leaves(
-        &rt,
-        Deed::FileAndForget,
-        told,
-        "begin 1 0 2049 / put 1 0 2049 / seal 1 5f4d72f40d7a5f82b15ca2b2e44b1de3c2ef86c426c95c1af0b6879522563030 new / forget 0 5f4d72f40d7a5f82b15ca2b2e44b1de3c2ef86c426c95c1af0b6879522563030 / put 0 2048 1 / seal 0 5f4d72f40d7a5f82b15ca2b2e44b1de3c2ef86c426c95c1af0b6879522563030 new",
-    )
-}
-
-// While the lock is kept, the workers fill the queue and wait for room. Then the one at part 1 stops, and part 0 is let pass. All
-// that was handed over is put: how much that is, and whether part 0 is among it, depends on the schedule.
+// How many parts are put depends on the schedule. On a busy machine the gate stops before the queue is full, and all parts that
+// passed are put; one round of many where it is full is enough.
 #[test]
 fn a_stop_ends_workers_that_wait_for_room(rt: HostRuntime) -> Result<(), Fail> {
     for workers in [3, 16] {
-        let left = left_beside(&rt, &Hold::new(0, 0, 1), Deed::KeepLock, 131072, workers)?;
-        let left = left.as_str();
-        assert!(rt;
-            left.starts_with("U3 ") && left.ends_with(" / abort 0"),
-            "{left}"
-        );
-        assert!(rt; !left.contains(" put 0 1024 "), "{left}");
+        let mut is_seen = false;
+        for _ in 0..100 {
+            if is_seen {
+                break;
+            }
+            is_seen = is_dropped(&rt, workers)?;
+        }
+        assert!(rt; is_seen, "{workers} workers");
+    }
+    Ok(())
+}
+
+// Tenant 1 uploads, and so does tenant 0 or 1. The parts of both may be put in any order. One object is left, so that both were
+// sealed, the second as known.
+#[test]
+fn the_same_bytes_are_uploaded_twice(rt: HostRuntime) -> Result<(), Fail> {
+    let rest =
+        "accepted 4098 6, objects 1 bytes 2049 uploads 0 held 0 parts 0, entries 12: tenant 0 4098 / tenant 1 4098 / begin 0 ";
+    let first = format!(in rt.alloc(); "new 2049 3, the stranger known, {rest}")?;
+    let second = format!(in rt.alloc(); "known 2049 3, the stranger new, {rest}")?;
+    for workers in [1, 2, 16] {
+        for other in [0, 1] {
+            let cut = Cut {
+                tenants: 2,
+                ..three_parts(workers)
+            };
+            let left = left_by(&rt, Rule::Pass, &Signal::new(), Deed::Upload(other), cut)?;
+            let left = left.as_str();
+            let is_told = left.starts_with(first.as_str()) || left.starts_with(second.as_str());
+            let begun = if other == 0 {
+                " 0 2049 / "
+            } else {
+                " 1 2049 / "
+            };
+            let are_begun = left.contains(begun) && left.contains(" 1 2049 / ");
+            assert!(rt; is_told && are_begun, "{workers} {other}: {left}");
+        }
     }
     Ok(())
 }

@@ -1,4 +1,4 @@
-use Rattle.upload_tests.proofs.shared_stores.two_threads_put_the_other_way_round.Given as goal
+use Rattle.upload_tests.proofs.shared_stores.two_threads_put_a_half_each.Given as goal
 
 abbrev pub ghosts-two_halves-B-Ledger : goal.ghosts-two_halves-B-Ledger
 ghosts-two_halves-B-Ledger g a = record { name = a.bytes.name; parts = a.bytes.parts }

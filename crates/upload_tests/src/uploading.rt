@@ -1,0 +1,175 @@
+//! An upload, what another thread does meanwhile, and what both leave, as text.
+
+ghost use Rattle.std.specs.Prelude.{◌≡◌, ◌^◌};
+
+use crate::gates::{Checkpoint, Rule, Signal};
+use crate::reports::{left_text, told_text};
+use crate::strangers::{Deed, Outcome, meanwhile};
+use b3_tests::pattern;
+use std::alloc::Global;
+use std::marker::Brand;
+use std::sync::Wait;
+use std::sync::ledger::{Blank, Ledger};
+use std::test::Fail;
+use std::thread;
+use std::thread::Threads;
+use store_core::{Limits, TenantId};
+use store_ledger::{Accepted, Share};
+use store_shared::{Gate, Locked, Shared, UploadFault, lent_open_tenant, upload};
+
+/// A store of so many tenants, each with this limit, and with limits of its own; and an upload for the last of them of so many
+/// bytes of the pattern.
+#[derive(Clone, Copy, Debug)]
+pub(crate) struct Cut {
+    pub(crate) tenants: u64,
+    pub(crate) limit: u64,
+    pub(crate) entries: u64,
+    pub(crate) most_workers: u64,
+    pub(crate) len: u64,
+    pub(crate) part_chunks: u64,
+    pub(crate) workers: u64,
+}
+
+/// Three parts of one chunk, the last ragged.
+pub(crate) fn three_parts(workers: u64) -> Cut {
+    Cut {
+        tenants: 1,
+        limit: 4098,
+        entries: 1 << 32,
+        most_workers: 16,
+        len: 2049,
+        part_chunks: 1,
+        workers,
+    }
+}
+
+/// Uploads bytes, and tells whether they were new.
+pub(crate) fn upload_row<B: Ledger, C: Ledger, G: Gate + Sync, R: Threads + Wait + Sync + Alloc>(
+    rt: &R,
+    alloc: Global,
+    shared: &Shared<B, C>,
+    share: Share<B, C>,
+    gate: &G,
+    tenant: TenantId,
+    row: &[u8],
+    part_chunks: u64,
+    workers: u64,
+) -> (Share<B, C>, Result<bool, UploadFault>) {
+    let (share, answer) = upload(
+        rt,
+        alloc,
+        shared,
+        share,
+        gate,
+        tenant,
+        row,
+        part_chunks,
+        workers,
+    );
+    match answer {
+        Ok(sealed) => (share, Ok(sealed.new)),
+        Err(fault) => (share, Err(fault)),
+    }
+}
+
+// Opens so many tenants. Where one isn't opened, the upload for it is refused by S1.
+fn open_tenants<B: Ledger, C: Ledger, R: Wait>(rt: &R, shared: &Shared<B, C>, cut: Cut) {
+    for _ in 0..cut.tenants {
+        let _opened = lent_open_tenant(&mut *shared.lock(rt), cut.limit);
+    }
+}
+
+// What a share has taken in.
+fn accepted_by<B: Ledger, C: Ledger>(share: &Share<B, C>) -> Accepted {
+    Accepted {
+        bytes: share.bytes(),
+        calls: share.calls(),
+    }
+}
+
+// What an upload was told, and what it and the stranger left in a store whose whole share settles.
+fn beside_text<B: Ledger, C: Ledger>(
+    alloc: Global,
+    answer: Result<bool, UploadFault>,
+    put: Accepted,
+    outcome: Outcome,
+    locked: &mut Locked<B, C>,
+    share: &mut Share<B, C>,
+) -> Result<String, Fail> {
+    let beside = match outcome {
+        Outcome::Refused => "the stranger refused, ",
+        Outcome::Done => "",
+        Outcome::New => "the stranger new, ",
+        Outcome::Known => "the stranger known, ",
+    };
+    let told = told_text(alloc, answer, put)?;
+    let left = left_text(alloc, locked, share)?;
+    Ok(format!(in alloc; "{}, {beside}{}", told.as_str(), left.as_str())?)
+}
+
+/// An upload with a share of one part, and what the stranger does, who has all others.
+pub(crate) fn uploaded<
+    B: Ledger + Send + Sync,
+    C: Ledger + Send + Sync,
+    G: Gate + Sync,
+    R: Threads + Wait + Sync + AllocGlobal,
+>(
+    rt: &R,
+    bytes: Blank,
+    calls: Blank,
+    gate: &G,
+    signal: &Signal,
+    deed: Deed,
+    cut: Cut,
+) -> Result<String, Fail>
+    requires bytes { (bytes.name ≡ B.name) × (bytes.parts ≡ B.parts) × (bytes.parts ≡ 2 ^ 32) }
+    requires calls { (calls.name ≡ C.name) × (calls.parts ≡ C.parts) × (calls.parts ≡ 2 ^ 32) }
+{
+    let alloc = rt.alloc();
+    let limits = Limits::new(cut.tenants, cut.entries, cut.most_workers);
+    let limits = limits.ok().ok_or("no limits")?;
+    let input = pattern(alloc, 0, cut.len)?;
+    let (shared, mut other) = Shared::<B, C>::new(alloc, limits, bytes, calls);
+    let one = other.split(1);
+    open_tenants(rt, &shared, cut);
+    let tenant = TenantId::new(cut.tenants.saturating_sub(1));
+    let (both, row) = (&shared, input.as_slice());
+    let (part_chunks, workers) = (cut.part_chunks, cut.workers);
+    let ((one, answer), (other, outcome)) = thread::join(
+        rt,
+        move || -> (Share<B, C>, Result<bool, UploadFault>) {
+            upload_row(
+                rt,
+                alloc,
+                both,
+                one,
+                gate,
+                tenant,
+                row,
+                part_chunks,
+                workers,
+            )
+        },
+        move || -> (Share<B, C>, Outcome) {
+            meanwhile(rt, alloc, both, other, signal, deed, row, workers)
+        },
+    );
+    let put = accepted_by(&one);
+    let mut share = other;
+    let mut locked = shared.close();
+    locked.join(&mut share, one);
+    beside_text(alloc, answer, put, outcome, &mut locked, &mut share)
+}
+
+/// What an upload under a gate that does as the rule says was told, and what it and the stranger leave.
+pub(crate) fn left_by<R: Threads + Wait + Sync + AllocGlobal>(
+    rt: &R,
+    rule: Rule,
+    signal: &Signal,
+    deed: Deed,
+    cut: Cut,
+) -> Result<String, Fail> {
+    let (bytes, calls) = (Blank::new(1 << 32), Blank::new(1 << 32));
+    let gate = Checkpoint { rule, signal };
+    uploaded::<Brand, Brand, _, R>(rt, bytes, calls, &gate, signal, deed, cut)
+}
