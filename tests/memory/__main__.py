@@ -1,0 +1,161 @@
+"""python3 tests/memory PROGRAM: shows of a built program what no contract says of memory.
+
+- A seal keeps the bytes of its parts, and copies none: what it asks of memory is the same where its parts are 64 times as long.
+- A fetch shares the object: eight fetches ask for less than one of its parts has. That is shown of a test program of store_tests.
+- What is forgotten, and what an aborted upload held, is given back: some thousand rounds of either take no more memory than some
+  hundred, but for the entries of the journal.
+
+Each script's answers are compared too. The last line is `N passed, M failed`. It needs a C compiler, `cc`.
+"""
+import argparse
+import os
+import subprocess
+import sys
+import tempfile
+
+sys.dont_write_bytecode = True
+HERE = os.path.dirname(os.path.abspath(__file__))
+sys.path[1:1] = [os.path.join(os.path.dirname(HERE), name) for name in ("common", "second_reading")]
+from blake3 import address_of
+from python_needed import end_where_older
+from script import pattern
+
+SECONDS = 120
+CRATES = os.path.join(os.path.dirname(os.path.dirname(HERE)), "crates")
+PARTS = 16
+FEW_ROUNDS, MANY_ROUNDS = 200, 4000
+PART = 65536
+ENTRY_BYTES = 256
+"""The most that an entry of the journal may take, which grows by doubling."""
+NOTHING_LEFT = "objects 0 bytes 0 uploads 0 held 0 parts 0"
+
+
+def counting(folder):
+    """The library that counts."""
+    library = os.path.join(folder, "counting.so")
+    subprocess.run(["cc", "-O2", "-shared", "-fPIC", "-o", library, os.path.join(HERE, "counting.c")], check=True)
+    return library
+
+
+def counted(words, library, data=b""):
+    """What a program writes, and how many bytes it asks memory for."""
+    told, tells = os.pipe()
+    changed = {"LD_PRELOAD": library, "COUNTED_TOLD": str(tells)}
+    try:
+        run = subprocess.run(
+            words, input=data, stdout=subprocess.PIPE, pass_fds=[tells], env={**os.environ, **changed}, timeout=SECONDS,
+        )
+    finally:
+        os.close(tells)
+    with os.fdopen(told, "rb") as pipe:
+        return run.stdout.decode(errors="replace"), int(pipe.read() or b"0")
+
+
+def resident(program, folder, lines):
+    """The answers to a script, and the most memory that was resident, in bytes."""
+    paths = [os.path.join(folder, name) for name in ("script", "answers")]
+    with open(paths[0], "w", encoding="ascii") as script:
+        script.writelines(f"{line}\n" for line in lines)
+    with open(paths[0], "rb") as script, open(paths[1], "wb") as answers:
+        child = subprocess.Popen([program, "run"], stdin=script, stdout=answers)
+        _, child.returncode, used = os.wait4(child.pid, 0)
+    with open(paths[1], "rb") as answers:
+        return answers.read().decode(errors="replace").splitlines(), used.ru_maxrss * 1024
+
+
+def upload(part):
+    """The lines that put an upload of so many parts of this length, and their answers."""
+    length = PARTS * part
+    lines = [f"tenant {length}", f"begin 0 {length}"] + [f"put 0 {at * part} p:{part}" for at in range(PARTS)]
+    held = [f"held {at * part} missing {at * part}" for at in range(1, PARTS)]
+    return lines, ["tenant 0", "upload 0", *held, f"held {length} all"]
+
+
+def asked_by_seal(program, library, part):
+    """How many bytes a seal asks memory for whose upload has parts of this length."""
+    lines, answers = upload(part)
+    address = address_of(pattern(0, PARTS * part))
+    counts = []
+    for more, told in (([], []), (["seal 0"], [f"new {address} {PARTS * part}"])):
+        script = "".join(f"{line}\n" for line in lines + more).encode()
+        found, count = counted([program, "run"], library, script)
+        if found.splitlines() != answers + told:
+            raise ValueError(f"it answered {found[-200:]!r}")
+        counts.append(count)
+    return counts[1] - counts[0]
+
+
+def a_seal_shares_bytes(options, folder):
+    """How much more a seal of long parts asks for, and how much that may be."""
+    library = counting(folder)
+    return asked_by_seal(options.program, library, PART) - asked_by_seal(options.program, library, 1024), 1024
+
+
+def a_fetch_shares_bytes(options, folder):
+    """How much eight fetches ask for, and how much that may be."""
+    program = os.path.join(options.crates, "store_tests", "out", "store_tests_tests")
+    counts = []
+    for test in ("files_an_object", "files_and_fetches_an_object"):
+        found, count = counted([program, f"memory::{test}"], counting(folder))
+        if not found.endswith("test result: ok\n"):
+            raise ValueError(f"it answered {found[-200:]!r}")
+        counts.append(count)
+    return counts[1] - counts[0], PART
+
+
+def growth_of_rounds(program, folder, lines_of, answers_of):
+    """How much more memory many rounds take than few, and how much that may be."""
+    most = []
+    for rounds in (FEW_ROUNDS, MANY_ROUNDS):
+        lines, answers = [f"tenant {PART}"], ["tenant 0"]
+        for upload in range(rounds):
+            lines += lines_of(upload)
+            answers += answers_of(upload)
+        found, bytes_seen = resident(program, folder, lines + ["stat"])
+        if found != answers + [NOTHING_LEFT]:
+            raise ValueError(f"it answered {found[-3:]!r}")
+        most.append(bytes_seen)
+    return most[1] - most[0], (MANY_ROUNDS - FEW_ROUNDS) * (len(lines_of(0)) * ENTRY_BYTES)
+
+
+def what_is_forgotten_is_given_back(options, folder):
+    address = address_of(pattern(0, PART))
+    return growth_of_rounds(
+        options.program, folder,
+        lambda at: [f"begin 0 {PART}", f"put {at} 0 p:{PART}", f"seal {at}", f"forget 0 {address}"],
+        lambda at: [f"upload {at}", f"held {PART} all", f"new {address} {PART}", "ok"],
+    )
+
+
+def what_is_aborted_is_given_back(options, folder):
+    return growth_of_rounds(
+        options.program, folder,
+        lambda at: [f"begin 0 {PART}", f"put {at} 0 p:{PART}", f"abort {at}"],
+        lambda at: [f"upload {at}", f"held {PART} all", "ok"],
+    )
+
+
+def main():
+    end_where_older()
+    parser = argparse.ArgumentParser(description=__doc__.split("\n\n")[0])
+    parser.add_argument("program", metavar="PROGRAM", type=os.path.abspath)
+    parser.add_argument("--program-alone", action="store_true", help="leave the test program out")
+    parser.add_argument("--crates", default=CRATES, metavar="FOLDER", help="where NAME/out/NAME_tests stand")
+    options, passed, failed = parser.parse_args(), 0, 0
+    tests = [a_seal_shares_bytes, what_is_forgotten_is_given_back, what_is_aborted_is_given_back]
+    for test in tests if options.program_alone else [*tests, a_fetch_shares_bytes]:
+        name = test.__name__.replace("_", " ")
+        try:
+            with tempfile.TemporaryDirectory() as folder:
+                more, most = test(options, folder)
+            told = f"{more} bytes more, and at most {most}" if more > most else ""
+        except (OSError, ValueError, subprocess.SubprocessError) as fault:
+            told = str(fault)
+        print(f"FAILED {name}: {told}" if told else f"{name}: {more} bytes more, of at most {most}")
+        passed, failed = passed + (not told), failed + bool(told)
+    print(f"{passed} passed, {failed} failed")
+    return 1 if failed else 0
+
+
+if __name__ == "__main__":
+    sys.exit(main())

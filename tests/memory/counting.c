@@ -1,0 +1,39 @@
+/* Counts the bytes that the process that it is preloaded into asks memory for, and writes the sum in decimal digits, when the
+   process ends, to the file descriptor in COUNTED_TOLD. */
+#include <stdatomic.h>
+#include <stddef.h>
+#include <stdio.h>
+#include <stdlib.h>
+#include <unistd.h>
+
+extern void *__libc_malloc(size_t);
+extern void *__libc_calloc(size_t, size_t);
+extern void *__libc_realloc(void *, size_t);
+extern void *__libc_memalign(size_t, size_t);
+
+static atomic_ulong counted;
+
+__attribute__((destructor)) static void tell(void) {
+    const char *descriptor = getenv("COUNTED_TOLD");
+    char digits[32];
+    int length = snprintf(digits, sizeof digits, "%lu", atomic_load(&counted));
+    if (descriptor == NULL || write(atoi(descriptor), digits, length) != length) {
+        _exit(99);
+    }
+}
+
+void *malloc(size_t size) { return atomic_fetch_add(&counted, size), __libc_malloc(size); }
+
+void *calloc(size_t count, size_t size) { return atomic_fetch_add(&counted, count * size), __libc_calloc(count, size); }
+
+void *realloc(void *old, size_t size) { return atomic_fetch_add(&counted, size), __libc_realloc(old, size); }
+
+void *aligned_alloc(size_t alignment, size_t size) {
+    return atomic_fetch_add(&counted, size), __libc_memalign(alignment, size);
+}
+
+int posix_memalign(void **found, size_t alignment, size_t size) {
+    atomic_fetch_add(&counted, size);
+    *found = __libc_memalign(alignment, size);
+    return *found == NULL;
+}
