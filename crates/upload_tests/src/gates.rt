@@ -1,5 +1,6 @@
 //! Gates that stop an upload, fail, or hold a part.
 
+use std::alloc::{AllocError, Global};
 use std::sync::atomic::{AtomicBool, AtomicU64, Ordering};
 use std::{fs, thread};
 use store_shared::{Gate, GateStop};
@@ -10,38 +11,65 @@ pub(crate) const TURNS: u64 = 1 << 24;
 // In how many turns no part was asked for where none will be.
 const STILL_TURNS: u64 = 2000;
 
-/// How many parts a gate was asked for, and whether it lets those pass that it holds.
+/// The most parts of an upload here.
+pub(crate) const MOST_PARTS: u64 = 4096;
+
+/// How often a gate was asked, in all and for each part, and whether it lets those pass that it holds.
 #[derive(Drop)]
 pub(crate) struct Signal {
     asked: AtomicU64,
+    parts: Vec<AtomicU64>,
     released: AtomicBool,
 }
 
 impl Signal {
-    pub(crate) fn new() -> Signal {
-        Signal {
-            asked: AtomicU64::new(0),
-            released: AtomicBool::new(false),
+    pub(crate) fn new(alloc: Global) -> Result<Signal, AllocError> {
+        let mut parts = Vec::new(alloc);
+        for _ in 0..MOST_PARTS {
+            parts.push(AtomicU64::new(0))?;
         }
+        Ok(Signal {
+            asked: AtomicU64::new(0),
+            parts,
+            released: AtomicBool::new(false),
+        })
+    }
+
+    // Counts a part that the gate is asked for.
+    fn ask(&self, part: u64) {
+        if let Some(count) = self.parts.as_slice().get(part as usize) {
+            let _before = count.fetch_add(1, Ordering::SeqCst);
+        }
+        let _before = self.asked.fetch_add(1, Ordering::SeqCst);
     }
 
     pub(crate) fn asked(&self) -> u64 {
         self.asked.load(Ordering::SeqCst)
     }
 
-    pub(crate) fn release(&self) {
-        self.released.store(true, Ordering::SeqCst);
+    /// Whether the gate was asked once for each part.
+    pub(crate) fn is_asked_once_for_each(&self) -> bool {
+        for count in self.parts.as_slice() {
+            if count.load(Ordering::SeqCst) != 1 {
+                return false;
+            }
+        }
+        self.asked() == MOST_PARTS
     }
 
-    /// Waits until a part was asked for, for so many turns.
-    pub(crate) fn is_reached(&self) -> bool {
+    /// Waits until the gate was asked so often, for at most so many turns.
+    pub(crate) fn has_asked(&self, times: u64) -> bool {
         for _ in 0..TURNS {
-            if self.asked() > 0 {
+            if self.asked() >= times {
                 return true;
             }
             thread::yield_now();
         }
         false
+    }
+
+    pub(crate) fn release(&self) {
+        self.released.store(true, Ordering::SeqCst);
     }
 
     /// Waits until the parts that are held may pass, for so many turns.
@@ -86,8 +114,8 @@ pub(crate) enum Rule {
     Fail(u64),
     /// Fails at all parts, with the part's number as code.
     FailAll,
-    /// Holds part 0 until part 1 has passed.
-    HoldFirst,
+    /// Holds all parts until so many were asked for.
+    HoldUntil(u64),
     /// Holds the parts from one number on.
     HoldFrom(u64),
     /// Holds part 0. Stops at part 1, once no part is asked for any more, and lets part 0 pass.
@@ -129,12 +157,11 @@ impl Checkpoint<'_> {
                 None
             }
             Rule::FailAll => Some(GateStop::Fault(part)),
-            Rule::HoldFirst => {
-                if part == 0 {
-                    return self.held();
+            Rule::HoldUntil(times) => {
+                if self.signal.has_asked(times) {
+                    return None;
                 }
-                self.signal.release();
-                None
+                Some(GateStop::Fault(1))
             }
             Rule::HoldFrom(first) => {
                 if part >= first {
@@ -178,7 +205,7 @@ impl Gate for Checkpoint<'_> {
     ghost may_fault = { λ gate part code. Unit {0} };
 
     fn passed(&self, part: u64) -> Result<(), GateStop> {
-        let _before = self.signal.asked.fetch_add(1, Ordering::SeqCst);
+        self.signal.ask(part);
         let Some(found) = self.found(part) else {
             return Ok(());
         };

@@ -68,20 +68,25 @@ fn part_at(digit: u8) -> (u64, u64) {
     }
 }
 
-/// What an upload of the pattern of 2049 bytes in three parts leaves that failed and was aborted, after these parts were
-/// put in this order. Each is named by its digit.
+/// What an upload of the pattern of 2049 bytes in three parts leaves, and its neighbour, that failed and was aborted, after these
+/// parts were put in this order. Each is named by its digit.
 pub(crate) fn aborted_after(alloc: Global, fault: &str, parts: &str) -> Result<String, AllocError> {
     let mut bytes = 0u64;
     let mut puts = String::new(alloc);
     for digit in parts.as_bytes() {
         let (offset, len) = part_at(*digit);
         bytes = bytes.saturating_add(len);
-        puts.push_str(format!(in alloc; "put 0 {offset} {len} / ")?.as_str())?;
+        puts.push_str(format!(in alloc; "put 1 {offset} {len} / ")?.as_str())?;
     }
     let calls = parts.len() as u64;
-    let entries = calls.saturating_add(3);
-    let (nothing, puts) = ("objects 0 bytes 0 uploads 0 held 0 parts 0", puts.as_str());
+    let accepted = (bytes.saturating_add(1), calls.saturating_add(1));
+    let entries = calls.saturating_add(5);
+    let left = "objects 0 bytes 0 uploads 1 held 1 parts 1";
+    let begun = "tenant 0 6147 / begin 0 0 2049 / put 0 2048 1 / begin 1 0 2049";
     format!(in alloc;
-        "{fault} {bytes} {calls}, accepted {bytes} {calls}, {nothing}, entries {entries}: tenant 0 4098 / begin 0 0 2049 / {puts}abort 0"
+        "{fault} {bytes} {calls}, accepted {} {}, {left}, entries {entries}: {begun} / {}abort 1",
+        accepted.0,
+        accepted.1,
+        puts.as_str()
     )
 }

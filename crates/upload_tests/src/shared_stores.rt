@@ -7,6 +7,7 @@ use crate::parts::part_at;
 use b3_core::Work;
 use b3_forest::{Plan, Prepared};
 use std::marker::Brand;
+use std::process::Abort;
 use std::sync::Wait;
 use std::sync::ledger::{Blank, Ledger};
 use std::test::Fail;
@@ -62,22 +63,13 @@ fn begin_two_chunks<B: Ledger, C: Ledger, R: Wait>(
     Ok(())
 }
 
-// What two threads leave that put a half each with a share each, and what is asked and done behind them.
-#[derive(Clone, Copy, Debug, PartialEq, Eq)]
-struct Halves {
-    are_put: bool,
-    filed: Filed,
-    before: Result<Accepted, NotWhole>,
-    after: Result<Accepted, NotWhole>,
-}
-
-// Two threads put a half each, with a share each, the one at `first` in the first thread. Where the upload isn't begun, both
-// are refused by S7.
+// Two threads put a half each, with a share each, the one at `first` in the first thread. The share of each is not whole, and both
+// together settle.
 fn two_halves<
     B: Ledger + Send + Sync,
     C: Ledger + Send + Sync,
-    R: Threads + Wait + Sync + AllocGlobal,
->(rt: &R, bytes: Blank, calls: Blank, first: u64) -> Result<Halves, Fail>
+    R: Threads + Wait + Sync + AllocGlobal + Abort,
+>(rt: &R, bytes: Blank, calls: Blank, first: u64) -> Result<(), Fail>
     requires bytes { (bytes.name ≡ B.name) × (bytes.parts ≡ B.parts) × (bytes.parts ≡ 2 ^ 32) }
     requires calls { (calls.name ≡ C.name) × (calls.parts ≡ C.parts) × (calls.parts ≡ 2 ^ 32) }
     requires first { first ≤ 1024 }
@@ -99,16 +91,17 @@ fn two_halves<
             ensures { (result.0.bytes < other.bytes + 2 ^ 63) × (result.0.calls ≤ other.calls + 1) }
         { put_one(rt, both, other, two, work_two) },
     );
-    let filed = sealed_and_forgotten(rt, &shared, &mut share);
+    assert!(rt; done_one && done_two);
+    sealed_and_forgotten(rt, &shared, &mut share);
     let mut locked = shared.close();
-    let before = locked.settle(&mut share);
+    let missing = NotWhole {
+        bytes: 1024,
+        calls: 1,
+    };
+    assert_eq!(rt; locked.settle(&mut share), Err(missing));
     share.join(other);
-    Ok(Halves {
-        are_put: done_one && done_two,
-        filed,
-        before,
-        after: locked.settle(&mut share),
-    })
+    assert_eq!(rt; locked.settle(&mut share), Ok(BOTH));
+    Ok(())
 }
 
 // Whether an object has the bytes of the pattern of 2048.
@@ -149,121 +142,117 @@ fn is_filed(store: &Store, tenant: TenantId) -> bool {
     is_pattern(&object) && is_listed && listed.len() == 1
 }
 
-// What a store answers that has an upload of both halves: of the upload, of the object once it was sealed, of its tenant, whose
-// limit is then changed, and of the object once it was forgotten.
-#[derive(Clone, Copy, Debug, PartialEq, Eq)]
-struct Filed {
-    is_planned: bool,
-    is_sealed: bool,
-    is_filed: bool,
-    used: Result<Usage, Refusal>,
-    widened: Result<Usage, Refusal>,
-    accepted: Accepted,
-    fetched: Option<Refusal>,
-    objects: u64,
-}
+// What two halves count.
+const BOTH: Accepted = Accepted {
+    bytes: 2048,
+    calls: 2,
+};
 
-// Seals the upload of both halves, asks for what was filed, and forgets it.
-fn sealed_and_forgotten<B: Ledger, C: Ledger, R: Wait + Alloc>(
+// Of an upload that has both halves: asks for it and seals it, asks for the object and the tenant, whose limit is then changed,
+// and forgets the object. Each time the lock is taken anew.
+fn sealed_and_forgotten<B: Ledger, C: Ledger, R: Wait + Alloc + Abort>(
     rt: &R,
     shared: &Shared<B, C>,
     share: &mut Share<B, C>,
-) -> Filed
+)
     ensures { share.new ≡ share.old }
 {
     let (tenant, upload) = (TenantId::new(0), UploadId::new(0));
     let address = Address::new(PATTERN_2048);
     let mut work = Work::new(rt);
-    let mut locked = shared.lock(rt);
-    let is_planned = is_planned(locked.store(), upload);
-    let is_sealed = match lent_seal(&mut *locked, upload, &mut work) {
-        Ok(sealed) => sealed.new && sealed.address == address,
-        Err(_) => false,
-    };
-    let is_filed = is_filed(locked.store(), tenant);
-    let used = locked.store().usage(tenant);
-    let _widened = lent_set_limit(&mut *locked, tenant, 4096);
-    let widened = locked.store().usage(tenant);
-    let accepted = locked.accepted(share);
-    let _forgotten = lent_forget(&mut *locked, tenant, address);
-    Filed {
-        is_planned,
-        is_sealed,
-        is_filed,
+    assert!(rt; is_planned(shared.lock(rt).store(), upload));
+    let sealed = lent_seal(&mut *shared.lock(rt), upload, &mut work).ok();
+    assert!(rt; sealed.is_some_and(|sealed| sealed.new && sealed.address == address));
+    assert!(rt; is_filed(shared.lock(rt).store(), tenant));
+    let used = usage_of(2048, 0, 2048);
+    assert_eq!(rt; shared.lock(rt).store().usage(tenant), Ok(used));
+    assert!(rt; lent_set_limit(&mut *shared.lock(rt), tenant, 4096).is_ok());
+    let widened = usage_of(2048, 0, 4096);
+    assert_eq!(rt; shared.lock(rt).store().usage(tenant), Ok(widened));
+    assert_eq!(rt; shared.lock(rt).accepted(share), BOTH);
+    assert!(rt; lent_forget(&mut *shared.lock(rt), tenant, address).is_ok());
+    let fetched = shared.lock(rt).store().fetch(tenant, address).err();
+    assert_eq!(rt; fetched, Some(Refusal::NotHeld));
+    assert_eq!(rt; shared.lock(rt).store().totals(), NOTHING);
+}
+
+fn usage_of(used: u64, reserved: u64, limit: u64) -> Usage {
+    Usage {
         used,
-        widened,
-        accepted,
-        fetched: locked.store().fetch(tenant, address).err(),
-        objects: locked.store().totals().objects,
+        reserved,
+        limit,
     }
 }
 
-// Both halves are put, each with a share of its own, and settle once the shares are joined.
+const NOTHING: Totals = Totals {
+    objects: 0,
+    object_bytes: 0,
+    uploads: 0,
+    held_bytes: 0,
+    parts: 0,
+};
+
 #[test]
 fn two_threads_put_a_half_each(rt: HostRuntime) -> Result<(), Fail> {
-    let both = Accepted {
-        bytes: 2048,
-        calls: 2,
-    };
-    let usage = Usage {
-        used: 2048,
-        reserved: 0,
-        limit: 2048,
-    };
-    let filed = Filed {
-        is_planned: true,
-        is_sealed: true,
-        is_filed: true,
-        used: Ok(usage),
-        widened: Ok(Usage {
-            limit: 4096,
-            ..usage
-        }),
-        accepted: both,
-        fetched: Some(Refusal::NotHeld),
-        objects: 0,
-    };
-    let wanted = Halves {
-        are_put: true,
-        filed,
-        before: Err(NotWhole {
-            bytes: 1024,
-            calls: 1,
-        }),
-        after: Ok(both),
-    };
     for first in [0, 1024] {
         let (bytes, calls) = (Blank::new(1 << 32), Blank::new(1 << 32));
-        let seen = two_halves::<Brand, Brand, _>(&rt, bytes, calls, first)?;
-        assert_eq!(rt; seen, wanted);
+        two_halves::<Brand, Brand, _>(&rt, bytes, calls, first)?;
     }
     Ok(())
 }
 
-// What became of an upload that was aborted with one part, and what the store and its book tell once another was begun, whose
-// length is not fixed; then of that one, once its length was fixed and once it was sealed.
-#[derive(Clone, Copy, Debug, PartialEq, Eq)]
-struct OneAfterAnother {
-    is_put: bool,
-    not_sealed: Option<Refusal>,
-    is_aborted: bool,
-    totals: Totals,
-    given_up: Result<Accepted, NotWhole>,
-    are_put: bool,
-    fixed: Result<(), Refusal>,
-    accepted: Accepted,
-    usage: Result<Usage, Refusal>,
-    is_sealed: bool,
-    settled: Result<Accepted, NotWhole>,
+// Puts one of two parts, and gives the upload up. Each time the lock is taken anew.
+fn give_up<B: Ledger, C: Ledger, R: Wait + Abort>(
+    rt: &R,
+    shared: &Shared<B, C>,
+    share: &mut Share<B, C>,
+    part: Prepared,
+    work: &mut Work,
+) {
+    let (tenant, upload, address) = (
+        TenantId::new(0),
+        UploadId::new(0),
+        Address::new(PATTERN_2048),
+    );
+    assert!(rt; lent_open_tenant(&mut *shared.lock(rt), 8192).is_ok());
+    assert!(rt; lent_begin(&mut *shared.lock(rt), tenant, 2048).is_ok());
+    assert!(rt; lent_put(&mut *shared.lock(rt), share, upload, part, work).is_ok());
+    let not_sealed = lent_seal_as(&mut *shared.lock(rt), upload, address, work).err();
+    assert_eq!(rt; not_sealed, Some(Refusal::Incomplete { missing: 0 }));
+    assert!(rt; lent_abort(&mut *shared.lock(rt), upload).is_ok());
+    assert_eq!(rt; shared.lock(rt).store().totals(), NOTHING);
 }
 
-// Puts one of two parts, and aborts the upload. Then begins one whose length is fixed later, puts both its parts, fixes its
-// length, and seals it. Where an upload isn't begun, all that follows is refused by S7.
-fn one_after_another<B: Ledger, C: Ledger, R: Wait + AllocGlobal>(
+// Begins upload 1, whose length is fixed later, puts both its parts, fixes its length, which alone is reserved then, and seals it.
+// Each time the lock is taken anew.
+fn fix_and_seal<B: Ledger, C: Ledger, R: Wait + Abort>(
+    rt: &R,
+    shared: &Shared<B, C>,
+    share: &mut Share<B, C>,
+    second: Prepared,
+    first: Prepared,
+    work: &mut Work,
+) {
+    let (tenant, upload, address) = (
+        TenantId::new(0),
+        UploadId::new(1),
+        Address::new(PATTERN_2048),
+    );
+    assert!(rt; lent_begin_open(&mut *shared.lock(rt), tenant, 4096).is_ok());
+    assert!(rt; lent_put(&mut *shared.lock(rt), share, upload, second, work).is_ok());
+    assert!(rt; lent_put(&mut *shared.lock(rt), share, upload, first, work).is_ok());
+    assert_eq!(rt; lent_fix(&mut *shared.lock(rt), upload, 2048), Ok(()));
+    let fixed = usage_of(0, 2048, 8192);
+    assert_eq!(rt; shared.lock(rt).store().usage(tenant), Ok(fixed));
+    assert!(rt; lent_seal_as(&mut *shared.lock(rt), upload, address, work).is_ok());
+}
+
+// A part that was put and given up counts as accepted.
+fn one_after_another<B: Ledger, C: Ledger, R: Wait + AllocGlobal + Abort>(
     rt: &R,
     bytes: Blank,
     calls: Blank,
-) -> Result<OneAfterAnother, Fail>
+) -> Result<(), Fail>
     requires bytes { (bytes.name ≡ B.name) × (bytes.parts ≡ B.parts) × (bytes.parts ≡ 2 ^ 32) }
     requires calls { (calls.name ≡ C.name) × (calls.parts ≡ C.parts) × (calls.parts ≡ 2 ^ 32) }
 {
@@ -273,69 +262,18 @@ fn one_after_another<B: Ledger, C: Ledger, R: Wait + AllocGlobal>(
     let first = chunk(rt, &plan, 0)?;
     let mut work = Work::new(rt);
     let (shared, mut share) = Shared::<B, C>::new(rt.alloc(), Limits::full(), bytes, calls);
-    let mut locked = shared.close();
-    let (tenant, address) = (TenantId::new(0), Address::new(PATTERN_2048));
-    let (given_up, upload) = (UploadId::new(0), UploadId::new(1));
-    let _opened = lent_open_tenant(&mut locked, 8192);
-    let _begun = lent_begin(&mut locked, tenant, 2048);
-    let is_put = lent_put(&mut locked, &mut share, given_up, alone, &mut work).is_ok();
-    let not_sealed = lent_seal_as(&mut locked, given_up, address, &mut work).err();
-    let is_aborted = lent_abort(&mut locked, given_up).is_ok();
-    let totals = locked.store().totals();
-    let _begun = lent_begin_open(&mut locked, tenant, 4096);
-    let given_up = locked.settle(&mut share);
-    let one = lent_put(&mut locked, &mut share, upload, second, &mut work).is_ok();
-    let two = lent_put(&mut locked, &mut share, upload, first, &mut work).is_ok();
-    Ok(OneAfterAnother {
-        is_put,
-        not_sealed,
-        is_aborted,
-        totals,
-        given_up,
-        are_put: one && two,
-        fixed: lent_fix(&mut locked, upload, 2048),
-        accepted: locked.accepted(&mut share),
-        usage: locked.store().usage(tenant),
-        is_sealed: lent_seal_as(&mut locked, upload, address, &mut work).is_ok(),
-        settled: locked.settle(&mut share),
-    })
-}
-
-// A part that was put and given up counts as accepted. A fixed length is reserved alone.
-#[test]
-fn one_upload_is_aborted_and_the_next_is_fixed(rt: HostRuntime) -> Result<(), Fail> {
-    let (bytes, calls) = (Blank::new(1 << 32), Blank::new(1 << 32));
-    let seen = one_after_another::<Brand, Brand, _>(&rt, bytes, calls)?;
+    give_up(rt, &shared, &mut share, alone, &mut work);
+    fix_and_seal(rt, &shared, &mut share, second, first, &mut work);
     let all = Accepted {
         bytes: 3072,
         calls: 3,
     };
-    let wanted = OneAfterAnother {
-        is_put: true,
-        not_sealed: Some(Refusal::Incomplete { missing: 0 }),
-        is_aborted: true,
-        totals: Totals {
-            objects: 0,
-            object_bytes: 0,
-            uploads: 0,
-            held_bytes: 0,
-            parts: 0,
-        },
-        given_up: Ok(Accepted {
-            bytes: 1024,
-            calls: 1,
-        }),
-        are_put: true,
-        fixed: Ok(()),
-        accepted: all,
-        usage: Ok(Usage {
-            used: 0,
-            reserved: 2048,
-            limit: 8192,
-        }),
-        is_sealed: true,
-        settled: Ok(all),
-    };
-    assert_eq!(rt; seen, wanted);
+    assert_eq!(rt; shared.close().settle(&mut share), Ok(all));
     Ok(())
+}
+
+#[test]
+fn one_upload_is_aborted_and_the_next_is_fixed(rt: HostRuntime) -> Result<(), Fail> {
+    let (bytes, calls) = (Blank::new(1 << 32), Blank::new(1 << 32));
+    one_after_another::<Brand, Brand, _>(&rt, bytes, calls)
 }

@@ -12,23 +12,24 @@ use std::sync::Wait;
 use std::sync::ledger::Ledger;
 use std::test::Fail;
 use std::thread;
-use std::thread::Threads;
+use std::thread::{Parker, Threads};
+use std::time::Duration;
 use store_core::{Address, TenantId, UploadId};
 use store_ledger::Share;
 use store_shared::{PassAll, Shared, lent_abort, lent_begin, lent_forget, lent_put, lent_seal};
 
 /// What the stranger does.
-#[derive(Clone, Copy, Debug, PartialEq, Eq)]
+#[derive(Clone, Copy, PartialEq, Eq)]
 pub(crate) enum Deed {
     /// Nothing.
     Nothing,
     /// Uploads the same bytes for a tenant, at the same time.
     Upload(u64),
-    /// Aborts upload 0 while the gate holds all its parts.
+    /// Aborts upload 1 while the gate holds all its parts.
     Abort,
-    /// Puts the last part of upload 0 while the gate holds it.
+    /// Puts the last part of upload 1 while the gate holds it.
     Put,
-    /// Puts it and seals upload 0.
+    /// Puts it and seals upload 1.
     Seal,
     /// Files the same bytes meanwhile, by an upload of its own.
     File,
@@ -36,10 +37,12 @@ pub(crate) enum Deed {
     FileAndForget,
     /// Keeps the lock until the gate lets all parts pass, and some turns longer.
     KeepLock,
+    /// Keeps the lock until all workers wait for room, and two seconds longer.
+    KeepLockFull,
 }
 
 /// What became of the deed. Of an upload it is told whether its bytes were new.
-#[derive(Clone, Copy, Debug, PartialEq, Eq)]
+#[derive(Clone, Copy)]
 pub(crate) enum Outcome {
     Refused,
     Done,
@@ -75,7 +78,18 @@ fn seal_one<B: Ledger, C: Ledger, R: Wait + Alloc>(
     lent_seal(&mut *shared.lock(rt), upload, &mut Work::new(rt)).is_ok()
 }
 
-// Files all bytes by upload 1, in one part.
+/// Begins upload 0, of 2049 bytes, and puts its last.
+pub(crate) fn begin_neighbour<B: Ledger, C: Ledger, R: Wait + Alloc>(
+    rt: &R,
+    alloc: Global,
+    shared: &Shared<B, C>,
+    share: &mut Share<B, C>,
+) {
+    let _begun = lent_begin(&mut *shared.lock(rt), TenantId::new(0), 2049);
+    let _put = put_one(rt, alloc, shared, share, UploadId::new(0), 2048);
+}
+
+// Files all bytes by upload 2, in one part.
 fn file_all<B: Ledger, C: Ledger, R: Wait + Alloc>(
     rt: &R,
     alloc: Global,
@@ -83,7 +97,7 @@ fn file_all<B: Ledger, C: Ledger, R: Wait + Alloc>(
     share: &mut Share<B, C>,
 ) -> bool {
     let is_begun = lent_begin(&mut *shared.lock(rt), TenantId::new(0), 2049).is_ok();
-    let own = UploadId::new(1);
+    let own = UploadId::new(2);
     is_begun && put_one(rt, alloc, shared, share, own, 0) && seal_one(rt, shared, own)
 }
 
@@ -101,7 +115,22 @@ fn keeps_lock<B: Ledger, C: Ledger, R: Wait>(
     is_released
 }
 
-// Waits until upload 0 holds so many bytes, for at most so many turns.
+// Keeps the lock until all workers wait for room: the queue is full, and so are their hands and the collector's. Then keeps it
+// longer than the workers' waits become longer.
+fn keeps_lock_full<B: Ledger, C: Ledger, R: Wait>(
+    rt: &R,
+    shared: &Shared<B, C>,
+    signal: &Signal,
+    workers: u64,
+) -> bool {
+    let guard = shared.lock(rt);
+    let put = guard.store().totals().parts;
+    let are_full = signal.has_asked(put.saturating_add(workers.saturating_mul(3)));
+    Parker::new().park_timeout(rt, Duration::from_secs(2));
+    are_full
+}
+
+// Waits until the open uploads hold so many bytes, for at most so many turns.
 fn holds<B: Ledger, C: Ledger, R: Wait>(rt: &R, shared: &Shared<B, C>, bytes: u64) -> bool {
     for _ in 0..TURNS {
         if shared.lock(rt).store().totals().held_bytes == bytes {
@@ -120,22 +149,24 @@ fn is_done<B: Ledger, C: Ledger, R: Wait + Alloc>(
     share: &mut Share<B, C>,
     signal: &Signal,
     deed: Deed,
+    workers: u64,
 ) -> bool {
-    let upload = UploadId::new(0);
+    let upload = UploadId::new(1);
     match deed {
         Deed::Nothing | Deed::Upload(_) => false,
         Deed::Abort => lent_abort(&mut *shared.lock(rt), upload).is_ok(),
         Deed::KeepLock => keeps_lock(rt, shared, signal),
-        Deed::Put => holds(rt, shared, 2048) && put_one(rt, alloc, shared, share, upload, 2048),
+        Deed::KeepLockFull => keeps_lock_full(rt, shared, signal, workers),
+        Deed::Put => holds(rt, shared, 2049) && put_one(rt, alloc, shared, share, upload, 2048),
         Deed::Seal => {
-            holds(rt, shared, 2048)
+            holds(rt, shared, 2049)
                 && put_one(rt, alloc, shared, share, upload, 2048)
                 && seal_one(rt, shared, upload)
         }
-        Deed::File => holds(rt, shared, 2048) && file_all(rt, alloc, shared, share),
+        Deed::File => holds(rt, shared, 2049) && file_all(rt, alloc, shared, share),
         Deed::FileAndForget => {
             let (tenant, address) = (TenantId::new(0), Address::new(PATTERN_2049));
-            holds(rt, shared, 2048)
+            holds(rt, shared, 2049)
                 && file_all(rt, alloc, shared, share)
                 && lent_forget(&mut *shared.lock(rt), tenant, address).is_ok()
         }
@@ -168,7 +199,8 @@ pub(crate) fn meanwhile<B: Ledger, C: Ledger, R: Threads + Wait + Sync + Alloc>(
         };
     }
     let mut share = share;
-    let is_done = signal.is_reached() && is_done(rt, alloc, shared, &mut share, signal, deed);
+    let is_done = signal.has_asked(1)
+        && is_done(rt, alloc, shared, &mut share, signal, deed, workers);
     signal.release();
     if is_done {
         (share, Outcome::Done)
@@ -188,23 +220,23 @@ struct Beside {
 const BESIDE: &[Beside] = &[
     Beside {
         deed: Deed::Put,
-        told: "U1 S9 at 2048 2048 2, accepted 2049 3, objects 0 bytes 0 uploads 0 held 0 parts 0, entries 6",
-        rest: "put 0 2048 1 / abort 0",
+        told: "U1 S9 at 2048 2048 2, accepted 2050 4, objects 0 bytes 0 uploads 1 held 1 parts 1, entries 8",
+        rest: "put 1 2048 1 / abort 1",
     },
     Beside {
         deed: Deed::Seal,
-        told: "U1 S7 2048 2, accepted 2049 3, objects 1 bytes 2049 uploads 0 held 0 parts 0, entries 6",
-        rest: "put 0 2048 1 / seal 0 5f4d72f40d7a5f82b15ca2b2e44b1de3c2ef86c426c95c1af0b6879522563030 new",
+        told: "U1 S7 2048 2, accepted 2050 4, objects 1 bytes 2049 uploads 1 held 1 parts 1, entries 8",
+        rest: "put 1 2048 1 / seal 1 5f4d72f40d7a5f82b15ca2b2e44b1de3c2ef86c426c95c1af0b6879522563030 new",
     },
     Beside {
         deed: Deed::File,
-        told: "known 2049 3, accepted 4098 4, objects 1 bytes 2049 uploads 0 held 0 parts 0, entries 9",
-        rest: "begin 1 0 2049 / put 1 0 2049 / seal 1 5f4d72f40d7a5f82b15ca2b2e44b1de3c2ef86c426c95c1af0b6879522563030 new / put 0 2048 1 / seal 0 5f4d72f40d7a5f82b15ca2b2e44b1de3c2ef86c426c95c1af0b6879522563030 known",
+        told: "known 2049 3, accepted 4099 5, objects 1 bytes 2049 uploads 1 held 1 parts 1, entries 11",
+        rest: "begin 2 0 2049 / put 2 0 2049 / seal 2 5f4d72f40d7a5f82b15ca2b2e44b1de3c2ef86c426c95c1af0b6879522563030 new / put 1 2048 1 / seal 1 5f4d72f40d7a5f82b15ca2b2e44b1de3c2ef86c426c95c1af0b6879522563030 known",
     },
     Beside {
         deed: Deed::FileAndForget,
-        told: "new 2049 3, accepted 4098 4, objects 1 bytes 2049 uploads 0 held 0 parts 0, entries 10",
-        rest: "begin 1 0 2049 / put 1 0 2049 / seal 1 5f4d72f40d7a5f82b15ca2b2e44b1de3c2ef86c426c95c1af0b6879522563030 new / forget 0 5f4d72f40d7a5f82b15ca2b2e44b1de3c2ef86c426c95c1af0b6879522563030 / put 0 2048 1 / seal 0 5f4d72f40d7a5f82b15ca2b2e44b1de3c2ef86c426c95c1af0b6879522563030 new",
+        told: "new 2049 3, accepted 4099 5, objects 1 bytes 2049 uploads 1 held 1 parts 1, entries 12",
+        rest: "begin 2 0 2049 / put 2 0 2049 / seal 2 5f4d72f40d7a5f82b15ca2b2e44b1de3c2ef86c426c95c1af0b6879522563030 new / forget 0 5f4d72f40d7a5f82b15ca2b2e44b1de3c2ef86c426c95c1af0b6879522563030 / put 1 2048 1 / seal 1 5f4d72f40d7a5f82b15ca2b2e44b1de3c2ef86c426c95c1af0b6879522563030 new",
     },
 ];
 
@@ -215,12 +247,18 @@ fn leaves<R: Threads + Wait + Sync + AllocGlobal + Abort>(
     workers: u64,
 ) -> Result<(), Fail> {
     let (told, rest) = (beside.told, beside.rest);
-    let begun = "tenant 0 4098 / begin 0 0 2049";
-    let (one, two) = ("put 0 0 1024", "put 0 1024 1024");
+    let begun = "tenant 0 6147 / begin 0 0 2049 / put 0 2048 1 / begin 1 0 2049";
+    let (one, two) = ("put 1 0 1024", "put 1 1024 1024");
     let ordered = format!(in rt.alloc(); "{told}: {begun} / {one} / {two} / {rest}")?;
     let swapped = format!(in rt.alloc(); "{told}: {begun} / {two} / {one} / {rest}")?;
     let cut = three_parts(workers);
-    let left = left_by(rt, Rule::HoldFrom(2), &Signal::new(), beside.deed, cut)?;
+    let left = left_by(
+        rt,
+        Rule::HoldFrom(2),
+        &Signal::new(rt.alloc())?,
+        beside.deed,
+        cut,
+    )?;
     let is_swapped = workers > 1 && left.as_str() == swapped.as_str();
     assert!(rt;
         is_swapped || left.as_str() == ordered.as_str(),
@@ -246,10 +284,11 @@ fn an_upload_meets_what_was_done_meanwhile(rt: HostRuntime) -> Result<(), Fail> 
 fn an_upload_that_was_aborted_is_refused(rt: HostRuntime) -> Result<(), Fail> {
     for workers in [1, 2, 16] {
         let cut = three_parts(workers);
-        let left = left_by(&rt, Rule::HoldFrom(0), &Signal::new(), Deed::Abort, cut)?;
+        let signal = Signal::new(rt.alloc())?;
+        let left = left_by(&rt, Rule::HoldFrom(0), &signal, Deed::Abort, cut)?;
         assert_eq!(rt;
             left.as_str(),
-            "U1 S7 0 0, accepted 0 0, objects 0 bytes 0 uploads 0 held 0 parts 0, entries 3: tenant 0 4098 / begin 0 0 2049 / abort 0"
+            "U1 S7 0 0, accepted 1 1, objects 0 bytes 0 uploads 1 held 1 parts 1, entries 5: tenant 0 6147 / begin 0 0 2049 / put 0 2048 1 / begin 1 0 2049 / abort 1"
         );
     }
     Ok(())
@@ -262,15 +301,15 @@ fn is_dropped<R: Threads + Wait + Sync + AllocGlobal + Abort>(
     workers: u64,
 ) -> Result<bool, Fail> {
     let cut = Cut {
-        limit: 131072,
+        limit: 133121,
         len: 131072,
         ..three_parts(workers)
     };
-    let signal = Signal::new();
+    let signal = Signal::new(rt.alloc())?;
     let left = left_by(rt, Rule::StopWhenStill, &signal, Deed::KeepLock, cut)?;
     let left = left.as_str();
-    let is_ended = left.starts_with("U3 ") && left.ends_with(" / abort 0");
-    assert!(rt; is_ended && !left.contains(" put 0 1024 "), "{left}");
+    let is_ended = left.starts_with("U3 ") && left.ends_with(" / abort 1");
+    assert!(rt; is_ended && !left.contains(" put 1 1024 "), "{left}");
     let passed = signal.asked().saturating_sub(1);
     let all = format!(in rt.alloc(); "U3 {} {passed}, ", passed.saturating_mul(1024))?;
     Ok(!left.starts_with(all.as_str()))
@@ -298,16 +337,18 @@ fn a_stop_ends_workers_that_wait_for_room(rt: HostRuntime) -> Result<(), Fail> {
 #[test]
 fn the_same_bytes_are_uploaded_twice(rt: HostRuntime) -> Result<(), Fail> {
     let rest =
-        "accepted 4098 6, objects 1 bytes 2049 uploads 0 held 0 parts 0, entries 12: tenant 0 4098 / tenant 1 4098 / begin 0 ";
+        "accepted 4098 6, objects 1 bytes 2049 uploads 0 held 0 parts 0, entries 12: tenant 0 6147 / tenant 1 6147 / begin 0 ";
     let first = format!(in rt.alloc(); "new 2049 3, the stranger known, {rest}")?;
     let second = format!(in rt.alloc(); "known 2049 3, the stranger new, {rest}")?;
     for workers in [1, 2, 16] {
         for other in [0, 1] {
             let cut = Cut {
+                has_neighbour: false,
                 tenants: 2,
                 ..three_parts(workers)
             };
-            let left = left_by(&rt, Rule::Pass, &Signal::new(), Deed::Upload(other), cut)?;
+            let signal = Signal::new(rt.alloc())?;
+            let left = left_by(&rt, Rule::Pass, &signal, Deed::Upload(other), cut)?;
             let left = left.as_str();
             let is_told = left.starts_with(first.as_str()) || left.starts_with(second.as_str());
             let begun = if other == 0 {

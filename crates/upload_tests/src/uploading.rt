@@ -4,7 +4,7 @@ ghost use Rattle.std.specs.Prelude.{◌≡◌, ◌^◌};
 
 use crate::gates::{Checkpoint, Rule, Signal};
 use crate::reports::{left_text, told_text};
-use crate::strangers::{Deed, Outcome, meanwhile};
+use crate::strangers::{Deed, Outcome, begin_neighbour, meanwhile};
 use b3_tests::pattern;
 use std::alloc::Global;
 use std::marker::Brand;
@@ -18,9 +18,10 @@ use store_ledger::{Accepted, Share};
 use store_shared::{Gate, Locked, Shared, UploadFault, lent_open_tenant, upload};
 
 /// A store of so many tenants, each with this limit, and with limits of its own; and an upload for the last of them of so many
-/// bytes of the pattern.
-#[derive(Clone, Copy, Debug)]
+/// bytes of the pattern. Where it has a neighbour, that is upload 0, which holds a part when it is begun.
+#[derive(Clone, Copy)]
 pub(crate) struct Cut {
+    pub(crate) has_neighbour: bool,
     pub(crate) tenants: u64,
     pub(crate) limit: u64,
     pub(crate) entries: u64,
@@ -30,11 +31,12 @@ pub(crate) struct Cut {
     pub(crate) workers: u64,
 }
 
-/// Three parts of one chunk, the last ragged.
+/// Three parts of one chunk, the last ragged, and a neighbour. There is room for one more of that length.
 pub(crate) fn three_parts(workers: u64) -> Cut {
     Cut {
+        has_neighbour: true,
         tenants: 1,
-        limit: 4098,
+        limit: 6147,
         entries: 1 << 32,
         most_workers: 16,
         len: 2049,
@@ -132,6 +134,9 @@ pub(crate) fn uploaded<
     let (shared, mut other) = Shared::<B, C>::new(alloc, limits, bytes, calls);
     let one = other.split(1);
     open_tenants(rt, &shared, cut);
+    if cut.has_neighbour {
+        begin_neighbour(rt, alloc, &shared, &mut other);
+    }
     let tenant = TenantId::new(cut.tenants.saturating_sub(1));
     let (both, row) = (&shared, input.as_slice());
     let (part_chunks, workers) = (cut.part_chunks, cut.workers);
