@@ -37,4 +37,4 @@ pub use output::{OutputEnd, OutputReader};
 pub use top::Top;
 pub use tree::hash;
 pub use wide::hash_wide;
-pub use work::Work;
+pub use work::{Runtime, Work};

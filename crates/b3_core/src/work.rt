@@ -5,8 +5,30 @@ ghost use Rattle.b3_core.specs.Work.{counted};
 
 use std::marker::Model;
 
+mod sealed {
+    use std::rt::HostRuntime;
+
+    // No other crate can name this trait, so none can add an implementor.
+    pub trait Sealed {}
+
+    impl Sealed for HostRuntime {}
+
+    impl<R: Sealed> Sealed for &R {}
+}
+
+/// The runtime that a program or a test is started with, or a reference to it. Nothing else is one: what only allocates,
+/// as a pair with an allocator does, makes no count.
+pub trait Runtime: sealed::Sealed {}
+
+impl<R: sealed::Sealed> Runtime for R {}
+
 /// A count of compressions. At its greatest value, 2^64-1, the count stays.
-#[derive(Drop)]
+///
+/// A clause `count` says by how much a call raises the count that it is handed, and each compression of the call is in it, since
+/// what compresses takes a count, and only the runtime makes one. So a call that is handed no runtime makes no other
+/// compression. One that is handed the runtime may make a count of its own: what it compresses under that is told
+/// only where its own clauses tell it.
+#[derive(Debug, Drop)]
 pub struct Work {
     count: u64,
 }
@@ -18,8 +40,8 @@ impl Model for Work {
 }
 
 impl Work {
-    /// A count of 0. This is the only way to make one.
-    pub fn new(_rt: &impl Alloc) -> Work
+    /// A count of 0. This is the only way to make one, and needs the runtime.
+    pub fn new(_rt: &impl Runtime) -> Work
         ensures { result ≡ 0 }
     {
         Work { count: 0 }
