@@ -1,5 +1,5 @@
 -- Bytes that come in pieces, and what is kept of them: one node for each whole subtree, and the bytes behind these.
-use Rattle.std.specs.Prelude.{◌≡◌, ℕ, ◌+◌, ◌-◌, ◌*◌, ◌/◌, ◌^◌, ◌<◌, ◌≤◌, List, [], ◌∷◌, ◌++◌, length}
+use Rattle.std.specs.Prelude.{◌≡◌, ℕ, ◌+◌, ◌-◌, ◌*◌, ◌/◌, ◌%◌, ◌^◌, ◌<◌, ◌≤◌, List, [], ◌∷◌, ◌++◌, length}
 use Rattle.b3_core.specs.Tree.{Inputs, Keying, parent_top, tree_top}
 use Rattle.b3_core.specs.Work.{counted, hash_work}
 
@@ -39,6 +39,10 @@ IsNext p subtrees s x =
 -- the hasher was given the bytes x
 abbrev pub Holds : Hashing → List ℕ → Type 0
 Holds h x = (before : List ℕ) × (x ≡ before ++ h.tail) × AreSubtrees h.mode h.subtrees before × (length before ≡ h.whole) × (length h.tail < 1024)
+
+-- how many bytes a hasher was given, counted below 2 ^ 64
+abbrev pub count_of : Hashing → ℕ
+count_of h = (h.whole + length h.tail) % 2 ^ 64
 
 -- the compressions behind these nodes
 abbrev pub kept_work : Subtrees → ℕ

@@ -5,5 +5,6 @@ pub mod Lanes
 pub mod Laws
 pub mod Modes
 pub mod Rows
+pub mod Texts
 pub mod Tree
 pub mod Work

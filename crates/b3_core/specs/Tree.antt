@@ -1,5 +1,5 @@
 -- The binary tree of chunks and parents (BLAKE3, sections 2.1, 2.4 and 2.5). An input is a list of bytes.
-use Rattle.std.specs.Prelude.{ℕ, zero, suc, ◌+◌, ◌-◌, ◌*◌, ◌/◌, ◌^◌, nat_lt, nat_eq, true, false, max, List, [], ◌∷◌, ◌++◌, length, take, drop, replicate, slice_index, if◌then◌else◌}
+use Rattle.std.specs.Prelude.{◌≡◌, ◌≤◌, ℕ, zero, suc, ◌+◌, ◌-◌, ◌*◌, ◌/◌, ◌^◌, nat_lt, nat_eq, true, false, max, List, [], ◌∷◌, ◌++◌, length, take, drop, replicate, slice_index, if◌then◌else◌}
 use Rattle.std.specs.Int.{w32, from_le_bytes}
 use Rattle.b3_core.specs.Compression.{compress_of, chunk_start, chunk_end, parent_flag}
 
@@ -111,3 +111,8 @@ tree_top_within (suc n) x c p = elim (nat_lt 1024 (length x)) [
 -- bytes on either side, so as many splits as bytes are enough
 unfoldable pub tree_top : List ℕ → ℕ → Keying → Inputs
 tree_top x c p = tree_top_within (length x) x c p
+
+-- n bytes from chunk c on are a subtree of the tree over an input that ends with them, or goes on behind them where they are whole
+-- chunks, a power of two of them: their chunks are no more than a power of two that divides c. No bytes are the empty input alone.
+abbrev pub IsSubtree : ℕ → ℕ → Type 0
+IsSubtree n c = (n ≡ 0 → c ≡ 0) × (k : ℕ) × (q : ℕ) × (chunk_count n ≤ 2 ^ k) × (c ≡ q * 2 ^ k)

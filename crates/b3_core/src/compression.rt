@@ -9,27 +9,36 @@ use crate::vectors::{Words, down_one, down_three, down_two, mix};
 use crate::work::Work;
 use std::simd::u32x4;
 
-pub(crate) const BLOCK_LEN: usize = 64;
+/// How many bytes a block has; the last of a chunk may have fewer (section 2.1).
+pub const BLOCK_LEN: usize = 64;
 
 /// How many bytes a chunk has; the last of an input may have fewer (section 2.1).
 pub const CHUNK_LEN: usize = 1024;
 
-pub(crate) const CHUNK_START: u32 = 1;
+/// The flag of a chunk's first block (table 3).
+pub const CHUNK_START: u32 = 1;
 
-pub(crate) const CHUNK_END: u32 = 2;
+/// The flag of a chunk's last block (table 3).
+pub const CHUNK_END: u32 = 2;
 
-pub(crate) const PARENT: u32 = 4;
+/// The flag of a parent (table 3).
+pub const PARENT: u32 = 4;
 
-pub(crate) const ROOT: u32 = 8;
+/// The flag of the root's last compression (table 3).
+pub const ROOT: u32 = 8;
 
-pub(crate) const KEYED_HASH: u32 = 16;
+/// The flag of each compression of the mode `keyed_hash` (table 3).
+pub const KEYED_HASH: u32 = 16;
 
-pub(crate) const DERIVE_KEY_CONTEXT: u32 = 32;
+/// The flag of each compression of the context in the mode `derive_key` (table 3).
+pub const DERIVE_KEY_CONTEXT: u32 = 32;
 
-pub(crate) const DERIVE_KEY_MATERIAL: u32 = 64;
+/// The flag of each compression of the key material in the mode `derive_key` (table 3).
+pub const DERIVE_KEY_MATERIAL: u32 = 64;
 
+/// The initial words: the key words of the mode `hash`, and the first four are a row of each compression's state (table 1).
 #[rattlefmt::skip]
-pub(crate) const IV: [u32; 8] = [
+pub const IV: [u32; 8] = [
     0x6a09_e667, 0xbb67_ae85, 0x3c6e_f372, 0xa54f_f53a,
     0x510e_527f, 0x9b05_688c, 0x1f83_d9ab, 0x5be0_cd19,
 ];

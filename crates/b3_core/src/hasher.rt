@@ -1,15 +1,20 @@
 //! The hash of bytes that come in pieces.
 
-ghost use Rattle.std.specs.Prelude.{◌≡◌, ℕ, ◌+◌, ◌-◌, ◌*◌, ◌/◌, ◌^◌, ◌<◌, ◌≤◌, ◌++◌, List, [], ◌∷◌, length, reverse};
-ghost use Rattle.b3_core.specs.Hashers.{Hashing, Subtrees, AreFrom, AreSubtrees, IsLeft, IsNext, Holds, Makes, joined, kept_work};
+ghost use Rattle.std.specs.Prelude.{◌≡◌, ℕ, ◌+◌, ◌-◌, ◌*◌, ◌/◌, ◌^◌, ◌<◌, ◌≤◌, ◌++◌, List, [], ◌∷◌, Some, length, reverse};
+ghost use Rattle.b3_core.specs.Hashers.{Hashing, Subtrees, AreFrom, AreSubtrees, IsLeft, IsNext, Holds, Makes, count_of, joined, kept_work};
+ghost use Rattle.b3_core.specs.Modes.{digest_of};
+ghost use Rattle.b3_core.specs.Texts.{hasher_text};
 ghost use Rattle.b3_core.specs.Tree.{Inputs, tree_top};
 ghost use Rattle.b3_core.specs.Work.{counted, hash_work};
 
 use crate::compression::CHUNK_LEN;
 use crate::mode::Mode;
 use crate::top::Top;
+use crate::wide::wide_top;
 use crate::work::Work;
 use arrayvec::ArrayVec;
+use std::alloc::AllocError;
+use std::fmt;
 use std::marker::Model;
 
 // The levels of a tree over less than 2^64 bytes.
@@ -89,7 +94,7 @@ impl Hasher {
         while rest.len() >= CHUNK_LEN {
             let level = self.next_level(rest.len() / CHUNK_LEN);
             let (front, behind) = rest.split_at(CHUNK_LEN << level);
-            let top = Top::of_subtree(&self.mode, front, self.number(), work);
+            let top = wide_top(&self.mode, front, self.number(), work);
             self.put(Subtree { level, top }, work);
             rest = behind;
         }
@@ -151,6 +156,23 @@ impl Hasher {
         push(&self.mode, &mut self.subtrees, next, work);
     }
 
+    /// How many bytes were given, if they are fewer than 2^64.
+    pub fn count(&self) -> u64
+        ensures value { result ≡ count_of self.now }
+        ensures bytes { (x : List ℕ) → Holds self.now x → length x < 2 ^ 64 → result ≡ length x }
+    {
+        self.whole.wrapping_add(self.tail.len() as u64)
+    }
+
+    /// The hash of all bytes that were given, in the hasher's mode. More bytes can be given afterwards.
+    pub fn digest(&self, work: &mut Work) -> [u8; 32]
+        ensures bytes { (x : List ℕ) → Holds self.now x → result ≡ digest_of x self.now.mode }
+        ensures count { (x : List ℕ) → Holds self.now x
+            → Makes (kept_work self.now.subtrees) (hash_work (length x)) work.old work.new }
+    {
+        self.top(work).root32(work)
+    }
+
     /// The node of the tree over all bytes that were given: its `root32` is their hash, and an `OutputReader` reads
     /// their extended output from it. More bytes can be given afterwards.
     pub fn top(&self, work: &mut Work) -> Top
@@ -167,6 +189,31 @@ impl Hasher {
                 joined(&self.mode, self.subtrees.as_slice(), last, work)
             }
         }
+    }
+}
+
+impl Clone for Hasher {
+    ghost is_clone = { λ old new. new ≡ old };
+
+    ghost is_infallible = { λ _. Unit };
+
+    fn clone(&self) -> Result<Hasher, AllocError> {
+        let mut new = Hasher::new(&self.mode);
+        let _all = new.subtrees.try_extend_from_slice(self.subtrees.as_slice());
+        new.whole = self.whole;
+        let _all = new.tail.try_extend_from_slice(self.tail.as_slice());
+        Ok(new)
+    }
+}
+
+/// The mode's name and how many bytes were given, as `count` tells it, and nothing of the bytes or of a key.
+impl fmt::Debug for Hasher {
+    ghost debug_output = { λ hasher. Some (hasher_text hasher) };
+
+    fn fmt<W: fmt::Write>(&self, f: &mut fmt::Formatter<W>) -> fmt::Result {
+        let name = self.mode.name();
+        let count = self.count();
+        write!(f, "Hasher {{ mode: {name}, count: {count} }}")
     }
 }
 

@@ -4,12 +4,13 @@
 //! and says by how much it raises a count of compressions. No call takes memory, and none fails but
 //! `OutputReader::fill` past the output's end.
 //!
-//! - `compress` is the compression function.
+//! - `compress` is the compression function; `IV` and the flags are what it is called with.
 //! - `Mode` is one of the three modes: hash, keyed hash, derive key.
 //! - `Top` is a node of the tree before it is known whether it is the root: of one chunk, of eight chunks at a
 //!   time, or the parent of two nodes.
-//! - `hash` is the hash in a mode by plain recursion. `hash_wide` is the same value by eight or four compressions at
-//!   a time, and `Top::of_input` the node from which it comes; `Top::of_subtree` is that of bytes within an input.
+//! - `hash_wide` is the hash in a mode, by eight or four compressions at a time: the quick one, for bytes that are at hand.
+//!   `Top::of_input` is the node from which it comes, and `Top::of_subtree` that of a subtree within an input.
+//! - `hash` is the same value by plain recursion, one compression after the other. It takes about three times as long.
 //! - `Hasher` gives that node of bytes that come in pieces, without having them all at once.
 //! - `OutputReader` reads the extended output.
 //! - `tree_laws` states the tree in the specification's own words.
@@ -29,7 +30,10 @@ mod wide;
 mod words;
 mod work;
 
-pub use compression::{CHUNK_LEN, compress};
+pub use compression::{
+    BLOCK_LEN, CHUNK_END, CHUNK_LEN, CHUNK_START, DERIVE_KEY_CONTEXT, DERIVE_KEY_MATERIAL, IV,
+    KEYED_HASH, PARENT, ROOT, compress,
+};
 pub use hasher::Hasher;
 pub use laws::tree_laws;
 pub use mode::Mode;

@@ -1,7 +1,8 @@
 //! The modes of the hash (section 2.3): the key words, and the flag of each compression.
 
-ghost use Rattle.std.specs.Prelude.{◌≡◌, ◌≤◌, length};
+ghost use Rattle.std.specs.Prelude.{◌≡◌, ◌≤◌, Some, length};
 ghost use Rattle.b3_core.specs.Modes.{hash_mode, keyed_mode, derive_mode};
+ghost use Rattle.b3_core.specs.Texts.{mode_name, mode_text};
 ghost use Rattle.b3_core.specs.Tree.{Keying};
 ghost use Rattle.b3_core.specs.Work.{counted, hash_work};
 
@@ -9,10 +10,11 @@ use crate::compression::{DERIVE_KEY_CONTEXT, DERIVE_KEY_MATERIAL, IV, KEYED_HASH
 use crate::tree::hash;
 use crate::words::words_of_key;
 use crate::work::Work;
+use std::fmt;
 use std::marker::Model;
 
 /// One of the three modes (section 2.3), with its key.
-#[derive(Clone, Copy)]
+#[derive(Clone, Copy, PartialEq, Eq)]
 pub struct Mode {
     key: [u32; 8],
     flag: u32,
@@ -75,5 +77,25 @@ impl Mode {
         ensures below { result ≤ 64 }
     {
         self.flag
+    }
+
+    /// The mode's name in the specification.
+    pub(crate) fn name(&self) -> &'static str
+        ensures { result.now ≡ mode_name self.now.flag }
+    {
+        match self.flag {
+            0 => "hash",
+            KEYED_HASH => "keyed_hash",
+            _ => "derive_key",
+        }
+    }
+}
+
+/// The mode's name, and nothing of its key.
+impl fmt::Debug for Mode {
+    ghost debug_output = { λ mode. Some (mode_text mode) };
+
+    fn fmt<W: fmt::Write>(&self, f: &mut fmt::Formatter<W>) -> fmt::Result {
+        write!(f, "Mode({})", self.name())
     }
 }

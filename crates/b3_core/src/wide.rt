@@ -3,7 +3,7 @@
 ghost use Rattle.std.specs.Prelude.{◌≡◌, ℕ, ◌+◌, ◌-◌, ◌*◌, ◌/◌, ◌^◌, ◌<◌, ◌≤◌, IfSome, length, slice_index};
 ghost use Rattle.b3_core.specs.Lanes.{lane, group_top};
 ghost use Rattle.b3_core.specs.Modes.{digest_of};
-ghost use Rattle.b3_core.specs.Tree.{Inputs, chaining_value_of, parent_top, tree_top};
+ghost use Rattle.b3_core.specs.Tree.{Inputs, IsSubtree, chaining_value_of, parent_top, tree_top};
 ghost use Rattle.b3_core.specs.Work.{counted, hash_work};
 
 use crate::compression::CHUNK_LEN;
@@ -122,8 +122,8 @@ fn four_top(mode: &Mode, bytes: &[u8], number: u64, work: &mut Work) -> Top
     Top::of_children(mode, left, right)
 }
 
-// The top of the tree over bytes whose first chunk has the given number.
-fn wide_top(mode: &Mode, bytes: &[u8], number: u64, work: &mut Work) -> Top
+/// The top of the tree over bytes whose first chunk has the given number.
+pub(crate) fn wide_top(mode: &Mode, bytes: &[u8], number: u64, work: &mut Work) -> Top
     requires { number + length bytes.now / 1024 < 2 ^ 64 }
     ensures node { result ≡ tree_top bytes.now number mode.now }
     ensures count { work.new ≡ counted work.old (hash_work (length bytes.now) - 1) }
@@ -155,9 +155,11 @@ impl Top {
         wide_top(mode, bytes, 0, work)
     }
 
-    /// The top of the tree over bytes that lie within an input, as `of_input`. `number` counts the chunks before them.
+    /// The top of a subtree within an input, as `of_input`. `number` counts the chunks before it. A subtree has 2^k whole chunks
+    /// and its number is a multiple of 2^k, or the input ends with it, and it has at most 2^k chunks.
     pub fn of_subtree(mode: &Mode, bytes: &[u8], number: u64, work: &mut Work) -> Top
-        requires { number + length bytes.now / 1024 < 2 ^ 64 }
+        requires subtree { IsSubtree (length bytes.now) number }
+        requires number { number + length bytes.now / 1024 < 2 ^ 64 }
         ensures node { result ≡ tree_top bytes.now number mode.now }
         ensures count { work.new ≡ counted work.old (hash_work (length bytes.now) - 1) }
     {
@@ -165,9 +167,9 @@ impl Top {
     }
 }
 
-/// The hash of `bytes` in a mode, as [`hash`](crate::hash) gives it and with the same count of compressions: chunks
-/// and parents are compressed eight at a time, side by side, wherever 2^k whole chunks are a subtree, k at least 3, and
-/// chunks four at a time where four are one.
+/// The hash of `bytes` in a mode, 32 bytes (sections 2.1 to 2.6): the quick one. It makes as many compressions as the input has
+/// blocks, plus its chunks less one. Chunks and parents are compressed eight at a time, side by side, wherever 2^k whole chunks
+/// are a subtree, k at least 3, and chunks four at a time where four are one.
 #[tactic(auto, unfolding(crate::specs::Modes::digest_of))]
 pub fn hash_wide(mode: &Mode, bytes: &[u8], work: &mut Work) -> [u8; 32]
     ensures bytes { result ≡ digest_of bytes.now mode.now }

@@ -9,8 +9,8 @@ use Rattle.b3_core.proofs.hasher.Hasher.update.Goals as goal
 pub overflow_shl-level : goal.overflow_shl-level
 overflow_shl-level c = omega (arith, small c.next_level-level.result (omega (arith, c.next_level-level.ensures.fits, c.loop-rest.invariant.1)))
 
-pub of_subtree-top-requires : goal.of_subtree-top-requires
-of_subtree-top-requires c = omega (arith, c.number.ensures, c.split_at.ensures.front_len, c.loop-rest.invariant.1)
+pub wide_top-top-requires : goal.wide_top-top-requires
+wide_top-top-requires c = omega (arith, c.number.ensures, c.split_at.ensures.front_len, c.loop-rest.invariant.1)
 
 pub put-requires : goal.put-requires
 put-requires c = omega (arith, small c.next_level-level.result (omega (arith, c.next_level-level.ensures.fits, c.loop-rest.invariant.1)))
@@ -27,19 +27,19 @@ after : (c : goal.After-put) (x : List ℕ) → length x + length c.args.bytes.n
     → IsLeft c.args.self.now x c.args.bytes.now c.args.work.now c.put.new.self c.split_at.result.1.now c.put.new.work
 after c x less (front, cut, held, empty, makes) =
     let h = c.loop-rest.self in
-    let next : ℕ × Inputs = (c.next_level-level.result, c.of_subtree-top.result) in
+    let next : ℕ × Inputs = (c.next_level-level.result, c.wide_top-top.result) in
     let none = empty (omega (arith, c.loop-rest-test.true)) in
     let len = its_length c in
     let parts : c.loop-rest.rest.now ≡ mine c ++ c.split_at.result.1.now = search (rules, c.split_at.ensures) in
     let bytes : c.args.bytes.now ≡ (front ++ mine c) ++ c.split_at.result.1.now = cut ∙ ap (λ z. front ++ z) parts ∙ sym (append_assoc front (mine c) c.split_at.result.1.now) in
     let given : (x ++ front) ++ mine c ≡ x ++ (front ++ mine c) = append_assoc x front (mine c) in
     let few : length ((x ++ front) ++ mine c) < 2 ^ 64 = omega (arith, less, ap length bytes, ap length given, length-append x (front ++ mine c), length-append (front ++ mine c) c.split_at.result.1.now) in
-    let node : c.of_subtree-top.result ≡ tree_top (mine c) (h.whole / 1024) h.mode = search (rules, c.of_subtree-top.ensures, c.number.ensures, c.self) in
+    let node : c.wide_top-top.result ≡ tree_top (mine c) (h.whole / 1024) h.mode = search (rules, c.wide_top-top.ensures, c.number.ensures, c.self) in
     let is = next_of h next (x ++ front) (mine c) none held c.next_level-level.ensures.order len node in
     let are = c.put.ensures.nodes ((x ++ front) ++ mine c) is few in
     let made = c.put.ensures.count ((x ++ front) ++ mine c) is few in
     let size : h.whole + 1024 * 2 ^ next.0 < 2 ^ 64 = omega (arith, few, length-append (x ++ front) (mine c), len, ap length held.1, length-append held.0 h.tail, held.3) in
-    let work = makes_more _ _ (kept_work (next ∷ h.subtrees)) c.args.work.now c.loop-rest.work c.of_subtree-top.new.work (hash_work (1024 * 2 ^ next.0) - 1) makes refl (c.of_subtree-top.ensures.count ∙ ap (λ n. counted c.loop-rest.work (hash_work n - 1)) len) in (
+    let work = makes_more _ _ (kept_work (next ∷ h.subtrees)) c.args.work.now c.loop-rest.work c.wide_top-top.new.work (hash_work (1024 * 2 ^ next.0) - 1) makes refl (c.wide_top-top.ensures.count ∙ ap (λ n. counted c.loop-rest.work (hash_work n - 1)) len) in (
       front ++ mine c,
       bytes,
       subst (Holds c.put.new.self) given (holds_next h c.put.new.self next (x ++ front) (mine c) none held len c.put.ensures.mode c.put.ensures.tail (c.put.ensures.whole size) are),
