@@ -4,4 +4,5 @@ pub mod WholeChunks
 pub mod Hashings
 pub mod Nodes
 pub mod OutputBytes
+pub mod SubtreePlaces
 pub mod WordTurns

@@ -9,7 +9,8 @@
 //! - `Top` is a node of the tree before it is known whether it is the root: of one chunk, of eight chunks at a
 //!   time, or the parent of two nodes.
 //! - `hash_wide` is the hash in a mode, by eight or four compressions at a time: the quick one, for bytes that are at hand.
-//!   `Top::of_input` is the node from which it comes, and `Top::of_subtree` that of a subtree within an input.
+//!   `Top::of_input` is the node from which it comes, and `Top::of_subtree` that of a subtree within an input, which
+//!   `is_subtree` tests.
 //! - `hash` is the same value by plain recursion, one compression after the other. It takes about three times as long.
 //! - `Hasher` gives that node of bytes that come in pieces, without having them all at once.
 //! - `OutputReader` reads the extended output.
@@ -40,5 +41,5 @@ pub use mode::Mode;
 pub use output::{OutputEnd, OutputReader};
 pub use top::Top;
 pub use tree::hash;
-pub use wide::hash_wide;
+pub use wide::{hash_wide, is_subtree};
 pub use work::{Runtime, Work};

@@ -1,6 +1,6 @@
 //! The hash by eight compressions at a time, of chunks and of parents, and by four chunks where no eight are left.
 
-ghost use Rattle.std.specs.Prelude.{◌≡◌, ℕ, ◌+◌, ◌-◌, ◌*◌, ◌/◌, ◌^◌, ◌<◌, ◌≤◌, IfSome, length, slice_index};
+ghost use Rattle.std.specs.Prelude.{◌≡◌, ℕ, ◌+◌, ◌-◌, ◌*◌, ◌/◌, ◌^◌, ◌<◌, ◌≤◌, ◌↔◌, true, IfSome, length, slice_index};
 ghost use Rattle.b3_core.specs.Lanes.{lane, group_top};
 ghost use Rattle.b3_core.specs.Modes.{digest_of};
 ghost use Rattle.b3_core.specs.Tree.{Inputs, IsSubtree, chaining_value_of, parent_top, tree_top};
@@ -165,6 +165,14 @@ impl Top {
     {
         wide_top(mode, bytes, number, work)
     }
+}
+
+/// Whether so many bytes, with so many chunks before them, are a subtree as [`Top::of_subtree`] requires.
+pub fn is_subtree(len: usize, number: u64) -> bool
+    ensures { result ≡ true ↔ IsSubtree len number }
+{
+    let chunks = len.div_ceil(CHUNK_LEN).max(1) as u64;
+    number % chunks.next_power_of_two() == 0 && (len > 0 || number == 0)
 }
 
 /// The hash of `bytes` in a mode, 32 bytes (sections 2.1 to 2.6): the quick one. It makes as many compressions as the input has
