@@ -17,7 +17,8 @@ fn agree<R: AllocGlobal + Abort>(rt: &R, mode: &Mode, bytes: &[u8], sizes: &[usi
         rest = behind;
     }
     hasher.update(rest, &mut work);
-    let digest = hasher.top(&mut work).root32(&mut work);
+    assert_eq!(rt; hasher.count(), bytes.len() as u64);
+    let digest = hasher.digest(&mut work);
     let mut whole = Work::new(rt);
     assert!(rt;
         digest == hash(mode, bytes, &mut whole),
@@ -84,5 +85,24 @@ fn a_top_in_between(rt: HostRuntime) -> Result<(), Fail> {
             "{given} bytes"
         );
     }
+    Ok(())
+}
+
+// What a copy is given, the hasher is not.
+#[test]
+fn a_copy_goes_on_alone(rt: HostRuntime) -> Result<(), Fail> {
+    let mode = Mode::keyed(KEY);
+    let mut work = Work::new(&rt);
+    let mut hasher = Hasher::new(&mode);
+    hasher.update(b"ab", &mut work);
+    let mut copy = hasher.clone()?;
+    copy.update(b"c", &mut work);
+    assert!(rt; copy.digest(&mut work) == hash(&mode, b"abc", &mut work));
+    assert!(rt; hasher.digest(&mut work) == hash(&mode, b"ab", &mut work));
+    let text = format!(in rt.alloc(); "{hasher:?} {copy:?} {work:?}")?;
+    assert_eq!(rt;
+        text.as_str(),
+        "Hasher { mode: keyed_hash, count: 2 } Hasher { mode: keyed_hash, count: 3 } Work { count: 4 }"
+    );
     Ok(())
 }

@@ -3,7 +3,7 @@
 use crate::fakes::pattern;
 use crate::helpers::{CONTEXT, KEY};
 use crate::scripts::{Answers, cut, number, told, two_numbers};
-use b3_core::{Mode, Top, Work};
+use b3_core::{Mode, Top, Work, is_subtree};
 use std::alloc::{AllocError, Global};
 use std::fmt::Write;
 use std::process::Abort;
@@ -28,7 +28,7 @@ fn chunk_of(mode: &Mode, bytes: &[u8], number: u64, work: &mut Work) -> Option<T
 }
 
 fn subtree_of(mode: &Mode, bytes: &[u8], number: u64, work: &mut Work) -> Option<Top> {
-    if bytes.len() > 4096 || number > 4_294_967_296 {
+    if bytes.len() > 4096 || number > 4_294_967_296 || !is_subtree(bytes.len(), number) {
         return None;
     }
     Some(Top::of_subtree(mode, bytes, number, work))
@@ -117,7 +117,10 @@ root > 5f4d72f40d7a5f82b15ca2b2e44b1de3c2ef86c426c95c1af0b6879522563030
 chunk 1024 1024 1 > b8231f5ba2680339919550c1b7d18903a652eb160a4dd3dfa2226aa6a71c761b by 15 of 16
 subtree 2048 1024 2 > be34af31f7c0ab962b5c178f5447f37a161901a25843d3b96fd0742ca83c1507 by 15 of 16
 parent > 5409fcbf598a3c39e92d10b4b2e7ec64d56975c1e97b04fe1d94237f64ab293f by 2 of 3
-subtree 3072 3073 3 > af25bea4c3875f4786565ed29405d1cea69a07f53c12cc2f25eb358ad4179f16 by 51 of 52
+subtree 4096 3073 4 > 52e1a46d505f6fcb079fd78789f0abf87eef895539ada782bdb68d89ffda6f98 by 51 of 52
+subtree 3072 3073 3 > no node
+subtree 1024 1025 1 > no node
+subtree 0 0 2 > no node
 chunk 1024 1024 4294967296 > dcbee11409d8158904ba707e9ed372ae3cf21e0656b7efd48c167550aacf704e by 15 of 16
 bitten 0 1024 0 > 3dd46681a41d0adae9d2532b0c521d903a37b8d17dcc29ad5fd4a931388470d6 by 15 of 16
 root > 6b568f877d8b3aae6375d04bfd3a4af5d1e72d3bb00d4e6cb8d1cce3a23fc8db
@@ -164,4 +167,18 @@ parent > 9302f5d354d14a61af904f2195acb3fa48abe176be74df4f96f1152452c02180 by 2 o
 root > 2ea477c5515cc3dd606512ee72bb3e0e758cfae7232826f35fb98ca1bcbdf273
 ",
     )
+}
+
+// The chaining value of a keyed parent is the key: no text shows it.
+#[test]
+fn texts_show_no_key(rt: HostRuntime) -> Result<(), Fail> {
+    let (mode, work) = (Mode::keyed(KEY), &mut Work::new(&rt));
+    let node = Top::of_chunk(&mode, b"abc", 0, work);
+    let parent = Top::parent(&mode, &node, &node, work);
+    let text = format!(in rt.alloc(); "{mode:?} {node:?} {parent:?}")?;
+    assert_eq!(rt;
+        text.as_str(),
+        "Mode(keyed_hash) Top { counter: 0, block_len: 3, flags: 19 } Top { counter: 0, block_len: 64, flags: 20 }"
+    );
+    Ok(())
 }

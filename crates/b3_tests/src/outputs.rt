@@ -1,5 +1,6 @@
 //! Extended outputs.
 
+use crate::helpers::KEY;
 use crate::scripts::{Answers, cut, number, told};
 use b3_core::{Mode, OutputReader, Top, Work};
 use std::alloc::{AllocError, Global};
@@ -101,4 +102,20 @@ fill 0 > true by 0 up to 18446744073709551615 []
 fill 1 > false by 0 up to 18446744073709551615 [07]
 ",
     )
+}
+
+#[test]
+fn the_end_is_an_error(rt: HostRuntime) -> Result<(), Fail> {
+    let mut work = Work::new(&rt);
+    let mut reader = OutputReader::new(Top::of_chunk(&Mode::keyed(KEY), b"abc", 0, &mut work));
+    reader.set_position(u64::MAX);
+    let Err(end) = reader.fill(&mut [0], &mut work) else {
+        return Ok(());
+    };
+    let text = format!(in rt.alloc(); "{end}, {} of {reader:?}", end.code())?;
+    assert_eq!(rt;
+        text.as_str(),
+        "H1: the output ends at 2^64-1 bytes, H1 of OutputReader { position: 18446744073709551615 }"
+    );
+    Ok(())
 }
