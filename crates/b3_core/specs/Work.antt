@@ -1,10 +1,14 @@
 -- Counts of compressions.
-use Rattle.std.specs.Prelude.{ℕ, ◌+◌, ◌-◌, ◌/◌, ◌^◌, min, max}
+use Rattle.std.specs.Prelude.{ℕ, ◌≤◌, ◌+◌, ◌-◌, ◌/◌, ◌^◌, min, max}
 use Rattle.b3_core.specs.Tree.{chunk_count}
 
 -- a count of n compressions, at most 2 ^ 64 - 1, after k more: it stays at its greatest value
 abbrev pub counted : ℕ → ℕ → ℕ
 counted n k = n + min k (2 ^ 64 - 1 - n)
+
+-- a count is no smaller than it was
+abbrev pub NeverFalls : ℕ → ℕ → Type 0
+NeverFalls n m = n ≤ m
 
 -- the blocks of n bytes; no bytes are one empty block
 abbrev pub block_count : ℕ → ℕ

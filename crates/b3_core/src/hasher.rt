@@ -5,7 +5,7 @@ ghost use Rattle.b3_core.specs.Hashers.{Hashing, Subtrees, AreFrom, AreSubtrees,
 ghost use Rattle.b3_core.specs.Modes.{digest_of};
 ghost use Rattle.b3_core.specs.Texts.{hasher_text};
 ghost use Rattle.b3_core.specs.Tree.{Inputs, tree_top};
-ghost use Rattle.b3_core.specs.Work.{counted, hash_work};
+ghost use Rattle.b3_core.specs.Work.{NeverFalls, counted, hash_work};
 
 use crate::compression::CHUNK_LEN;
 use crate::mode::Mode;
@@ -89,6 +89,7 @@ impl Hasher {
         ensures bytes { (x : List ℕ) → Holds self.old x → length x + length bytes.now < 2 ^ 64 → Holds self.new (x ++ bytes.now) }
         ensures count { (x : List ℕ) → Holds self.old x → length x + length bytes.now < 2 ^ 64
             → Makes (kept_work self.old.subtrees) (kept_work self.new.subtrees) work.old work.new }
+        ensures never_falls { NeverFalls work.old work.new }
     {
         let mut rest = self.fill_tail(bytes, work);
         while rest.len() >= CHUNK_LEN {
@@ -106,6 +107,7 @@ impl Hasher {
         ensures mode { self.new.mode ≡ self.old.mode }
         ensures bytes { (x : List ℕ) → Holds self.old x → length x + length bytes.now < 2 ^ 64
             → IsLeft self.old x bytes.now work.old self.new result.now work.new }
+        ensures never_falls { NeverFalls work.old work.new }
     {
         if self.tail.is_empty() {
             return bytes;
@@ -151,6 +153,7 @@ impl Hasher {
         ensures nodes { (x : List ℕ) → IsNext self.old.mode self.old.subtrees next x → length x < 2 ^ 64 → AreSubtrees self.old.mode self.new.subtrees x }
         ensures count { (x : List ℕ) → IsNext self.old.mode self.old.subtrees next x → length x < 2 ^ 64
             → Makes (kept_work (next ∷ self.old.subtrees)) (kept_work self.new.subtrees) work.old work.new }
+        ensures never_falls { NeverFalls work.old work.new }
     {
         self.whole = self.whole.wrapping_add((CHUNK_LEN as u64) << next.level);
         push(&self.mode, &mut self.subtrees, next, work);
@@ -169,6 +172,7 @@ impl Hasher {
         ensures bytes { (x : List ℕ) → Holds self.now x → result ≡ digest_of x self.now.mode }
         ensures count { (x : List ℕ) → Holds self.now x
             → Makes (kept_work self.now.subtrees) (hash_work (length x)) work.old work.new }
+        ensures never_falls { NeverFalls work.old work.new }
     {
         self.top(work).root32(work)
     }
@@ -179,6 +183,7 @@ impl Hasher {
         ensures node { (x : List ℕ) → Holds self.now x → result ≡ tree_top x 0 self.now.mode }
         ensures count { (x : List ℕ) → Holds self.now x
             → Makes (kept_work self.now.subtrees) (hash_work (length x) - 1) work.old work.new }
+        ensures never_falls { NeverFalls work.old work.new }
     {
         match self.subtrees.as_slice().split_last() {
             Some((last, before)) if self.tail.is_empty() => {
@@ -223,6 +228,7 @@ fn push(mode: &Mode, subtrees: &mut ArrayVec<Subtree, LEVELS>, next: Subtree, wo
         → AreSubtrees mode.now (reverse subtrees.new.items) x }
     ensures count { (x : List ℕ) → IsNext mode.now (reverse subtrees.old.items) next x → length x < 2 ^ 64
         → Makes (kept_work (next ∷ reverse subtrees.old.items)) (kept_work (reverse subtrees.new.items)) work.old work.new }
+    ensures never_falls { NeverFalls work.old work.new }
 {
     let mut next = next;
     while let Some(last) = subtrees.as_slice().last() {

@@ -48,8 +48,12 @@ after c x less (front, cut, held, empty, makes) =
     )
 
 pub loop-rest-preserved : goal.loop-rest-preserved
-loop-rest-preserved c =
-    (c.put.ensures.mode ∙ c.loop-rest.invariant.0, omega (arith, c.split_at.ensures.back_len, c.loop-rest.invariant.1), λ x is less. after c x less (c.loop-rest.invariant.2 x is less))
+loop-rest-preserved c = (
+  c.put.ensures.mode ∙ c.loop-rest.invariant.0,
+  omega (arith, c.split_at.ensures.back_len, c.loop-rest.invariant.1),
+  (λ x is less. after c x less (c.loop-rest.invariant.2 x is less)),
+  omega (arith, c.loop-rest.invariant.3, c.wide_top-top.ensures.count, c.put.ensures.never_falls),
+)
 
 -- there is room for the bytes that are left
 room : (tail rest : List ℕ) → length tail < 1024 → length rest < 1024 → (0 < length rest → tail ≡ []) → length tail + length rest < 1024
