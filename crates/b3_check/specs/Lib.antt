@@ -1,5 +1,6 @@
 pub mod Faults
 pub mod Names
+pub mod Output
 pub mod Lines
 pub mod Files
 pub mod Reports

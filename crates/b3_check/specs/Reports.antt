@@ -40,17 +40,17 @@ IsReport {S} gives old (line ∷ lines) (verdict ∷ verdicts) new = (mid : S) �
 IsReport gives old [] (verdict ∷ verdicts) new = ⊥
 IsReport gives old (line ∷ lines) [] new = ⊥
 
--- the names were called for the line, or not at all where the line has a fault
-abbrev pub IsCalledFor : {S : Type 0} → (S → List ℕ → Answer → S → Type 0) → S → Result Line Fault → S → Type 0
-IsCalledFor gives old (Ok line) new = (answer : Answer) × gives old line.name answer new
-IsCalledFor gives old (Err fault) new = new ≡ old
+-- the names were called for the line, and answered want of memory
+abbrev pub IsRefusedFor : {S : Type 0} → (S → List ℕ → Answer → S → Type 0) → S → Result Line Fault → S → Type 0
+IsRefusedFor gives old (Ok line) new = gives old line.name (Err faults.NoMemory) new
+IsRefusedFor gives old (Err fault) new = ⊥
 
--- What is left where memory ran out: such a chain for a beginning of the lines, and perhaps one call for the line
--- behind it.
+-- Where the names ended it: such a chain for a beginning of the lines, and for the line behind it they answered want of
+-- memory.
 abbrev pub IsCutShort : {S : Type 0} → (S → List ℕ → Answer → S → Type 0) → S → List NumberedLine → S → Type 0
-IsCutShort gives old [] new = new ≡ old
+IsCutShort gives old [] new = ⊥
 IsCutShort {S} gives old (line ∷ lines) new =
-    (new ≡ old) ⊎ IsCalledFor gives old line.line new
+    IsRefusedFor gives old line.line new
     ⊎ ((mid : S) × (verdict : Verdict) × IsVerdictBy gives old line.number line.line verdict mid × IsCutShort gives mid lines new)
 
 -- ---- counts
@@ -106,19 +106,27 @@ counts_of verdicts = record {
 abbrev pub named_text : List ℕ → List ℕ → List ℕ
 named_text word name = mark_of name ++ (word ++ (escaped name ++ line_feed ∷ []))
 
+-- the line of a fault
+abbrev pub fault_text : ℕ → Fault → List ℕ
+fault_text line fault = codes "fault " ++ (decimal line ++ (32 ∷ (code_of fault ++ line_feed ∷ [])))
+
 -- the line of a verdict
 abbrev pub verdict_text : Verdict → List ℕ
 verdict_text (verdicts.Good name) = named_text (codes "good ") name
 verdict_text (verdicts.Bad name) = named_text (codes "bad ") name
 verdict_text (verdicts.Missing name) = named_text (codes "missing ") name
 verdict_text (verdicts.Unreadable name) = named_text (codes "unreadable ") name
-verdict_text (verdicts.Fault line fault) = codes "fault " ++ (decimal line ++ (32 ∷ (code_of fault ++ line_feed ∷ [])))
+verdict_text (verdicts.Fault line fault) = fault_text line fault
+
+-- a word and a count
+abbrev pub count_text : List ℕ → ℕ → List ℕ
+count_text word count = word ++ decimal count
 
 -- the line of the counts
 abbrev pub counts_text : Counts → List ℕ
 counts_text counts =
-    codes "good " ++ (decimal counts.good ++ (codes " bad " ++ (decimal counts.bad ++ (codes " missing " ++ (decimal counts.missing
-    ++ (codes " unreadable " ++ (decimal counts.unreadable ++ (codes " faults " ++ (decimal counts.faults ++ line_feed ∷ [])))))))))
+    count_text (codes "good ") counts.good ++ (count_text (codes " bad ") counts.bad ++ (count_text (codes " missing ") counts.missing
+    ++ (count_text (codes " unreadable ") counts.unreadable ++ (count_text (codes " faults ") counts.faults ++ line_feed ∷ []))))
 
 -- a line for each verdict, and then the counts
 abbrev pub report_text : List Verdict → List ℕ

@@ -1,7 +1,7 @@
 //! Why a line is no check line.
 
 ghost use Rattle.std.specs.Prelude.{◌≡◌, Some};
-ghost use Rattle.b3_check.specs.Faults.{code_of, error_text};
+ghost use Rattle.b3_check.specs.Faults.{code_of, error_text, reason_of, sentence_of};
 ghost use Rattle.b3_check.specs.declared.fault.ReadError.TheVariants.{NoMemory};
 
 use std::alloc::{AllocError, AllocFailed};
@@ -43,14 +43,29 @@ impl Fault {
             Fault::NulInName => "C7",
         }
     }
+
+    #[tactic(auto, unfolding(crate::specs::Faults::reason_of))]
+    fn reason(self) -> &'static str
+        ensures { result.now ≡ reason_of self }
+    {
+        match self {
+            Fault::Tagged => "the line has the tagged form",
+            Fault::Short => "the line is too short for digits and two spaces",
+            Fault::BadHex => "the first 64 bytes are not all hexadecimal digits",
+            Fault::BadSpaces => "no two spaces follow the digits",
+            Fault::EmptyName => "the name is empty",
+            Fault::BadEscape => "a backslash in the name begins no escape",
+            Fault::NulInName => "the name holds a byte 0",
+        }
+    }
 }
 
-/// The short name.
+/// The short name and what is wrong, as `C5: the name is empty`.
 impl fmt::Display for Fault {
-    ghost output = { λ fault. Some (code_of fault) };
+    ghost output = { λ fault. Some (sentence_of fault) };
 
     fn fmt<W: fmt::Write>(&self, f: &mut fmt::Formatter<W>) -> fmt::Result {
-        write!(f, "{}", self.code())
+        write!(f, "{}: {}", self.code(), self.reason())
     }
 }
 
@@ -65,7 +80,7 @@ pub enum ReadError {
     NoMemory,
 }
 
-/// The fault's short name, or `out of memory`.
+/// The fault's sentence, or `out of memory`.
 impl fmt::Display for ReadError {
     ghost output = { λ error. Some (error_text error) };
 

@@ -22,6 +22,7 @@ mod laws;
 mod line;
 mod name;
 mod names;
+mod output;
 mod reading;
 mod report;
 mod verifying;

@@ -6,7 +6,7 @@ ghost use Rattle.b3_check.specs.Names.{name_fault};
 use crate::name::{Name, RefusedName};
 
 /// What a check line says: the file of that name has the digest.
-#[derive(Debug, Drop)]
+#[derive(Clone, Debug, Drop)]
 pub struct Line {
     pub digest: [u8; 32],
     pub name: Name,

@@ -1,9 +1,12 @@
 //! The names of check lines.
 
 ghost use Rattle.std.specs.Prelude.{◌≡◌, IfOk, IfErr, None, Some};
+ghost use Rattle.b3_check.specs.Faults.{code_of, sentence_of};
 ghost use Rattle.b3_check.specs.Names.{IsName, name_fault};
 
 use crate::fault::Fault;
+use std::error::Error;
+use std::fmt;
 use std::marker::Model;
 
 /// A name of a check line: bytes that are not empty and have no byte 0. Contracts see it as the list of its bytes.
@@ -30,6 +33,26 @@ pub struct RefusedName {
     pub fault: Fault,
     pub bytes: Vec<u8>,
 }
+
+impl RefusedName {
+    /// The fault's short name, `C5` or `C7`.
+    pub fn code(&self) -> &'static str
+        ensures { result.now ≡ code_of self.now.fault }
+    {
+        self.fault.code()
+    }
+}
+
+/// The fault's sentence.
+impl fmt::Display for RefusedName {
+    ghost output = { λ refused. Some (sentence_of refused.fault) };
+
+    fn fmt<W: fmt::Write>(&self, f: &mut fmt::Formatter<W>) -> fmt::Result {
+        write!(f, "{}", self.fault)
+    }
+}
+
+impl Error for RefusedName {}
 
 impl Name {
     /// The bytes as a name, or the bytes back where they are none.

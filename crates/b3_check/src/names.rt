@@ -1,7 +1,11 @@
 //! Where the digests of named files come from.
 
-ghost use Rattle.std.specs.Prelude.{ℕ, List, Option, Result};
+ghost use Rattle.std.specs.Prelude.{ℕ, List, Option, Result, Some};
+ghost use Rattle.b3_check.specs.Faults.{name_fault_text};
 ghost use Rattle.b3_check.specs.declared.names.NameFault.{NameFault as Refusal};
+
+use std::error::Error;
+use std::fmt;
 
 /// Why there is no digest for a name.
 #[derive(Clone, Copy, Debug, PartialEq, Eq)]
@@ -11,6 +15,20 @@ pub enum NameFault {
     /// There was no memory.
     NoMemory,
 }
+
+/// `unreadable` or `out of memory`.
+impl fmt::Display for NameFault {
+    ghost output = { λ fault. Some (name_fault_text fault) };
+
+    fn fmt<W: fmt::Write>(&self, f: &mut fmt::Formatter<W>) -> fmt::Result {
+        match self {
+            NameFault::Unreadable => write!(f, "unreadable"),
+            NameFault::NoMemory => write!(f, "out of memory"),
+        }
+    }
+}
+
+impl Error for NameFault {}
 
 /// Gives the digests of what has a name, as of files or of a table in memory.
 pub trait Names {

@@ -1,14 +1,16 @@
 //! Reports on check files.
 
-ghost use Rattle.std.specs.Prelude.{◌≡◌, ◌↔◌, ◌++◌, IfOk, OnOk, IsTrue};
+ghost use Rattle.std.specs.Prelude.{◌≡◌, ◌↔◌, OnErr, OnOk, IsTrue};
 ghost use Rattle.std.specs.Io.KnownBytes.{Appends};
 ghost use Rattle.std.specs.List.{flat_map};
-ghost use Rattle.b3_check.specs.Reports.{counts_of, counts_text, named_text, report_text, verdict_text};
+ghost use Rattle.b3_check.specs.Output.{IsCutOff};
+ghost use Rattle.b3_check.specs.Reports.{counts_of, counts_text, fault_text, report_text, verdict_text};
 
 use crate::fault::Fault;
 use crate::name::Name;
-use crate::writing::{push_escaped, push_mark};
-use std::alloc::{AllocError, Global};
+use crate::output::write_pieces;
+use crate::writing::write_named;
+use itoa::Buffer;
 use std::io;
 use std::io::Write;
 use std::marker::Model;
@@ -90,12 +92,14 @@ impl Report {
         self.counts
     }
 
-    /// Writes a line for each verdict, and then one of the counts. After an error it isn't said how much was written;
-    /// want of memory is an error of kind `OutOfMemory`.
-    pub fn write<W: Write>(&self, alloc: Global, writer: &mut W) -> io::Result<()>
-        ensures { OnOk result (Appends (W.contents writer.old) (W.contents writer.new) (report_text self.now)) }
+    /// Writes a line for each verdict, and then one of the counts. The only error is the writer's, before it has taken all
+    /// of them.
+    pub fn write<W: Write>(&self, writer: &mut W) -> io::Result<()>
+        ensures written { OnOk result (Appends (W.contents writer.old) (W.contents writer.new) (report_text self.now)) }
+        // What went out before an error is a beginning of the report.
+        ensures failed { OnErr result (IsCutOff (W.contents writer.old) (W.contents writer.new) (report_text self.now)) }
     {
-        write_verdicts(alloc, self.verdicts(), writer)?;
+        write_verdicts(self.verdicts(), writer)?;
         write_counts(self.counts(), writer)
     }
 }
@@ -116,56 +120,61 @@ fn counts_of(verdicts: &[Verdict]) -> Counts
     counts
 }
 
-fn write_verdicts<W: Write>(alloc: Global, verdicts: &[Verdict], writer: &mut W) -> io::Result<()>
-    ensures { OnOk result (Appends (W.contents writer.old) (W.contents writer.new) (flat_map verdict_text verdicts.now)) }
+fn write_verdicts<W: Write>(verdicts: &[Verdict], writer: &mut W) -> io::Result<()>
+    ensures written { OnOk result (Appends (W.contents writer.old) (W.contents writer.new) (flat_map verdict_text verdicts.now)) }
+    ensures failed { OnErr result (IsCutOff (W.contents writer.old) (W.contents writer.new) (flat_map verdict_text verdicts.now)) }
 {
     for verdict in verdicts {
-        let text = verdict_text(alloc, verdict)?;
-        writer.write_all(text.as_slice())?;
+        write_verdict(verdict, writer)?;
     }
     Ok(())
 }
 
-fn verdict_text(alloc: Global, verdict: &Verdict) -> Result<Vec<u8>, AllocError>
-    ensures { IfOk result (λ text. text.items ≡ verdict_text verdict.now) }
+fn write_verdict<W: Write>(verdict: &Verdict, writer: &mut W) -> io::Result<()>
+    ensures written { OnOk result (Appends (W.contents writer.old) (W.contents writer.new) (verdict_text verdict.now)) }
+    ensures failed { OnErr result (IsCutOff (W.contents writer.old) (W.contents writer.new) (verdict_text verdict.now)) }
 {
     match verdict {
-        Verdict::Good(name) => named_text(alloc, b"good ", name),
-        Verdict::Bad(name) => named_text(alloc, b"bad ", name),
-        Verdict::Missing(name) => named_text(alloc, b"missing ", name),
-        Verdict::Unreadable(name) => named_text(alloc, b"unreadable ", name),
-        Verdict::Fault { line, fault } => {
-            let text = format!(in alloc; "fault {line} {fault}\n")?;
-            Ok(text.into_bytes())
-        }
+        Verdict::Good(name) => write_named(b"good", b" ", name, writer),
+        Verdict::Bad(name) => write_named(b"bad", b" ", name, writer),
+        Verdict::Missing(name) => write_named(b"missing", b" ", name, writer),
+        Verdict::Unreadable(name) => write_named(b"unreadable", b" ", name, writer),
+        Verdict::Fault { line, fault } => write_fault(*line, *fault, writer),
     }
 }
 
-// The line of a verdict on a name.
-fn named_text(alloc: Global, word: &[u8], name: &Name) -> Result<Vec<u8>, AllocError>
-    ensures { IfOk result (λ text. text.items ≡ named_text word.now name.now) }
+// The line of a fault.
+fn write_fault<W: Write>(line: u64, fault: Fault, writer: &mut W) -> io::Result<()>
+    ensures written { OnOk result (Appends (W.contents writer.old) (W.contents writer.new) (fault_text line fault)) }
+    ensures failed { OnErr result (IsCutOff (W.contents writer.old) (W.contents writer.new) (fault_text line fault)) }
 {
-    let name = name.as_bytes();
-    let mut text = Vec::new(alloc);
-    push_mark(&mut text, name)?;
-    text.extend_from_slice(word)?;
-    push_escaped(&mut text, name)?;
-    text.push(b'\n')?;
-    Ok(text)
+    let mut number = Buffer::new();
+    let number = number.format(line).as_bytes();
+    let code = fault.code().as_bytes();
+    write_pieces(writer, &[b"fault ", number, b" ", code, b"\n"])
 }
 
 fn write_counts<W: Write>(counts: Counts, writer: &mut W) -> io::Result<()>
-    ensures { OnOk result (Appends (W.contents writer.old) (W.contents writer.new) (counts_text counts)) }
+    ensures written { OnOk result (Appends (W.contents writer.old) (W.contents writer.new) (counts_text counts)) }
+    ensures failed { OnErr result (IsCutOff (W.contents writer.old) (W.contents writer.new) (counts_text counts)) }
 {
-    let Counts {
-        good,
-        bad,
-        missing,
-        unreadable,
-        faults,
-    } = counts;
-    writeln!(
-        writer,
-        "good {good} bad {bad} missing {missing} unreadable {unreadable} faults {faults}"
-    )
+    let mut good = Buffer::new();
+    let mut bad = Buffer::new();
+    let mut missing = Buffer::new();
+    let mut unreadable = Buffer::new();
+    let mut faults = Buffer::new();
+    let pieces: [&[u8]; 11] = [
+        b"good ",
+        good.format(counts.good).as_bytes(),
+        b" bad ",
+        bad.format(counts.bad).as_bytes(),
+        b" missing ",
+        missing.format(counts.missing).as_bytes(),
+        b" unreadable ",
+        unreadable.format(counts.unreadable).as_bytes(),
+        b" faults ",
+        faults.format(counts.faults).as_bytes(),
+        b"\n",
+    ];
+    write_pieces(writer, &pieces)
 }

@@ -1,13 +1,17 @@
 //! Writing lines.
 
-ghost use Rattle.std.specs.Prelude.{◌≡◌, ◌++◌, length, IfOk, OnOk};
+ghost use Rattle.std.specs.Prelude.{◌≡◌, ◌++◌, length, IfOk, OnErr, OnOk};
 ghost use Rattle.std.specs.Io.KnownBytes.{Appends};
 ghost use Rattle.hex.specs.Hex.{IsBytes, encode_lower};
 ghost use Rattle.b3_check.specs.Files.{all_good, file_at};
 ghost use Rattle.b3_check.specs.Lines.{IsLawful, written_line, written_lines};
-ghost use Rattle.b3_check.specs.Names.{escaped, mark_of, needs_escapes, unit_of};
+ghost use Rattle.b3_check.specs.Names.{IsName, escaped, mark_of, needs_escapes, unit_of};
+ghost use Rattle.b3_check.specs.Output.{IsCutOff};
+ghost use Rattle.b3_check.specs.Reports.{named_text};
 
 use crate::line::Line;
+use crate::name::Name;
+use crate::output::{write_all, write_pieces};
 use std::alloc::{AllocError, Global};
 use std::io;
 use std::io::Write;
@@ -19,29 +23,71 @@ impl Line {
         // Each line has 32 bytes and a name.
         ensures lawful { OnOk result (IsLawful self.now) }
     {
-        let name = self.name.as_bytes();
         let mut text = Vec::new(alloc);
-        push_mark(&mut text, name)?;
-        push_digits(&mut text, &self.digest)?;
-        text.extend_from_slice(b"  ")?;
-        push_escaped(&mut text, name)?;
-        text.push(b'\n')?;
-        Ok(text)
+        // A vector fails only where it has no room.
+        match write_line(self, &mut text) {
+            Ok(()) => Ok(text),
+            Err(_) => Err(AllocError),
+        }
     }
 }
 
-/// Writes lines, one after another. After an error it isn't said how much was written; want of memory is an error of
-/// kind `OutOfMemory`.
-pub fn write<W: Write>(alloc: Global, lines: &[Line], writer: &mut W) -> io::Result<()>
+/// Writes lines, one after another. The only error is the writer's, before it has taken all of them.
+pub fn write<W: Write>(lines: &[Line], writer: &mut W) -> io::Result<()>
     ensures written { OnOk result (Appends (W.contents writer.old) (W.contents writer.new) (written_lines lines.now)) }
+    // What went out before an error is a beginning of the lines.
+    ensures failed { OnErr result (IsCutOff (W.contents writer.old) (W.contents writer.new) (written_lines lines.now)) }
     // Reading what is written gives the same lines.
     ensures read_back { OnOk result (file_at (written_lines lines.now) ≡ all_good 1 lines.now) }
 {
     for line in lines {
-        let text = line.text(alloc)?;
-        writer.write_all(text.as_slice())?;
+        write_line(line, writer)?;
     }
     Ok(())
+}
+
+fn write_line<W: Write>(line: &Line, writer: &mut W) -> io::Result<()>
+    ensures written { OnOk result (Appends (W.contents writer.old) (W.contents writer.new) (written_line line.now)) }
+    ensures failed { OnErr result (IsCutOff (W.contents writer.old) (W.contents writer.new) (written_line line.now)) }
+    ensures lawful { IsLawful line.now }
+{
+    let digits = digits_of(&line.digest);
+    write_named(&digits, b"  ", &line.name, writer)
+}
+
+// The 64 digits of a digest. A digest has 32 bytes.
+fn digits_of(digest: &[u8; 32]) -> [u8; 64]
+    ensures digits { result ≡ encode_lower digest.now }
+    ensures long { length digest.now ≡ 32 }
+    ensures bytes { IsBytes digest.now }
+{
+    let mut digits = [0; 64];
+    hex::encode_to_slice(*digest, &mut digits).unwrap();
+    digits
+}
+
+/// Writes the line that says something of a name: with a backslash in front where the name needs escapes.
+pub(crate) fn write_named<'a, W: Write>(
+    what: &'a [u8],
+    gap: &'a [u8],
+    name: &'a Name,
+    writer: &mut W,
+) -> io::Result<()>
+    ensures written { OnOk result (Appends (W.contents writer.old) (W.contents writer.new) (named_text (what.now ++ gap.now) name.now)) }
+    ensures failed { OnErr result (IsCutOff (W.contents writer.old) (W.contents writer.new) (named_text (what.now ++ gap.now) name.now)) }
+    ensures named { IsName name.now }
+{
+    let name = name.as_bytes();
+    write_pieces(writer, &[mark_of(name), what, gap])?;
+    write_escaped(name, writer)?;
+    write_all(writer, b"\n")
+}
+
+// The backslash that begins a line whose name is written with escapes.
+fn mark_of(name: &[u8]) -> &[u8]
+    ensures { result.now ≡ mark_of name.now }
+{
+    if needs_escapes(name) { b"\\" } else { b"" }
 }
 
 // Whether the name is written with escapes.
@@ -52,47 +98,36 @@ fn needs_escapes(name: &[u8]) -> bool
         .any(|&byte| byte == b'\\' || byte == b'\n' || byte == b'\r')
 }
 
-/// Adds the backslash that begins a line whose name is written with escapes.
-pub(crate) fn push_mark(text: &mut Vec<u8>, name: &[u8]) -> Result<(), AllocError>
-    ensures { OnOk result (text.new.items ≡ text.old.items ++ mark_of name.now) }
+// Writes a name: as it stands where it needs no escapes, and else byte by byte.
+fn write_escaped<W: Write>(name: &[u8], writer: &mut W) -> io::Result<()>
+    ensures written { OnOk result (Appends (W.contents writer.old) (W.contents writer.new) (escaped name.now)) }
+    ensures failed { OnErr result (IsCutOff (W.contents writer.old) (W.contents writer.new) (escaped name.now)) }
 {
     if needs_escapes(name) {
-        text.push(b'\\')?;
+        write_units(name, writer)
+    } else {
+        write_all(writer, name)
     }
-    Ok(())
 }
 
-// Adds a digest as 64 digits. A digest has 32 bytes.
-fn push_digits(text: &mut Vec<u8>, digest: &[u8; 32]) -> Result<(), AllocError>
-    ensures pushed { OnOk result (text.new.items ≡ text.old.items ++ encode_lower digest.now) }
-    ensures long { length digest.now ≡ 32 }
-    ensures bytes { IsBytes digest.now }
-{
-    let mut digits = [0; 64];
-    hex::encode_to_slice(*digest, &mut digits).unwrap();
-    text.extend_from_slice(&digits)
-}
-
-/// Adds a name as it is written.
-pub(crate) fn push_escaped(text: &mut Vec<u8>, name: &[u8]) -> Result<(), AllocError>
-    ensures { OnOk result (text.new.items ≡ text.old.items ++ escaped name.now) }
+fn write_units<W: Write>(name: &[u8], writer: &mut W) -> io::Result<()>
+    ensures written { OnOk result (Appends (W.contents writer.old) (W.contents writer.new) (escaped name.now)) }
+    ensures failed { OnErr result (IsCutOff (W.contents writer.old) (W.contents writer.new) (escaped name.now)) }
 {
     for &byte in name {
-        push_unit(text, byte)?;
+        write_unit(byte, writer)?;
     }
     Ok(())
 }
 
-fn push_unit(text: &mut Vec<u8>, byte: u8) -> Result<(), AllocError>
-    ensures { OnOk result (text.new.items ≡ text.old.items ++ unit_of byte) }
+fn write_unit<W: Write>(byte: u8, writer: &mut W) -> io::Result<()>
+    ensures written { OnOk result (Appends (W.contents writer.old) (W.contents writer.new) (unit_of byte)) }
+    ensures failed { OnErr result (IsCutOff (W.contents writer.old) (W.contents writer.new) (unit_of byte)) }
 {
     match byte {
-        b'\\' => text.extend_from_slice(b"\\\\"),
-        b'\n' => text.extend_from_slice(b"\\n"),
-        b'\r' => text.extend_from_slice(b"\\r"),
-        _ => {
-            text.push(byte)?;
-            Ok(())
-        }
+        b'\\' => write_all(writer, b"\\\\"),
+        b'\n' => write_all(writer, b"\\n"),
+        b'\r' => write_all(writer, b"\\r"),
+        _ => write_all(writer, &[byte]),
     }
 }

@@ -53,7 +53,7 @@ fn line_text(alloc: Global, line: &Line) -> Result<String, AllocError> {
 fn written(alloc: Global) -> Result<Vec<u8>, Fail> {
     let lines = vec![in alloc; line_of_abc(alloc, b"f")?]?;
     let mut file = Vec::new(alloc);
-    write(alloc, lines.as_slice(), &mut file)?;
+    write(lines.as_slice(), &mut file)?;
     Ok(file)
 }
 
@@ -116,8 +116,11 @@ fn a_line_is_read(rt: HostRuntime) -> Result<(), Fail> {
 #[test]
 fn faults_have_texts(rt: HostRuntime) -> Result<(), Fail> {
     let (short, none) = (read(rt.alloc(), b"short")?, ReadError::NoMemory);
-    let text = format!(in rt.alloc(); "{short} {none}")?;
-    assert_eq!(rt; text.as_str(), "C2 out of memory");
+    let text = format!(in rt.alloc(); "{short}; {none}")?;
+    assert_eq!(rt;
+        text.as_str(),
+        "C2: the line is too short for digits and two spaces; out of memory"
+    );
     Ok(())
 }
 
@@ -138,7 +141,7 @@ fn a_file_is_verified(rt: HostRuntime) -> Result<(), Fail> {
         (3, false)
     );
     let mut text = Vec::new(alloc);
-    report.write(alloc, &mut text)?;
+    report.write(&mut text)?;
     let wanted: &[u8] =
         b"good f\nfault 2 C2\nmissing g\ngood 1 bad 0 missing 1 unreadable 0 faults 1\n";
     assert!(rt; text.as_slice() == wanted);
@@ -157,13 +160,13 @@ fn a_failed_write_is_the_last(rt: HostRuntime) -> Result<(), Fail> {
     let lines = vec![in alloc; line_of_abc(alloc, b"x")?]?;
     for fails in 1..68u64 {
         let mut writer = FailingWriter { calls: 0, fails };
-        assert!(rt; write(alloc, lines.as_slice(), &mut writer).is_err());
+        assert!(rt; write(lines.as_slice(), &mut writer).is_err());
         assert_eq!(rt; writer.calls, fails);
     }
     let report = report_on(alloc, Ok(None), 2)?.ok_or("no report")?;
     for fails in 1..77u64 {
         let mut writer = FailingWriter { calls: 0, fails };
-        assert!(rt; report.write(alloc, &mut writer).is_err());
+        assert!(rt; report.write(&mut writer).is_err());
         assert_eq!(rt; writer.calls, fails);
     }
     Ok(())

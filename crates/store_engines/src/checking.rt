@@ -16,7 +16,7 @@ fn text_of(alloc: Global, report: &Report) -> Result<Vec<u8>, AllocError>
     ensures { IfOk result (λ text. text.items ≡ report_text report.now) }
 {
     let mut text: Vec<u8> = Vec::new(alloc);
-    match report.write(alloc, &mut text) {
+    match report.write(&mut text) {
         Ok(()) => Ok(text),
         Err(_) => Err(AllocError),
     }

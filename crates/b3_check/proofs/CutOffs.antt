@@ -1,0 +1,98 @@
+-- What went out of a text, step by step.
+use Rattle.std.proofs.Common.{◌≡◌, ◌∙◌, ℕ, ◌+◌, ◌<◌, List, [], ◌∷◌, ◌++◌, Option, None, Some, length, get_or, take, drop, refl, sym, ap, subst, arith, append_assoc, append-nil, length-append, take-append-drop}
+use Rattle.std.specs.Prelude.{Result, Ok, Err, OnErr}
+use Rattle.std.specs.Io.KnownBytes.{Appends, Keeps}
+use Rattle.std.specs.List.{flat_map}
+use Rattle.std.proofs.KnownBytes.{Appends-nil, Appends-trans}
+use Rattle.std.proofs.lemmas.Grind.{flat_map-append}
+use Rattle.std.proofs.lemmas.List.{drop_more}
+use Rattle.b3_check.specs.Output.{AllBut, IsCutOff}
+
+-- ---- one text
+
+pub AllBut-none : (a : Option (List ℕ)) (text : List ℕ) → AllBut a a text text
+AllBut-none a text = record { front = []; is = refl; went = Appends-nil a }
+
+pub AllBut-some : (old mid new : Option (List ℕ)) (text rest : List ℕ) (n : ℕ) → AllBut old mid text rest → Appends mid new (take n rest) → AllBut old new text (drop n rest)
+AllBut-some old mid new text rest n h more = record {
+  front = h.front ++ take n rest;
+  is = h.is ∙ ap (λ z. h.front ++ z) (sym (take-append-drop n rest)) ∙ sym (append_assoc h.front (take n rest) (drop n rest));
+  went = Appends-trans old mid new h.front (take n rest) h.went more;
+}
+
+Appends-kept : (a b c : Option (List ℕ)) (bs : List ℕ) → Appends a b bs → Keeps b c → Appends a c bs
+Appends-kept None b c bs p q = tt
+Appends-kept (Some x) None c bs p q = absurd p
+Appends-kept (Some x) (Some y) None bs p q = absurd q
+Appends-kept (Some x) (Some y) (Some z) bs p q = q ∙ p
+
+pub AllBut-kept : (old mid new : Option (List ℕ)) (text rest : List ℕ) → AllBut old mid text rest → Keeps mid new → AllBut old new text rest
+AllBut-kept old mid new text rest h same = record { front = h.front; is = h.is; went = Appends-kept old mid new h.front h.went same }
+
+pub AllBut-all : (old new : Option (List ℕ)) (text rest : List ℕ) → AllBut old new text rest → length rest ≡ 0 → Appends old new text
+AllBut-all old new text [] h none = subst (Appends old new) (sym (h.is ∙ append-nil h.front)) h.went
+AllBut-all old new text (b ∷ rest) h none = absurd (cc)
+
+-- ---- a text of two parts
+
+pub cut_in_first : (old new : Option (List ℕ)) (first then : List ℕ) → IsCutOff old new first → IsCutOff old new (first ++ then)
+cut_in_first old new first then h = record {
+  rest = h.rest ++ then;
+  some = omega (arith, length-append h.rest then, h.some);
+  front = record { front = h.front.front; is = ap (λ z. z ++ then) h.front.is ∙ append_assoc h.front.front h.rest then; went = h.front.went };
+}
+
+pub cut_in_second : (old mid new : Option (List ℕ)) (first then : List ℕ) → Appends old mid first → IsCutOff mid new then → IsCutOff old new (first ++ then)
+cut_in_second old mid new first then was h = record {
+  rest = h.rest;
+  some = h.some;
+  front = record {
+    front = first ++ h.front.front;
+    is = ap (λ z. first ++ z) h.front.is ∙ sym (append_assoc first h.front.front h.rest);
+    went = Appends-trans old mid new first h.front.front was h.front.went;
+  };
+}
+
+-- the same of the call that ends a function
+pub cut_in_last : {E : Type 0} (result : Result (Unit {0}) E) (old mid new : Option (List ℕ)) (first then : List ℕ) → Appends old mid first → OnErr result (IsCutOff mid new then) → OnErr result (IsCutOff old new (first ++ then))
+cut_in_last (Ok x) old mid new first then was h = tt
+cut_in_last (Err e) old mid new first then was h = cut_in_second old mid new first then was h
+
+-- ---- the texts of a list
+
+pub cut_at : {A : Type 0} (f : A → List ℕ) (old mid new : Option (List ℕ)) (xs : List A) (i : ℕ) (d : A) → i < length xs
+    → Appends old mid (flat_map f (take i xs)) → IsCutOff mid new (f (get_or xs i d)) → IsCutOff old new (flat_map f xs)
+cut_at {A} f old mid new xs i d lt was h =
+    let x : A = get_or xs i d in
+    let parts : take i xs ++ (x ∷ drop (i + 1) xs) ≡ xs = ap (λ (ys : List A). take i xs ++ ys) (sym (drop_more xs i d lt)) ∙ take-append-drop i xs in
+    let texts : flat_map f (take i xs) ++ (f x ++ flat_map f (drop (i + 1) xs)) ≡ flat_map f xs = sym (flat_map-append f (take i xs) (x ∷ drop (i + 1) xs)) ∙ ap (flat_map f) parts in
+    subst (λ (text : List ℕ). IsCutOff old new text) texts
+    (cut_in_second old mid new (flat_map f (take i xs)) (f x ++ flat_map f (drop (i + 1) xs)) was (cut_in_first mid new (f x) (flat_map f (drop (i + 1) xs)) h))
+
+pub cut_within : {A : Type 0} (f : A → List ℕ) (old mid new : Option (List ℕ)) (xs : List A) (i : ℕ) (x : A) → i < length xs → x ≡ get_or xs i x
+    → Appends old mid (flat_map f (take i xs)) → IsCutOff mid new (f x) → IsCutOff old new (flat_map f xs)
+cut_within {A} f old mid new xs i x lt is was h = cut_at f old mid new xs i x lt was (subst (λ (y : A). IsCutOff mid new (f y)) is h)
+
+-- ---- the text of a name
+
+pub named_parts : (mark what gap name end : List ℕ) → (mark ++ (what ++ (gap ++ []))) ++ (name ++ end) ≡ mark ++ ((what ++ gap) ++ (name ++ end))
+named_parts mark what gap name end = simp (append-nil, append_assoc)
+
+pub cut_in_word : (old new : Option (List ℕ)) (m mark what gap name end : List ℕ) → m ≡ mark → IsCutOff old new (m ++ (what ++ (gap ++ []))) → IsCutOff old new (mark ++ ((what ++ gap) ++ (name ++ end)))
+cut_in_word old new m mark what gap name end is h =
+    subst (λ (x : List ℕ). IsCutOff old new (x ++ ((what ++ gap) ++ (name ++ end)))) is
+    (subst (λ (text : List ℕ). IsCutOff old new text) (named_parts m what gap name end) (cut_in_first old new (m ++ (what ++ (gap ++ []))) (name ++ end) h))
+
+pub cut_in_name : (old mid new : Option (List ℕ)) (m mark what gap name end : List ℕ) → m ≡ mark → Appends old mid (m ++ (what ++ (gap ++ []))) → IsCutOff mid new name → IsCutOff old new (mark ++ ((what ++ gap) ++ (name ++ end)))
+cut_in_name old mid new m mark what gap name end is was h =
+    subst (λ (x : List ℕ). IsCutOff old new (x ++ ((what ++ gap) ++ (name ++ end)))) is
+    (subst (λ (text : List ℕ). IsCutOff old new text) (named_parts m what gap name end)
+    (cut_in_second old mid new (m ++ (what ++ (gap ++ []))) (name ++ end) was (cut_in_first mid new name end h)))
+
+pub cut_in_end : {E : Type 0} (result : Result (Unit {0}) E) (old mid then new : Option (List ℕ)) (m mark what gap name end : List ℕ) → m ≡ mark → Appends old mid (m ++ (what ++ (gap ++ []))) → Appends mid then name
+    → OnErr result (IsCutOff then new end) → OnErr result (IsCutOff old new (mark ++ ((what ++ gap) ++ (name ++ end))))
+cut_in_end (Ok x) old mid then new m mark what gap name end is was named h = tt
+cut_in_end (Err e) old mid then new m mark what gap name end is was named h =
+    subst (λ (x : List ℕ). IsCutOff old new (x ++ ((what ++ gap) ++ (name ++ end)))) is
+    (subst (λ (text : List ℕ). IsCutOff old new text) (named_parts m what gap name end)
+    (cut_in_second old mid new (m ++ (what ++ (gap ++ []))) (name ++ end) was (cut_in_second mid then new name end named h)))
