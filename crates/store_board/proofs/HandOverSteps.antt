@@ -6,11 +6,11 @@ use Rattle.std.proofs.lemmas.List.{append-nil}
 use Rattle.std.proofs.lemmas.List.Sums.{sum_by-append, sum_by_push}
 use Rattle.std.proofs.lemmas.List.Elements.{filter-append}
 use Rattle.std.proofs.lemmas.Bool.Decides.{nat_tests}
-use Rattle.crossbeam_queue.specs.Fifo.{Pushes, Pops, Forks, Merges, Learns}
+use Rattle.crossbeam_queue.specs.Fifo.{Pushes, Pops, Forks, Merges, Learns, Held}
 use Rattle.crossbeam_queue.proofs.Lists.{at_set, at_snoc}
 use Rattle.store_board.specs.declared.hand_over.taken.Taken.{Taken}
 use Rattle.store_board.specs.declared.hand_over.view.PassView.{PassView}
-use Rattle.store_board.specs.HandOverRule.{of_giver, pass_view, taker_view, first_view, giver_view, giving_view, taking_view, sum_view, from_on, cover, HandOverRule, IsSeenWith, Ended}
+use Rattle.store_board.specs.HandOverRule.{of_giver, pass_view, taker_view, first_view, giver_view, giving_view, taking_view, sum_view, from_on, cover, HandOverRule, With, Starts, KeepsGiving, KeepsTaking, KeepsJoining, IsSeenWith, Ended}
 use Rattle.store_board.proofs.Sums.{pos_or_zero, hit, hit_self, sum_at, two_le, alone}
 
 -- where a fact holds of one new view and of all others, it holds of all
@@ -58,8 +58,12 @@ pushes n id v x right no_root mine items views room h at =
     )
 
 -- what a pass learns of a full or an empty queue
-pub seen : (id : ℕ) (v : PassView) → Learns HandOverRule id v (IsSeenWith v)
-seen id v items views h at = (views, id, h, at)
+pub seen_with : (seen : List Taken → List PassView → Type 0) (id : ℕ) (v : PassView) → Learns (With seen) id v (IsSeenWith seen v)
+seen_with seen id v items views h at = (views, id, h, at)
+
+-- what is learned of the rule is learned of both
+pub learns_with : (seen : List Taken → List PassView → Type 0) (id : ℕ) (v : PassView) (fact : List Taken → Type 0) → Learns HandOverRule id v fact → Learns (With seen) id v fact
+learns_with seen id v fact l items views h at = l items views h.0 at
 
 -- the taker takes the first item
 pub pops : (id : ℕ) (v : PassView) → 0 < v.rights → v.taker ≡ 1 → Pops HandOverRule id v (λ x w. w ≡ taking_view v x)
@@ -184,3 +188,47 @@ ends id v whole root items views h at =
 -- the same for a view that is known to be the taker's
 pub forks_at : (id rights from : ℕ) (v : PassView) → v ≡ taker_view rights from → 1 < rights → Forks HandOverRule id v (pass_view (v.rights - 1) v.taker (v.next_giver + 1) v.givers v.given v.taken) (giver_view v.next_giver)
 forks_at id rights from v is some_left = subst (λ u. Forks HandOverRule id u (pass_view (u.rights - 1) u.taker (u.next_giver + 1) u.givers u.given u.taken) (giver_view u.next_giver)) (sym is) (forks id rights from some_left)
+
+-- the same steps, with a caller's rule
+
+pub pushes_with : (seen : List Taken → List PassView → Type 0) (n id : ℕ) (v : PassView) (x : Taken) → 0 < v.rights → v.taker ≡ 0 → v.givers ≡ x.giver ∷ [] → KeepsGiving seen id v x → Pushes (With seen) n id v x (λ w. w ≡ giving_view v x)
+pushes_with seen n id v x right no_root mine keeps items views room h at =
+    let p = pushes n id v x right no_root mine items views room h.0 at in
+    (giving_view v x, (subst (λ u. HandOverRule (items ++ x ∷ []) (set views id u)) p.2 p.1, keeps items views h.0 h.1 at), refl)
+
+pub pops_with : (seen : List Taken → List PassView → Type 0) (id : ℕ) (v : PassView) → 0 < v.rights → v.taker ≡ 1 → KeepsTaking seen id v → Pops (With seen) id v (λ x w. w ≡ taking_view v x)
+pops_with seen id v right root keeps x items views h at =
+    let p = pops id v right root x items views h.0 at in
+    (taking_view v x, (subst (λ u. HandOverRule items (set views id u)) p.2 p.1, keeps x items views h.0 h.1 at), refl)
+
+pub merges_with : (seen : List Taken → List PassView → Type 0) (id : ℕ) (v : PassView) (other : ℕ) (w : PassView) → v.taker ≡ 1 → 0 < v.rights → w.taker ≡ 0 → KeepsJoining seen
+    → Merges (With seen) id v other w (sum_view v w) (pass_view 0 0 0 [] [] [])
+merges_with seen id v other w root right plain keeps items views h at two at' =
+    (merges id v other w root right plain items views h.0 at two at', keeps id other v w items views h.1 at at')
+
+pub forks_with : (seen : List Taken → List PassView → Type 0) (givers id from : ℕ) (v : PassView) → v ≡ taker_view (2 ^ 64 - from) from → 1 < 2 ^ 64 - from → from < givers → Starts seen givers
+    → Forks (With seen) id v (pass_view (v.rights - 1) v.taker (v.next_giver + 1) v.givers v.given v.taken) (giver_view v.next_giver)
+forks_with seen givers id from v is some_left below starts items views h at =
+    (forks_at id (2 ^ 64 - from) from v is some_left items views h.0 at, starts.next id from v items views below is h.1 at)
+
+pub begins_with_first : (seen : List Taken → List PassView → Type 0) (givers : ℕ) → Starts seen givers → With seen [] (first_view ∷ [])
+begins_with_first seen givers starts = (begins, starts.first)
+
+-- ---- what a refusal without a look owes
+
+-- while a pass has this view, the queue is empty
+abbrev pub shy : PassView → List Taken → List PassView → Type 0
+shy v items views = (id : ℕ) → get_elem? views id ≡ some v → length items ≡ 0
+
+-- a caller may keep it: the giver's own step ends it
+pub shy_kept : (id : ℕ) (v : PassView) (x : Taken) → v.givers ≡ x.giver ∷ [] → KeepsGiving (shy v) id v x
+shy_kept id v x mine items views rule before at j now = ⊎_elim
+    (λ (a : (j ≡ id) × (giving_view v x ≡ v)). absurd (let e = ap (λ (u : PassView). length u.given) a.1 in omega (arith, e, length-append v.given (x ∷ []))))
+    (λ (b : (j ≢ id) × (get_elem? views j ≡ some v)).
+    let here : 0 < cover x.giver v = let one : hit x.giver x.giver ≡ 1 = hit_self x.giver in let s : sum_by (hit x.giver) v.givers ≡ 0 + hit x.giver x.giver = ap (sum_by (hit x.giver)) mine in omega (arith, one, s) in
+    absurd (let z = apart items views id j x.giver v v rule b.0 at b.1 here in omega (arith, z, here)))
+    (at_set views id j (giving_view v x) v now)
+
+-- under it the queue was not full
+pub shy_not_full : (n : ℕ) (v : PassView) → 0 < n → Held n (IsSeenWith (shy v) v) → ⊥
+shy_not_full n v room held = absurd (omega (arith, room, held.1, held.2.2.1 held.2.1 held.2.3))
