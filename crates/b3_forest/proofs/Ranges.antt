@@ -154,6 +154,23 @@ halved a e k w s width before after some =
       some = omega (arith, h.2, positive);
     }
 
+swapped : (q a : ℕ) → q * (2 * a) ≡ 2 * q * a
+swapped q a = grind arith
+
+one_more : (q a : ℕ) → (q + 1) * a ≡ q * a + a
+one_more q a = grind arith
+
+-- a half of an aligned range is aligned
+pub left_aligned : (k w s i : ℕ) → Halved k w → w ≡ 2 ^ k → (q : ℕ) × (s ≡ q * 2 ^ k) → i ≡ s → (q : ℕ) × (i ≡ q * 2 ^ (k - 1))
+left_aligned k w s i h width (q, at) same =
+    let twice : 2 ^ k ≡ 2 * 2 ^ (k - 1) = omega (arith, width, h.width, h.twice) in
+    (2 * q, same ∙ at ∙ ap (λ j. q * j) twice ∙ swapped q (2 ^ (k - 1)))
+
+pub right_aligned : (k w s i : ℕ) → Halved k w → w ≡ 2 ^ k → (q : ℕ) × (s ≡ q * 2 ^ k) → i ≡ s + w / 2 → (q : ℕ) × (i ≡ q * 2 ^ (k - 1))
+right_aligned k w s i h width at next =
+    let (q, left) = left_aligned k w s s h width at refl in
+    (q + 1, omega (arith, next, left, h.width, one_more q (2 ^ (k - 1))))
+
 -- the pieces of a range that the part meets and does not cover are those of its halves
 pub pieces_of-halved : (a : ℕ) (b : List ℕ) (k w s : ℕ) → w ≡ 2 ^ k → Halved k w → (s < a) ⊎ (end_from a (length b) < s + w)
     → pieces_of (chunks_of (part_from a b)) k s

@@ -2,6 +2,7 @@ pub mod Followed
 pub mod Forests
 pub mod Kept
 pub mod Subtrees
+pub mod Texts
 pub mod PartRefusals
 pub mod Parts
 pub mod Pieces

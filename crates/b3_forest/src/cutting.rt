@@ -2,7 +2,7 @@
 //! that it meets is halved.
 
 ghost use Rattle.std.specs.Prelude.{◌≡◌, ℕ, ◌+◌, ◌-◌, ◌*◌, ◌/◌, ◌^◌, ◌<◌, ◌≤◌, ◌++◌, OnOk, length, min, max};
-ghost use Rattle.b3_core.specs.Work.{counted};
+ghost use Rattle.b3_core.specs.Work.{NeverFalls, counted};
 ghost use Rattle.b3_forest.specs.Parts.{chunks_of, most_part_bytes};
 ghost use Rattle.b3_forest.specs.Pieces.{most_chunks, part_work, piece_at, piece_count, pieces_of, root_level};
 
@@ -15,6 +15,7 @@ use std::alloc::AllocError;
 fn piece_of(start: u64, bytes: &[u8], level: u32, width: u64, first: u64, work: &mut Work) -> Piece
     requires width { (width ≡ 2 ^ level) × (0 < width) × (width ≤ most_chunks) }
     requires len { length bytes.now ≤ most_part_bytes }
+    requires aligned { (q : ℕ) × (first ≡ q * 2 ^ level) }
     requires within { (start ≤ first) × (first + width ≤ start + (length bytes.now + 1023) / 1024) × (first < most_chunks) }
     ensures piece { result ≡ piece_at (chunks_of (record { offset = 1024 * start; bytes = bytes.now })) level first }
     ensures count { work.new ≡ counted work.old (part_work (min (1024 * width) (length bytes.now - 1024 * (first - start))) 1) }
@@ -37,11 +38,13 @@ fn push_pieces(
 ) -> Result<(), AllocError>
     requires width { (width ≡ 2 ^ level) × (0 < width) × (width ≤ most_chunks) }
     requires len { (length bytes.now ≤ most_part_bytes) × (0 < length bytes.now) }
+    requires aligned { (q : ℕ) × (first ≡ q * 2 ^ level) }
     requires within { (first + width ≤ most_chunks) × (start ≤ most_chunks) }
     ensures pieces { OnOk result (pieces.new.items ≡ pieces.old.items ++ pieces_of (chunks_of (record { offset = 1024 * start; bytes = bytes.now })) level first) }
     ensures count { OnOk result (work.new ≡ counted work.old (part_work
         (min (1024 * start + length bytes.now) (1024 * (first + width)) - max (1024 * start) (1024 * first))
         (length (pieces_of (chunks_of (record { offset = 1024 * start; bytes = bytes.now })) level first)))) }
+    ensures never_falls { NeverFalls work.old work.new }
 {
     let end = start + bytes.len().div_ceil(CHUNK_LEN) as u64;
     if end <= first || first + width <= start {
@@ -69,6 +72,7 @@ pub(crate) fn push_all(
     ensures pieces { OnOk result (pieces.new.items ≡ pieces.old.items ++ pieces_of (chunks_of (record { offset = 1024 * start; bytes = bytes.now })) root_level 0) }
     ensures count { OnOk result (work.new ≡ counted work.old (part_work (length bytes.now)
         (piece_count (chunks_of (record { offset = 1024 * start; bytes = bytes.now }))))) }
+    ensures never_falls { NeverFalls work.old work.new }
 {
     let end = start + bytes.len().div_ceil(CHUNK_LEN) as u64;
     let mut level = ROOT_LEVEL;

@@ -1,12 +1,13 @@
 //! The parts of bytes that are lent, without copies of them. It merges pieces as the upload's forest does, so each merge of an
 //! upload by workers is made twice: the address that the caller is told then rests on its own bytes, and on nothing that a store says.
 
-ghost use Rattle.std.specs.Prelude.{◌≡◌, ◌≢◌, ℕ, ◌*◌, ◌-◌, ◌<◌, ◌↔◌, IfErr, IfNone, IfOk, IfSome, IsErr, OnErr, OnOk, false, length, true};
+ghost use Rattle.std.specs.Prelude.{◌≡◌, ◌≢◌, ℕ, ◌*◌, ◌-◌, ◌<◌, ◌↔◌, IfErr, IfNone, IfOk, IfSome, IsErr, OnErr, OnOk, Some, false, length, true};
 ghost use Rattle.b3_core.specs.Modes.{hash_mode};
 ghost use Rattle.b3_core.specs.Tree.{tree_top};
 ghost use Rattle.b3_core.specs.Work.{counted};
 ghost use Rattle.b3_forest.specs.Followed.{AllNoted, IsFirstUnnoted, IsNoted, IsNotedWith, IsRefused, MayNote, bytes_at, noting_merges, pieces_noted};
 ghost use Rattle.b3_forest.specs.Parts.{closed_plan, most_bytes};
+ghost use Rattle.b3_forest.specs.Texts.{follow_text};
 
 use crate::held;
 use crate::piece::Subtree;
@@ -16,6 +17,7 @@ use crate::refusal::{Incomplete, NoteFault};
 use b3_core::{Top, Work};
 use std::alloc::Global;
 use std::collections::BTreeMap;
+use std::fmt;
 use std::marker::Model;
 
 /// The parts of an upload whose bytes are lent: the pieces of those that were noted, without copies of their bytes.
@@ -99,6 +101,16 @@ impl<'a> Follow<'a> {
         ensures uncounted { OnErr result (work.new ≡ work.old) }
     {
         held::finish(&self.subtrees, self.bytes.len() as u64, work)
+    }
+}
+
+/// How many bytes are lent.
+impl fmt::Debug for Follow<'_> {
+    ghost debug_output = { λ follow. Some (follow_text (length follow.bytes)) };
+
+    fn fmt<W: fmt::Write>(&self, f: &mut fmt::Formatter<W>) -> fmt::Result {
+        let len = self.bytes.len();
+        write!(f, "Follow {{ bytes: {len} }}")
     }
 }
 

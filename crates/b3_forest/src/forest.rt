@@ -4,6 +4,7 @@ ghost use Rattle.std.specs.Prelude.{◌≡◌, ◌≤◌, [], IfErr, IfOk, OnErr
 ghost use Rattle.b3_core.specs.Modes.{hash_mode};
 ghost use Rattle.b3_core.specs.Tree.{tree_top};
 ghost use Rattle.b3_core.specs.Work.{counted};
+ghost use Rattle.b3_forest.specs.Texts.{forest_text};
 ghost use Rattle.b3_forest.specs.Uploads.{ArePlaced, IsComplete, IsUpload, add_refusal, content_of, end_with, finish_refusal, finish_work, first_missing, fix_refusal, fixed_at, held_bytes, length_of, merges_of, new_upload, part_of, past_last, put_work, reached, with_more};
 ghost use Rattle.b3_forest.specs.declared.refusal.AddFault.TheVariants.{NoMemory};
 
@@ -18,6 +19,7 @@ use crate::segment::Segment;
 use b3_core::{Top, Work};
 use std::alloc::{AllocError, Global};
 use std::collections::BTreeMap;
+use std::fmt;
 use std::marker::Model;
 
 /// The parts that an upload holds. It keeps their bytes by offset, and the pieces of all of them: neighbours that are
@@ -257,6 +259,21 @@ impl<S: Segments> ForestOf<S> {
             Ok(top) => Ok(top),
             Err(Incomplete { missing }) => Err(FinishFault::Incomplete { missing }),
         }
+    }
+}
+
+/// How many parts and bytes are held, and the upload's length.
+impl<S: Segments> fmt::Debug for ForestOf<S> {
+    ghost debug_output = { λ forest. Some (forest_text forest) };
+
+    fn fmt<W: fmt::Write>(&self, f: &mut fmt::Formatter<W>) -> fmt::Result {
+        let parts = self.parts();
+        let held = self.held();
+        let length = self.length();
+        write!(
+            f,
+            "Forest {{ parts: {parts}, held: {held}, length: {length} }}"
+        )
     }
 }
 

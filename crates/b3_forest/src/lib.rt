@@ -34,9 +34,10 @@ mod subtrees;
 pub use follow::Follow;
 pub use forest::{Forest, MappedForest};
 pub use laws::{forest_laws, upload_laws};
-pub use plan::{Plan, TooLong};
+pub use plan::{MOST_BYTES, Plan, TooLong};
 pub use prepared::Prepared;
 pub use refusal::{
-    AddFault, AddRefused, FinishFault, FixFault, Incomplete, NoteFault, PartFault, PartRefused,
+    AddFault, AddRefused, FinishFault, FixFault, Incomplete, MOST_PART_BYTES, NoteFault, PartFault,
+    PartRefused,
 };
 pub use segment::Segment;

@@ -1,9 +1,12 @@
 //! Plans of uploads.
 
-ghost use Rattle.std.specs.Prelude.{◌≡◌, ◌≢◌, ◌<◌, ◌≤◌, ◌↔◌, IfOk, IsErr, false, true};
+ghost use Rattle.std.specs.Prelude.{◌≡◌, ◌≢◌, ◌<◌, ◌≤◌, ◌↔◌, IfOk, IsErr, Some, false, true};
 ghost use Rattle.b3_forest.specs.Parts.{closed_plan, most_bytes, open_plan, same_plan};
+ghost use Rattle.b3_forest.specs.Texts.{too_long_text};
 ghost use Rattle.b3_forest.specs.Uploads.{new_upload};
 
+use std::error::Error;
+use std::fmt;
 use std::marker::Model;
 
 // How many bytes a chunk has.
@@ -20,6 +23,26 @@ pub(crate) const ROOT_LEVEL: u32 = 34;
 /// F1: the length is above 2^44.
 #[derive(Clone, Copy, PartialEq, Eq, Debug)]
 pub struct TooLong;
+
+impl TooLong {
+    /// The refusal's number, `F1`.
+    pub fn code(self) -> &'static str
+        ensures { result.now ≡ too_long_text }
+    {
+        "F1"
+    }
+}
+
+/// The refusal's number.
+impl fmt::Display for TooLong {
+    ghost output = { λ _. Some too_long_text };
+
+    fn fmt<W: fmt::Write>(&self, f: &mut fmt::Formatter<W>) -> fmt::Result {
+        f.write_str(self.code())
+    }
+}
+
+impl Error for TooLong {}
 
 /// The plan of an upload: its length in bytes, or, of an open plan, the most that it may have where its length is fixed
 /// later. At most 2^44.

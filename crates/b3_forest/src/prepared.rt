@@ -1,10 +1,11 @@
 //! One part, hashed alone.
 
-ghost use Rattle.std.specs.Prelude.{◌≡◌, ◌+◌, ◌≤◌, IfErr, IfOk, IfSome, OnOk, length, unwrap_or, vec_len};
+ghost use Rattle.std.specs.Prelude.{◌≡◌, ◌+◌, ◌≤◌, IfErr, IfOk, IfSome, OnOk, Some, length, unwrap_or, vec_len};
 ghost use Rattle.std.specs.Arc.{arc_value};
-ghost use Rattle.b3_core.specs.Work.{counted};
+ghost use Rattle.b3_core.specs.Work.{NeverFalls, counted};
 ghost use Rattle.b3_forest.specs.PartRefusals.{part_refusal};
 ghost use Rattle.b3_forest.specs.Parts.{Fits, PlannedPart, chunks_of, end_of, is_ragged, most_bytes, planned};
+ghost use Rattle.b3_forest.specs.Texts.{prepared_text};
 ghost use Rattle.b3_forest.specs.Uploads.{part_of};
 ghost use Rattle.b3_forest.specs.Pieces.{IsPrepared, part_work, piece_count, pieces_of, root_level};
 
@@ -15,6 +16,7 @@ use crate::refusal::{PartFault, PartRefused, fault_of};
 use crate::segment::Segment;
 use b3_core::Work;
 use std::alloc::{AllocError, Global};
+use std::fmt;
 use std::marker::Model;
 use std::sync::Arc;
 
@@ -44,7 +46,7 @@ impl Prepared {
     /// (not under an open plan), F6 above 2^24 bytes. Want of memory is F9.
     ///
     /// For each chunk it makes as many compressions as the chunk has blocks less one, and two for each chunk beyond the
-    /// number of pieces; none where F2 to F6 apply.
+    /// number of pieces; none where F2 to F6 apply. At F9 it has made some of them.
     pub fn make(
         alloc: Global,
         plan: &Plan,
@@ -59,6 +61,7 @@ impl Prepared {
         ensures count { OnOk result (work.new ≡ counted work.old (part_work (vec_len bytes)
             (piece_count (chunks_of (planned plan.now offset bytes.items).part)))) }
         ensures uncounted { IfSome (part_refusal plan.now offset (vec_len bytes)) (λ _. work.new ≡ work.old) }
+        ensures never_falls { NeverFalls work.old work.new }
     {
         if let Some(fault) = fault_of(plan, offset, bytes.len() as u64) {
             return Err(PartRefused { fault, bytes });
@@ -95,6 +98,28 @@ impl Prepared {
         ensures { result.now ≡ self.now.part.bytes }
     {
         self.bytes.as_slice()
+    }
+
+    /// The part's bytes, handed back, where nothing else holds them; else the part.
+    pub fn into_bytes(self) -> Result<Vec<u8>, Prepared>
+        ensures bytes { IfOk result (λ bytes. bytes.items ≡ self.part.bytes) }
+        ensures back { IfErr result (λ part. part ≡ self) }
+    {
+        let Prepared {
+            plan,
+            offset,
+            bytes,
+            pieces,
+        } = self;
+        match Arc::try_unwrap(bytes) {
+            Ok(bytes) => Ok(bytes),
+            Err(bytes) => Err(Prepared {
+                plan,
+                offset,
+                bytes,
+                pieces,
+            }),
+        }
     }
 
     /// Where the part ends in its upload.
@@ -151,5 +176,16 @@ impl Prepared {
         ensures { result ≡ piece_count (chunks_of self.now.part) }
     {
         self.pieces.len()
+    }
+}
+
+/// Where the part begins and how many bytes it has.
+impl fmt::Debug for Prepared {
+    ghost debug_output = { λ prepared. Some (prepared_text prepared.part) };
+
+    fn fmt<W: fmt::Write>(&self, f: &mut fmt::Formatter<W>) -> fmt::Result {
+        let offset = self.offset();
+        let len = self.bytes().len();
+        write!(f, "Prepared {{ offset: {offset}, bytes: {len} }}")
     }
 }

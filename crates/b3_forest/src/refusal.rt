@@ -1,11 +1,13 @@
 //! Why parts are refused, and why an upload has no end or no top yet.
 
-ghost use Rattle.std.specs.Prelude.{◌≡◌, ◌≤◌, IfNone, Some};
+ghost use Rattle.std.specs.Prelude.{◌≡◌, ◌≤◌, IfNone, Some, vec_len};
 ghost use Rattle.b3_forest.specs.PartRefusals.{part_fault_text, part_refusal};
 ghost use Rattle.b3_forest.specs.Parts.{Fits, most_bytes};
+ghost use Rattle.b3_forest.specs.Texts.{add_fault_code, add_fault_text, add_refused_text, finish_fault_code, finish_fault_text, fix_fault_code, fix_fault_text, incomplete_code, incomplete_text, note_fault_code, note_fault_text, part_refused_text};
 
 use crate::plan::{CHUNK_LEN, Plan};
 use crate::prepared::Prepared;
+use std::error::Error;
 use std::fmt;
 
 /// The most bytes of a part, 2^24.
@@ -28,28 +30,60 @@ pub enum PartFault {
     NoMemory,
 }
 
-/// The refusal's name.
-impl fmt::Display for PartFault {
-    ghost output = { λ fault. Some (part_fault_text fault) };
-
-    fn fmt<W: fmt::Write>(&self, f: &mut fmt::Formatter<W>) -> fmt::Result {
+impl PartFault {
+    /// The refusal's number.
+    pub fn code(self) -> &'static str
+        ensures { result.now ≡ part_fault_text self }
+    {
         match self {
-            PartFault::EmptyPart => write!(f, "F2"),
-            PartFault::OffAlign => write!(f, "F3"),
-            PartFault::PastEnd => write!(f, "F4"),
-            PartFault::Ragged => write!(f, "F5"),
-            PartFault::PartTooLong => write!(f, "F6"),
-            PartFault::NoMemory => write!(f, "F9"),
+            PartFault::EmptyPart => "F2",
+            PartFault::OffAlign => "F3",
+            PartFault::PastEnd => "F4",
+            PartFault::Ragged => "F5",
+            PartFault::PartTooLong => "F6",
+            PartFault::NoMemory => "F9",
         }
     }
 }
 
+/// The refusal's number.
+impl fmt::Display for PartFault {
+    ghost output = { λ fault. Some (part_fault_text fault) };
+
+    fn fmt<W: fmt::Write>(&self, f: &mut fmt::Formatter<W>) -> fmt::Result {
+        f.write_str(self.code())
+    }
+}
+
+impl Error for PartFault {}
+
 /// A refused part: its bytes, handed back.
-#[derive(Drop, Debug)]
+#[derive(Drop)]
 pub struct PartRefused {
     pub fault: PartFault,
     pub bytes: Vec<u8>,
 }
+
+/// The refusal's number.
+impl fmt::Display for PartRefused {
+    ghost output = { λ refused. Some (part_fault_text refused.fault) };
+
+    fn fmt<W: fmt::Write>(&self, f: &mut fmt::Formatter<W>) -> fmt::Result {
+        f.write_str(self.fault.code())
+    }
+}
+
+/// The refusal and how many bytes come back.
+impl fmt::Debug for PartRefused {
+    ghost debug_output = { λ refused. Some (part_refused_text refused.fault (vec_len refused.bytes)) };
+
+    fn fmt<W: fmt::Write>(&self, f: &mut fmt::Formatter<W>) -> fmt::Result {
+        let len = self.bytes.len();
+        write!(f, "PartRefused {{ fault: {}, bytes: {len} }}", self.fault)
+    }
+}
+
+impl Error for PartRefused {}
 
 /// The refusals of `Forest::add`, in the order in which they are checked.
 #[derive(Clone, Copy, PartialEq, Eq, Debug)]
@@ -65,12 +99,63 @@ pub enum AddFault {
     NoMemory,
 }
 
+impl AddFault {
+    /// The refusal's number.
+    pub fn code(self) -> &'static str
+        ensures { result.now ≡ add_fault_code self }
+    {
+        match self {
+            AddFault::WrongPlan => "F7",
+            AddFault::Overlap { .. } => "F8",
+            AddFault::PastLast { .. } => "F12",
+            AddFault::NoMemory => "F9",
+        }
+    }
+}
+
+/// The refusal's number with what it carries.
+impl fmt::Display for AddFault {
+    ghost output = { λ fault. Some (add_fault_text fault) };
+
+    fn fmt<W: fmt::Write>(&self, f: &mut fmt::Formatter<W>) -> fmt::Result {
+        match self {
+            AddFault::WrongPlan => write!(f, "F7"),
+            AddFault::Overlap { at } => write!(f, "F8 at {at}"),
+            AddFault::PastLast { end } => write!(f, "F12 end {end}"),
+            AddFault::NoMemory => write!(f, "F9"),
+        }
+    }
+}
+
+impl Error for AddFault {}
+
 /// A part that was not added, handed back.
 #[derive(Drop)]
 pub struct AddRefused {
     pub fault: AddFault,
     pub part: Prepared,
 }
+
+/// The refusal's number with what it carries.
+impl fmt::Display for AddRefused {
+    ghost output = { λ refused. Some (add_fault_text refused.fault) };
+
+    fn fmt<W: fmt::Write>(&self, f: &mut fmt::Formatter<W>) -> fmt::Result {
+        write!(f, "{}", self.fault)
+    }
+}
+
+/// The refusal and the part's place and length.
+impl fmt::Debug for AddRefused {
+    ghost debug_output = { λ refused. Some (add_refused_text refused.fault refused.part.part) };
+
+    fn fmt<W: fmt::Write>(&self, f: &mut fmt::Formatter<W>) -> fmt::Result {
+        let AddRefused { fault, part } = self;
+        write!(f, "AddRefused {{ fault: {fault}, part: {part:?} }}")
+    }
+}
+
+impl Error for AddRefused {}
 
 /// The refusals of `Forest::fix`, in the order in which they are checked.
 #[derive(Clone, Copy, PartialEq, Eq, Debug)]
@@ -81,6 +166,32 @@ pub enum FixFault {
     PastLast { end: u64 },
 }
 
+impl FixFault {
+    /// The refusal's number.
+    pub fn code(self) -> &'static str
+        ensures { result.now ≡ fix_fault_code self }
+    {
+        match self {
+            FixFault::TooLong => "F1",
+            FixFault::PastLast { .. } => "F12",
+        }
+    }
+}
+
+/// The refusal's number with what it carries.
+impl fmt::Display for FixFault {
+    ghost output = { λ fault. Some (fix_fault_text fault) };
+
+    fn fmt<W: fmt::Write>(&self, f: &mut fmt::Formatter<W>) -> fmt::Result {
+        match self {
+            FixFault::TooLong => write!(f, "F1"),
+            FixFault::PastLast { end } => write!(f, "F12 end {end}"),
+        }
+    }
+}
+
+impl Error for FixFault {}
+
 /// The refusals of `Forest::finish`, in the order in which they are checked.
 #[derive(Clone, Copy, PartialEq, Eq, Debug)]
 pub enum FinishFault {
@@ -90,11 +201,58 @@ pub enum FinishFault {
     Incomplete { missing: u64 },
 }
 
+impl FinishFault {
+    /// The refusal's number.
+    pub fn code(self) -> &'static str
+        ensures { result.now ≡ finish_fault_code self }
+    {
+        match self {
+            FinishFault::NotFixed => "F13",
+            FinishFault::Incomplete { .. } => "F10",
+        }
+    }
+}
+
+/// The refusal's number with what it carries.
+impl fmt::Display for FinishFault {
+    ghost output = { λ fault. Some (finish_fault_text fault) };
+
+    fn fmt<W: fmt::Write>(&self, f: &mut fmt::Formatter<W>) -> fmt::Result {
+        match self {
+            FinishFault::NotFixed => write!(f, "F13"),
+            FinishFault::Incomplete { missing } => write!(f, "F10 missing {missing}"),
+        }
+    }
+}
+
+impl Error for FinishFault {}
+
 /// F10: the least offset of the upload that is not held.
 #[derive(Clone, Copy, PartialEq, Eq, Debug)]
 pub struct Incomplete {
     pub missing: u64,
 }
+
+impl Incomplete {
+    /// The refusal's number, `F10`.
+    pub fn code(self) -> &'static str
+        ensures { result.now ≡ incomplete_code }
+    {
+        "F10"
+    }
+}
+
+/// The refusal's number with what it carries.
+impl fmt::Display for Incomplete {
+    ghost output = { λ refused. Some (incomplete_text refused.missing) };
+
+    fn fmt<W: fmt::Write>(&self, f: &mut fmt::Formatter<W>) -> fmt::Result {
+        let Incomplete { missing } = self;
+        write!(f, "F10 missing {missing}")
+    }
+}
+
+impl Error for Incomplete {}
 
 /// The refusals of `Follow::note`, in the order in which they are checked.
 #[derive(Clone, Copy, PartialEq, Eq, Debug)]
@@ -108,6 +266,36 @@ pub enum NoteFault {
     /// F9: memory was refused.
     NoMemory,
 }
+
+impl NoteFault {
+    /// The refusal's number.
+    pub fn code(self) -> &'static str
+        ensures { result.now ≡ note_fault_code self }
+    {
+        match self {
+            NoteFault::WrongPlan => "F7",
+            NoteFault::Overlap { .. } => "F8",
+            NoteFault::Stranger => "F11",
+            NoteFault::NoMemory => "F9",
+        }
+    }
+}
+
+/// The refusal's number with what it carries.
+impl fmt::Display for NoteFault {
+    ghost output = { λ fault. Some (note_fault_text fault) };
+
+    fn fmt<W: fmt::Write>(&self, f: &mut fmt::Formatter<W>) -> fmt::Result {
+        match self {
+            NoteFault::WrongPlan => write!(f, "F7"),
+            NoteFault::Overlap { at } => write!(f, "F8 at {at}"),
+            NoteFault::Stranger => write!(f, "F11"),
+            NoteFault::NoMemory => write!(f, "F9"),
+        }
+    }
+}
+
+impl Error for NoteFault {}
 
 /// The first refusal that applies to a part of `len` bytes at an offset.
 pub(crate) fn fault_of(plan: &Plan, offset: u64, len: u64) -> Option<PartFault>

@@ -1,11 +1,13 @@
 //! A part's bytes, as an upload keeps them.
 
-ghost use Rattle.std.specs.Prelude.{◌≡◌, ℕ, ◌<◌, IfOk, map, vec_capacity, vec_len};
+ghost use Rattle.std.specs.Prelude.{◌≡◌, ℕ, ◌<◌, IfOk, Some, map, vec_capacity, vec_len};
 ghost use Rattle.std.specs.Arc.{arc_value};
 ghost use Rattle.b3_forest.specs.Parts.{Part};
+ghost use Rattle.b3_forest.specs.Texts.{segment_text};
 ghost use Rattle.b3_forest.specs.Uploads.{ArePlaced, part_of, with_part};
 
 use std::alloc::AllocError;
+use std::fmt;
 use std::sync::Arc;
 
 /// The bytes of one part, and where they begin in the upload.
@@ -26,6 +28,17 @@ impl Segment {
             Ok(bytes) => Ok(Segment { offset, bytes }),
             Err(_) => Err(AllocError),
         }
+    }
+}
+
+/// Where the bytes begin and how many they are.
+impl fmt::Debug for Segment {
+    ghost debug_output = { λ segment. Some (segment_text (part_of segment)) };
+
+    fn fmt<W: fmt::Write>(&self, f: &mut fmt::Formatter<W>) -> fmt::Result {
+        let offset = self.offset;
+        let len = self.bytes.len();
+        write!(f, "Segment {{ offset: {offset}, bytes: {len} }}")
     }
 }
 

@@ -4,7 +4,7 @@ use Rattle.b3_forest.specs.Parts.{chunks_of}
 use Rattle.b3_core.specs.Work.{counted}
 use Rattle.b3_forest.specs.Pieces.{pieces_of, part_work}
 use Rattle.b3_forest.specs.declared.piece.Piece.{Piece}
-use Rattle.b3_forest.proofs.Ranges.{part_from, end_from, full_within, pieces_of-none, pieces_of-full, halved, pieces_of-halved, work_halves, bytes_within, counted_twice}
+use Rattle.b3_forest.proofs.Ranges.{part_from, end_from, full_within, left_aligned, right_aligned, pieces_of-none, pieces_of-full, halved, pieces_of-halved, work_halves, bytes_within, counted_twice}
 use Rattle.b3_forest.proofs.cutting.+push_pieces.Goals as goal
 use Rattle.b3_forest.proofs.cutting.+push_pieces.Goals.{then-end-first-via-then-end-first, then-end-first-via-else-end-first+then-first-width, else-start-first-via-then-start-first+else-first-width-2, else-start-first-via-else-start-first}
 
@@ -49,7 +49,7 @@ push_pieces-requires t c =
     ] in
     let h = halved c.args.start (end_from c.args.start (length c.args.bytes.now)) c.args.level c.args.width c.args.first
     c.requires.width.0 (omega arith) (omega arith) some in
-    (omega (arith, h.level), ((h.width, h.some, omega (arith, h.twice)), (c.requires.len, (omega (arith, h.twice), omega arith))))
+    (omega (arith, h.level), ((h.width, h.some, omega (arith, h.twice)), (c.requires.len, (left_aligned c.args.level c.args.width c.args.first c.args.first h c.requires.width.0 c.requires.aligned refl, (omega (arith, h.twice), omega arith)))))
 
 pub push_pieces-requires-2 : goal.push_pieces-requires-2
 push_pieces-requires-2 t c =
@@ -60,7 +60,7 @@ push_pieces-requires-2 t c =
     ] in
     let h = halved c.args.start (end_from c.args.start (length c.args.bytes.now)) c.args.level c.args.width c.args.first
     c.requires.width.0 (omega arith) (omega arith) some in
-    (omega (arith, h.level), ((h.width, h.some, omega (arith, h.twice)), (c.requires.len, (omega (arith, h.twice), omega arith))))
+    (omega (arith, h.level), ((h.width, h.some, omega (arith, h.twice)), (c.requires.len, (right_aligned c.args.level c.args.width c.args.first _ h c.requires.width.0 c.requires.aligned refl, (omega (arith, h.twice), omega arith)))))
 
 pub returns-clause-pieces : goal.returns-clause-pieces
 returns-clause-pieces t c =

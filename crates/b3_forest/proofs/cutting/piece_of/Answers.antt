@@ -1,5 +1,5 @@
 use Rattle.std.proofs.Common.{◌≡◌, ℕ, List, ◌-◌, ◌*◌, ◌^◌, min, length, take, drop, arith, ap, sym, ◌∙◌}
-use Rattle.std.proofs.lemmas.List.{take_min, length-drop}
+use Rattle.std.proofs.lemmas.List.{take_min, length-drop, length-take-le}
 use Rattle.b3_core.specs.Modes.{hash_mode}
 use Rattle.b3_core.specs.Tree.{Inputs, Keying, tree_top}
 use Rattle.b3_forest.proofs.Ranges.{content_within}
@@ -23,3 +23,15 @@ returns-clause-piece c =
     ∙ ap (λ (x : List ℕ). tree_top x c.args.first hash_mode) (bytes ∙ sym content) in
     let Made : Inputs → Piece = λ t. record { first = c.args.first; level = c.args.level; top = t } in
     ap Made top
+
+pub of_subtree-top-requires : goal.of_subtree-top-requires
+of_subtree-top-requires c =
+    let b = c.args.bytes.now in
+    let skip = (c.args.first - c.args.start) * 1024 in
+    let rest : length (drop skip b) ≡ length b - skip = length-drop skip b in
+    let len : length (take (c.min-end.result - skip) (drop skip b)) ≡ c.min-end.result - skip = length-take-le (c.min-end.result - skip) (drop skip b) (omega arith) in
+    let (q, at) = c.requires.aligned in
+    record {
+      subtree = ((λ none. absurd (omega (arith, none, len))), c.args.level, q, omega (arith, len), at);
+      number = omega (arith, len);
+    }

@@ -1,7 +1,7 @@
-use Rattle.std.proofs.Common.{◌≡◌, ◌+◌, ◌-◌, ◌/◌, ◌∙◌, ℕ, arith, ap, length}
+use Rattle.std.proofs.Common.{◌-◌, ◌∙◌, ℕ, arith, ap}
 use Rattle.b3_forest.specs.Parts.{chunks_of}
 use Rattle.b3_forest.specs.Pieces.{pieces_of}
-use Rattle.b3_forest.proofs.Ranges.{lower, part_from, pieces_left, pieces_right}
+use Rattle.b3_forest.proofs.Ranges.{left_aligned, lower, part_from, pieces_left, pieces_right, right_aligned}
 use Rattle.b3_forest.proofs.cutting.push_all.Goals as goal
 use Rattle.b3_forest.proofs.cutting.push_all.Goals.{then-start-first, else-start-first+else-end-first}
 
@@ -20,6 +20,7 @@ loop-level-preserved c =
           record {
             level = omega (arith, had.level);
             width = h.width;
+            aligned = right_aligned k c.loop-level.width s _ h had.width had.aligned w.first-is;
             begins = omega arith;
             ends = omega (arith, h.twice, had.ends);
             within = omega (arith, h.twice, had.within);
@@ -29,6 +30,7 @@ loop-level-preserved c =
           record {
             level = omega (arith, had.level);
             width = h.width;
+            aligned = left_aligned k c.loop-level.width s _ h had.width had.aligned w.first-is;
             begins = omega (arith, had.begins);
             ends = omega arith;
             within = omega (arith, h.twice, had.within);

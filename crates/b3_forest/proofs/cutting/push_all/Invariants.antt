@@ -1,4 +1,4 @@
-use Rattle.std.proofs.Common.{◌≡◌, ◌+◌, ◌*◌, ◌^◌, ◌≤◌}
+use Rattle.std.proofs.Common.{◌≡◌, ℕ, ◌+◌, ◌*◌, ◌^◌, ◌≤◌}
 use Rattle.b3_forest.specs.Parts.{chunks_of}
 use Rattle.b3_forest.specs.Pieces.{most_chunks, pieces_of, root_level}
 use Rattle.b3_forest.proofs.cutting.push_all.Given as goal
@@ -7,6 +7,7 @@ abbrev pub invariant-loop-level : goal.invariant-loop-level
 invariant-loop-level l = record {
   level : l.level ≤ root_level;
   width : l.width ≡ 2 ^ l.level;
+  aligned : (q : ℕ) × (l.first ≡ q * 2 ^ l.level);
   begins : l.first ≤ l.start;
   ends : l.end ≤ l.first + l.width;
   within : l.first + l.width ≤ most_chunks;
