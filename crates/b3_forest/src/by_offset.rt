@@ -3,6 +3,7 @@
 ghost use Rattle.std.specs.Prelude.{◌≡◌, IfOk, map};
 ghost use Rattle.b3_forest.specs.Uploads.{part_of};
 
+use crate::gap::{Gap, push_between};
 use crate::kept::Segments;
 use crate::segment::Segment;
 use std::alloc::{AllocError, Global};
@@ -50,6 +51,18 @@ impl Segments for ByOffset {
 
     fn take_out(&mut self, offset: u64) {
         let _taken = self.entries.remove(&offset);
+    }
+
+    #[tactic(auto, unfolding(crate::specs::Gaps::gaps_from))]
+    fn gaps(&self, alloc: Global, len: u64) -> Result<Vec<Gap>, AllocError> {
+        let mut gaps = Vec::new(alloc);
+        let mut next = 0;
+        for segment in self.entries.values() {
+            push_between(&mut gaps, next, segment.offset)?;
+            next = segment.end();
+        }
+        push_between(&mut gaps, next, len)?;
+        Ok(gaps)
     }
 }
 

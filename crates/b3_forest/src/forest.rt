@@ -4,11 +4,13 @@ ghost use Rattle.std.specs.Prelude.{◌≡◌, ◌≤◌, [], IfErr, IfOk, OnErr
 ghost use Rattle.b3_core.specs.Modes.{hash_mode};
 ghost use Rattle.b3_core.specs.Tree.{tree_top};
 ghost use Rattle.b3_core.specs.Work.{counted};
+ghost use Rattle.b3_forest.specs.Gaps.{gaps_of};
 ghost use Rattle.b3_forest.specs.Texts.{forest_text};
 ghost use Rattle.b3_forest.specs.Uploads.{ArePlaced, IsComplete, IsUpload, add_refusal, content_of, end_with, finish_refusal, finish_work, first_missing, fix_refusal, fixed_at, held_bytes, length_of, merges_of, new_upload, part_of, past_last, put_work, reached, with_more};
 ghost use Rattle.b3_forest.specs.declared.refusal.AddFault.TheVariants.{NoMemory};
 
 use crate::by_offset::ByOffset;
+use crate::gap::Gap;
 use crate::held;
 use crate::kept::{Segments, put_part};
 use crate::piece::Subtree;
@@ -233,6 +235,14 @@ impl<S: Segments> ForestOf<S> {
         ensures { result ≡ first_missing self.now }
     {
         held::first_missing(&self.subtrees, self.length())
+    }
+
+    /// All that is not held, in order of offset: as few gaps as there can be. Where the upload's end is not fixed, the last one
+    /// goes on to the plan's bound.
+    pub fn gaps(&self, alloc: Global) -> Result<Vec<Gap>, AllocError>
+        ensures { IfOk result (λ gaps. gaps.items ≡ gaps_of self.now) }
+    {
+        self.segments.gaps(alloc, self.length())
     }
 
     /// How many parts are held.

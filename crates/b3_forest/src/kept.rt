@@ -1,11 +1,13 @@
 //! How an upload keeps its segments.
 
-ghost use Rattle.std.specs.Prelude.{◌≡◌, ◌==◌, ℕ, List, [], OnOk, OnErr, length, map};
+ghost use Rattle.std.specs.Prelude.{◌≡◌, ◌==◌, ℕ, List, [], IfOk, OnOk, OnErr, length, map};
 ghost use Rattle.std.specs.List.{position};
 ghost use Rattle.b3_forest.specs.Parts.{Part};
+ghost use Rattle.b3_forest.specs.Gaps.{gaps_from};
 ghost use Rattle.b3_forest.specs.Kept.{IsNew, without};
 ghost use Rattle.b3_forest.specs.Uploads.{ArePlaced, part_of, with_part};
 
+use crate::gap::{Gap, push_between};
 use crate::prepared::Prepared;
 use crate::segment::{Segment, put_segment};
 use std::alloc::{AllocError, Global};
@@ -32,6 +34,11 @@ pub trait Segments: Drop {
     /// Takes out the one that begins at the offset.
     fn take_out(&mut self, offset: u64)
         ensures { parts self.new ≡ without offset (parts self.old) };
+
+    /// The gaps that they leave of an upload of `len` bytes.
+    fn gaps(&self, alloc: Global, len: u64) -> Result<Vec<Gap>, AllocError>
+        requires { ArePlaced len 0 (parts self.now) }
+        ensures { IfOk result (λ gaps. gaps.items ≡ gaps_from len 0 (parts self.now)) };
 }
 
 impl Segments for Vec<Segment> {
@@ -55,6 +62,19 @@ impl Segments for Vec<Segment> {
         if let Some(place) = place_of(self.as_slice(), offset) {
             let _taken = self.remove(place);
         }
+    }
+
+    #[tactic(auto, unfolding(crate::specs::Gaps::gaps_from))]
+    fn gaps(&self, alloc: Global, len: u64) -> Result<Vec<Gap>, AllocError> {
+        let mut gaps = Vec::new(alloc);
+        let (mut next, mut rest) = (0, self.as_slice());
+        while let Some((segment, behind)) = rest.split_first() {
+            push_between(&mut gaps, next, segment.offset)?;
+            next = segment.end();
+            rest = behind;
+        }
+        push_between(&mut gaps, next, len)?;
+        Ok(gaps)
     }
 }
 

@@ -6,7 +6,7 @@
 //!
 //! A `Forest` holds the parts of one upload. `Forest::add` puts a part's pieces among the others, and merges those that
 //! are the halves of one aligned range; it hashes no bytes. `Forest::finish` gives the top of the tree over the whole
-//! content, whichever way it was cut and in whatever order its parts came.
+//! content, whichever way it was cut and in whatever order its parts came. `Forest::gaps` lists what is missing.
 //!
 //! A `MappedForest` is the same with its parts in an ordered map: one is added in logarithmic time wherever it lies, and
 //! `shared_segments` lists them, where a `Forest` shows them as a slice.
@@ -21,6 +21,7 @@ mod by_offset;
 mod cutting;
 mod follow;
 mod forest;
+mod gap;
 mod held;
 mod kept;
 mod laws;
@@ -33,6 +34,7 @@ mod subtrees;
 
 pub use follow::Follow;
 pub use forest::{Forest, MappedForest};
+pub use gap::Gap;
 pub use laws::{forest_laws, upload_laws};
 pub use plan::{MOST_BYTES, Plan, TooLong};
 pub use prepared::Prepared;

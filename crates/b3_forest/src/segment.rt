@@ -1,8 +1,8 @@
 //! A part's bytes, as an upload keeps them.
 
-ghost use Rattle.std.specs.Prelude.{◌≡◌, ℕ, ◌<◌, IfOk, Some, map, vec_capacity, vec_len};
+ghost use Rattle.std.specs.Prelude.{◌≡◌, ℕ, ◌^◌, ◌<◌, IfOk, Some, map, vec_capacity, vec_len};
 ghost use Rattle.std.specs.Arc.{arc_value};
-ghost use Rattle.b3_forest.specs.Parts.{Part};
+ghost use Rattle.b3_forest.specs.Parts.{Part, end_of};
 ghost use Rattle.b3_forest.specs.Texts.{segment_text};
 ghost use Rattle.b3_forest.specs.Uploads.{ArePlaced, part_of, with_part};
 
@@ -28,6 +28,14 @@ impl Segment {
             Ok(bytes) => Ok(Segment { offset, bytes }),
             Err(_) => Err(AllocError),
         }
+    }
+
+    /// The offset behind the bytes.
+    pub(crate) fn end(&self) -> u64
+        requires { end_of (part_of self.now) < 2 ^ 64 }
+        ensures { result ≡ end_of (part_of self.now) }
+    {
+        self.offset + self.bytes.len() as u64
     }
 }
 

@@ -1,5 +1,6 @@
 //! Scripts of one upload. `closed` and `open` begin it, `make` makes a part of the pattern and `add` adds one too, `stray` adds one
-//! of the plan that `other` gave, `fix` fixes the end, and `state`, `segments` and `root` tell what is there.
+//! of the plan that `other` gave, `bytes` takes the made part's bytes back, `fix` fixes the end, and `state`, `gaps`, `segments` and
+//! `root` tell what is there.
 
 use crate::fakes::{is_pattern, pattern};
 use crate::scripts::{Answers, cut, number, told, two_numbers};
@@ -35,6 +36,8 @@ impl Answers for Upload {
             "stray" => self.add(other, first, second),
             "fix" => self.fix(first),
             "state" => self.state(),
+            "gaps" => self.gaps(),
+            "bytes" => self.bytes(),
             "segments" => self.segments(),
             _ => self.root(),
         }
@@ -176,6 +179,29 @@ impl Upload {
         format!(in self.alloc;
             "end {end:?} length {len} missing {missing:?} held {held} parts {parts}"
         )
+    }
+
+    // The forest's text, and its gaps.
+    fn gaps(&mut self) -> Result<String, AllocError> {
+        let mut text = format!(in self.alloc; "{:?}", self.forest)?;
+        for gap in self.forest.gaps(self.alloc)?.as_slice() {
+            text.push_str(format!(in self.alloc; "[{} {}]", gap.offset, gap.len)?.as_str())?;
+        }
+        Ok(text)
+    }
+
+    // The text of the part that was made last, and whether its bytes come back.
+    fn bytes(&mut self) -> Result<String, AllocError> {
+        let Some(part) = self.part.take() else {
+            return format!(in self.alloc; "no part");
+        };
+        let (offset, size) = (part.offset(), part.bytes().len() as u64);
+        let text = format!(in self.alloc; "{part:?}")?;
+        let is_back = match part.into_bytes() {
+            Ok(bytes) => is_pattern(bytes.as_slice(), offset, size),
+            Err(_part) => false,
+        };
+        format!(in self.alloc; "{text} back {is_back}")
     }
 
     fn segments(&mut self) -> Result<String, AllocError> {

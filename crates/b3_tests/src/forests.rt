@@ -137,6 +137,29 @@ add 1024 2048 > Overlap { at: 1024 } by 0 back true true
     )
 }
 
+#[test]
+fn gaps_of_parts(rt: HostRuntime) -> Result<(), Fail> {
+    holds(
+        &rt,
+        "closed 5000 > closed 5000
+gaps > Forest { parts: 0, held: 0, length: 5000 }[0 5000]
+add 1024 1024 > 1 pieces by 15 true, 0 merges by 0 true
+gaps > Forest { parts: 1, held: 1024, length: 5000 }[0 1024][2048 2952]
+add 4096 904 > 1 pieces by 14 true, 0 merges by 0 true
+gaps > Forest { parts: 2, held: 1928, length: 5000 }[0 1024][2048 2048]
+make 2048 2048 > 1 pieces by 32 true
+bytes > Prepared { offset: 2048, bytes: 2048 } back true
+bytes > no part
+add 2048 2048 > 1 pieces by 32 true, 0 merges by 0 true
+add 0 1024 > 1 pieces by 15 true, 2 merges by 4 true
+gaps > Forest { parts: 4, held: 5000, length: 5000 }
+open 2048 > open 2048
+add 0 1 > 1 pieces by 0 true, 0 merges by 0 true
+gaps > Forest { parts: 1, held: 1, length: 1 }
+",
+    )
+}
+
 // Each order has one top.
 #[test]
 fn three_parts_in_any_order(rt: HostRuntime) -> Result<(), Fail> {
