@@ -1,6 +1,5 @@
 -- What a book and its shares say was accepted.
-use Rattle.std.specs.Prelude.{◌≡◌, ℕ, ◌+◌, ◌^◌, ◌<◌, List, ◌++◌, codes}
-use Rattle.std.specs.Fmt.{decimal}
+use Rattle.std.specs.Prelude.{◌≡◌, ℕ, ◌+◌, ◌^◌, ◌<◌}
 use Rattle.store_ledger.specs.declared.book.Accepted.{Accepted}
 use Rattle.store_ledger.specs.declared.holding.Holding.{Holding}
 use Rattle.store_ledger.specs.declared.refusal.NotWhole.{NotWhole}
@@ -36,11 +35,3 @@ Agrees a h = (h.bytes ≡ a.bytes) × (h.calls ≡ a.calls)
 -- what the book has beyond the share, which is not nothing
 abbrev pub IsMissing : Accepted → Holding → NotWhole → Type 0
 IsMissing a h missing = (h.bytes + missing.bytes ≡ a.bytes) × (h.calls + missing.calls ≡ a.calls) × (0 < missing.bytes + missing.calls)
-
--- what is shown of a book that is full
-abbrev pub full_text : List ℕ
-full_text = codes "the book is full"
-
--- what is shown of a share that is not whole
-abbrev pub missing_text : NotWhole → List ℕ
-missing_text missing = codes "the share is not whole: missing bytes " ++ (decimal missing.bytes ++ (codes ", calls " ++ decimal missing.calls))

@@ -1,7 +1,7 @@
 //! Why a book records nothing, and why a share does not settle.
 
-ghost use Rattle.std.specs.Prelude.{Some};
-ghost use Rattle.store_ledger.specs.Shares.{full_text, missing_text};
+ghost use Rattle.std.specs.Prelude.{◌≡◌, Some};
+ghost use Rattle.store_ledger.specs.Refusals.{full_code, full_text, missing_code, missing_text};
 
 use std::error::Error;
 use std::fmt;
@@ -10,11 +10,21 @@ use std::fmt;
 #[derive(Clone, Copy, Debug, PartialEq, Eq, Hash)]
 pub struct BookFull;
 
+impl BookFull {
+    /// The refusal's number, `L2`.
+    pub fn code(self) -> &'static str
+        ensures { result.now ≡ full_code }
+    {
+        "L2"
+    }
+}
+
+/// `L2: the book is full`.
 impl fmt::Display for BookFull {
     ghost output = { λ _. Some full_text };
 
     fn fmt<W: fmt::Write>(&self, f: &mut fmt::Formatter<W>) -> fmt::Result {
-        f.write_str("the book is full")
+        write!(f, "{}: the book is full", self.code())
     }
 }
 
@@ -27,6 +37,16 @@ pub struct NotWhole {
     pub calls: u64,
 }
 
+impl NotWhole {
+    /// The refusal's number, `L1`.
+    pub fn code(self) -> &'static str
+        ensures { result.now ≡ missing_code }
+    {
+        "L1"
+    }
+}
+
+/// `L1: the share is not whole: missing bytes N, calls N`.
 impl fmt::Display for NotWhole {
     ghost output = { λ missing. Some (missing_text missing) };
 
@@ -35,7 +55,8 @@ impl fmt::Display for NotWhole {
         let calls = self.calls;
         write!(
             f,
-            "the share is not whole: missing bytes {bytes}, calls {calls}"
+            "{}: the share is not whole: missing bytes {bytes}, calls {calls}",
+            self.code()
         )
     }
 }
