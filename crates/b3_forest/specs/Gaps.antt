@@ -1,5 +1,5 @@
 -- What an upload leaves out.
-use Rattle.std.specs.Prelude.{ℕ, ◌<◌, ◌≤◌, ◌-◌, ◌+◌, nat_lt, true, false, List, [], ◌∷◌, ◌++◌}
+use Rattle.std.specs.Prelude.{ℕ, ◌-◌, nat_lt, true, false, List, [], ◌∷◌, ◌++◌}
 use Rattle.b3_forest.specs.Parts.{Part, end_of}
 use Rattle.b3_forest.specs.Uploads.{Upload, length_of}
 use Rattle.b3_forest.specs.declared.gap.Gap.{Gap}

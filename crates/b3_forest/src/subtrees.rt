@@ -1,6 +1,6 @@
 //! The pieces of an upload in a map, by their first chunk.
 
-ghost use Rattle.std.specs.Prelude.{◌≡◌, ◌≢◌, ℕ, ◌+◌, ◌-◌, ◌*◌, ◌^◌, ◌<◌, ◌≤◌, ◌∷◌, List, [], IfNone, IfSome, OnErr, OnOk, false, length, true};
+ghost use Rattle.std.specs.Prelude.{◌≡◌, ◌≢◌, ℕ, ◌+◌, ◌-◌, ◌*◌, ◌/◌, ◌%◌, ◌^◌, ◌<◌, ◌≤◌, ◌∷◌, List, [], IfNone, IfSome, OnErr, OnOk, false, length, true};
 ghost use Rattle.std.specs.Map.{values_of};
 ghost use Rattle.b3_core.specs.Laws.{NeighboursJoin};
 ghost use Rattle.b3_core.specs.Work.{counted};
@@ -42,13 +42,23 @@ pub(crate) fn put_in(
     Ok(())
 }
 
+// Whether a range of `width` chunks is the left half of the aligned range of twice as many.
+fn is_left_half(first: u64, width: u64) -> bool
+    requires { 0 < width }
+    ensures yes { result ≡ true → first / width % 2 ≡ 0 }
+    ensures no { result ≡ false → first / width % 2 ≢ 0 }
+    ensures behind { result ≡ false → width ≤ first }
+{
+    first / width % 2 == 0
+}
+
 // The chunk with which the other half begins, of a range of `width` chunks.
 fn other_half(first: u64, width: u64) -> u64
     requires some { 0 < width }
     requires within { first + width ≤ most_chunks }
     ensures { (l q : ℕ) → width ≡ 2 ^ l → first ≡ q * 2 ^ l → IsOtherHalf first l result }
 {
-    if first / width % 2 == 0 {
+    if is_left_half(first, width) {
         first + width
     } else {
         first - width

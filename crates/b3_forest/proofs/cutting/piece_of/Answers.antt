@@ -1,10 +1,14 @@
-use Rattle.std.proofs.Common.{◌≡◌, ℕ, List, ◌-◌, ◌*◌, ◌^◌, min, length, take, drop, arith, ap, sym, ◌∙◌}
+use Rattle.std.proofs.Common.{◌≡◌, ℕ, List, ◌-◌, ◌*◌, ◌^◌, min, length, take, drop, arith, ap, ap₂, sym, ◌∙◌}
 use Rattle.std.proofs.lemmas.List.{take_min, length-drop, length-take-le}
 use Rattle.b3_core.specs.Modes.{hash_mode}
 use Rattle.b3_core.specs.Tree.{Inputs, Keying, tree_top}
 use Rattle.b3_forest.proofs.Ranges.{content_within}
 use Rattle.b3_forest.specs.declared.piece.Piece.{Piece}
 use Rattle.b3_forest.proofs.cutting.piece_of.Goals as goal
+
+-- one number and one mode, one top
+same_top : (x : List ℕ) (c d : ℕ) (p q : Keying) → c ≡ d → p ≡ q → tree_top x c p ≡ tree_top x d q
+same_top x c d p q number mode = ap₂ (λ (i : ℕ) (m : Keying). tree_top x i m) number mode
 
 pub returns-clause-piece : goal.returns-clause-piece
 returns-clause-piece c =
@@ -19,7 +23,7 @@ returns-clause-piece c =
     let bytes : take (c.min-end.result - skip) (drop skip b) ≡ take n (drop (1024 * (c.args.first - c.args.start)) b) =
     ap (λ i. take i (drop skip b)) count ∙ take_min n (drop skip b) ∙ ap (λ i. take n (drop i b)) place in
     let top = c.of_subtree-top.ensures.node
-    ∙ ap (λ (m : Keying). tree_top (take (c.min-end.result - skip) (drop skip b)) c.args.first m) c.hash.ensures
+    ∙ same_top _ _ c.args.first _ hash_mode (omega arith) c.hash.ensures
     ∙ ap (λ (x : List ℕ). tree_top x c.args.first hash_mode) (bytes ∙ sym content) in
     let Made : Inputs → Piece = λ t. record { first = c.args.first; level = c.args.level; top = t } in
     ap Made top
@@ -32,6 +36,6 @@ of_subtree-top-requires c =
     let len : length (take (c.min-end.result - skip) (drop skip b)) ≡ c.min-end.result - skip = length-take-le (c.min-end.result - skip) (drop skip b) (omega arith) in
     let (q, at) = c.requires.aligned in
     record {
-      subtree = ((λ none. absurd (omega (arith, none, len))), c.args.level, q, omega (arith, len), at);
+      subtree = ((λ none. absurd (omega (arith, none, len))), c.args.level, q, omega (arith, len), omega (arith, at));
       number = omega (arith, len);
     }
