@@ -2,7 +2,7 @@
 
 use crate::fakes::pattern;
 use crate::scripts::{Answers, cut, number, told, two_numbers};
-use b3_core::Work;
+use b3_core::{Runtime, Work};
 use b3_forest::{Follow, NoteFault, PartFault, Plan, Prepared};
 use std::alloc::{AllocError, Global};
 use std::process::Abort;
@@ -94,7 +94,11 @@ impl Lent<'_> {
 }
 
 // What is told of the script over these bytes.
-fn told_of<R: AllocGlobal>(rt: &R, bytes: &[u8], script: &str) -> Result<String, AllocError> {
+fn told_of<R: AllocGlobal + Runtime>(
+    rt: &R,
+    bytes: &[u8],
+    script: &str,
+) -> Result<String, AllocError> {
     let Ok(follow) = Follow::new(rt.alloc(), bytes) else {
         return format!(in rt.alloc(); "F1");
     };
@@ -107,7 +111,7 @@ fn told_of<R: AllocGlobal>(rt: &R, bytes: &[u8], script: &str) -> Result<String,
 }
 
 /// Over these bytes the script's lines are answered as they say. Where the test's own memory is refused, all is done again.
-pub(crate) fn holds<R: AllocGlobal + Abort>(
+pub(crate) fn holds<R: AllocGlobal + Runtime + Abort>(
     rt: &R,
     bytes: &[u8],
     script: &str,

@@ -4,7 +4,7 @@
 
 use crate::fakes::{is_pattern, pattern};
 use crate::scripts::{Answers, cut, number, told, two_numbers};
-use b3_core::{Top, Work};
+use b3_core::{Runtime, Top, Work};
 use b3_forest::{AddFault, AddRefused, Forest, PartFault, PartRefused, Plan, Prepared, TooLong};
 use std::alloc::{AllocError, Global};
 use std::process::Abort;
@@ -240,7 +240,11 @@ fn is_part(part: &Prepared, plan: &Plan, offset: u64, size: u64) -> bool {
 }
 
 // What is told of the script.
-fn told_of<R: AllocGlobal>(rt: &R, plan: Plan, script: &str) -> Result<String, AllocError> {
+fn told_of<R: AllocGlobal + Runtime>(
+    rt: &R,
+    plan: Plan,
+    script: &str,
+) -> Result<String, AllocError> {
     let mut on = Upload {
         alloc: rt.alloc(),
         forest: Forest::new(rt.alloc(), plan),
@@ -254,7 +258,7 @@ fn told_of<R: AllocGlobal>(rt: &R, plan: Plan, script: &str) -> Result<String, A
 }
 
 /// The script's lines are answered as they say. Where the test's own memory is refused, all is done again.
-pub(crate) fn holds<R: AllocGlobal + Abort>(rt: &R, script: &str) -> Result<(), Fail> {
+pub(crate) fn holds<R: AllocGlobal + Runtime + Abort>(rt: &R, script: &str) -> Result<(), Fail> {
     let plan = Plan::new(0).ok().ok_or("no plan")?;
     let told = match told_of(rt, plan, script) {
         Ok(told) => told,

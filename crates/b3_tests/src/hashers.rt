@@ -2,12 +2,12 @@
 
 use crate::fakes::pattern;
 use crate::helpers::{CONTEXT, KEY};
-use b3_core::{Hasher, Mode, Work, hash};
+use b3_core::{Hasher, Mode, Runtime, Work, hash};
 use std::process::Abort;
 use std::test::Fail;
 
 // Pieces of these sizes in turn, and then the rest, give the hash of the whole by as many compressions.
-fn agree<R: AllocGlobal + Abort>(rt: &R, mode: &Mode, bytes: &[u8], sizes: &[usize]) {
+fn agree<R: AllocGlobal + Runtime + Abort>(rt: &R, mode: &Mode, bytes: &[u8], sizes: &[usize]) {
     let mut work = Work::new(rt);
     let mut hasher = Hasher::new(mode);
     let mut rest = bytes;

@@ -3,7 +3,7 @@
 use crate::fakes::pattern;
 use crate::helpers::{CONTEXT, KEY, digest};
 use crate::scripts::{cut, number};
-use b3_core::{Hasher, Mode, OutputReader, Top, Work, compress, hash, hash_wide};
+use b3_core::{Hasher, Mode, OutputReader, Runtime, Top, Work, compress, hash, hash_wide};
 use std::process::Abort;
 use std::test::Fail;
 
@@ -53,7 +53,7 @@ fn are_all(mode: &Mode, bytes: &[u8], wanted: &[u8; 32], count: u64, work: &mut 
 }
 
 // The pattern of this length has that many compressions, and these hashes in the three modes.
-fn has_hashes<R: AllocGlobal + Abort>(rt: &R, row: &str) -> Result<(), Fail> {
+fn has_hashes<R: AllocGlobal + Runtime + Abort>(rt: &R, row: &str) -> Result<(), Fail> {
     let (len, row) = cut(row);
     let (count, row) = cut(row);
     let (plain, row) = cut(row);

@@ -3,7 +3,7 @@
 use crate::fakes::pattern;
 use crate::helpers::{CONTEXT, KEY};
 use crate::scripts::{Answers, cut, number, told, two_numbers};
-use b3_core::{Mode, Top, Work, is_subtree};
+use b3_core::{Mode, Runtime, Top, Work, is_subtree};
 use std::alloc::{AllocError, Global};
 use std::fmt::Write;
 use std::process::Abort;
@@ -86,7 +86,7 @@ impl Nodes {
 }
 
 // In a mode the script's lines are answered as they say.
-fn holds<R: AllocGlobal + Abort>(rt: &R, mode: Mode, script: &str) -> Result<(), Fail> {
+fn holds<R: AllocGlobal + Runtime + Abort>(rt: &R, mode: Mode, script: &str) -> Result<(), Fail> {
     let mut work = Work::new(rt);
     let none = Top::of_chunk(&mode, &[], 0, &mut work);
     let mut nodes = Nodes {

@@ -2,7 +2,7 @@
 
 use crate::helpers::KEY;
 use crate::scripts::{Answers, cut, number, told};
-use b3_core::{Mode, OutputReader, Top, Work};
+use b3_core::{Mode, OutputReader, Runtime, Top, Work};
 use std::alloc::{AllocError, Global};
 use std::process::Abort;
 use std::test::Fail;
@@ -50,7 +50,7 @@ impl Output {
 }
 
 // The script's lines are answered as they say.
-fn holds<R: AllocGlobal + Abort>(rt: &R, script: &str) -> Result<(), Fail> {
+fn holds<R: AllocGlobal + Runtime + Abort>(rt: &R, script: &str) -> Result<(), Fail> {
     let mut work = Work::new(rt);
     let top = Top::of_chunk(&Mode::hash(), b"abc", 0, &mut work);
     let mut output = Output {

@@ -1,6 +1,6 @@
 //! Parts added to a forest that holds many pieces.
 
-use b3_core::Work;
+use b3_core::{Runtime, Work};
 use b3_forest::{Forest, Plan, Prepared};
 use std::alloc::Global;
 use std::io;
@@ -52,7 +52,10 @@ fn time_parts<R: Clock + AllocGlobal>(
 
 /// Times `Forest::add` where 2^log2 pieces are held, alternate chunks of an upload: parts behind all of them, which
 /// merge with nothing, and parts among them, which do.
-pub fn time_add(rt: &(impl Print + Eprint + Clock + AllocGlobal), log2: u16) -> io::Result<()> {
+pub fn time_add(
+    rt: &(impl Print + Eprint + Clock + AllocGlobal + Runtime),
+    log2: u16,
+) -> io::Result<()> {
     let mut work = Work::new(rt);
     let pieces = 1u64.wrapping_shl(log2.min(20) as u32);
     let Ok(plan) = Plan::new(1 << 40) else {
@@ -111,7 +114,7 @@ fn time_until<R: Clock + AllocGlobal>(
 
 /// Times `Forest::add` of 2^16 parts of one chunk in an order that jumps about: the nanoseconds of a part near 2^10,
 /// 2^13 and 2^16 held parts.
-pub fn time_jumping(rt: &(impl Print + Eprint + Clock + AllocGlobal)) -> io::Result<()> {
+pub fn time_jumping(rt: &(impl Print + Eprint + Clock + AllocGlobal + Runtime)) -> io::Result<()> {
     let mut work = Work::new(rt);
     let Ok(plan) = Plan::new(1 << 26) else {
         return Err(failed());

@@ -1,6 +1,6 @@
 //! The hash of bytes in memory.
 
-use b3_core::{Mode, Work, hash, hash_wide};
+use b3_core::{Mode, Runtime, Work, hash, hash_wide};
 use std::alloc::{AllocError, Global};
 use std::io;
 use std::io::ErrorKind;
@@ -30,7 +30,10 @@ pub fn report(
 }
 
 /// Times the plain hash.
-pub fn time_hash(rt: &(impl Print + Eprint + Clock + AllocGlobal), mib: u16) -> io::Result<()> {
+pub fn time_hash(
+    rt: &(impl Print + Eprint + Clock + AllocGlobal + Runtime),
+    mib: u16,
+) -> io::Result<()> {
     let bytes = pattern(rt.alloc(), mib)?;
     let mut work = Work::new(rt);
     let start = Instant::now(rt)?;
@@ -41,7 +44,7 @@ pub fn time_hash(rt: &(impl Print + Eprint + Clock + AllocGlobal), mib: u16) -> 
 
 /// Times the hash by eight chunks at a time.
 pub fn time_hash_wide(
-    rt: &(impl Print + Eprint + Clock + AllocGlobal),
+    rt: &(impl Print + Eprint + Clock + AllocGlobal + Runtime),
     mib: u16,
 ) -> io::Result<()> {
     let bytes = pattern(rt.alloc(), mib)?;
@@ -54,7 +57,7 @@ pub fn time_hash_wide(
 
 /// Times the hash by eight chunks at a time of so many bytes, so many times.
 pub fn time_length(
-    rt: &(impl Print + Eprint + Clock + AllocGlobal),
+    rt: &(impl Print + Eprint + Clock + AllocGlobal + Runtime),
     len: u16,
     turns: u16,
 ) -> io::Result<()> {

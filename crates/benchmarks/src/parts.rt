@@ -1,6 +1,6 @@
 //! Parts of an upload, hashed alone.
 
-use b3_core::Work;
+use b3_core::{Runtime, Work};
 use b3_forest::{Plan, Prepared};
 use std::io;
 use std::io::ErrorKind;
@@ -10,7 +10,10 @@ use std::time::Instant;
 const PART_MIB: u16 = 16;
 
 /// Times `Prepared::make` over so many parts of 16 MiB.
-pub fn time_make(rt: &(impl Print + Eprint + Clock + AllocGlobal), parts: u16) -> io::Result<()> {
+pub fn time_make(
+    rt: &(impl Print + Eprint + Clock + AllocGlobal + Runtime),
+    parts: u16,
+) -> io::Result<()> {
     let mut work = Work::new(rt);
     let mut micros = 0u128;
     let Ok(plan) = Plan::new(16_777_216) else {

@@ -1,6 +1,6 @@
 //! Commands of a store that holds many objects.
 
-use b3_core::Work;
+use b3_core::{Runtime, Work};
 use b3_forest::{Plan, Prepared};
 use std::alloc::Global;
 use std::io;
@@ -44,7 +44,10 @@ fn file(
 
 /// Times a store of 2^log2 objects: the nanoseconds that the three commands of an object more take together, and those
 /// of a `forget`.
-pub fn time_store(rt: &(impl Print + Eprint + Clock + AllocGlobal), log2: u16) -> io::Result<()> {
+pub fn time_store(
+    rt: &(impl Print + Eprint + Clock + AllocGlobal + Runtime),
+    log2: u16,
+) -> io::Result<()> {
     let alloc = rt.alloc();
     let mut work = Work::new(rt);
     let objects = 1u64.wrapping_shl(log2.min(20) as u32);

@@ -3,6 +3,7 @@
 ghost use Rattle.std.specs.Prelude.{◌≡◌, ◌^◌};
 
 use crate::hashing::{pattern, report};
+use b3_core::Runtime;
 use std::io::ErrorKind;
 use std::marker::Brand;
 use std::rt::Clock;
@@ -44,7 +45,7 @@ impl<'a, K: Clock> Gate for Slow<'a, K> {
 }
 
 // Times one upload into a new store, and writes its address.
-fn time_one<B: Ledger, C: Ledger, G: Gate + Sync, T: Threads + Wait + Sync + Alloc>(
+fn time_one<B: Ledger, C: Ledger, G: Gate + Sync, T: Threads + Wait + Sync + Alloc + Runtime>(
     rt: &(impl Print + Eprint + Clock + AllocGlobal),
     threads: &T,
     gate: &G,
@@ -82,7 +83,7 @@ fn time_one<B: Ledger, C: Ledger, G: Gate + Sync, T: Threads + Wait + Sync + All
 }
 
 /// Times the call `upload` alone.
-pub fn time_upload<T: Threads + Wait + Sync + Alloc>(
+pub fn time_upload<T: Threads + Wait + Sync + Alloc + Runtime>(
     rt: &(impl Print + Eprint + Clock + AllocGlobal),
     threads: &T,
     load: Load,
@@ -93,7 +94,7 @@ pub fn time_upload<T: Threads + Wait + Sync + Alloc>(
 }
 
 /// Times an upload of 200 parts of one chunk by one worker, with a gate that takes 10 ms for each.
-pub fn time_slow_upload<T: Threads + Wait + Sync + Alloc + Clock>(
+pub fn time_slow_upload<T: Threads + Wait + Sync + Alloc + Runtime + Clock>(
     rt: &(impl Print + Eprint + Clock + AllocGlobal),
     threads: &T,
 ) -> io::Result<()> {

@@ -2,7 +2,7 @@
 //! process each time.
 
 use crate::fakes::FixedWriter;
-use b3_core::Work;
+use b3_core::{Runtime, Work};
 use std::process::Abort;
 use store_engines::{Cause, Verdict, run};
 
@@ -53,7 +53,7 @@ fn is_refused_once(writer: &FixedWriter) -> bool {
 
 // Whether the script is answered as if no growth had been refused. Where one was, the command that it was for is refused, and
 // those behind it are answered from the store as it stands; or the run ends between two answers.
-fn is_answered<R: AllocGlobal + Abort>(rt: &R) -> bool {
+fn is_answered<R: AllocGlobal + Runtime + Abort>(rt: &R) -> bool {
     let mut reader = SHARED;
     let mut writer = FixedWriter {
         taken: [0; 1024],

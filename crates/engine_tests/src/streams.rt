@@ -2,7 +2,7 @@
 
 use crate::fakes::{ByteReader, ByteWriter, NoNames};
 use crate::uploads::uploaded;
-use b3_core::Work;
+use b3_core::{Runtime, Work};
 use std::io::BufReader;
 use std::sync::Wait;
 use std::thread::Threads;
@@ -83,7 +83,7 @@ const ONE_WORKER: UploadOptions = UploadOptions {
 };
 
 // How an engine ends.
-fn ended<R: Threads + Wait + Sync + AllocGlobal>(
+fn ended<R: Threads + Wait + Sync + AllocGlobal + Runtime>(
     rt: &R,
     engine: Engine,
     names: &mut NoNames,

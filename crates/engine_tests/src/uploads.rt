@@ -1,6 +1,7 @@
 //! The engine of `upload`.
 
 use crate::fakes::{ByteReader, ByteWriter};
+use b3_core::Runtime;
 use b3_tests::pattern;
 use std::marker::Brand;
 use std::sync::Wait;
@@ -11,7 +12,7 @@ use store_command_line::UploadOptions;
 use store_engines::{Cause, Verdict, audit, upload};
 
 /// How an upload ends.
-pub(crate) fn uploaded<R: Threads + Wait + Sync + AllocGlobal>(
+pub(crate) fn uploaded<R: Threads + Wait + Sync + AllocGlobal + Runtime>(
     rt: &R,
     options: UploadOptions,
     reader: &mut ByteReader<'_>,

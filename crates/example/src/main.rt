@@ -7,7 +7,7 @@
 mod failure;
 mod sharing;
 
-use b3_core::Work;
+use b3_core::{Runtime, Work};
 use b3_forest::{Plan, Prepared};
 use failure::Failure;
 use sharing::back_up_shared;
@@ -101,7 +101,10 @@ fn give_back<W: Write>(
     Ok(())
 }
 
-fn run<T: Threads + Wait + Sync + Alloc>(rt: &HostRuntime, threads: &T) -> Result<(), Failure> {
+fn run<T: Threads + Wait + Sync + Alloc + Runtime>(
+    rt: &HostRuntime,
+    threads: &T,
+) -> Result<(), Failure> {
     let alloc = rt.alloc();
     let mut work = Work::new(rt);
     let mut input = Vec::new(alloc);

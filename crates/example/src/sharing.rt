@@ -5,6 +5,7 @@ ghost use Rattle.b3_core.specs.Modes.{hash_of};
 ghost use Rattle.store_ledger.specs.Shares.{all_parts};
 
 use crate::failure::Failure;
+use b3_core::Runtime;
 use std::alloc::Global;
 use std::marker::Brand;
 use std::sync::Wait;
@@ -20,7 +21,7 @@ const PART_CHUNKS: u64 = 1;
 const WORKERS: u64 = 2;
 
 // Files bytes in a new store by two threads, and answers their address and what the store says was accepted.
-pub fn back_up_shared<T: Threads + Wait + Sync + Alloc>(
+pub fn back_up_shared<T: Threads + Wait + Sync + Alloc + Runtime>(
     threads: &T,
     alloc: Global,
     bytes: &[u8],
@@ -32,7 +33,7 @@ pub fn back_up_shared<T: Threads + Wait + Sync + Alloc>(
 }
 
 // The same, where the two ledgers of the store's book are parameters.
-fn back_up_counted<B: Ledger, C: Ledger, T: Threads + Wait + Sync + Alloc>(
+fn back_up_counted<B: Ledger, C: Ledger, T: Threads + Wait + Sync + Alloc + Runtime>(
     threads: &T,
     alloc: Global,
     bytes: &[u8],

@@ -1,7 +1,7 @@
 //! Scripts of a store with one tenant. Behind each answer stand two counts of compressions: those of making a part, and those of the
 //! store. Where memory is refused to a command, all must be as before, and the same command is given again.
 
-use b3_core::Work;
+use b3_core::{Runtime, Work};
 use b3_forest::{PartFault, Plan, Prepared};
 use b3_tests::{Answers, cut, is_pattern, number, pattern, told, two_numbers};
 use hex::FromHex;
@@ -306,7 +306,7 @@ fn sealed_text(alloc: Global, answer: Result<Sealed, Refusal>) -> Result<String,
 }
 
 // What is told of the script.
-fn told_of<R: AllocGlobal>(rt: &R, script: &str) -> Result<String, AllocError> {
+fn told_of<R: AllocGlobal + Runtime>(rt: &R, script: &str) -> Result<String, AllocError> {
     let mut on = Scripted {
         alloc: rt.alloc(),
         store: Store::new(rt.alloc(), Limits::full()),
@@ -319,7 +319,7 @@ fn told_of<R: AllocGlobal>(rt: &R, script: &str) -> Result<String, AllocError> {
 
 /// The script's lines are answered as they say, at first by a store within the widest limits. Where the test's own memory is
 /// refused, all is done again.
-pub(crate) fn holds<R: AllocGlobal + Abort>(rt: &R, script: &str) -> Result<(), Fail> {
+pub(crate) fn holds<R: AllocGlobal + Runtime + Abort>(rt: &R, script: &str) -> Result<(), Fail> {
     let told = match told_of(rt, script) {
         Ok(told) => told,
         Err(_) => told_of(rt, script)?,

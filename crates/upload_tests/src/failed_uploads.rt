@@ -6,6 +6,7 @@ use crate::gates::{FailBoth, Rule, Signal};
 use crate::reports::aborted_after;
 use crate::strangers::Deed;
 use crate::uploading::{Cut, left_by, three_parts, uploaded};
+use b3_core::Runtime;
 use std::marker::Brand;
 use std::process::Abort;
 use std::sync::Wait;
@@ -15,7 +16,7 @@ use std::thread::Threads;
 
 // An upload of three parts by so many workers fails with one of these faults, and is aborted. The parts that were put, in their
 // order, are one of these.
-fn aborts<R: Threads + Wait + Sync + AllocGlobal + Abort>(
+fn aborts<R: Threads + Wait + Sync + AllocGlobal + Runtime + Abort>(
     rt: &R,
     rule: Rule,
     workers: u64,
@@ -72,7 +73,7 @@ fn faults_at_all_parts_end_an_upload(rt: HostRuntime) -> Result<(), Fail> {
 }
 
 // An upload leaves a text that begins so.
-fn leaves<R: Threads + Wait + Sync + AllocGlobal + Abort>(
+fn leaves<R: Threads + Wait + Sync + AllocGlobal + Runtime + Abort>(
     rt: &R,
     rule: Rule,
     cut: Cut,
@@ -164,7 +165,7 @@ fn what_is_refused_first_begins_nothing(rt: HostRuntime) -> Result<(), Fail> {
 }
 
 // What an upload leaves whose workers make the parts 0 and 1 and fail at them, with the numbers of their threads as codes.
-fn both_failed<R: Threads + Wait + Sync + AllocGlobal>(
+fn both_failed<R: Threads + Wait + Sync + AllocGlobal + Runtime>(
     rt: &R,
     gate: &FailBoth<'_>,
 ) -> Result<String, Fail> {

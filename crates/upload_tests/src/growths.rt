@@ -8,6 +8,7 @@
 ghost use Rattle.std.specs.Prelude.{◌≡◌, ◌^◌};
 
 use crate::uploading::upload_row;
+use b3_core::Runtime;
 use b3_tests::pattern;
 use std::alloc::{AllocError, Global};
 use std::marker::Brand;
@@ -45,7 +46,7 @@ fn open_in_the_end<B: Ledger, C: Ledger, R: Wait>(rt: &R, shared: &Shared<B, C>)
 }
 
 // Uploads once more, after an upload that has told want of memory. Whether that one is gone and this one is sealed.
-fn uploaded_again<B: Ledger, C: Ledger, R: Threads + Wait + Sync + AllocGlobal>(
+fn uploaded_again<B: Ledger, C: Ledger, R: Threads + Wait + Sync + AllocGlobal + Runtime>(
     rt: &R,
     shared: &Shared<B, C>,
     share: Share<B, C>,
@@ -78,12 +79,11 @@ fn ended<R: Abort>(
     Ok(())
 }
 
-fn sealed_in_the_end<B: Ledger, C: Ledger, R: Threads + Wait + Sync + AllocGlobal + Abort>(
-    rt: &R,
-    bytes: Blank,
-    calls: Blank,
-    workers: u64,
-) -> Result<(), AllocError>
+fn sealed_in_the_end<
+    B: Ledger,
+    C: Ledger,
+    R: Threads + Wait + Sync + AllocGlobal + Runtime + Abort,
+>(rt: &R, bytes: Blank, calls: Blank, workers: u64) -> Result<(), AllocError>
     requires bytes { (bytes.name ≡ B.name) × (bytes.parts ≡ B.parts) × (bytes.parts ≡ 2 ^ 32) }
     requires calls { (calls.name ≡ C.name) × (calls.parts ≡ C.parts) × (calls.parts ≡ 2 ^ 32) }
 {
@@ -106,7 +106,7 @@ fn sealed_in_the_end<B: Ledger, C: Ledger, R: Threads + Wait + Sync + AllocGloba
 }
 
 // Whatever growth is refused, the upload is sealed in the end.
-fn is_sealed<R: Threads + Wait + Sync + AllocGlobal + Abort>(
+fn is_sealed<R: Threads + Wait + Sync + AllocGlobal + Runtime + Abort>(
     rt: &R,
     workers: u64,
 ) -> Result<(), AllocError> {

@@ -4,7 +4,7 @@ ghost use Rattle.std.specs.Prelude.{◌≡◌, All, vec_len};
 ghost use Rattle.store_board.specs.Passes.{IsGiverOf, IsTakerOf};
 
 use crate::parts::part_at;
-use b3_core::Work;
+use b3_core::{Runtime, Work};
 use b3_forest::{Plan, Prepared};
 use std::alloc::{AllocError, Global};
 use std::process::Abort;
@@ -30,7 +30,7 @@ fn taken<R: Wait>(rt: &R, hand_over: &HandOver, pass: &mut TakePass) -> Option<(
 }
 
 // Gives the part of one chunk with that number, and tells the offset of the part that came back, if there was no room.
-fn given<R: Wait + AllocGlobal>(
+fn given<R: Wait + AllocGlobal + Runtime>(
     rt: &R,
     hand_over: &HandOver,
     pass: &mut GivePass,
@@ -49,7 +49,7 @@ fn given<R: Wait + AllocGlobal>(
 }
 
 // Gives two parts where there is room for one, and takes twice.
-fn give_two<R: Wait + AllocGlobal + Abort>(
+fn give_two<R: Wait + AllocGlobal + Runtime + Abort>(
     rt: &R,
     hand_over: &HandOver,
     giver: &mut GivePass,
@@ -80,7 +80,7 @@ fn a_full_queue_hands_the_part_back(rt: HostRuntime) -> Result<(), Fail> {
 }
 
 // Gives four parts, the second and the last by another giver, where there is room for two. The last stays in the queue.
-fn give_four<R: Wait + AllocGlobal + Abort>(
+fn give_four<R: Wait + AllocGlobal + Runtime + Abort>(
     rt: &R,
     hand_over: &HandOver,
     first: &mut GivePass,

@@ -4,7 +4,7 @@ ghost use Rattle.std.specs.Prelude.{◌≡◌, ◌+◌, ◌^◌, ◌<◌, ◌≤
 
 use crate::hashes::PATTERN_2048;
 use crate::parts::part_at;
-use b3_core::Work;
+use b3_core::{Runtime, Work};
 use b3_forest::{Plan, Prepared};
 use std::marker::Brand;
 use std::process::Abort;
@@ -21,13 +21,13 @@ use store_shared::{
 };
 
 // One chunk of a pattern, as a part.
-fn chunk(rt: &impl AllocGlobal, plan: &Plan, offset: u64) -> Result<Prepared, Fail> {
+fn chunk(rt: &impl AllocGlobal + Runtime, plan: &Plan, offset: u64) -> Result<Prepared, Fail> {
     let part = part_at(rt.alloc(), plan, offset, 1024, &mut Work::new(rt));
     Ok(part.ok_or("no part")?)
 }
 
 // One chunk of the pattern of 2048 bytes, as a part.
-fn half(rt: &impl AllocGlobal, offset: u64) -> Result<Prepared, Fail> {
+fn half(rt: &impl AllocGlobal + Runtime, offset: u64) -> Result<Prepared, Fail> {
     let plan = Plan::new(2048).ok().ok_or("no plan")?;
     chunk(rt, &plan, offset)
 }
@@ -68,7 +68,7 @@ fn begin_two_chunks<B: Ledger, C: Ledger, R: Wait>(
 fn two_halves<
     B: Ledger + Send + Sync,
     C: Ledger + Send + Sync,
-    R: Threads + Wait + Sync + AllocGlobal + Abort,
+    R: Threads + Wait + Sync + AllocGlobal + Runtime + Abort,
 >(rt: &R, bytes: Blank, calls: Blank, first: u64) -> Result<(), Fail>
     requires bytes { (bytes.name ≡ B.name) × (bytes.parts ≡ B.parts) × (bytes.parts ≡ 2 ^ 32) }
     requires calls { (calls.name ≡ C.name) × (calls.parts ≡ C.parts) × (calls.parts ≡ 2 ^ 32) }
@@ -150,7 +150,7 @@ const BOTH: Accepted = Accepted {
 
 // Of an upload that has both halves: asks for it and seals it, asks for the object and the tenant, whose limit is then changed,
 // and forgets the object. Each time the lock is taken anew.
-fn sealed_and_forgotten<B: Ledger, C: Ledger, R: Wait + Alloc + Abort>(
+fn sealed_and_forgotten<B: Ledger, C: Ledger, R: Wait + Alloc + Runtime + Abort>(
     rt: &R,
     shared: &Shared<B, C>,
     share: &mut Share<B, C>,
@@ -248,7 +248,7 @@ fn fix_and_seal<B: Ledger, C: Ledger, R: Wait + Abort>(
 }
 
 // A part that was put and given up counts as accepted.
-fn one_after_another<B: Ledger, C: Ledger, R: Wait + AllocGlobal + Abort>(
+fn one_after_another<B: Ledger, C: Ledger, R: Wait + AllocGlobal + Runtime + Abort>(
     rt: &R,
     bytes: Blank,
     calls: Blank,

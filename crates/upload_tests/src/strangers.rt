@@ -4,7 +4,7 @@ use crate::gates::{Rule, Signal, TURNS};
 use crate::hashes::PATTERN_2049;
 use crate::parts::part_at;
 use crate::uploading::{Cut, left_by, three_parts, upload_row};
-use b3_core::Work;
+use b3_core::{Runtime, Work};
 use b3_forest::Plan;
 use std::alloc::Global;
 use std::process::Abort;
@@ -51,7 +51,7 @@ pub(crate) enum Outcome {
 }
 
 // Puts bytes of the pattern to an upload of all 2049.
-fn put_one<B: Ledger, C: Ledger, R: Wait + Alloc>(
+fn put_one<B: Ledger, C: Ledger, R: Wait + Alloc + Runtime>(
     rt: &R,
     alloc: Global,
     shared: &Shared<B, C>,
@@ -70,7 +70,7 @@ fn put_one<B: Ledger, C: Ledger, R: Wait + Alloc>(
     lent_put(&mut *shared.lock(rt), share, upload, part, &mut work).is_ok()
 }
 
-fn seal_one<B: Ledger, C: Ledger, R: Wait + Alloc>(
+fn seal_one<B: Ledger, C: Ledger, R: Wait + Alloc + Runtime>(
     rt: &R,
     shared: &Shared<B, C>,
     upload: UploadId,
@@ -79,7 +79,7 @@ fn seal_one<B: Ledger, C: Ledger, R: Wait + Alloc>(
 }
 
 /// Begins upload 0, of 2049 bytes, and puts its last.
-pub(crate) fn begin_neighbour<B: Ledger, C: Ledger, R: Wait + Alloc>(
+pub(crate) fn begin_neighbour<B: Ledger, C: Ledger, R: Wait + Alloc + Runtime>(
     rt: &R,
     alloc: Global,
     shared: &Shared<B, C>,
@@ -90,7 +90,7 @@ pub(crate) fn begin_neighbour<B: Ledger, C: Ledger, R: Wait + Alloc>(
 }
 
 // Files all bytes by upload 2, in one part.
-fn file_all<B: Ledger, C: Ledger, R: Wait + Alloc>(
+fn file_all<B: Ledger, C: Ledger, R: Wait + Alloc + Runtime>(
     rt: &R,
     alloc: Global,
     shared: &Shared<B, C>,
@@ -142,7 +142,7 @@ fn holds<B: Ledger, C: Ledger, R: Wait>(rt: &R, shared: &Shared<B, C>, bytes: u6
 }
 
 // Does it, and then lets the gate pass all parts. What is put or filed comes behind the parts that the gate does not hold.
-fn is_done<B: Ledger, C: Ledger, R: Wait + Alloc>(
+fn is_done<B: Ledger, C: Ledger, R: Wait + Alloc + Runtime>(
     rt: &R,
     alloc: Global,
     shared: &Shared<B, C>,
@@ -174,7 +174,7 @@ fn is_done<B: Ledger, C: Ledger, R: Wait + Alloc>(
 }
 
 /// Does it beside an upload of these bytes. What is no upload is done once the gate was asked.
-pub(crate) fn meanwhile<B: Ledger, C: Ledger, R: Threads + Wait + Sync + Alloc>(
+pub(crate) fn meanwhile<B: Ledger, C: Ledger, R: Threads + Wait + Sync + Alloc + Runtime>(
     rt: &R,
     alloc: Global,
     shared: &Shared<B, C>,
@@ -241,7 +241,7 @@ const BESIDE: &[Beside] = &[
 ];
 
 // What is left by an upload that is held at its last part while the stranger acts, the other two parts put in this order.
-fn leaves<R: Threads + Wait + Sync + AllocGlobal + Abort>(
+fn leaves<R: Threads + Wait + Sync + AllocGlobal + Runtime + Abort>(
     rt: &R,
     beside: Beside,
     workers: u64,
@@ -296,7 +296,7 @@ fn an_upload_that_was_aborted_is_refused(rt: HostRuntime) -> Result<(), Fail> {
 
 // Whether a part that passed was dropped, by an upload of 128 parts that is stopped at part 1. While the lock is kept, the workers
 // fill the queue and wait for room. Then the one at part 1 stops, and part 0 is let pass.
-fn is_dropped<R: Threads + Wait + Sync + AllocGlobal + Abort>(
+fn is_dropped<R: Threads + Wait + Sync + AllocGlobal + Runtime + Abort>(
     rt: &R,
     workers: u64,
 ) -> Result<bool, Fail> {

@@ -5,6 +5,7 @@ ghost use Rattle.std.specs.Prelude.{◌≡◌, ◌^◌};
 use crate::gates::{Checkpoint, Rule, Signal};
 use crate::reports::{left_text, told_text};
 use crate::strangers::{Deed, Outcome, begin_neighbour, meanwhile};
+use b3_core::Runtime;
 use b3_tests::pattern;
 use std::alloc::Global;
 use std::marker::Brand;
@@ -46,7 +47,7 @@ pub(crate) fn three_parts(workers: u64) -> Cut {
 }
 
 /// Uploads bytes, and tells whether they were new.
-pub(crate) fn upload_row<B: Ledger, C: Ledger, G: Gate + Sync, R: Threads + Wait + Sync + Alloc>(
+pub(crate) fn upload_row<B: Ledger, C: Ledger, G: Gate + Sync, R: Threads + Wait + Sync + Alloc + Runtime>(
     rt: &R,
     alloc: Global,
     shared: &Shared<B, C>,
@@ -114,7 +115,7 @@ pub(crate) fn uploaded<
     B: Ledger + Send + Sync,
     C: Ledger + Send + Sync,
     G: Gate + Sync,
-    R: Threads + Wait + Sync + AllocGlobal,
+    R: Threads + Wait + Sync + AllocGlobal + Runtime,
 >(
     rt: &R,
     bytes: Blank,
@@ -167,7 +168,7 @@ pub(crate) fn uploaded<
 }
 
 /// What an upload under a gate that does as the rule says was told, and what it and the stranger leave.
-pub(crate) fn left_by<R: Threads + Wait + Sync + AllocGlobal>(
+pub(crate) fn left_by<R: Threads + Wait + Sync + AllocGlobal + Runtime>(
     rt: &R,
     rule: Rule,
     signal: &Signal,

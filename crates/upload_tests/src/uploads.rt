@@ -3,13 +3,14 @@
 use crate::gates::{Rule, Signal};
 use crate::strangers::Deed;
 use crate::uploading::{Cut, left_by, three_parts};
+use b3_core::Runtime;
 use std::process::Abort;
 use std::sync::Wait;
 use std::test::Fail;
 use std::thread::Threads;
 
 // An upload for tenant 1 in parts of one chunk, beside which a stranger may do something, leaves a text that begins and ends so.
-fn leaves<R: Threads + Wait + Sync + AllocGlobal + Abort>(
+fn leaves<R: Threads + Wait + Sync + AllocGlobal + Runtime + Abort>(
     rt: &R,
     rule: Rule,
     signal: &Signal,
