@@ -1,8 +1,11 @@
 //! How much a store takes.
 
-ghost use Rattle.std.specs.Prelude.{◌≡◌, ◌<◌, ◌≤◌, ◌⊎◌, ◌↔◌, IfOk, IsErr};
+ghost use Rattle.std.specs.Prelude.{◌≡◌, ◌<◌, ◌≤◌, ◌⊎◌, ◌↔◌, IfOk, IsErr, Some};
+ghost use Rattle.store_core.specs.Refusals.{bad_limits_code, bad_limits_text};
 ghost use Rattle.store_journal.specs.Replay.{most_entries, most_tenants};
 
+use std::error::Error;
+use std::fmt;
 use store_journal::{MOST_ENTRIES, MOST_TENANTS};
 
 // The most workers of an upload.
@@ -11,6 +14,30 @@ const MOST_WORKERS: u64 = 16;
 /// S0: a limit is zero, or above 2^16 tenants, 2^32 entries or 16 workers.
 #[derive(Clone, Copy, Debug, PartialEq, Eq)]
 pub struct BadLimits;
+
+impl BadLimits {
+    /// The refusal's number, `S0`.
+    pub fn code(self) -> &'static str
+        ensures { result.now ≡ bad_limits_code }
+    {
+        "S0"
+    }
+}
+
+/// `S0: a limit is zero, or more than a store takes`.
+impl fmt::Display for BadLimits {
+    ghost output = { λ _. Some bad_limits_text };
+
+    fn fmt<W: fmt::Write>(&self, f: &mut fmt::Formatter<W>) -> fmt::Result {
+        write!(
+            f,
+            "{}: a limit is zero, or more than a store takes",
+            self.code()
+        )
+    }
+}
+
+impl Error for BadLimits {}
 
 /// How many tenants, journal entries and workers of an upload a store allows.
 #[derive(Clone, Copy, Debug, PartialEq, Eq)]

@@ -1,9 +1,10 @@
 //! Why a command or a question is refused.
 
-ghost use Rattle.std.specs.Prelude.{Some};
-ghost use Rattle.store_core.specs.Refusals.{refusal_text};
+ghost use Rattle.std.specs.Prelude.{◌≡◌, Some};
+ghost use Rattle.store_core.specs.Refusals.{refusal_code, refusal_text};
 
 use b3_forest::Prepared;
+use std::error::Error;
 use std::fmt;
 use store_journal::Address;
 
@@ -46,6 +47,32 @@ pub enum Refusal {
     NotFixed,
 }
 
+impl Refusal {
+    /// The refusal's number, `S1` to `S16`.
+    pub fn code(self) -> &'static str
+        ensures { result.now ≡ refusal_code self }
+    {
+        match self {
+            Refusal::NoTenant => "S1",
+            Refusal::TenantsFull => "S2",
+            Refusal::LimitTooLarge => "S3",
+            Refusal::BelowUse { .. } => "S4",
+            Refusal::TooLong => "S5",
+            Refusal::OverQuota { .. } => "S6",
+            Refusal::NoUpload => "S7",
+            Refusal::WrongPlan => "S8",
+            Refusal::Overlap { .. } => "S9",
+            Refusal::Incomplete { .. } => "S10",
+            Refusal::WrongAddress { .. } => "S11",
+            Refusal::NotHeld => "S12",
+            Refusal::JournalFull => "S13",
+            Refusal::NoMemory => "S14",
+            Refusal::PastLast { .. } => "S15",
+            Refusal::NotFixed => "S16",
+        }
+    }
+}
+
 /// The refusal's name with what it carries: `S4 use N`, `S6 free N`, `S9 at N`, `S10 missing N`, `S11 found ADDRESS`, `S15 end N`,
 /// and the name alone for all others.
 impl fmt::Display for Refusal {
@@ -53,25 +80,27 @@ impl fmt::Display for Refusal {
 
     fn fmt<W: fmt::Write>(&self, f: &mut fmt::Formatter<W>) -> fmt::Result {
         match self {
-            Refusal::NoTenant => write!(f, "S1"),
-            Refusal::TenantsFull => write!(f, "S2"),
-            Refusal::LimitTooLarge => write!(f, "S3"),
-            Refusal::BelowUse { in_use } => write!(f, "S4 use {in_use}"),
-            Refusal::TooLong => write!(f, "S5"),
-            Refusal::OverQuota { free } => write!(f, "S6 free {free}"),
-            Refusal::NoUpload => write!(f, "S7"),
-            Refusal::WrongPlan => write!(f, "S8"),
-            Refusal::Overlap { at } => write!(f, "S9 at {at}"),
-            Refusal::Incomplete { missing } => write!(f, "S10 missing {missing}"),
-            Refusal::WrongAddress { found } => write!(f, "S11 found {found}"),
-            Refusal::NotHeld => write!(f, "S12"),
-            Refusal::JournalFull => write!(f, "S13"),
-            Refusal::NoMemory => write!(f, "S14"),
-            Refusal::PastLast { end } => write!(f, "S15 end {end}"),
-            Refusal::NotFixed => write!(f, "S16"),
+            Refusal::NoTenant => write!(f, "{}", self.code()),
+            Refusal::TenantsFull => write!(f, "{}", self.code()),
+            Refusal::LimitTooLarge => write!(f, "{}", self.code()),
+            Refusal::BelowUse { in_use } => write!(f, "{} use {in_use}", self.code()),
+            Refusal::TooLong => write!(f, "{}", self.code()),
+            Refusal::OverQuota { free } => write!(f, "{} free {free}", self.code()),
+            Refusal::NoUpload => write!(f, "{}", self.code()),
+            Refusal::WrongPlan => write!(f, "{}", self.code()),
+            Refusal::Overlap { at } => write!(f, "{} at {at}", self.code()),
+            Refusal::Incomplete { missing } => write!(f, "{} missing {missing}", self.code()),
+            Refusal::WrongAddress { found } => write!(f, "{} found {found}", self.code()),
+            Refusal::NotHeld => write!(f, "{}", self.code()),
+            Refusal::JournalFull => write!(f, "{}", self.code()),
+            Refusal::NoMemory => write!(f, "{}", self.code()),
+            Refusal::PastLast { end } => write!(f, "{} end {end}", self.code()),
+            Refusal::NotFixed => write!(f, "{}", self.code()),
         }
     }
 }
+
+impl Error for Refusal {}
 
 /// A part that was not put, handed back.
 #[derive(Drop)]
@@ -79,3 +108,30 @@ pub struct PutRefused {
     pub refusal: Refusal,
     pub part: Prepared,
 }
+
+impl PutRefused {
+    /// The refusal's number.
+    pub fn code(&self) -> &'static str
+        ensures { result.now ≡ refusal_code self.now.refusal }
+    {
+        self.refusal.code()
+    }
+}
+
+/// The refusal's text.
+impl fmt::Display for PutRefused {
+    ghost output = { λ refused. Some (refusal_text refused.refusal) };
+
+    fn fmt<W: fmt::Write>(&self, f: &mut fmt::Formatter<W>) -> fmt::Result {
+        write!(f, "{}", self.refusal)
+    }
+}
+
+/// The refusal, without the part's bytes.
+impl fmt::Debug for PutRefused {
+    fn fmt<W: fmt::Write>(&self, f: &mut fmt::Formatter<W>) -> fmt::Result {
+        write!(f, "PutRefused {{ refusal: {:?}, .. }}", self.refusal)
+    }
+}
+
+impl Error for PutRefused {}
