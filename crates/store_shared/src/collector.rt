@@ -1,6 +1,6 @@
 //! The collector of an upload: it notes the parts that workers hand over, and puts them.
 
-ghost use Rattle.std.specs.Prelude.{◌≡◌, [], ◌∷◌, ◌⊎◌, IfErr, IfOk, IfSome, None, OnErr, OnOk, Some, map};
+ghost use Rattle.std.specs.Prelude.{◌≡◌, [], ◌∷◌, ◌⊎◌, Err, IfErr, IfOk, IfSome, None, OnErr, OnOk, Some, map};
 ghost use Rattle.b3_core.specs.Modes.{hash_of};
 ghost use Rattle.b3_forest.specs.Followed.{AllNoted};
 ghost use Rattle.store_board.specs.Passes.{IsTakerOf};
@@ -22,7 +22,7 @@ use b3_forest::{Follow, NoteFault, Prepared};
 use std::alloc::Global;
 use std::sync::Wait;
 use std::sync::ledger::Ledger;
-use store_board::{HandOver, TakePass, Taken};
+use store_board::{HandOver, TakePass, Taken, Unasked};
 use store_core::{Address, PutRefused, UploadId};
 use store_ledger::Share;
 
@@ -109,7 +109,7 @@ fn put_all<B: Ledger, C: Ledger, R: Wait>(
 fn take_some<R: Wait>(
     rt: &R,
     alloc: Global,
-    hand_over: &HandOver,
+    hand_over: &HandOver<Unasked>,
     pass: &mut TakePass,
 ) -> Result<Vec<Prepared>, UploadFaultKind>
     requires { IsTakerOf hand_over.now pass.old }
@@ -232,6 +232,9 @@ impl<'a, B: Ledger, C: Ledger> Collector<'a, B, C> {
     ) -> (Share<B, C>, Result<Address, UploadFaultKind>)
         ensures share { result.0 ≡ self.entry.share }
         ensures address { IfOk result.1 (λ a. (self.entry.fault ≡ None) × (a ≡ hash_of self.entry.follow.bytes) × AllNoted self.entry.follow) }
+        ensures workers { OnOk result.1 (workers_fault ≡ None) }
+        ensures own { IfSome self.entry.fault (λ kind. result.1 ≡ Err kind) }
+        ensures theirs { self.entry.fault ≡ None → IfSome workers_fault (λ kind. result.1 ≡ Err kind) }
         ensures fault { IfErr result.1 (λ kind. (self.entry.fault ≡ Some kind) ⊎ (workers_fault ≡ Some kind) ⊎ (kind ≡ StrangePart)) }
     {
         let Collector {

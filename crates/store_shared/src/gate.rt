@@ -1,7 +1,9 @@
 //! Gates, which a worker asks after each part.
 
-ghost use Rattle.std.specs.Prelude.{IfErr, ℕ};
+ghost use Rattle.std.specs.Prelude.{IfErr, OnOk, ℕ, ⊤};
 ghost use Rattle.store_shared.specs.Gates.{IsGateAnswer};
+
+use store_board::Draw;
 
 /// What a gate answers to end an upload.
 #[derive(Clone, Copy, Debug, PartialEq, Eq)]
@@ -12,16 +14,19 @@ pub enum GateStop {
     Fault(u64),
 }
 
-/// What a worker asks after it has hashed a part, before it hands the part over. An implementation says by the two
-/// ghost members for which parts it may answer Stop, and for which parts each code.
+/// What a worker asks after it has hashed a part, before it hands the part over. An implementation says by three
+/// ghost members for which parts it may answer Stop, for which parts each code, and what a yes means for a part.
 pub trait Gate {
     ghost may_stop: { Self → ℕ → Type 0 };
 
     ghost may_fault: { Self → ℕ → ℕ → Type 0 };
 
+    ghost has_passed: { Self → ℕ → Type 0 };
+
     /// Whether the part of this number may pass.
-    fn passed(&self, part: u64) -> Result<(), GateStop>
-        ensures { IfErr result (IsGateAnswer (may_stop self.now) (may_fault self.now) part) };
+    fn passed(&self, part: Draw) -> Result<(), GateStop>
+        ensures err { IfErr result (IsGateAnswer (may_stop self.now) (may_fault self.now) part.number) }
+        ensures ok { OnOk result (has_passed self.now part.number) };
 }
 
 /// A gate that passes all parts.
@@ -33,7 +38,9 @@ impl Gate for PassAll {
 
     ghost may_fault = { λ gate part code. ⊥ };
 
-    fn passed(&self, _part: u64) -> Result<(), GateStop> {
+    ghost has_passed = { λ gate part. ⊤ };
+
+    fn passed(&self, _part: Draw) -> Result<(), GateStop> {
         Ok(())
     }
 }

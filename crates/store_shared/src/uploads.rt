@@ -1,18 +1,19 @@
 //! Uploads by several workers.
 
-ghost use Rattle.std.specs.Prelude.{◌≡◌, ◌+◌, ◌<◌, ◌≤◌, ◌^◌, ℕ, [], All, Err, IfErr, IfOk, IfSome, None, OnErr, OnOk, length};
+ghost use Rattle.std.specs.Prelude.{◌≡◌, ◌+◌, ◌<◌, ◌≤◌, ◌^◌, ℕ, [], All, Err, IfErr, IfOk, IfSome, IsTrue, None, OnErr, OnOk, length, max, min, vec_capacity, vec_len};
 ghost use Rattle.std.specs.Arc.{arc_value};
 ghost use Rattle.b3_core.specs.Modes.{hash_of};
 ghost use Rattle.b3_forest.specs.Parts.{most_bytes};
 ghost use Rattle.store_board.specs.Passes.{IsTakerOf};
+ghost use Rattle.store_board.specs.Seats.{IsSeatOf, seats_of};
 ghost use Rattle.store_shared.specs.Cuts.{IsBadCut, RoseBySome, cut_of};
 ghost use Rattle.store_shared.specs.Gates.{IsOwnFault, MayStop};
-ghost use Rattle.store_shared.specs.Uploading.{AreNoted, Cutting, IsCollected, IsUploaded};
-ghost use Rattle.store_shared.specs.Workers.{AreWorkersOf};
+ghost use Rattle.store_shared.specs.Uploading.{AreNoted, Cutting, IsCollected, IsUploaded, count_of};
+ghost use Rattle.store_shared.specs.Workers.{AllPassed, AreWorkersOf, IsReportOf, fault_of_first};
 ghost use Rattle.store_shared.specs.declared.fault.UploadFaultKind.TheVariants.{BadCut, GateFault, Stopped};
 
 use crate::collector::Collector;
-use crate::crew::{join_all, start_all, workers_of};
+use crate::crew::{first_fault, join_all, seats_from, start_all, workers_of};
 use crate::cut::{Cut, MOST_PART_CHUNKS};
 use crate::fault::{UploadFault, UploadFaultKind};
 use crate::gate::Gate;
@@ -20,7 +21,7 @@ use crate::job::{Exchange, Job};
 use crate::lent::{lent_abort, lent_begin, lent_seal_as};
 use crate::progress::Progress;
 use crate::shared::Shared;
-use crate::worker::{FaultOf, Worker};
+use crate::worker::{Report, ReportOf, Worker};
 use b3_core::Work;
 use b3_forest::Follow;
 use std::alloc::Global;
@@ -28,7 +29,7 @@ use std::sync::Wait;
 use std::sync::ledger::Ledger;
 use std::thread;
 use std::thread::{PromisedHandle, Threads};
-use store_board::{Board, HandOver, TakePass};
+use store_board::{Board, BoardSeat, HandOver, TakePass, Unasked};
 use store_core::{Address, Refusal, Sealed, TenantId, UploadId};
 use store_ledger::Share;
 
@@ -57,6 +58,7 @@ pub fn upload<B: Ledger, C: Ledger, G: Gate + Sync, R: Threads + Wait + Sync + A
 ) -> (Share<B, C>, Result<Sealed, UploadFault>)
     ensures parts { result.0.parts ≡ share.parts }
     ensures ok { IfOk result.1 (λ sealed. (sealed.address ≡ hash_of bytes.now) × (hash_of (arc_value sealed.object) ≡ hash_of bytes.now)) }
+    ensures passed { OnOk result.1 ((k : ℕ) → k < length (cut_of bytes.now part_chunks) → G.has_passed gate.now k) }
     ensures share { OnOk result.1 (result.0 ≡ record { parts = share.parts; bytes = share.bytes + length bytes.now; calls = share.calls + length (cut_of bytes.now part_chunks) }) }
     ensures fault { OnErr result.1 (RoseBySome bytes.now part_chunks share result.0) }
     ensures bad_cut { IsBadCut part_chunks workers shared.now → (result.1 ≡ Err (record { kind = BadCut; left = None })) × (result.0 ≡ share) }
@@ -103,7 +105,8 @@ fn upload_parts<B: Ledger, C: Ledger, G: Gate + Sync, R: Threads + Wait + Sync +
     share: Share<B, C>,
     request: &Request<'_, G>,
 ) -> (Share<B, C>, Result<Sealed, UploadFault>)
-    ensures { IsUploaded (G.may_stop request.now.gate.now) (G.may_fault request.now.gate.now) (record { bytes = request.now.bytes.now; part_chunks = request.now.part_chunks }) share result.0 result.1 }
+    ensures passed { OnOk result.1 ((k : ℕ) → k < count_of (record { bytes = request.now.bytes.now; part_chunks = request.now.part_chunks }) → G.has_passed request.now.gate.now k) }
+    ensures uploaded { IsUploaded (G.may_stop request.now.gate.now) (G.may_fault request.now.gate.now) (record { bytes = request.now.bytes.now; part_chunks = request.now.part_chunks }) share result.0 result.1 }
 {
     let upload = match begin(rt, shared, request.tenant, request.bytes.len() as u64) {
         Ok(upload) => upload,
@@ -173,6 +176,13 @@ fn abort<B: Ledger, C: Ledger, R: Wait>(
     }
 }
 
+// As many workers as there are parts, one where there are none, and no more than are wanted.
+fn workers_for(parts: u64, most: u64) -> u64
+    ensures { result ≡ min most (max 1 parts) }
+{
+    most.min(parts.max(1))
+}
+
 // Puts all parts of an upload that was begun, and answers its address.
 fn put_parts<B: Ledger, C: Ledger, G: Gate + Sync, R: Threads + Wait + Sync + Alloc>(
     rt: &R,
@@ -183,15 +193,19 @@ fn put_parts<B: Ledger, C: Ledger, G: Gate + Sync, R: Threads + Wait + Sync + Al
     cut: Cut<'_>,
     upload: UploadId,
 ) -> (Share<B, C>, Result<Address, UploadFaultKind>)
-    ensures { IsCollected (G.may_stop request.now.gate.now) (G.may_fault request.now.gate.now) cut.entry share result.0 result.1 }
+    ensures passed { OnOk result.1 ((k : ℕ) → k < count_of cut.entry → G.has_passed request.now.gate.now k) }
+    ensures collected { IsCollected (G.may_stop request.now.gate.now) (G.may_fault request.now.gate.now) cut.entry share result.0 result.1 }
 {
-    let workers = request.workers;
+    let worker_count = workers_for(cut.parts(), request.workers);
     let no_memory = Err(UploadFaultKind::NoMemory);
-    let Ok((board, seats)) = Board::new(alloc, cut.parts(), workers) else {
+    let Ok((board, seats)) = Board::new(alloc, cut.parts(), worker_count) else {
         return (share, no_memory);
     };
-    let Ok((hand_over, passes, take_pass)) = HandOver::new(alloc, 2 * workers as usize, workers)
-    else {
+    let Ok((hand_over, passes, take_pass)) = HandOver::<Unasked>::new(
+        alloc,
+        2 * worker_count as usize,
+        worker_count,
+    ) else {
         return (share, no_memory);
     };
     let Ok(follow) = Follow::new(alloc, cut.bytes()) else {
@@ -217,7 +231,42 @@ fn put_parts<B: Ledger, C: Ledger, G: Gate + Sync, R: Threads + Wait + Sync + Al
         fault: None,
         work: Work::new(rt),
     };
-    work_together(rt, alloc, &job, shared, workers, take_pass, collector)
+    let (share, hashed, reports) = work_together(
+        rt, alloc, &job, shared, workers, take_pass, collector,
+    );
+    let address = match hashed {
+        Ok(address) => address,
+        Err(kind) => return (share, Err(kind)),
+    };
+    let Ok(seats) = seats_from(alloc, reports) else {
+        return (share, no_memory);
+    };
+    if !drew_all(job, worker_count, seats) {
+        return (share, Err(UploadFaultKind::StrangePart));
+    }
+    (share, Ok(address))
+}
+
+// Whether these seats are all and drew all numbers. Where the numbers of each have passed the gate, all parts have.
+fn drew_all<G: Gate>(job: Job<'_, G>, workers: u64, seats: Vec<BoardSeat>) -> bool
+    requires workers { workers ≡ seats_of job.exchange.board }
+    requires seats { All (λ s. IsSeatOf job.exchange.board s) seats.items }
+    ensures { IsTrue result → All (λ s. AllPassed (G.has_passed job.entry.gate.now) s) seats.items → (k : ℕ) → k < count_of job.entry.cut → G.has_passed job.entry.gate.now k }
+{
+    if seats.len() as u64 != workers {
+        return false;
+    }
+    let Job {
+        cut: _,
+        gate: _,
+        exchange,
+    } = job;
+    let Exchange {
+        board,
+        hand_over: _,
+        progress: _,
+    } = exchange;
+    board.close(seats).spent
 }
 
 // Runs all workers, and the collector beside them.
@@ -229,23 +278,25 @@ fn work_together<B: Ledger, C: Ledger, G: Gate + Sync, R: Threads + Wait + Sync>
     workers: Vec<Worker>,
     take_pass: TakePass,
     collector: Collector<'_, B, C>,
-) -> (Share<B, C>, Result<Address, UploadFaultKind>)
+) -> (Share<B, C>, Result<Address, UploadFaultKind>, Vec<Report>)
     requires some { 0 < job.now.cut.part_chunks }
     requires workers { AreWorkersOf job.now.exchange workers.items }
     requires taker { IsTakerOf job.now.exchange.hand_over take_pass }
     requires fresh { AreNoted job.now.cut collector.follow [] }
-    ensures { IsCollected (G.may_stop job.now.gate.now) (G.may_fault job.now.gate.now) job.now.cut collector.entry.share result.0 result.1 }
+    ensures collected { IsCollected (G.may_stop job.now.gate.now) (G.may_fault job.now.gate.now) job.now.cut collector.entry.share result.0 result.1 }
+    ensures reports { All (λ r. IsReportOf job.now.exchange (G.may_stop job.now.gate.now) (G.may_fault job.now.gate.now) (G.has_passed job.now.gate.now) (count_of job.now.cut) r) result.2.items }
+    ensures none { OnOk result.1 (fault_of_first result.2.items ≡ None) }
 {
     thread::scope(
         thread::scope_env(),
         rt,
-        move |scope| -> (Share<B, C>, Result<Address, UploadFaultKind>)
+        move |scope| -> (Share<B, C>, Result<Address, UploadFaultKind>, Vec<Report>)
             requires { (0 < job.now.cut.part_chunks) × AreWorkersOf job.now.exchange workers.items × IsTakerOf job.now.exchange.hand_over take_pass × AreNoted job.now.cut collector.follow [] }
-            ensures { IsCollected (G.may_stop job.entry.now.gate.now) (G.may_fault job.entry.now.gate.now) job.entry.now.cut collector.entry.share result.0 result.1 }
+            ensures { IsCollected (G.may_stop job.entry.now.gate.now) (G.may_fault job.entry.now.gate.now) job.entry.now.cut collector.entry.share result.0 result.1 × All (λ r. IsReportOf job.entry.now.exchange (G.may_stop job.entry.now.gate.now) (G.may_fault job.entry.now.gate.now) (G.has_passed job.entry.now.gate.now) (count_of job.entry.now.cut) r) result.2.items × OnOk result.1 (fault_of_first result.2.items ≡ None) }
         {
-            let (handles, unstarted) = start_all(scope, rt, alloc, job, workers);
+            let (handles, reports, unstarted) = start_all(scope, rt, alloc, job, workers);
             gather(
-                rt, alloc, job, shared, handles, unstarted, take_pass, collector,
+                rt, alloc, job, shared, handles, reports, unstarted, take_pass, collector,
             )
         },
     )
@@ -257,22 +308,27 @@ fn gather<'s, B: Ledger, C: Ledger, G: Gate, R: Threads + Wait>(
     alloc: Global,
     job: &'s Job<'s, G>,
     shared: &Shared<B, C>,
-    handles: Vec<PromisedHandle<Option<UploadFaultKind>, FaultOf<'s, G>>>,
+    handles: Vec<PromisedHandle<Report, ReportOf<'s, G>>>,
+    reports: Vec<Report>,
     unstarted: Option<UploadFaultKind>,
     take_pass: TakePass,
     collector: Collector<'_, B, C>,
-) -> (Share<B, C>, Result<Address, UploadFaultKind>)
+) -> (Share<B, C>, Result<Address, UploadFaultKind>, Vec<Report>)
     requires some { 0 < job.now.cut.part_chunks }
-    requires handles { All (λ h. (h.promise.bytes.now ≡ job.now.cut.bytes) × (h.promise.part_chunks ≡ job.now.cut.part_chunks) × (h.promise.gate.now ≡ job.now.gate.now)) handles.items }
+    requires handles { All (λ h. (h.promise.bytes.now ≡ job.now.cut.bytes) × (h.promise.part_chunks ≡ job.now.cut.part_chunks) × (h.promise.gate.now ≡ job.now.gate.now) × (h.promise.exchange.now ≡ job.now.exchange)) handles.items }
+    requires room { (reports.items ≡ []) × (vec_len reports + vec_len handles ≤ vec_capacity reports) }
     requires own { IfSome unstarted IsOwnFault }
     requires taker { IsTakerOf job.now.exchange.hand_over take_pass }
     requires fresh { AreNoted job.now.cut collector.follow [] }
-    ensures { IsCollected (G.may_stop job.now.gate.now) (G.may_fault job.now.gate.now) job.now.cut collector.entry.share result.0 result.1 }
+    ensures collected { IsCollected (G.may_stop job.now.gate.now) (G.may_fault job.now.gate.now) job.now.cut collector.entry.share result.0 result.1 }
+    ensures reports { All (λ r. IsReportOf job.now.exchange (G.may_stop job.now.gate.now) (G.may_fault job.now.gate.now) (G.has_passed job.now.gate.now) (count_of job.now.cut) r) result.2.items }
+    ensures none { OnOk result.1 (fault_of_first result.2.items ≡ None) }
 {
     let started = handles.len() as u64;
     let mut collector = collector;
     collector.fault = unstarted;
     collector.collect(rt, alloc, job, shared, started, take_pass);
-    let fault = join_all(rt, job, handles);
-    collector.address(fault)
+    let reports = join_all(rt, job, handles, reports);
+    let (share, address) = collector.address(first_fault(reports.as_slice()));
+    (share, address, reports)
 }

@@ -1,12 +1,12 @@
 //! The workers of an upload.
 
-ghost use Rattle.std.specs.Prelude.{◌≡◌, ◌<◌, ◌≤◌, ◌^◌, IfErr, IfSome, length};
+ghost use Rattle.std.specs.Prelude.{◌≡◌, ◌<◌, ◌≤◌, ◌^◌, IfErr, IfNone, IfSome, OnOk, length};
 ghost use Rattle.b3_forest.specs.Parts.{most_bytes};
-ghost use Rattle.store_board.specs.Seats.{IsSeatOf, parts_of};
+ghost use Rattle.store_board.specs.Seats.{IsNewSeat, IsSeatOf, numbers_of, parts_of};
 ghost use Rattle.store_shared.specs.Cuts.{part_count};
 ghost use Rattle.store_shared.specs.Gates.{IsFaultOf, fault_for};
 ghost use Rattle.store_shared.specs.Uploading.{count_of};
-ghost use Rattle.store_shared.specs.Workers.{IsWorkerOf};
+ghost use Rattle.store_shared.specs.Workers.{AllPassed, IsReportOf, IsWorkerOf};
 
 use crate::backoff::Backoff;
 use crate::cut::Cut;
@@ -28,16 +28,25 @@ pub(crate) struct Worker {
     pub(crate) work: Work,
 }
 
-// What a worker's thread hands back is a fault that the gate may have caused for the cut, or want of memory; or nothing.
+// What a worker's thread hands back: its fault, if it had one, and the worker itself.
 #[derive(Drop)]
-pub(crate) struct FaultOf<'a, G: Gate> {
+pub(crate) struct Report {
+    pub(crate) fault: Option<UploadFaultKind>,
+    pub(crate) worker: Worker,
+}
+
+// What a report is of: its fault is one that the gate may have caused for the cut, or want of memory; where there is none,
+// all numbers that the worker drew have passed the gate.
+#[derive(Drop)]
+pub(crate) struct ReportOf<'a, G: Gate> {
     pub(crate) bytes: &'a [u8],
     pub(crate) part_chunks: u64,
     pub(crate) gate: &'a G,
+    pub(crate) exchange: &'a Exchange,
 }
 
-impl<'a, G: Gate> Promise<Option<UploadFaultKind>> for FaultOf<'a, G> {
-    ghost kept_by = { λ p found. IfSome found (IsFaultOf (G.may_stop p.gate.now) (G.may_fault p.gate.now) (part_count (length p.bytes.now) p.part_chunks)) };
+impl<'a, G: Gate> Promise<Report> for ReportOf<'a, G> {
+    ghost kept_by = { λ p report. IsReportOf p.exchange.now (G.may_stop p.gate.now) (G.may_fault p.gate.now) (G.has_passed p.gate.now) (part_count (length p.bytes.now) p.part_chunks) report };
 }
 
 // The fault that a gate's answer for a part is.
@@ -53,7 +62,7 @@ fn fault_at(part: u64, answer: GateStop) -> UploadFaultKind
 // Whether no more parts are wanted: a worker has stopped the board, or the collector has given up.
 fn is_over(exchange: &Exchange, seat: &mut BoardSeat) -> bool
     requires { IsSeatOf exchange.now.board seat.old }
-    ensures { IsSeatOf exchange.now.board seat.new }
+    ensures { IsSeatOf exchange.now.board seat.new × (numbers_of seat.new ≡ numbers_of seat.old) }
 {
     exchange.board.stopped(seat) || exchange.progress.has_given_up()
 }
@@ -61,7 +70,7 @@ fn is_over(exchange: &Exchange, seat: &mut BoardSeat) -> bool
 // Hands a part over, or drops it once no more are wanted while the queue is full. Answers whether it was handed over.
 fn hand_part<R: Wait>(rt: &R, exchange: &Exchange, worker: &mut Worker, part: Prepared) -> bool
     requires { IsWorkerOf exchange.now worker.old }
-    ensures { IsWorkerOf exchange.now worker.new }
+    ensures { IsWorkerOf exchange.now worker.new × (numbers_of worker.new.seat ≡ numbers_of worker.old.seat) }
 {
     let mut part = part;
     let mut backoff = Backoff::new();
@@ -89,18 +98,21 @@ fn make_parts<G: Gate, R: Wait>(
 ) -> Result<(), UploadFaultKind>
     requires own { IsWorkerOf exchange.now worker.old }
     requires parts { parts_of exchange.now.board ≡ count_of cut.now }
+    requires passed { AllPassed (G.has_passed gate.now) worker.old.seat }
     ensures own { IsWorkerOf exchange.now worker.new }
+    ensures passed { OnOk result (AllPassed (G.has_passed gate.now) worker.new.seat) }
     ensures fault { IfErr result (IsFaultOf (G.may_stop gate.now) (G.may_fault gate.now) (count_of cut.now)) }
 {
     for _ in rt.forever() {
         if is_over(exchange, &mut worker.seat) {
             return Ok(());
         }
-        let Some(number) = exchange.board.claim(&mut worker.seat) else {
+        let Some(draw) = exchange.board.claim(&mut worker.seat) else {
             return Ok(());
         };
+        let number = draw.number();
         let part = cut.prepare(alloc, number, &mut worker.work)?;
-        if let Err(answer) = gate.passed(number) {
+        if let Err(answer) = gate.passed(draw) {
             return Err(fault_at(number, answer));
         }
         if !hand_part(rt, exchange, worker, part) {
@@ -119,21 +131,35 @@ pub(crate) fn run<G: Gate, R: Wait>(
     gate: &G,
     exchange: &Exchange,
     worker: Worker,
-) -> Option<UploadFaultKind>
+) -> Report
     requires own { IsWorkerOf exchange.now worker }
+    requires fresh { IsNewSeat worker.seat }
     requires parts { parts_of exchange.now.board ≡ part_count (length bytes.now) part_chunks }
     requires bytes { length bytes.now ≤ most_bytes }
     requires some { 0 < part_chunks }
     requires most { part_chunks ≤ 16384 }
-    ensures { IfSome result (IsFaultOf (G.may_stop gate.now) (G.may_fault gate.now) (part_count (length bytes.now) part_chunks)) }
+    ensures fault { IfSome result.fault (IsFaultOf (G.may_stop gate.now) (G.may_fault gate.now) (part_count (length bytes.now) part_chunks)) }
+    ensures own { IsWorkerOf exchange.now result.worker }
+    ensures passed { IfNone result.fault (AllPassed (G.has_passed gate.now) result.worker.seat) }
 {
     // A thread is handed bytes and numbers, and makes the cut of them again.
     let cut = Cut::new(bytes, part_chunks);
     let mut worker = worker;
-    let fault = make_parts(rt, alloc, &cut, gate, exchange, &mut worker).err();
-    if fault.is_some() {
-        exchange.board.stop(&mut worker.seat);
+    match make_parts(rt, alloc, &cut, gate, exchange, &mut worker) {
+        Ok(()) => {
+            exchange.progress.end();
+            Report {
+                fault: None,
+                worker,
+            }
+        }
+        Err(kind) => {
+            exchange.board.stop(&mut worker.seat);
+            exchange.progress.end();
+            Report {
+                fault: Some(kind),
+                worker,
+            }
+        }
     }
-    exchange.progress.end();
-    fault
 }
