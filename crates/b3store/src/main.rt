@@ -3,7 +3,7 @@
 
 ghost use Rattle.store_command_line.specs.Ranges.{InRange};
 
-use b3_core::Work;
+use b3_core::{Runtime, Work};
 use std::io;
 use std::io::{BufReader, ErrorKind};
 use std::marker::Brand;
@@ -12,7 +12,9 @@ use std::sync::Wait;
 use std::sync::ledger::Blank;
 use std::thread::Threads;
 use store_command_line::{Fault, Options, options};
-use store_engines::{Cause, SystemFiles, Verdict, audit, check, migrate, run, sum, upload};
+use store_engines::{
+    ALL_PARTS, Cause, SystemFiles, Verdict, audit, check, migrate, run, sum, upload,
+};
 
 const GOOD: u8 = 0;
 
@@ -49,7 +51,7 @@ fn status_of(verdict: Verdict) -> u8 {
     }
 }
 
-fn perform<T: Threads + Wait + Sync + Alloc>(
+fn perform<T: Threads + Wait + Sync + Runtime>(
     rt: &HostRuntime,
     threads: &T,
     options: &Options<'_>,
@@ -76,8 +78,8 @@ fn perform<T: Threads + Wait + Sync + Alloc>(
             threads,
             alloc,
             *options,
-            Blank::new(1 << 32),
-            Blank::new(1 << 32),
+            Blank::new(ALL_PARTS),
+            Blank::new(ALL_PARTS),
             &mut reader,
             &mut writer,
         )?)),

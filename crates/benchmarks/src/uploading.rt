@@ -13,7 +13,7 @@ use std::thread::Threads;
 use std::time::{Duration, Instant};
 use std::{io, thread};
 use store_core::Limits;
-use store_shared::{Gate, GateStop, PassAll, Shared, lent_open_tenant, upload};
+use store_shared::{ALL_PARTS, Draw, Gate, GateStop, PassAll, Shared, lent_open_tenant, upload};
 
 // The tenant's limit, in bytes.
 const LIMIT: u64 = 1 << 40;
@@ -38,14 +38,16 @@ impl<'a, K: Clock> Gate for Slow<'a, K> {
 
     ghost may_fault = { λ gate part code. ⊥ };
 
-    fn passed(&self, _part: u64) -> Result<(), GateStop> {
+    ghost has_passed = { λ gate part. Unit {0} };
+
+    fn passed(&self, _part: Draw) -> Result<(), GateStop> {
         thread::sleep(self.clock, Duration::from_millis(10));
         Ok(())
     }
 }
 
 // Times one upload into a new store, and writes its address.
-fn time_one<B: Ledger, C: Ledger, G: Gate + Sync, T: Threads + Wait + Sync + Alloc + Runtime>(
+fn time_one<B: Ledger, C: Ledger, G: Gate + Sync, T: Threads + Wait + Sync + Runtime>(
     rt: &(impl Print + Eprint + Clock + AllocGlobal),
     threads: &T,
     gate: &G,
@@ -83,18 +85,18 @@ fn time_one<B: Ledger, C: Ledger, G: Gate + Sync, T: Threads + Wait + Sync + All
 }
 
 /// Times the call `upload` alone.
-pub fn time_upload<T: Threads + Wait + Sync + Alloc + Runtime>(
+pub fn time_upload<T: Threads + Wait + Sync + Runtime>(
     rt: &(impl Print + Eprint + Clock + AllocGlobal),
     threads: &T,
     load: Load,
 ) -> io::Result<()> {
-    let bytes = Blank::new(1 << 32);
-    let calls = Blank::new(1 << 32);
+    let bytes = Blank::new(ALL_PARTS);
+    let calls = Blank::new(ALL_PARTS);
     time_one::<Brand, Brand, _, _>(rt, threads, &PassAll, load, bytes, calls)
 }
 
 /// Times an upload of 200 parts of one chunk by one worker, with a gate that takes 10 ms for each.
-pub fn time_slow_upload<T: Threads + Wait + Sync + Alloc + Runtime + Clock>(
+pub fn time_slow_upload<T: Threads + Wait + Sync + Runtime + Clock>(
     rt: &(impl Print + Eprint + Clock + AllocGlobal),
     threads: &T,
 ) -> io::Result<()> {
@@ -105,7 +107,7 @@ pub fn time_slow_upload<T: Threads + Wait + Sync + Alloc + Runtime + Clock>(
         part_chunks: 1,
     };
     let gate = Slow { clock: threads };
-    let bytes = Blank::new(1 << 32);
-    let calls = Blank::new(1 << 32);
+    let bytes = Blank::new(ALL_PARTS);
+    let calls = Blank::new(ALL_PARTS);
     time_one::<Brand, Brand, _, _>(rt, threads, &gate, load, bytes, calls)
 }

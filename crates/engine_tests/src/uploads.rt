@@ -10,6 +10,7 @@ use std::test::Fail;
 use std::thread::Threads;
 use store_command_line::UploadOptions;
 use store_engines::{Cause, Verdict, audit, upload};
+use store_ledger::ALL_PARTS;
 
 /// How an upload ends.
 pub(crate) fn uploaded<R: Threads + Wait + Sync + AllocGlobal + Runtime>(
@@ -18,7 +19,7 @@ pub(crate) fn uploaded<R: Threads + Wait + Sync + AllocGlobal + Runtime>(
     reader: &mut ByteReader<'_>,
     writer: &mut ByteWriter,
 ) -> Result<Verdict, Cause> {
-    let (bytes, calls) = (Blank::new(1 << 32), Blank::new(1 << 32));
+    let (bytes, calls) = (Blank::new(ALL_PARTS), Blank::new(ALL_PARTS));
     upload::<Brand, Brand, _, _, _>(rt, rt.alloc(), options, bytes, calls, reader, writer)
 }
 

@@ -101,10 +101,7 @@ fn give_back<W: Write>(
     Ok(())
 }
 
-fn run<T: Threads + Wait + Sync + Alloc + Runtime>(
-    rt: &HostRuntime,
-    threads: &T,
-) -> Result<(), Failure> {
+fn run<T: Threads + Wait + Sync + Runtime>(rt: &HostRuntime, threads: &T) -> Result<(), Failure> {
     let alloc = rt.alloc();
     let mut work = Work::new(rt);
     let mut input = Vec::new(alloc);

@@ -21,7 +21,7 @@ const PART_CHUNKS: u64 = 1;
 const WORKERS: u64 = 2;
 
 // Files bytes in a new store by two threads, and answers their address and what the store says was accepted.
-pub fn back_up_shared<T: Threads + Wait + Sync + Alloc + Runtime>(
+pub fn back_up_shared<T: Threads + Wait + Sync + Runtime>(
     threads: &T,
     alloc: Global,
     bytes: &[u8],
@@ -33,7 +33,7 @@ pub fn back_up_shared<T: Threads + Wait + Sync + Alloc + Runtime>(
 }
 
 // The same, where the two ledgers of the store's book are parameters.
-fn back_up_counted<B: Ledger, C: Ledger, T: Threads + Wait + Sync + Alloc + Runtime>(
+fn back_up_counted<B: Ledger, C: Ledger, T: Threads + Wait + Sync + Runtime>(
     threads: &T,
     alloc: Global,
     bytes: &[u8],

@@ -4,7 +4,7 @@ ghost use Rattle.std.specs.Prelude.{◌≡◌};
 
 use crate::streams::hash_all;
 use b3_check::{NameFault, Names};
-use b3_core::{Mode, Work};
+use b3_core::{Mode, Runtime, Work};
 use std::fs::File;
 use std::io::ErrorKind;
 use std::rt::Files;
@@ -17,7 +17,7 @@ pub struct SystemFiles<'a, R> {
     work: Work,
 }
 
-impl<'a, R: Files + AllocGlobal> SystemFiles<'a, R> {
+impl<'a, R: Files + AllocGlobal + Runtime> SystemFiles<'a, R> {
     /// The files that `rt` reaches, nothing being hashed yet.
     pub fn new(rt: &'a R) -> SystemFiles<'a, R>
         ensures { result.work ≡ 0 }

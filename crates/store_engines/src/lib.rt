@@ -30,6 +30,7 @@ pub use auditing::audit;
 pub use checking::check;
 pub use files::SystemFiles;
 pub use migrating::migrate;
+pub use store_ledger::ALL_PARTS;
 pub use store_script::{Cause, Verdict, run};
 pub use summing::sum;
 pub use uploading::upload;

@@ -10,6 +10,7 @@ use crate::auditing::accepted_line;
 use crate::journals::text_of;
 use crate::streams::read_all;
 use crate::summing::line_of;
+use b3_core::Runtime;
 use std::alloc::{AllocError, Global};
 use std::io::{Read, Write};
 use std::sync::Wait;
@@ -102,7 +103,7 @@ fn uploaded_text<B: Ledger, C: Ledger>(
 /// It stops at the first read or write that fails, or where memory is refused; `refused U5` and `refused U1 S14` are written
 /// first, and want of memory is told also where that write fails. It writes nothing before it has read everything. The two
 /// blanks are for the store's book.
-pub fn upload<B: Ledger, C: Ledger, T: Threads + Wait + Sync + Alloc, R: Read, W: Write>(
+pub fn upload<B: Ledger, C: Ledger, T: Threads + Wait + Sync + Runtime, R: Read, W: Write>(
     rt: &T,
     alloc: Global,
     options: UploadOptions,

@@ -13,14 +13,14 @@ use crate::fault::UploadFaultKind;
 use crate::gate::Gate;
 use crate::job::Job;
 use crate::worker::{Report, ReportOf, Worker, run};
-use b3_core::Work;
+use b3_core::{Runtime, Work};
 use std::alloc::{AllocError, Global};
 use std::sync::Wait;
 use std::thread::{PromisedHandle, Scope, Threads};
 use store_board::{BoardSeat, GivePass};
 
 /// A worker for each seat and pass, the first of them last.
-pub(crate) fn workers_of<G: Gate, R: Alloc>(
+pub(crate) fn workers_of<G: Gate, R: Runtime>(
     rt: &R,
     alloc: Global,
     job: &Job<'_, G>,

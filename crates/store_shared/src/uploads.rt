@@ -22,7 +22,7 @@ use crate::lent::{lent_abort, lent_begin, lent_seal_as};
 use crate::progress::Progress;
 use crate::shared::Shared;
 use crate::worker::{Report, ReportOf, Worker};
-use b3_core::Work;
+use b3_core::{Runtime, Work};
 use b3_forest::Follow;
 use std::alloc::Global;
 use std::sync::Wait;
@@ -45,7 +45,7 @@ use store_ledger::Share;
 /// before those of the workers, and of these that of the worker with the least number. After a fault past the beginning
 /// all workers are joined and the upload is aborted; `left` names it only where that was refused, and it is still open.
 /// The share has risen by the parts that were accepted. It may wait, and keeps its promise if it returns.
-pub fn upload<B: Ledger, C: Ledger, G: Gate + Sync, R: Threads + Wait + Sync + Alloc>(
+pub fn upload<B: Ledger, C: Ledger, G: Gate + Sync, R: Threads + Wait + Sync + Runtime>(
     rt: &R,
     alloc: Global,
     shared: &Shared<B, C>,
@@ -98,7 +98,7 @@ struct Request<'a, G: Gate> {
 }
 
 // Uploads what is asked for.
-fn upload_parts<B: Ledger, C: Ledger, G: Gate + Sync, R: Threads + Wait + Sync + Alloc>(
+fn upload_parts<B: Ledger, C: Ledger, G: Gate + Sync, R: Threads + Wait + Sync + Runtime>(
     rt: &R,
     alloc: Global,
     shared: &Shared<B, C>,
@@ -147,7 +147,7 @@ fn begin<B: Ledger, C: Ledger, R: Wait>(
 }
 
 // Seals a complete upload under its address.
-fn seal<B: Ledger, C: Ledger, R: Wait + Alloc>(
+fn seal<B: Ledger, C: Ledger, R: Wait + Runtime>(
     rt: &R,
     shared: &Shared<B, C>,
     upload: UploadId,
@@ -184,7 +184,7 @@ fn workers_for(parts: u64, most: u64) -> u64
 }
 
 // Puts all parts of an upload that was begun, and answers its address.
-fn put_parts<B: Ledger, C: Ledger, G: Gate + Sync, R: Threads + Wait + Sync + Alloc>(
+fn put_parts<B: Ledger, C: Ledger, G: Gate + Sync, R: Threads + Wait + Sync + Runtime>(
     rt: &R,
     alloc: Global,
     shared: &Shared<B, C>,

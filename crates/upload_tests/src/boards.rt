@@ -9,6 +9,15 @@ use std::thread;
 use std::thread::Threads;
 use store_board::{Board, BoardRefusal, BoardSeat, Drawn};
 
+// The number that a seat draws.
+fn claimed(board: &Board, seat: &mut BoardSeat) -> Option<u64>
+    requires { IsSeatOf board.now seat.old }
+    ensures { IsSeatOf board.now seat.new }
+{
+    let draw = board.claim(seat)?;
+    Some(draw.number())
+}
+
 // Both seats draw until they are done, and once more; the second is done before the first is. Done seats see a stop, too.
 #[test]
 fn seats_draw_in_turn(rt: HostRuntime) -> Result<(), Fail> {
@@ -16,19 +25,19 @@ fn seats_draw_in_turn(rt: HostRuntime) -> Result<(), Fail> {
     let mut second = seats.pop().expect(&rt, "two seats");
     let mut first = seats.pop().expect(&rt, "two seats");
     let drawn = [
-        board.claim(&mut first),
-        board.claim(&mut second),
-        board.claim(&mut first),
-        board.claim(&mut second),
-        board.claim(&mut first),
-        board.claim(&mut second),
+        claimed(&board, &mut first),
+        claimed(&board, &mut second),
+        claimed(&board, &mut first),
+        claimed(&board, &mut second),
+        claimed(&board, &mut first),
+        claimed(&board, &mut second),
     ];
     assert_eq!(rt; drawn, [Some(0), Some(1), Some(2), None, None, None]);
     let before = board.stopped(&mut second);
     board.stop(&mut first);
     let after = board.stopped(&mut second);
     assert_eq!(rt;
-        (before, after, board.claim(&mut second)),
+        (before, after, claimed(&board, &mut second)),
         (false, true, None)
     );
     let drawn = board.close(vec![in rt.alloc(); first, second]?);
@@ -41,12 +50,12 @@ fn a_stopped_board_draws_on(rt: HostRuntime) -> Result<(), Fail> {
     let (board, mut seats) = Board::new(rt.alloc(), 3, 2)?;
     let mut second = seats.pop().expect(&rt, "two seats");
     let mut first = seats.pop().expect(&rt, "two seats");
-    let drawn = board.claim(&mut first);
+    let drawn = claimed(&board, &mut first);
     let before = board.stopped(&mut first);
     board.stop(&mut second);
     let after = board.stopped(&mut first);
     assert_eq!(rt; (drawn, before, after), (Some(0), false, true));
-    assert_eq!(rt; board.claim(&mut first), Some(1));
+    assert_eq!(rt; claimed(&board, &mut first), Some(1));
     let drawn = board.close(vec![in rt.alloc(); first, second]?);
     assert_eq!(rt; (drawn.handed, drawn.spent), (2, false));
     Ok(())
@@ -56,7 +65,7 @@ fn a_stopped_board_draws_on(rt: HostRuntime) -> Result<(), Fail> {
 fn an_empty_board_is_spent(rt: HostRuntime) -> Result<(), Fail> {
     let (board, mut seats) = Board::new(rt.alloc(), 0, 1)?;
     let mut seat = seats.pop().expect(&rt, "one seat");
-    assert_eq!(rt; board.claim(&mut seat), None);
+    assert_eq!(rt; claimed(&board, &mut seat), None);
     let drawn = board.close(vec![in rt.alloc(); seat]?);
     assert_eq!(rt; (drawn.handed, drawn.spent), (0, true));
     Ok(())
@@ -88,7 +97,7 @@ fn draw_all(board: &Board, counts: &[AtomicU64], seat: &mut BoardSeat)
     ensures { IsSeatOf board.now seat.new }
 {
     for _ in 0..u64::MAX {
-        let Some(number) = board.claim(seat) else {
+        let Some(number) = claimed(board, seat) else {
             break;
         };
         if let Some(count) = counts.get(number as usize) {

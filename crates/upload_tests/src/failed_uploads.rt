@@ -1,16 +1,12 @@
 //! Uploads that fail.
 
-ghost use Rattle.std.specs.Prelude.{◌≡◌, ◌^◌};
-
-use crate::gates::{FailBoth, Rule, Signal};
+use crate::gates::{Rule, Signal};
 use crate::reports::aborted_after;
 use crate::strangers::Deed;
-use crate::uploading::{Cut, left_by, three_parts, uploaded};
+use crate::uploading::{Cut, left_by, three_parts};
 use b3_core::Runtime;
-use std::marker::Brand;
 use std::process::Abort;
 use std::sync::Wait;
-use std::sync::ledger::Blank;
 use std::test::Fail;
 use std::thread::Threads;
 
@@ -161,42 +157,6 @@ fn what_is_refused_first_begins_nothing(rt: HostRuntime) -> Result<(), Fail> {
             leaves(&rt, Rule::Pass, Cut { workers, ..cut }, NOTHING_BEGUN)?;
         }
     }
-    Ok(())
-}
-
-// What an upload leaves whose workers make the parts 0 and 1 and fail at them, with the numbers of their threads as codes.
-fn both_failed<R: Threads + Wait + Sync + AllocGlobal + Runtime>(
-    rt: &R,
-    gate: &FailBoth<'_>,
-) -> Result<String, Fail> {
-    let (bytes, calls) = (Blank::new(1 << 32), Blank::new(1 << 32));
-    let signal = Signal::new(rt.alloc())?;
-    uploaded::<Brand, Brand, _, R>(
-        rt,
-        bytes,
-        calls,
-        gate,
-        &signal,
-        Deed::Nothing,
-        three_parts(2),
-    )
-}
-
-// Two workers fail at one time. The threads are started in the order of the workers' numbers, so that the one with the least
-// number of a thread is the first. The system's numbers begin again now and then: one time of two is enough.
-#[test]
-fn the_least_workers_fault_is_told(rt: HostRuntime) -> Result<(), Fail> {
-    let mut is_told = false;
-    for _ in 0..2 {
-        let gate = FailBoth::new(&rt);
-        let left = both_failed(&rt, &gate)?;
-        let (zero, one) = gate.threads();
-        assert!(rt; zero > 0 && one > 0 && zero != one, "{}", left.as_str());
-        let (part, code) = if zero < one { (0, zero) } else { (1, one) };
-        let told = format!(in rt.alloc(); "U4 part {part} code {code} 0 0, accepted 1 1, ")?;
-        is_told = is_told || left.as_str().starts_with(told.as_str());
-    }
-    assert!(rt; is_told);
     Ok(())
 }
 

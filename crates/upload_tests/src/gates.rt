@@ -2,8 +2,8 @@
 
 use std::alloc::{AllocError, Global};
 use std::sync::atomic::{AtomicBool, AtomicU64, Ordering};
-use std::{fs, thread};
-use store_shared::{Gate, GateStop};
+use std::thread;
+use store_shared::{Draw, Gate, GateStop};
 
 /// How often one who waits for another thread looks before it gives up.
 pub(crate) const TURNS: u64 = 1 << 24;
@@ -204,7 +204,10 @@ impl Gate for Checkpoint<'_> {
 
     ghost may_fault = { λ gate part code. Unit {0} };
 
-    fn passed(&self, part: u64) -> Result<(), GateStop> {
+    ghost has_passed = { λ gate part. Unit {0} };
+
+    fn passed(&self, part: Draw) -> Result<(), GateStop> {
+        let part = part.number();
         self.signal.ask(part);
         let Some(found) = self.found(part) else {
             return Ok(());
@@ -213,69 +216,5 @@ impl Gate for Checkpoint<'_> {
             GateStop::Stop => Err(GateStop::Stop),
             GateStop::Fault(code) => Err(GateStop::Fault(code)),
         }
-    }
-}
-
-// The system's number of the calling thread, or 0. A thread that is started later has a higher one, until the numbers have
-// all been used and begin again.
-fn thread_number(rt: &HostRuntime) -> u64 {
-    let Ok(text) = fs::read_to_string(rt, "/proc/thread-self/stat") else {
-        return 0;
-    };
-    match text.as_str().split_once(' ') {
-        Some((digits, _)) => digits.parse::<u64>().unwrap_or(0),
-        None => 0,
-    }
-}
-
-/// Fails at the parts 0 and 1, once each is made by a thread of its own, with the number of the thread as code.
-#[derive(Drop)]
-pub(crate) struct FailBoth<'a> {
-    rt: &'a HostRuntime,
-    first: AtomicU64,
-    second: AtomicU64,
-}
-
-impl<'a> FailBoth<'a> {
-    pub(crate) fn new(rt: &'a HostRuntime) -> FailBoth<'a> {
-        FailBoth {
-            rt,
-            first: AtomicU64::new(0),
-            second: AtomicU64::new(0),
-        }
-    }
-
-    /// The numbers of the threads that made part 0 and part 1.
-    pub(crate) fn threads(&self) -> (u64, u64) {
-        let first = self.first.load(Ordering::SeqCst);
-        (first, self.second.load(Ordering::SeqCst))
-    }
-
-    // Waits until both parts are made, for so many turns.
-    fn wait_for_both(&self) {
-        for _ in 0..TURNS {
-            let (first, second) = self.threads();
-            if first > 0 && second > 0 {
-                return;
-            }
-            thread::yield_now();
-        }
-    }
-}
-
-impl Gate for FailBoth<'_> {
-    ghost may_stop = { λ gate part. ⊥ };
-
-    ghost may_fault = { λ gate part code. Unit {0} };
-
-    fn passed(&self, part: u64) -> Result<(), GateStop> {
-        let number = thread_number(self.rt);
-        if part == 0 {
-            self.first.store(number, Ordering::SeqCst);
-        } else {
-            self.second.store(number, Ordering::SeqCst);
-        }
-        self.wait_for_both();
-        Err(GateStop::Fault(number))
     }
 }

@@ -19,7 +19,7 @@ use std::test::Fail;
 use std::thread::Threads;
 use store_core::{Limits, Refusal, Store, TenantId, replay};
 use store_ledger::Share;
-use store_shared::{PassAll, Shared, UploadFault, UploadFaultKind, lent_open_tenant};
+use store_shared::{ALL_PARTS, PassAll, Shared, UploadFault, UploadFaultKind, lent_open_tenant};
 
 // Whether an upload has told want of memory and left nothing.
 fn is_want_of_memory(fault: UploadFault) -> bool {
@@ -110,7 +110,7 @@ fn is_sealed<R: Threads + Wait + Sync + AllocGlobal + Runtime + Abort>(
     rt: &R,
     workers: u64,
 ) -> Result<(), AllocError> {
-    let (bytes, calls) = (Blank::new(1 << 32), Blank::new(1 << 32));
+    let (bytes, calls) = (Blank::new(ALL_PARTS), Blank::new(ALL_PARTS));
     sealed_in_the_end::<Brand, Brand, R>(rt, bytes, calls, workers)
 }
 

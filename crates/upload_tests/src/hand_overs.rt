@@ -1,18 +1,19 @@
 //! Hand-overs, by one thread and by several.
 
-ghost use Rattle.std.specs.Prelude.{◌≡◌, All, vec_len};
+ghost use Rattle.std.specs.Prelude.{◌≡◌, ◌<◌, All, IfSome, vec_len};
 ghost use Rattle.store_board.specs.Passes.{IsGiverOf, IsTakerOf};
 
 use crate::parts::part_at;
 use b3_core::{Runtime, Work};
 use b3_forest::{Plan, Prepared};
 use std::alloc::{AllocError, Global};
+use std::collections::VecDeque;
 use std::process::Abort;
 use std::sync::{Mutex, Wait};
 use std::test::Fail;
 use std::thread;
 use std::thread::Threads;
-use store_board::{GivePass, HandOver, HandOverRefusal, TakePass};
+use store_board::{GivePass, HandOver, HandOverRefusal, TakePass, Unasked};
 
 // The part of one chunk with that number.
 fn part(alloc: Global, number: u64, work: &mut Work) -> Option<Prepared> {
@@ -21,7 +22,7 @@ fn part(alloc: Global, number: u64, work: &mut Work) -> Option<Prepared> {
 }
 
 // Which giver's part was taken, and its offset.
-fn taken<R: Wait>(rt: &R, hand_over: &HandOver, pass: &mut TakePass) -> Option<(u64, u64)>
+fn taken<R: Wait>(rt: &R, hand_over: &HandOver<Unasked>, pass: &mut TakePass) -> Option<(u64, u64)>
     requires { IsTakerOf hand_over.now pass.old }
     ensures { IsTakerOf hand_over.now pass.new }
 {
@@ -32,7 +33,7 @@ fn taken<R: Wait>(rt: &R, hand_over: &HandOver, pass: &mut TakePass) -> Option<(
 // Gives the part of one chunk with that number, and tells the offset of the part that came back, if there was no room.
 fn given<R: Wait + AllocGlobal + Runtime>(
     rt: &R,
-    hand_over: &HandOver,
+    hand_over: &HandOver<Unasked>,
     pass: &mut GivePass,
     number: u64,
 ) -> Result<Option<u64>, AllocError>
@@ -48,41 +49,103 @@ fn given<R: Wait + AllocGlobal + Runtime>(
     }
 }
 
-// Gives two parts where there is room for one, and takes twice.
-fn give_two<R: Wait + AllocGlobal + Runtime + Abort>(
+// Gives the part of that number, where there is such a giver, and compares the answer with that of a list with so much room.
+fn give_beside<R: Wait + AllocGlobal + Runtime + Abort>(
     rt: &R,
-    hand_over: &HandOver,
-    giver: &mut GivePass,
-    taker: &mut TakePass,
+    hand_over: &HandOver<Unasked>,
+    pass: &mut Option<GivePass>,
+    giver: u64,
+    number: u64,
+    list: &mut VecDeque<(u64, u64)>,
+    capacity: usize,
 ) -> Result<(), AllocError>
-    requires giver { IsGiverOf hand_over.now giver.old }
-    requires taker { IsTakerOf hand_over.now taker.old }
-    ensures giver { IsGiverOf hand_over.now giver.new }
-    ensures taker { IsTakerOf hand_over.now taker.new }
+    requires { IfSome pass.old (λ p. IsGiverOf hand_over.now p) }
+    ensures { IfSome pass.new (λ p. IsGiverOf hand_over.now p) }
 {
-    let one = given(rt, hand_over, giver, 1)?;
-    let two = given(rt, hand_over, giver, 2)?;
-    assert_eq!(rt; (one, two), (None, Some(2048)));
-    let first = taken(rt, hand_over, taker);
-    let second = taken(rt, hand_over, taker);
-    assert_eq!(rt; (first, second), (Some((0, 1024)), None));
+    let Some(pass) = pass else {
+        return Ok(());
+    };
+    let back = given(rt, hand_over, pass, number)?;
+    let offset = number.wrapping_mul(1024);
+    if list.len() < capacity {
+        assert_eq!(rt; back, None);
+        return list.push_back((giver, offset));
+    }
+    assert_eq!(rt; back, Some(offset));
     Ok(())
 }
 
+// Gives and takes at random, a thread alone, beside a list with so much room.
+fn give_and_take<R: Wait + AllocGlobal + Runtime + Abort>(
+    rt: &R,
+    hand_over: &HandOver<Unasked>,
+    capacity: usize,
+    givers: u64,
+    first: &mut Option<GivePass>,
+    second: &mut Option<GivePass>,
+    third: &mut Option<GivePass>,
+    taker: &mut TakePass,
+) -> Result<(), AllocError>
+    requires first { IfSome first.old (λ p. IsGiverOf hand_over.now p) }
+    requires second { IfSome second.old (λ p. IsGiverOf hand_over.now p) }
+    requires third { IfSome third.old (λ p. IsGiverOf hand_over.now p) }
+    requires taker { IsTakerOf hand_over.now taker.old }
+    requires some { 0 < givers }
+{
+    let mut list = VecDeque::new(rt.alloc());
+    let mut random = 1u64;
+    for number in 0..STEPS {
+        random = random
+            .wrapping_mul(6364136223846793005)
+            .wrapping_add(1442695040888963407);
+        let giver = if (random >> 33) % 2 == 0 {
+            (random >> 34) % givers
+        } else {
+            3
+        };
+        match giver {
+            0 => give_beside(rt, hand_over, first, 0, number, &mut list, capacity)?,
+            1 => give_beside(rt, hand_over, second, 1, number, &mut list, capacity)?,
+            2 => give_beside(rt, hand_over, third, 2, number, &mut list, capacity)?,
+            _ => assert_eq!(rt; taken(rt, hand_over, taker), list.pop_front()),
+        }
+    }
+    Ok(())
+}
+
+const STEPS: u64 = 500;
+
 #[test]
-fn a_full_queue_hands_the_part_back(rt: HostRuntime) -> Result<(), Fail> {
-    let (hand_over, mut givers, mut taker) = HandOver::new(rt.alloc(), 1, 1)?;
-    let mut giver = givers.pop().expect(&rt, "one giver");
-    give_two(&rt, &hand_over, &mut giver, &mut taker)?;
-    let moved = hand_over.close(&rt, vec![in rt.alloc(); giver]?, taker);
-    assert_eq!(rt; (moved.given, moved.taken), (1, 1));
+fn one_thread_gives_and_takes_as_with_a_list(rt: HostRuntime) -> Result<(), Fail> {
+    for capacity in 1..6usize {
+        for givers in 1..4u64 {
+            let (hand_over, mut passes, mut taker) = HandOver::<Unasked>::new(
+                rt.alloc(),
+                capacity,
+                givers,
+            )?;
+            let mut third = if givers > 2 { passes.pop() } else { None };
+            let mut second = if givers > 1 { passes.pop() } else { None };
+            let mut first = passes.pop();
+            give_and_take(
+                &rt,
+                &hand_over,
+                capacity,
+                givers,
+                &mut first,
+                &mut second,
+                &mut third,
+                &mut taker,
+            )?;
+        }
+    }
     Ok(())
 }
 
 // Gives four parts, the second and the last by another giver, where there is room for two. The last stays in the queue.
 fn give_four<R: Wait + AllocGlobal + Runtime + Abort>(
     rt: &R,
-    hand_over: &HandOver,
+    hand_over: &HandOver<Unasked>,
     first: &mut GivePass,
     second: &mut GivePass,
     taker: &mut TakePass,
@@ -114,7 +177,7 @@ fn give_four<R: Wait + AllocGlobal + Runtime + Abort>(
 
 #[test]
 fn parts_come_in_the_order_in_which_they_were_given(rt: HostRuntime) -> Result<(), Fail> {
-    let (hand_over, mut givers, mut taker) = HandOver::new(rt.alloc(), 2, 2)?;
+    let (hand_over, mut givers, mut taker) = HandOver::<Unasked>::new(rt.alloc(), 2, 2)?;
     let mut second = givers.pop().expect(&rt, "two givers");
     let mut first = givers.pop().expect(&rt, "two givers");
     give_four(&rt, &hand_over, &mut first, &mut second, &mut taker)?;
@@ -125,7 +188,7 @@ fn parts_come_in_the_order_in_which_they_were_given(rt: HostRuntime) -> Result<(
 
 // Why there is no hand-over of these counts.
 fn refused(rt: &impl AllocGlobal, capacity: usize, givers: u64) -> Option<HandOverRefusal> {
-    HandOver::new(rt.alloc(), capacity, givers).err()
+    HandOver::<Unasked>::new(rt.alloc(), capacity, givers).err()
 }
 
 #[test]
@@ -135,7 +198,7 @@ fn a_hand_over_needs_room_and_a_giver(rt: HostRuntime) {
 }
 
 // Gives one part, waiting while the queue is full.
-fn give_one<R: Wait>(rt: &R, hand_over: &HandOver, pass: &mut GivePass, part: Prepared)
+fn give_one<R: Wait>(rt: &R, hand_over: &HandOver<Unasked>, pass: &mut GivePass, part: Prepared)
     requires { IsGiverOf hand_over.now pass.old }
     ensures { IsGiverOf hand_over.now pass.new }
 {
@@ -159,7 +222,7 @@ fn part_under<R: Wait>(rt: &R, alloc: Global, number: u64, work: &Mutex<Work>) -
 fn give_hundred<R: Wait>(
     rt: &R,
     alloc: Global,
-    hand_over: &HandOver,
+    hand_over: &HandOver<Unasked>,
     ended: &Mutex<u64>,
     work: &Mutex<Work>,
     pass: &mut GivePass,
@@ -180,7 +243,7 @@ fn give_hundred<R: Wait>(
 fn give_from_threads<R: Threads + Wait + Sync>(
     rt: &R,
     alloc: Global,
-    hand_over: &HandOver,
+    hand_over: &HandOver<Unasked>,
     ended: &Mutex<u64>,
     work: &Mutex<Work>,
     givers: Vec<GivePass>,
@@ -201,7 +264,7 @@ fn give_from_threads<R: Threads + Wait + Sync>(
 // Takes until all givers have ended and nothing is left. How many parts came as the next of their giver.
 fn take_all<R: Wait>(
     rt: &R,
-    hand_over: &HandOver,
+    hand_over: &HandOver<Unasked>,
     ended: &Mutex<u64>,
     givers: u64,
     taker: TakePass,
@@ -238,7 +301,7 @@ fn one_if_next(next: &mut [u64; 4], giver: u64, offset: u64) -> u64 {
 fn hand_over_in_threads<R: Threads + Wait + Sync>(
     rt: &R,
     alloc: Global,
-    hand_over: &HandOver,
+    hand_over: &HandOver<Unasked>,
     work: Work,
     givers: Vec<GivePass>,
     taker: TakePass,
@@ -269,7 +332,7 @@ fn hand_over_in_threads<R: Threads + Wait + Sync>(
 
 #[test]
 fn four_givers_hand_over_four_hundred_parts(rt: HostRuntime) -> Result<(), Fail> {
-    let (hand_over, givers, taker) = HandOver::new(rt.alloc(), 8, 4)?;
+    let (hand_over, givers, taker) = HandOver::<Unasked>::new(rt.alloc(), 8, 4)?;
     let (givers, taker, in_order) = hand_over_in_threads(
         &rt,
         rt.alloc(),

@@ -16,18 +16,18 @@ use std::thread::Threads;
 use store_core::{Address, Limits, Object, Refusal, Store, TenantId, Totals, UploadId, Usage};
 use store_ledger::{Accepted, NotWhole, Share};
 use store_shared::{
-    Shared, lent_abort, lent_begin, lent_begin_open, lent_fix, lent_forget, lent_open_tenant,
-    lent_put, lent_seal, lent_seal_as, lent_set_limit,
+    ALL_PARTS, Shared, lent_abort, lent_begin, lent_begin_open, lent_fix, lent_forget,
+    lent_open_tenant, lent_put, lent_seal, lent_seal_as, lent_set_limit,
 };
 
 // One chunk of a pattern, as a part.
-fn chunk(rt: &impl AllocGlobal + Runtime, plan: &Plan, offset: u64) -> Result<Prepared, Fail> {
+fn chunk(rt: &(impl AllocGlobal + Runtime), plan: &Plan, offset: u64) -> Result<Prepared, Fail> {
     let part = part_at(rt.alloc(), plan, offset, 1024, &mut Work::new(rt));
     Ok(part.ok_or("no part")?)
 }
 
 // One chunk of the pattern of 2048 bytes, as a part.
-fn half(rt: &impl AllocGlobal + Runtime, offset: u64) -> Result<Prepared, Fail> {
+fn half(rt: &(impl AllocGlobal + Runtime), offset: u64) -> Result<Prepared, Fail> {
     let plan = Plan::new(2048).ok().ok_or("no plan")?;
     chunk(rt, &plan, offset)
 }
@@ -150,7 +150,7 @@ const BOTH: Accepted = Accepted {
 
 // Of an upload that has both halves: asks for it and seals it, asks for the object and the tenant, whose limit is then changed,
 // and forgets the object. Each time the lock is taken anew.
-fn sealed_and_forgotten<B: Ledger, C: Ledger, R: Wait + Alloc + Runtime + Abort>(
+fn sealed_and_forgotten<B: Ledger, C: Ledger, R: Wait + Runtime + Abort>(
     rt: &R,
     shared: &Shared<B, C>,
     share: &mut Share<B, C>,
@@ -195,7 +195,7 @@ const NOTHING: Totals = Totals {
 #[test]
 fn two_threads_put_a_half_each(rt: HostRuntime) -> Result<(), Fail> {
     for first in [0, 1024] {
-        let (bytes, calls) = (Blank::new(1 << 32), Blank::new(1 << 32));
+        let (bytes, calls) = (Blank::new(ALL_PARTS), Blank::new(ALL_PARTS));
         two_halves::<Brand, Brand, _>(&rt, bytes, calls, first)?;
     }
     Ok(())
@@ -274,6 +274,6 @@ fn one_after_another<B: Ledger, C: Ledger, R: Wait + AllocGlobal + Runtime + Abo
 
 #[test]
 fn one_upload_is_aborted_and_the_next_is_fixed(rt: HostRuntime) -> Result<(), Fail> {
-    let (bytes, calls) = (Blank::new(1 << 32), Blank::new(1 << 32));
+    let (bytes, calls) = (Blank::new(ALL_PARTS), Blank::new(ALL_PARTS));
     one_after_another::<Brand, Brand, _>(&rt, bytes, calls)
 }

@@ -51,7 +51,7 @@ pub(crate) enum Outcome {
 }
 
 // Puts bytes of the pattern to an upload of all 2049.
-fn put_one<B: Ledger, C: Ledger, R: Wait + Alloc + Runtime>(
+fn put_one<B: Ledger, C: Ledger, R: Wait + Runtime>(
     rt: &R,
     alloc: Global,
     shared: &Shared<B, C>,
@@ -70,7 +70,7 @@ fn put_one<B: Ledger, C: Ledger, R: Wait + Alloc + Runtime>(
     lent_put(&mut *shared.lock(rt), share, upload, part, &mut work).is_ok()
 }
 
-fn seal_one<B: Ledger, C: Ledger, R: Wait + Alloc + Runtime>(
+fn seal_one<B: Ledger, C: Ledger, R: Wait + Runtime>(
     rt: &R,
     shared: &Shared<B, C>,
     upload: UploadId,
@@ -79,7 +79,7 @@ fn seal_one<B: Ledger, C: Ledger, R: Wait + Alloc + Runtime>(
 }
 
 /// Begins upload 0, of 2049 bytes, and puts its last.
-pub(crate) fn begin_neighbour<B: Ledger, C: Ledger, R: Wait + Alloc + Runtime>(
+pub(crate) fn begin_neighbour<B: Ledger, C: Ledger, R: Wait + Runtime>(
     rt: &R,
     alloc: Global,
     shared: &Shared<B, C>,
@@ -90,7 +90,7 @@ pub(crate) fn begin_neighbour<B: Ledger, C: Ledger, R: Wait + Alloc + Runtime>(
 }
 
 // Files all bytes by upload 2, in one part.
-fn file_all<B: Ledger, C: Ledger, R: Wait + Alloc + Runtime>(
+fn file_all<B: Ledger, C: Ledger, R: Wait + Runtime>(
     rt: &R,
     alloc: Global,
     shared: &Shared<B, C>,
@@ -142,7 +142,7 @@ fn holds<B: Ledger, C: Ledger, R: Wait>(rt: &R, shared: &Shared<B, C>, bytes: u6
 }
 
 // Does it, and then lets the gate pass all parts. What is put or filed comes behind the parts that the gate does not hold.
-fn is_done<B: Ledger, C: Ledger, R: Wait + Alloc + Runtime>(
+fn is_done<B: Ledger, C: Ledger, R: Wait + Runtime>(
     rt: &R,
     alloc: Global,
     shared: &Shared<B, C>,
@@ -174,7 +174,7 @@ fn is_done<B: Ledger, C: Ledger, R: Wait + Alloc + Runtime>(
 }
 
 /// Does it beside an upload of these bytes. What is no upload is done once the gate was asked.
-pub(crate) fn meanwhile<B: Ledger, C: Ledger, R: Threads + Wait + Sync + Alloc + Runtime>(
+pub(crate) fn meanwhile<B: Ledger, C: Ledger, R: Threads + Wait + Sync + Runtime>(
     rt: &R,
     alloc: Global,
     shared: &Shared<B, C>,

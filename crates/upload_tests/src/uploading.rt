@@ -16,7 +16,7 @@ use std::thread;
 use std::thread::Threads;
 use store_core::{Limits, TenantId};
 use store_ledger::{Accepted, Share};
-use store_shared::{Gate, Locked, Shared, UploadFault, lent_open_tenant, upload};
+use store_shared::{ALL_PARTS, Gate, Locked, Shared, UploadFault, lent_open_tenant, upload};
 
 /// A store of so many tenants, each with this limit, and with limits of its own; and an upload for the last of them of so many
 /// bytes of the pattern. Where it has a neighbour, that is upload 0, which holds a part when it is begun.
@@ -47,7 +47,7 @@ pub(crate) fn three_parts(workers: u64) -> Cut {
 }
 
 /// Uploads bytes, and tells whether they were new.
-pub(crate) fn upload_row<B: Ledger, C: Ledger, G: Gate + Sync, R: Threads + Wait + Sync + Alloc + Runtime>(
+pub(crate) fn upload_row<B: Ledger, C: Ledger, G: Gate + Sync, R: Threads + Wait + Sync + Runtime>(
     rt: &R,
     alloc: Global,
     shared: &Shared<B, C>,
@@ -175,7 +175,7 @@ pub(crate) fn left_by<R: Threads + Wait + Sync + AllocGlobal + Runtime>(
     deed: Deed,
     cut: Cut,
 ) -> Result<String, Fail> {
-    let (bytes, calls) = (Blank::new(1 << 32), Blank::new(1 << 32));
+    let (bytes, calls) = (Blank::new(ALL_PARTS), Blank::new(ALL_PARTS));
     let gate = Checkpoint { rule, signal };
     uploaded::<Brand, Brand, _, R>(rt, bytes, calls, &gate, signal, deed, cut)
 }
