@@ -28,7 +28,7 @@ fn named(alloc: Global, name: &[u8]) -> Result<&'static str, AllocError> {
         }
         Err(refused) => {
             if refused.bytes.as_slice() == name {
-                Ok(refused.fault.code())
+                Ok(refused.code())
             } else {
                 Ok("other bytes")
             }

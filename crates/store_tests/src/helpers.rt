@@ -9,7 +9,7 @@ use std::alloc::{AllocError, Global};
 use std::process::Abort;
 use std::test::Fail;
 use store_core::{
-    Address, BadLimits, Held, Limits, PutRefused, ReadError, Refusal, ReplayError, Sealed, Store,
+    Address, Held, Limits, PutRefused, ReadError, Refusal, ReplayError, Sealed, Store,
     TenantId, UploadId, read_journal, replay, write_journal,
 };
 
@@ -94,7 +94,7 @@ impl Scripted {
                 let is_full = limits == Limits::full();
                 format!(in self.alloc; "full {is_full}")
             }
-            Err(BadLimits) => format!(in self.alloc; "S0"),
+            Err(bad) => format!(in self.alloc; "{}", bad.code()),
         }
     }
 

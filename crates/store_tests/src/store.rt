@@ -3,6 +3,7 @@
 
 use crate::helpers::holds;
 use std::test::Fail;
+use store_core::{BadLimits, Refusal};
 
 #[test]
 fn a_full_store_refuses(rt: HostRuntime) -> Result<(), Fail> {
@@ -156,4 +157,15 @@ seal 1 > e776b6028c7cd22a4d0ba182a8bf62205d2ef576467e838ed6f2529b85fba24a true 2
 usage > 3073 0 8192 [0 0]
 ",
     )
+}
+
+#[test]
+fn refusals_have_numbers(rt: HostRuntime) -> Result<(), Fail> {
+    let (overlap, bad) = (Refusal::Overlap { at: 5 }, BadLimits);
+    let text = format!(in rt.alloc(); "{overlap}; {bad}")?;
+    assert_eq!(rt;
+        (text.as_str(), overlap.code(), bad.code()),
+        ("S9 at 5; S0: a limit is zero, or more than a store takes", "S9", "S0")
+    );
+    Ok(())
 }

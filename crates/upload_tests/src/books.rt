@@ -5,6 +5,7 @@ ghost use Rattle.std.specs.Prelude.{◌≡◌, ◌^◌};
 use std::marker::Brand;
 use std::process::Abort;
 use std::sync::ledger::{Blank, Ledger};
+use std::test::Fail;
 use store_ledger::{ALL_PARTS, Accepted, Book, BookFull, NotWhole};
 
 fn share_and_book<B: Ledger, C: Ledger, R: Abort>(rt: &R, bytes: Blank, calls: Blank)
@@ -60,4 +61,15 @@ fn joined_at_the_book<B: Ledger, C: Ledger, R: Abort>(rt: &R, bytes: Blank, call
 #[test]
 fn a_book_joins_its_shares_up_to_its_limit(rt: HostRuntime) {
     joined_at_the_book::<Brand, Brand, _>(&rt, Blank::new(ALL_PARTS), Blank::new(ALL_PARTS));
+}
+
+#[test]
+fn refusals_have_texts(rt: HostRuntime) -> Result<(), Fail> {
+    let (missing, full) = (NotWhole { bytes: 5, calls: 1 }, BookFull);
+    let text = format!(in rt.alloc(); "{missing}; {full}")?;
+    assert_eq!(rt;
+        (text.as_str(), missing.code(), full.code()),
+        ("L1: the share is not whole: missing bytes 5, calls 1; L2: the book is full", "L1", "L2")
+    );
+    Ok(())
 }
