@@ -1,5 +1,5 @@
 -- The extended output of a root (BLAKE3, section 2.6).
-use Rattle.std.specs.Prelude.{ℕ, ◌+◌, ◌-◌, ◌/◌, ◌%◌, nat_eq, List, map, slice_index, if◌then◌else◌}
+use Rattle.std.specs.Prelude.{ℕ, ◌+◌, ◌-◌, ◌/◌, ◌%◌, ◌^◌, nat_eq, List, map, slice_index, if◌then◌else◌}
 use Rattle.std.specs.List.{range_with_len}
 use Rattle.std.specs.Int.{w32, to_le_bytes}
 use Rattle.b3_core.specs.Compression.{compress_of, root_flag}
@@ -26,6 +26,10 @@ output_of n i len = map (output_byte n) (range_with_len i len)
 pub record Reader : Type 0 where
   pub root : Inputs
   pub position : ℕ
+
+-- the bytes from a reader's place to the output's end
+abbrev pub output_left : Reader → List ℕ
+output_left r = output_of r.root r.position (2 ^ 64 - 1 - r.position)
 
 -- the blocks of 64 bytes that len bytes from byte i on touch
 abbrev pub blocks_touched : ℕ → ℕ → ℕ

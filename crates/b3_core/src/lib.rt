@@ -13,12 +13,13 @@
 //!   `is_subtree` tests.
 //! - `hash` is the same value by plain recursion, one compression after the other. It takes about three times as long.
 //! - `Hasher` gives that node of bytes that come in pieces, without having them all at once.
-//! - `OutputReader` reads the extended output.
+//! - `OutputReader` reads the extended output; `CountedOutput` reads it as `std::io::Read` does.
 //! - `tree_laws` states the tree in the specification's own words.
 #![tactic(auto)]
 
 mod chunks;
 mod compression;
+mod counted_output;
 mod hasher;
 mod lanes;
 mod laws;
@@ -35,6 +36,7 @@ pub use compression::{
     BLOCK_LEN, CHUNK_END, CHUNK_LEN, CHUNK_START, DERIVE_KEY_CONTEXT, DERIVE_KEY_MATERIAL, IV,
     KEYED_HASH, PARENT, ROOT, compress,
 };
+pub use counted_output::CountedOutput;
 pub use hasher::Hasher;
 pub use laws::tree_laws;
 pub use mode::Mode;

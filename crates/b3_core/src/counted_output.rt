@@ -1,0 +1,54 @@
+//! The extended output as a reader of bytes.
+
+ghost use Rattle.std.specs.Prelude.{◌≡◌, ℕ, ◌-◌, ◌^◌, Some};
+ghost use Rattle.b3_core.specs.ExtendedOutput.{Reader, output_left};
+
+use crate::output::OutputReader;
+use crate::work::Work;
+use std::io::{self, Read};
+use std::marker::Model;
+
+/// Reads the extended output as [`std::io::Read`] does, and counts the compressions.
+#[derive(Debug, Drop)]
+pub struct CountedOutput {
+    reader: OutputReader,
+    work: Work,
+}
+
+impl Model for CountedOutput {
+    ghost Value = { Reader × ℕ };
+
+    ghost view = { λ b. (b.reader, b.work) };
+}
+
+impl CountedOutput {
+    /// The output from the reader's place on; its compressions are counted on from `work`.
+    pub fn new(reader: OutputReader, work: Work) -> CountedOutput
+        ensures { result ≡ (reader, work) }
+    {
+        CountedOutput { reader, work }
+    }
+
+    /// The reader at the next byte's place, and the count.
+    pub fn into_parts(self) -> (OutputReader, Work)
+        ensures reader { result.0 ≡ self.0 }
+        ensures work { result.1 ≡ self.1 }
+    {
+        (self.reader, self.work)
+    }
+}
+
+impl Read for CountedOutput {
+    ghost remaining = { λ b. Some (output_left b.0) };
+
+    /// Reads as many bytes as `buf` has room for, and none only at the output's end or without room.
+    fn read(&mut self, buf: &mut [u8]) -> io::Result<usize> {
+        let left = u64::MAX - self.reader.position();
+        let count = (buf.len() as u64).min(left) as usize;
+        let (front, _behind) = buf.split_at_mut(count);
+        let Ok(()) = self.reader.fill(front, &mut self.work) else {
+            unreachable!()
+        };
+        Ok(count)
+    }
+}
