@@ -1,7 +1,10 @@
 //! The extended output as a reader of bytes.
 
-ghost use Rattle.std.specs.Prelude.{◌≡◌, ℕ, ◌-◌, ◌^◌, Some};
-ghost use Rattle.b3_core.specs.ExtendedOutput.{Reader, output_left};
+ghost use Rattle.std.specs.Prelude.{◌≡◌, ℕ, ◌+◌, ◌-◌, ◌^◌, IfOk, Some};
+ghost use Rattle.std.specs.Io.{ReadsAtMost};
+ghost use Rattle.std.specs.Io.KnownBytes.{ReadConsumes};
+ghost use Rattle.b3_core.specs.ExtendedOutput.{Reader, blocks_touched, output_left};
+ghost use Rattle.b3_core.specs.Work.{counted};
 
 use crate::output::OutputReader;
 use crate::work::Work;
@@ -42,7 +45,12 @@ impl Read for CountedOutput {
     ghost remaining = { λ b. Some (output_left b.0) };
 
     /// Reads as many bytes as `buf` has room for, and none only at the output's end or without room.
-    fn read(&mut self, buf: &mut [u8]) -> io::Result<usize> {
+    fn read(&mut self, buf: &mut [u8]) -> io::Result<usize>
+        ensures bound { ReadsAtMost result buf.new }
+        ensures bytes { ReadConsumes (Some (output_left self.old.0)) (Some (output_left self.new.0)) result buf.new }
+        ensures moved { IfOk result (λ n. self.new.0 ≡ record self.old.0 { position = self.old.0.position + n }) }
+        ensures count { IfOk result (λ n. self.new.1 ≡ counted self.old.1 (blocks_touched self.old.0.position n)) }
+    {
         let left = u64::MAX - self.reader.position();
         let count = (buf.len() as u64).min(left) as usize;
         let (front, _behind) = buf.split_at_mut(count);
