@@ -9,8 +9,8 @@ use std::alloc::{AllocError, Global};
 use std::process::Abort;
 use std::test::Fail;
 use store_core::{
-    Address, Held, Limits, PutRefused, ReadError, Refusal, ReplayError, Sealed, Store,
-    TenantId, UploadId, read_journal, replay, write_journal,
+    Address, Held, Limits, PutRefused, ReadError, Refusal, ReplayError, Sealed, Store, TenantId,
+    UploadId, read_journal, replay, write_journal,
 };
 
 // A store, a part that came back for want of memory, the compressions of making parts, and the store's own.

@@ -103,7 +103,10 @@ fn refusals_are_told(rt: HostRuntime) -> Result<(), Fail> {
     let third = read_journal(alloc, b"abort 1\nabort 1\nabort 01\n").err();
     let first = read_journal(alloc, b"fix 5 1025\n").err();
     let illegal = ReplayError::Illegal(IllegalEntry { number: 7 });
-    let codes = (BadText { line: 1 }.code(), IllegalEntry { number: 7 }.code());
+    let codes = (
+        BadText { line: 1 }.code(),
+        IllegalEntry { number: 7 }.code(),
+    );
     assert_eq!(rt; codes, ("J2", "J1"));
     let (read, replayed) = (ReadError::NoMemory, ReplayError::NoMemory);
     let text = format!(in alloc; "{third:?} {first:?} {illegal} {read} {replayed}")?;

@@ -165,7 +165,11 @@ fn refusals_have_numbers(rt: HostRuntime) -> Result<(), Fail> {
     let text = format!(in rt.alloc(); "{overlap}; {bad}")?;
     assert_eq!(rt;
         (text.as_str(), overlap.code(), bad.code()),
-        ("S9 at 5; S0: a limit is zero, or more than a store takes", "S9", "S0")
+        (
+            "S9 at 5; S0: a limit is zero, or more than a store takes",
+            "S9",
+            "S0"
+        )
     );
     Ok(())
 }
