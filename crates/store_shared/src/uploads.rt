@@ -35,10 +35,11 @@ use store_ledger::Share;
 
 /// Uploads bytes for a tenant, and files them under their hash.
 ///
-/// The bytes are cut into parts of `part_chunks` chunks. Each of the workers runs in a thread of its own: it draws the
-/// number of a part, copies and hashes it, asks the gate, and hands it over. The calling thread notes what is handed over
-/// and puts it, several parts at one taking of the lock, with the caller's share. Where nothing fails, it seals the upload
-/// under the address that it has computed itself.
+/// The bytes are cut into parts of `part_chunks` chunks. Each of the workers runs in a thread of its own, and no more are
+/// started than there are parts: it draws the number of a part, copies and hashes it, asks the gate, and hands it over.
+/// The calling thread notes what is handed over and puts it, several parts at one taking of the lock, with the caller's
+/// share. Where nothing fails, it seals the upload under the address that it has computed itself; the gate has then
+/// passed each part.
 ///
 /// U2 comes first, and nothing was begun. U1 is a refusal of the store, U3 and U4 are a gate's answers, U5 is want of
 /// memory outside the store's commands, and U6 a part that is not one of the cut. The collector's own fault is told
