@@ -69,7 +69,11 @@ fn refusals_have_texts(rt: HostRuntime) -> Result<(), Fail> {
     let text = format!(in rt.alloc(); "{missing}; {full}")?;
     assert_eq!(rt;
         (text.as_str(), missing.code(), full.code()),
-        ("L1: the share is not whole: missing bytes 5, calls 1; L2: the book is full", "L1", "L2")
+        (
+            "L1: the share is not whole: missing bytes 5, calls 1; L2: the book is full",
+            "L1",
+            "L2"
+        )
     );
     Ok(())
 }
