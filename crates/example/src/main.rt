@@ -4,12 +4,11 @@
 //! bytes that the first store gives back.
 #![tactic(auto)]
 
-mod failure;
 mod sharing;
 
+use anyhow::Result;
 use b3_core::{Runtime, Work};
 use b3_forest::{Plan, Prepared};
-use failure::Failure;
 use sharing::back_up_shared;
 use std::alloc::Global;
 use std::io;
@@ -33,7 +32,7 @@ fn put(
     offset: usize,
     bytes: &[u8],
     work: &mut Work,
-) -> Result<(), Failure> {
+) -> Result<()> {
     let mut own = Vec::with_capacity(alloc, bytes.len())?;
     own.extend_from_slice(bytes)?;
     let part = Prepared::make(alloc, plan, offset as u64, own, work)?;
@@ -48,7 +47,7 @@ fn back_up(
     tenant: TenantId,
     bytes: &[u8],
     work: &mut Work,
-) -> Result<Sealed, Failure> {
+) -> Result<Sealed> {
     let (upload, plan) = store.begin(tenant, bytes.len() as u64)?;
     let mut rest = bytes;
     while !rest.is_empty() {
@@ -68,7 +67,7 @@ fn back_up_stream<R: Read>(
     tenant: TenantId,
     reader: &mut R,
     work: &mut Work,
-) -> Result<Sealed, Failure> {
+) -> Result<Sealed> {
     let (upload, plan) = store.begin_open(tenant, MOST_LEN)?;
     let mut len = 0;
     for _ in 0..u64::MAX {
@@ -93,7 +92,7 @@ fn give_back<W: Write>(
     tenant: TenantId,
     address: Address,
     writer: &mut W,
-) -> Result<(), Failure> {
+) -> Result<()> {
     let object = store.fetch(tenant, address)?;
     for segment in object.segments() {
         writer.write_all(segment.bytes.as_slice())?;
@@ -101,7 +100,7 @@ fn give_back<W: Write>(
     Ok(())
 }
 
-fn run<T: Threads + Wait + Sync + Runtime>(rt: &HostRuntime, threads: &T) -> Result<(), Failure> {
+fn run<T: Threads + Wait + Sync + Runtime>(rt: &HostRuntime, threads: &T) -> Result<()> {
     let alloc = rt.alloc();
     let mut work = Work::new(rt);
     let mut input = Vec::new(alloc);
@@ -131,12 +130,6 @@ fn run<T: Threads + Wait + Sync + Runtime>(rt: &HostRuntime, threads: &T) -> Res
     Ok(())
 }
 
-fn main(rt: HostRuntime) -> io::Result<()> {
-    match run(&rt, &rt) {
-        Ok(()) => Ok(()),
-        Err(failure) => {
-            eprintln!(rt; "refused: {failure:?}")?;
-            Err(io::Error::from(io::ErrorKind::Other))
-        }
-    }
+fn main(rt: HostRuntime) -> Result<()> {
+    run(&rt, &rt)
 }

@@ -4,7 +4,7 @@ ghost use Rattle.std.specs.Prelude.{◌≡◌, IfOk, length};
 ghost use Rattle.b3_core.specs.Modes.{hash_of};
 ghost use Rattle.store_ledger.specs.Shares.{all_parts};
 
-use crate::failure::Failure;
+use anyhow::Result;
 use b3_core::Runtime;
 use std::alloc::Global;
 use std::marker::Brand;
@@ -25,7 +25,7 @@ pub fn back_up_shared<T: Threads + Wait + Sync + Runtime>(
     threads: &T,
     alloc: Global,
     bytes: &[u8],
-) -> Result<(Address, Accepted), Failure>
+) -> Result<(Address, Accepted)>
     ensures { IfOk result (λ told. (told.0 ≡ hash_of bytes.now) × (told.1.bytes ≡ length bytes.now)) }
 {
     let (of_bytes, of_calls) = (Blank::new(ALL_PARTS), Blank::new(ALL_PARTS));
@@ -39,7 +39,7 @@ fn back_up_counted<B: Ledger, C: Ledger, T: Threads + Wait + Sync + Runtime>(
     bytes: &[u8],
     of_bytes: Blank,
     of_calls: Blank,
-) -> Result<(Address, Accepted), Failure>
+) -> Result<(Address, Accepted)>
     requires bytes { (of_bytes.name ≡ B.name) × (of_bytes.parts ≡ B.parts) × (of_bytes.parts ≡ all_parts) }
     requires calls { (of_calls.name ≡ C.name) × (of_calls.parts ≡ C.parts) × (of_calls.parts ≡ all_parts) }
     ensures { IfOk result (λ told. (told.0 ≡ hash_of bytes.now) × (told.1.bytes ≡ length bytes.now)) }
