@@ -69,9 +69,10 @@ fn give_beside<R: Wait + AllocGlobal + Runtime + Abort>(
     let offset = number.wrapping_mul(1024);
     if list.len() < capacity {
         assert_eq!(rt; back, None);
-        return list.push_back((giver, offset));
+        list.push_back((giver, offset))?;
+    } else {
+        assert_eq!(rt; back, Some(offset));
     }
-    assert_eq!(rt; back, Some(offset));
     Ok(())
 }
 
