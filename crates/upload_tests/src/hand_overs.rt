@@ -114,6 +114,22 @@ fn give_and_take<R: Wait + AllocGlobal + Runtime + Abort>(
     Ok(())
 }
 
+// The last of the givers' passes, where there are more than so many.
+fn pass_above(
+    hand_over: &HandOver<Unasked>,
+    passes: &mut Vec<GivePass>,
+    count: usize,
+) -> Option<GivePass>
+    requires { All (λ p. IsGiverOf hand_over.now p) passes.old.items }
+    ensures rest { All (λ p. IsGiverOf hand_over.now p) passes.new.items }
+    ensures pass { IfSome result (λ p. IsGiverOf hand_over.now p) }
+{
+    if passes.len() > count {
+        return passes.pop();
+    }
+    None
+}
+
 const STEPS: u64 = 500;
 
 #[test]
@@ -125,9 +141,9 @@ fn one_thread_gives_and_takes_as_with_a_list(rt: HostRuntime) -> Result<(), Fail
                 capacity,
                 givers,
             )?;
-            let mut third = if givers > 2 { passes.pop() } else { None };
-            let mut second = if givers > 1 { passes.pop() } else { None };
-            let mut first = passes.pop();
+            let mut third = pass_above(&hand_over, &mut passes, 2);
+            let mut second = pass_above(&hand_over, &mut passes, 1);
+            let mut first = pass_above(&hand_over, &mut passes, 0);
             give_and_take(
                 &rt,
                 &hand_over,

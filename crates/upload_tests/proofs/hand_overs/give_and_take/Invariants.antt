@@ -1,4 +1,4 @@
-use Rattle.std.specs.Prelude.{◌×◌, IfSome}
+use Rattle.std.specs.Prelude.{IfSome}
 use Rattle.store_board.specs.Passes.{IsGiverOf, IsTakerOf}
 use Rattle.upload_tests.proofs.hand_overs.give_and_take.Given as goal
 
