@@ -1,0 +1,3 @@
+pub mod Uploads
+pub mod Texts
+pub mod Inner

@@ -1,0 +1,244 @@
+//! Open uploads.
+
+ghost use Rattle.std.specs.Prelude.{◌≡◌, ◌+◌, ◌^◌, ◌<◌, ◌≤◌, IfErr, IfNone, None, OnErr, OnOk, length};
+ghost use Rattle.std.specs.BTreeMap.{is_at};
+ghost use Rattle.std.specs.Map.{lookup};
+ghost use Rattle.std.specs.Ordering.{nat_cmp};
+ghost use Rattle.store_upload.specs.Uploads.{ArePlaced, Fits, IsUpload, end_with, finish_refusal, first_gap as first_gap_of, first_missing as first_missing_of, fix_refusal, fixed_at, held_bytes, length_of, most_bytes, new_upload, past_last, place_refusal, reached, with_more};
+
+use crate::held_parts::HeldParts;
+use crate::length::Length;
+use crate::plan::{CHUNK_LEN, Plan};
+use crate::refusal::{AddFault, FinishFault, FixFault};
+use std::alloc::Global;
+use std::marker::Model;
+
+/// An upload that is not closed yet: its plan, its end once that is fixed, and the parts that it holds.
+#[derive(Drop)]
+pub struct Open<H: HeldParts> {
+    plan: Plan,
+    end: Option<u64>,
+    held: u64,
+    parts: H,
+}
+
+impl<H: HeldParts> Model for Open<H> {
+    ghost use Rattle.std.specs.Prelude.{◌≡◌};
+    ghost use Rattle.store_upload.specs.Uploads.{IsUpload, Upload, held_bytes};
+
+    ghost Value = { Upload H.Part };
+
+    ghost view = { λ u. record { plan = u.plan; end = u.end; parts = H.parts u.parts } };
+
+    ghost invariant = { λ u. IsUpload H.Part.len (record { plan = u.plan; end = u.end; parts = H.parts u.parts })
+        × (u.held ≡ held_bytes H.Part.len (H.parts u.parts)) };
+}
+
+impl<H: HeldParts> Open<H> {
+    /// An upload that holds nothing. It takes no memory.
+    pub fn new(alloc: Global, plan: Plan) -> Open<H>
+        ensures { result ≡ new_upload plan }
+    {
+        // For the proof alone: a plan says that its bound is at most 2^44.
+        let _most = plan.bound();
+        let end = plan.end();
+        Open {
+            plan,
+            end,
+            held: 0,
+            parts: H::new(alloc),
+        }
+    }
+
+    /// The plan of the upload, which never changes.
+    pub fn plan(&self) -> Plan
+        ensures value { result ≡ self.now.plan }
+        ensures lawful { IsUpload H.Part.len self.now }
+    {
+        let Open { plan, .. } = self;
+        *plan
+    }
+
+    /// Where the upload ends, once that is fixed: from the start under a plan that is not open.
+    pub fn end(&self) -> Option<u64>
+        ensures { result ≡ self.now.end }
+    {
+        let Open { end, .. } = self;
+        *end
+    }
+
+    /// The upload's length: its end where that is fixed, else the plan's bound.
+    pub fn length(&self) -> u64
+        ensures value { result ≡ length_of self.now }
+        ensures within { result ≤ self.now.plan.bound }
+    {
+        self.end.unwrap_or(self.plan.bound())
+    }
+
+    /// How many bytes are held.
+    pub fn held(&self) -> u64
+        ensures { result ≡ held_bytes H.Part.len self.now.parts }
+    {
+        let Open { held, .. } = self;
+        *held
+    }
+
+    /// How many parts are held.
+    pub fn count(&self) -> u64
+        ensures { result ≡ length self.now.parts }
+    {
+        self.parts.count()
+    }
+
+    /// What holds the parts. They fit an upload of this length.
+    pub fn parts(&self) -> &H
+        ensures parts { H.parts result.now ≡ self.now.parts }
+        ensures most { length_of self.now ≤ most_bytes }
+        ensures placed { ArePlaced H.Part.len (length_of self.now) 0 (H.parts result.now) }
+    {
+        &self.parts
+    }
+
+    /// What held the parts.
+    pub fn into_parts(self) -> H
+        ensures { H.parts result ≡ self.parts }
+    {
+        let Open { parts, .. } = self;
+        parts
+    }
+
+    /// The least offset of the upload that is not held; none where all are.
+    pub fn first_missing(&self) -> Option<u64>
+        ensures { result ≡ first_missing_of H.Part.len self.now }
+    {
+        let gap = self.parts.first_gap();
+        if gap < self.length() { Some(gap) } else { None }
+    }
+
+    /// Why the upload is not complete: the first that applies of F13, its end is not fixed, and F10, with the least offset that is not
+    /// held.
+    pub fn finish_fault(&self) -> Option<FinishFault>
+        ensures { result ≡ finish_refusal H.Part.len self.now }
+    {
+        if self.end.is_none() {
+            return Some(FinishFault::NotFixed);
+        }
+        match self.first_missing() {
+            Some(missing) => Some(FinishFault::Incomplete { missing }),
+            None => None,
+        }
+    }
+
+    // How far the upload reaches: to its end, or while there is none to the greatest end of a part.
+    fn reached(&self) -> u64
+        ensures { result ≡ reached H.Part.len self.now }
+    {
+        match self.end {
+            Some(end) => end,
+            None => self.parts.last_end(),
+        }
+    }
+
+    // How far the upload reaches, where so many bytes would end past its end, or would end it where it doesn't end.
+    fn past_last(&self, offset: u64, len: u64) -> Option<u64>
+        requires { offset + len < 2 ^ 64 }
+        ensures { result ≡ past_last H.Part.len self.now offset len }
+    {
+        let end = offset + len;
+        let reached = self.reached();
+        let is_behind = self.end.is_some() && end > reached;
+        let is_before = len % CHUNK_LEN != 0 && end < reached;
+        if is_behind || is_before {
+            Some(reached)
+        } else {
+            None
+        }
+    }
+
+    /// Why the upload would not take so many bytes, which fit its plan: the first that applies of F8, some offset is held already, and
+    /// F12, they end past the upload's end, or their length is not a multiple of 1024 and they end before what the upload reaches.
+    pub fn place_fault(&self, offset: u64, len: u64) -> Option<AddFault>
+        requires { Fits self.now.plan offset len }
+        ensures fault { result ≡ place_refusal H.Part.len self.now offset len }
+        ensures absent { IfNone result (lookup (is_at (nat_cmp offset)) self.now.parts ≡ None) }
+    {
+        match self.parts.overlap(offset, len) {
+            Some(at) => Some(AddFault::Overlap { at }),
+            None => match self.past_last(offset, len) {
+                Some(end) => Some(AddFault::PastLast { end }),
+                None => None,
+            },
+        }
+    }
+
+    /// The upload's length once it has taken so many bytes, which it would take.
+    pub fn length_with(&self, offset: u64, len: u64) -> u64
+        requires fits { Fits self.now.plan offset len }
+        requires free { place_refusal H.Part.len self.now offset len ≡ None }
+        ensures length { (part : H.Part) → H.Part.len part ≡ len → result ≡ length_of (with_more H.Part.len self.now offset part) }
+    {
+        end_with(self.end, offset, len).unwrap_or(self.plan.bound())
+    }
+
+    /// Takes a part that fits the plan. One whose length is not a multiple of 1024 fixes the upload's end at its own, where there was
+    /// none. Where memory is refused, the part is handed back, and nothing changes.
+    pub fn put(&mut self, part: H::Given, work: &mut H::Work) -> Result<(), H::Given>
+        requires fits { Fits self.old.plan (H.start part) (H.Part.len (H.kept part)) }
+        requires free { place_refusal H.Part.len self.old (H.start part) (H.Part.len (H.kept part)) ≡ None }
+        ensures put { OnOk result (self.new ≡ with_more H.Part.len self.old (H.start part) (H.kept part)) }
+        ensures count { OnOk result (work.new ≡ H.works self.old.parts (H.start part) (H.kept part) work.old) }
+        ensures back { IfErr result (λ back. back ≡ part) }
+        ensures unchanged { OnErr result (self.new ≡ self.old) }
+        ensures uncounted { OnErr result (work.new ≡ work.old) }
+    {
+        let offset = H::offset_of(&part);
+        let len = H::len_of(&part);
+        let end = end_with(self.end, offset, len);
+        if let Err(part) = self.parts.add(part, work) {
+            return Err(part);
+        }
+        self.held += len;
+        self.end = end;
+        Ok(())
+    }
+
+    /// Why the upload would not be ended there: the first that applies of F1, that is above the plan's bound, and F12, it has another
+    /// end, or holds a part that ends behind.
+    pub fn fix_fault(&self, len: u64) -> Option<FixFault>
+        ensures { result ≡ fix_refusal H.Part.len self.now len }
+    {
+        if len > self.plan.bound() {
+            return Some(FixFault::TooLong);
+        }
+        let end = self.reached();
+        let is_elsewhere = if self.end.is_some() {
+            len != end
+        } else {
+            len < end
+        };
+        if is_elsewhere {
+            Some(FixFault::PastLast { end })
+        } else {
+            None
+        }
+    }
+
+    /// Fixes the upload's end there. The parts are not looked at.
+    pub fn fix(&mut self, len: u64)
+        requires { fix_refusal H.Part.len self.old len ≡ None }
+        ensures { self.new ≡ fixed_at self.old len }
+    {
+        self.end = Some(len);
+    }
+}
+
+// Where an upload ends with so many bytes more: its end is theirs, where there was none and their length is not a multiple of 1024.
+fn end_with(end: Option<u64>, offset: u64, len: u64) -> Option<u64>
+    requires { offset + len < 2 ^ 64 }
+    ensures { result ≡ end_with end offset len }
+{
+    match end {
+        None if len % CHUNK_LEN != 0 => Some(offset + len),
+        _ => end,
+    }
+}

@@ -1,0 +1,158 @@
+//! Plans of uploads.
+
+ghost use Rattle.std.specs.Prelude.{◌≡◌, ◌≢◌, ◌<◌, ◌≤◌, ◌↔◌, ℕ, IfNone, IfOk, IsErr, Some, false, true};
+ghost use Rattle.store_upload.specs.Texts.{too_long_text};
+ghost use Rattle.store_upload.specs.Uploads.{Fits, closed_plan, first_end, most_bytes, open_plan, part_refusal, same_plan};
+
+use crate::refusal::PartFault;
+use std::error::Error;
+use std::fmt;
+use std::marker::Model;
+
+/// How many bytes a chunk has: parts begin at multiples of it.
+pub const CHUNK_LEN: u64 = 1024;
+
+/// The most bytes of an upload, 2^44.
+pub const MOST_BYTES: u64 = 1 << 44;
+
+/// The most bytes of a part, 2^24.
+pub const MOST_PART_BYTES: u64 = 1 << 24;
+
+/// F1: the length is above 2^44.
+#[derive(Clone, Copy, PartialEq, Eq, Debug)]
+pub struct TooLong;
+
+impl TooLong {
+    /// The refusal's number, `F1`.
+    pub fn code(self) -> &'static str
+        ensures { result.now ≡ too_long_text }
+    {
+        "F1"
+    }
+}
+
+/// The refusal's number.
+impl fmt::Display for TooLong {
+    ghost output = { λ _. Some too_long_text };
+
+    fn fmt<W: fmt::Write>(&self, f: &mut fmt::Formatter<W>) -> fmt::Result {
+        f.write_str(self.code())
+    }
+}
+
+impl Error for TooLong {}
+
+/// The plan of an upload: its length in bytes, or, of an open plan, the most that it may have where its length is fixed
+/// later. At most 2^44.
+#[derive(Clone, Copy, PartialEq, Eq, Debug)]
+pub struct Plan {
+    bound: u64,
+    is_open: bool,
+}
+
+impl Model for Plan {
+    ghost use Rattle.std.specs.Prelude.{◌≤◌};
+    ghost use Rattle.store_upload.specs.Uploads.{UploadPlan, most_bytes};
+
+    ghost Value = { UploadPlan };
+
+    ghost view = { λ p. record { bound = p.bound; is_open = p.is_open } };
+
+    ghost inverse = { λ p. record { bound = p.bound; is_open = p.is_open } };
+
+    ghost invariant = { λ p. p.bound ≤ most_bytes };
+}
+
+impl Plan {
+    /// The plan of an upload of `len` bytes. F1 where that is above 2^44.
+    pub fn new(len: u64) -> Result<Plan, TooLong>
+        ensures plan { IfOk result (λ plan. plan ≡ closed_plan len) }
+        ensures too_long { IsErr result ↔ most_bytes < len }
+    {
+        if len > MOST_BYTES {
+            return Err(TooLong);
+        }
+        Ok(Plan {
+            bound: len,
+            is_open: false,
+        })
+    }
+
+    /// The plan of an upload of at most so many bytes, whose length is fixed later. F1 where that is above 2^44.
+    pub fn open(at_most: u64) -> Result<Plan, TooLong>
+        ensures plan { IfOk result (λ plan. plan ≡ open_plan at_most) }
+        ensures too_long { IsErr result ↔ most_bytes < at_most }
+    {
+        if at_most > MOST_BYTES {
+            return Err(TooLong);
+        }
+        Ok(Plan {
+            bound: at_most,
+            is_open: true,
+        })
+    }
+
+    /// The most bytes that the upload may have; of a plan that is not open, its length.
+    pub fn bound(&self) -> u64
+        ensures value { result ≡ self.now.bound }
+        ensures most { result ≤ most_bytes }
+    {
+        self.bound
+    }
+
+    /// Whether the upload's length is fixed later.
+    pub fn is_open(&self) -> bool
+        ensures { result ≡ self.now.is_open }
+    {
+        self.is_open
+    }
+
+    /// Where an upload of the plan ends from the start: nowhere yet where its length is fixed later.
+    pub fn end(&self) -> Option<u64>
+        ensures { result ≡ first_end self.now }
+    {
+        if self.is_open { None } else { Some(self.bound) }
+    }
+
+    /// Whether it is the plan of an upload of that length.
+    pub fn is_of(&self, len: u64) -> bool
+        ensures yes { result ≡ true → self.now ≡ closed_plan len }
+        ensures no { result ≡ false → self.now ≢ closed_plan len }
+    {
+        !self.is_open && self.bound == len
+    }
+
+    /// Whether two plans are one: of one number and of one kind.
+    pub fn is_same(&self, other: &Plan) -> bool
+        ensures { result ≡ same_plan self.now other.now }
+    {
+        let Plan { bound, is_open } = *other;
+        bound == self.bound && is_open == self.is_open
+    }
+
+    /// Why `len` bytes at an offset don't fit the plan: the first that applies of F2 no bytes, F3 the offset is not a multiple of 1024,
+    /// F4 they end past the bound, F5 the length is not a multiple of 1024 and they don't end with the upload (not under an open plan),
+    /// F6 above 2^24 bytes.
+    pub fn part_fault(&self, offset: u64, len: u64) -> Option<PartFault>
+        ensures fault { result ≡ part_refusal self.now offset len }
+        ensures fits { IfNone result (Fits self.now offset len) }
+        ensures most { self.now.bound ≤ most_bytes }
+    {
+        let most = self.bound();
+        if len == 0 {
+            return Some(PartFault::EmptyPart);
+        }
+        if offset % CHUNK_LEN != 0 {
+            return Some(PartFault::OffAlign);
+        }
+        match offset.checked_add(len) {
+            None => Some(PartFault::PastEnd),
+            Some(end) if end > most => Some(PartFault::PastEnd),
+            Some(end) if !self.is_open && len % CHUNK_LEN != 0 && end != most => {
+                Some(PartFault::Ragged)
+            }
+            Some(_) if len > MOST_PART_BYTES => Some(PartFault::PartTooLong),
+            Some(_) => None,
+        }
+    }
+}
