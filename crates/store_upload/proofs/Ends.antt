@@ -248,3 +248,16 @@ module _ {P : Type 0} (len : P → ℕ) where
             closed = λ closed. let none = is.closed closed in cc;
             whole = λ none. cc;
           }
+
+  -- a fixed end is within the length
+  pub fixed_within : (u : Upload P) (n : ℕ) → IsUpload len u → fix_refusal len u n ≡ None → n ≤ length_of u
+  fixed_within u n lawful free = elim (cases_Bool (nat_lt u.plan.bound n)) [
+    | inl long ↦ let wrong : fix_refusal len u n ≡ Some fix.TooLong = rw long refl in let bad = sym free ∙ wrong in cc
+    | inr short ↦
+        let rest : (if ends_elsewhere len u n then Some (fix.PastLast (reached len u)) else None) ≡ None = sym (rw short refl) ∙ free in
+        by u.end (grind (arith, nat_tests, short)) (no_value _ _ rest)
+  ]
+    where
+      by : (end : Option ℕ) → n ≤ u.plan.bound → ends_elsewhere len (upload_with u.plan end u.parts) n ≡ false → n ≤ unwrap_or end u.plan.bound
+      by (Some e) low test = let same : e ≡ n = grind (arith, nat_tests, test) in omega (arith, same)
+      by None low test = low

@@ -1,0 +1,13 @@
+pub mod Lists
+pub mod Numbers
+pub mod ObjectsByNumber
+pub mod RisingHolders
+pub mod HolderSearch
+pub mod AddressedObjects
+pub mod Catalogs
+pub mod Holdings
+pub mod HoldingRows
+pub mod Sums
+pub mod Commands
+pub mod NewTenant
+pub mod Objects

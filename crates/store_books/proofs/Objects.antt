@@ -1,0 +1,256 @@
+-- What each command on objects leaves.
+use Rattle.std.proofs.Common.{◌≡◌, ◌∙◌, ◌+◌, ◌-◌, ◌^◌, ◌<◌, ◌≤◌, ℕ, Bool, true, false, List, [], ◌∷◌, ◌++◌, Option, Some, None, cond, refl, ap, sym, arith, length, subst, inl, inr}
+use Rattle.std.specs.Prelude.{◌==◌, ◌&&◌, ◌||◌, if◌then◌else◌, nat_le, nat_lt, not, sum_by}
+use Rattle.std.specs.List.{AllByRecursion}
+use Rattle.std.specs.Map.{lookup, remove_entry, set_value, values_of}
+use Rattle.std.specs.Str.{bytes_eq}
+use Rattle.std.proofs.lemmas.Bool.{cases_Bool, eq-eqb, leb-false, ltb-false, ne_eqb}
+use Rattle.std.proofs.lemmas.List.Sums.{sum_by_push}
+use Rattle.store_books.specs.declared.refusal.Refusal.{Refusal}
+use Rattle.store_books.specs.declared.refusal.Refusal.TheVariants.{NotHeld}
+use Rattle.store_books.specs.Books.{AreSound, Begun, Books, Filed, IsFiledAmong, IsRisingFrom, addressed, free_of, in_use, is_absent, is_held_by, limit_of, object_among, object_at, object_bytes_of, upload_at, use_by, use_of, held_bytes_of, parts_of}
+use Rattle.store_books.specs.Commands.{file_refusal, full_refusal, is_over, with_holder, with_holders, with_known, with_left, with_new, without_holder, without_upload}
+use Rattle.store_upload.specs.Uploads.{finish_refusal, held_bytes, length_of}
+use Rattle.store_upload.proofs.Complete.{whole_is}
+use Rattle.store_upload.proofs.Places.{not_some}
+use Rattle.store_books.proofs.AddressedObjects.{apart_filed, apart_with, sum_with, weight, weight_some, weight_with}
+use Rattle.store_books.proofs.Commands.{falls, found_among, goes, none, rises}
+use Rattle.store_books.proofs.Lists.{all_found, all_push, all_removed, all_set, all_values}
+use Rattle.store_books.proofs.RisingHolders.{alone_without, below_with, below_without, has, has_with, has_without, rising_with, rising_without, several_without}
+use Rattle.store_books.proofs.Sums.{Moves}
+
+-- ---- what a tenant uses by an object
+
+abbrev pub where_so : Bool → ℕ → ℕ
+where_so b n = cond b n 0
+
+has_own : (t : ℕ) (hs : List ℕ) → has t (with_holder t hs) ≡ true
+has_own t hs = has_with t t hs ∙ rw (eq-eqb t t refl) refl
+
+has_other : (t q : ℕ) (hs : List ℕ) → (t ≡ q → ⊥) → has q (with_holder t hs) ≡ has q hs
+has_other t q hs apart = has_with t q hs ∙ rw (ne_eqb t q apart) refl
+
+gone_own : (t : ℕ) (hs : List ℕ) → IsRisingFrom 0 hs → has t (without_holder t hs) ≡ false
+gone_own t hs rising = has_without t t 0 hs rising ∙ rw (eq-eqb t t refl) (none_of (has t hs))
+  where
+    none_of : (x : Bool) → (x && not true) ≡ false
+    none_of true = refl
+    none_of false = refl
+
+stays_other : (t q : ℕ) (hs : List ℕ) → IsRisingFrom 0 hs → (t ≡ q → ⊥) → has q (without_holder t hs) ≡ has q hs
+stays_other t q hs rising apart = has_without t q 0 hs rising ∙ rw (ne_eqb t q apart) (all_of (has q hs))
+  where
+    all_of : (x : Bool) → (x && not false) ≡ x
+    all_of true = refl
+    all_of false = refl
+
+module _ {O : Type 0} (size : O → ℕ) where
+  weight_use : (q : ℕ) (o : Filed O) (holders : List ℕ) → weight (use_by size q) o holders ≡ where_so (has q holders) (size o.content)
+  weight_use q o [] = refl
+  weight_use q o (h ∷ holders) = refl
+
+  used_by : (q : ℕ) (content : O) (t : ℕ) → use_by size q (record { content = content; holders = t ∷ [] }) ≡ where_so (t == q) (size content)
+  used_by q content t = by (t == q)
+    where
+      by : (b : Bool) → cond (b || false) (size content) 0 ≡ where_so b (size content)
+      by true = refl
+      by false = refl
+
+-- a command on what is held
+pub is_held : (held : Bool) (rest : Option Refusal) → (if held then rest else Some NotHeld) ≡ None → (held ≡ true) × (rest ≡ None)
+is_held true rest h = (refl, h)
+is_held false rest h = absurd (not_some NotHeld (sym h))
+
+-- ---- what holds of objects
+
+module _ {O : Type 0} (address : O → List ℕ) where
+  all_entries : (Q : Filed O → Type 0) (os : List (Filed O)) → AllByRecursion Q os → AllByRecursion (λ e. Q e.1) (addressed address os)
+  all_entries Q [] h = tt
+  all_entries Q (o ∷ os) h = (h.0, all_entries Q os h.1)
+
+  pub object_found : (Q : Filed O → Type 0) (os : List (Filed O)) (at : List ℕ) (o : Filed O) → object_among address os at ≡ Some o → AllByRecursion Q os → Q o
+  object_found Q os at o found all = all_found (λ e. Q e.1) Q (bytes_eq at) (addressed address os) o (λ k x q. q) found (all_entries Q os all)
+
+  all_with : (Q : Filed O → Type 0) (os : List (Filed O)) (at : List ℕ) (o : Filed O) (holders : List ℕ) → object_among address os at ≡ Some o → AllByRecursion Q os → Q (record o { holders = holders }) → AllByRecursion Q (with_holders address os at o holders)
+  all_with Q os at o [] found all now =
+      all_values (λ e. Q e.1) Q (remove_entry (bytes_eq at) (addressed address os)) (λ k x q. q) (all_removed (λ e. Q e.1) (bytes_eq at) (addressed address os) (all_entries Q os all))
+  all_with Q os at o (h ∷ holders) found all now =
+      let w : Filed O = record o { holders = h ∷ holders } in
+      all_values (λ e. Q e.1) Q (set_value (bytes_eq at) (addressed address os) w) (λ k x q. q) (all_set (λ e. Q e.1) (bytes_eq at) (addressed address os) o w (λ k q. now) found (all_entries Q os all))
+
+module _ {P O : Type 0} (len : P → ℕ) (size : O → ℕ) (address : O → List ℕ) where
+  -- ---- a complete upload is filed
+
+  pub record Files (b : Books P O) (number : ℕ) (content : O) (u : Begun P) : Type 0 where
+    pub moves : Moves len size address u.tenant (rises (length_of u.upload)) (falls (length_of u.upload)) b (with_new b number content (Some u))
+    pub bytes : object_bytes_of size (with_new b number content (Some u)) ≡ object_bytes_of size b + length_of u.upload
+    pub held : held_bytes_of len (with_new b number content (Some u)) + held_bytes len u.upload.parts ≡ held_bytes_of len b
+    pub parts : parts_of (with_new b number content (Some u)) + length u.upload.parts ≡ parts_of b
+
+  pub files : (b : Books P O) (number : ℕ) (content : O) (u : Begun P) → upload_at b number ≡ Some u → AreSound len size address b → b.accepted < b.entries → finish_refusal len u.upload ≡ None → object_at address b (address content) ≡ None
+      → size content ≡ length_of u.upload → Files b number content u
+  files b number content u found sound room ready absent long =
+      let was = found_among len size address b number u found sound in
+      let there = was.0 in
+      let gone = goes len size address b number u found sound room in
+      let m = gone.moves in
+      let o : Filed O = record { content = content; holders = u.tenant ∷ [] } in
+      let whole = whole_is len u.upload was.1 ready in
+      let within = sound.within u.tenant there in
+      let uses = sum_by_push (use_by size u.tenant) b.objects o in
+      let mine : use_by size u.tenant o ≡ length_of u.upload = used_by size u.tenant content u.tenant ∙ ap (λ (x : Bool). where_so x (size content)) (eq-eqb u.tenant u.tenant refl) ∙ long in
+      let bytes = sum_by_push (λ (x : Filed O). size x.content) b.objects o in
+      record {
+        moves = record {
+          tenants = refl;
+          entries = refl;
+          limits = refl;
+          accepted = refl;
+          room = room;
+          there = there;
+          uses = omega (arith, uses, mine);
+          use_low = omega arith;
+          reserves = m.reserves;
+          reserved_low = m.reserved_low;
+          others_use = λ q apart.
+              let other = used_by size q content u.tenant ∙ ap (λ (x : Bool). where_so x (size content)) (ne_eqb u.tenant q apart) in
+              let sum = sum_by_push (use_by size q) b.objects o in
+              omega (arith, other, sum);
+          others_reserve = m.others_reserve;
+          fits = omega (arith, uses, mine, m.reserves, within);
+          begun = m.begun;
+          uploads = m.uploads;
+          sorted = m.sorted;
+          objects = all_push (IsFiledAmong (length b.limits)) b.objects o sound.objects (record { tenants = (there, tt); rising = (omega arith, tt) });
+          apart = apart_filed address b.objects o sound.apart absent;
+          stored = omega (arith, bytes, long, gone.held, whole.held);
+          parts = m.parts;
+        };
+        bytes = omega (arith, bytes, long);
+        held = gone.held;
+        parts = gone.parts;
+      }
+
+  -- ---- a complete upload's tenant joins
+
+  -- what the tenant uses more
+  abbrev pub more_by : Begun P → Filed O → ℕ
+  more_by u o = where_so (not (is_held_by u.tenant o)) (size o.content)
+
+  pub record Joins (b : Books P O) (number : ℕ) (at : List ℕ) (u : Begun P) (o : Filed O) : Type 0 where
+    pub moves : Moves len size address u.tenant (rises (more_by u o)) (falls (length_of u.upload)) b (with_known address b number at (Some u) (Some o))
+    pub bytes : object_bytes_of size (with_known address b number at (Some u) (Some o)) ≡ object_bytes_of size b
+    pub held : held_bytes_of len (with_known address b number at (Some u) (Some o)) + held_bytes len u.upload.parts ≡ held_bytes_of len b
+    pub parts : parts_of (with_known address b number at (Some u) (Some o)) + length u.upload.parts ≡ parts_of b
+
+  more_used : (held : Bool) (n now before : ℕ) → now + where_so held n ≡ before + n → now ≡ before + where_so (not held) n
+  more_used true n now before sum = omega (arith, sum)
+  more_used false n now before sum = omega (arith, sum)
+
+  more_fits : (held : Bool) (n most : ℕ) → (not held && nat_lt most n) ≡ false → where_so (not held) n ≤ most
+  more_fits true n most over = omega arith
+  more_fits false n most over = ltb-false most n over
+
+  pub joins : (b : Books P O) (number : ℕ) (at : List ℕ) (u : Begun P) (o : Filed O) → upload_at b number ≡ Some u → object_at address b at ≡ Some o → AreSound len size address b → b.accepted < b.entries → is_over size address b u o ≡ false → Joins b number at u o
+  joins b number at u o found known sound room over =
+      let was = found_among len size address b number u found sound in
+      let there = was.0 in
+      let gone = goes len size address b number u found sound room in
+      let m = gone.moves in
+      let t = u.tenant in
+      let holders = with_holder t o.holders in
+      let filed = object_found address (IsFiledAmong (length b.limits)) b.objects at o known sound.objects in
+      let within = sound.within t there in
+      let uses = sum_with address (use_by size t) b.objects at o holders known in
+      let now = weight_use size t o holders ∙ ap (λ (x : Bool). where_so x (size o.content)) (has_own t o.holders) in
+      let more = more_used (is_held_by t o) (size o.content) (use_of size (with_known address b number at (Some u) (Some o)) t) (use_of size b t) (omega (arith, uses, now)) in
+      let fits = more_fits (is_held_by t o) (size o.content) (length_of u.upload + free_of size b t) over in
+      let bytes = sum_with address (λ (x : Filed O). size x.content) b.objects at o holders known in
+      let same = weight_with size o t in
+      record {
+        moves = record {
+          tenants = refl;
+          entries = refl;
+          limits = refl;
+          accepted = refl;
+          room = room;
+          there = there;
+          uses = omega (arith, more);
+          use_low = omega arith;
+          reserves = m.reserves;
+          reserved_low = m.reserved_low;
+          others_use = λ q apart.
+              let sum = sum_with address (use_by size q) b.objects at o holders known in
+              let other = weight_use size q o holders ∙ ap (λ (x : Bool). where_so x (size o.content)) (has_other t q o.holders apart) in
+              omega (arith, sum, other);
+          others_reserve = m.others_reserve;
+          fits = omega (arith, more, fits, m.reserves, m.reserved_low, within);
+          begun = m.begun;
+          uploads = m.uploads;
+          sorted = m.sorted;
+          objects = all_with address (IsFiledAmong (length b.limits)) b.objects at o holders known sound.objects (record { tenants = below_with (length b.limits) t o.holders there filed.tenants; rising = rising_with 0 t o.holders (omega arith) filed.rising });
+          apart = apart_with address b.objects at o holders known sound.apart;
+          stored = omega (arith, bytes, same, gone.held);
+          parts = m.parts;
+        };
+        bytes = omega (arith, bytes, same);
+        held = gone.held;
+        parts = gone.parts;
+      }
+
+  -- ---- a tenant holds an object no longer
+
+  pub record Leaves (b : Books P O) (t : ℕ) (at : List ℕ) (o : Filed O) : Type 0 where
+    pub moves : Moves len size address t (falls (size o.content)) none b (with_left address b t at (Some o))
+    pub bytes : object_bytes_of size (with_left address b t at (Some o)) + where_so (nat_le (length o.holders) 1) (size o.content) ≡ object_bytes_of size b
+
+  bytes_left : (t : ℕ) (o : Filed O) → is_held_by t o ≡ true → weight (λ x. size x.content) o (without_holder t o.holders) + where_so (nat_le (length o.holders) 1) (size o.content) ≡ size o.content
+  bytes_left t o held = elim (cases_Bool (nat_le (length o.holders) 1)) [
+    | inl alone ↦
+        let gone = ap (weight (λ (x : Filed O). size x.content) o) (alone_without t o.holders alone held) in
+        let all : where_so (nat_le (length o.holders) 1) (size o.content) ≡ size o.content = rw alone refl in
+        omega (arith, gone, all)
+    | inr several ↦
+        let stays = weight_some (λ (x : Filed O). size x.content) o (without_holder t o.holders) (several_without t o.holders several) in
+        let none : where_so (nat_le (length o.holders) 1) (size o.content) ≡ 0 = rw several refl in
+        omega (arith, stays, none)
+  ]
+
+  pub leaves : (b : Books P O) (t : ℕ) (at : List ℕ) (o : Filed O) → object_at address b at ≡ Some o → AreSound len size address b → b.accepted < b.entries → t < length b.limits → is_held_by t o ≡ true → Leaves b t at o
+  leaves b t at o known sound room there held =
+      let holders = without_holder t o.holders in
+      let filed = object_found address (IsFiledAmong (length b.limits)) b.objects at o known sound.objects in
+      let within = sound.within t there in
+      let uses = sum_with address (use_by size t) b.objects at o holders known in
+      let mine : use_by size t o ≡ size o.content = rw held refl in
+      let now = weight_use size t o holders ∙ ap (λ (x : Bool). where_so x (size o.content)) (gone_own t o.holders filed.rising) in
+      let bytes = sum_with address (λ (x : Filed O). size x.content) b.objects at o holders known in
+      let left = bytes_left t o held in
+      record {
+        moves = record {
+          tenants = refl;
+          entries = refl;
+          limits = refl;
+          accepted = refl;
+          room = room;
+          there = there;
+          uses = omega (arith, uses, mine, now);
+          use_low = omega (arith, uses, mine, now);
+          reserves = refl;
+          reserved_low = omega arith;
+          others_use = λ q apart.
+              let sum = sum_with address (use_by size q) b.objects at o holders known in
+              let other = weight_use size q o holders ∙ ap (λ (x : Bool). where_so x (size o.content)) (stays_other t q o.holders filed.rising apart) in
+              omega (arith, sum, other);
+          others_reserve = λ q apart. refl;
+          fits = omega (arith, uses, mine, now, within);
+          begun = omega arith;
+          uploads = sound.uploads;
+          sorted = sound.sorted;
+          objects = all_with address (IsFiledAmong (length b.limits)) b.objects at o holders known sound.objects (record { tenants = below_without (length b.limits) t o.holders filed.tenants; rising = rising_without 0 t o.holders filed.rising });
+          apart = apart_with address b.objects at o holders known sound.apart;
+          stored = omega (arith, bytes, left);
+          parts = omega arith;
+        };
+        bytes = omega (arith, bytes, left);
+      }

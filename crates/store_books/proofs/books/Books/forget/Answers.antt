@@ -1,0 +1,81 @@
+use Rattle.std.proofs.Common.{◌≡◌, ◌∙◌, ◌+◌, ◌-◌, ◌++◌, ◌∷◌, [], ℕ, List, Option, Some, None, arith, Bool, ap, ap₂, length, refl, subst, sym}
+use Rattle.std.specs.Prelude.{nat_le}
+use Rattle.std.proofs.lemmas.Bool.{leb-false}
+use Rattle.store_books.specs.declared.refusal.Refusal.TheVariants.{NoTenant}
+use Rattle.store_books.specs.declared.tenant.Change.{Change}
+use Rattle.store_books.specs.Books.{Books, is_absent, is_held_by}
+use Rattle.store_books.specs.Catalog.{Catalogued}
+use Rattle.store_books.specs.Commands.{forget_refusal, full_refusal, with_holders, with_left, without_holder}
+use Rattle.store_books.specs.Kept.{HasRoom, books_of, changed_sums}
+use Rattle.store_upload.specs.Uploads.{length_of}
+use Rattle.store_upload.proofs.Places.{some_is}
+use Rattle.store_books.proofs.Commands.{falls, none, passed, room}
+use Rattle.store_books.proofs.Objects.{is_held, leaves, where_so}
+use Rattle.store_books.proofs.Sums.{change_is, kept_after, kept_as, room_for}
+use Rattle.store_books.proofs.books.Books.forget.Goals as goal
+
+pub change_sums-requires : goal.change_sums-requires
+change_sums-requires g c =
+    let old = c.self.inside in
+    let len = g.H.Part.Length.len in
+    let size = g.O.Content.size in
+    let address = g.O.Content.address in
+    let b : Books g.row.H-Part.Denot g.row.O.Denot = books_of old.limits old.tenants.items old.begun old.uploads.entries old.catalog.objects old.accepted in
+    let t = c.args.tenant in
+    let at = c.args.address in
+    let k = c.in-Some.ensures.found in
+    let o = k.object in
+    let known = k.found in
+    let all = passed (is_absent b t) NoTenant _ (ap (λ (x : Books g.row.H-Part.Denot g.row.O.Denot). forget_refusal address x t at) c.self.view_is ∙ c.requires) in
+    let there = leb-false (length b.limits) t all.0 in
+    let held = is_held (is_held_by t o) (full_refusal b) (rw known at all.1) in
+    let left = leaves len size address b t at o known c.self.invariant.sound (room b held.1) there held.0 in
+    let next = with_left address b t at (Some o) in
+    let has = room_for len size address t (falls (size o.content)) none b next old.tenants.items old.catalog.filings old.object_bytes old.held old.parts left.moves refl c.self.invariant in
+    subst (λ (n : ℕ). HasRoom old.tenants.items t (falls n) none) (sym k.size) has
+
+pub overflow_sub-self : goal.overflow_sub-self
+overflow_sub-self g c =
+    let old = c.self.inside in
+    let len = g.H.Part.Length.len in
+    let size = g.O.Content.size in
+    let address = g.O.Content.address in
+    let b : Books g.row.H-Part.Denot g.row.O.Denot = books_of old.limits old.tenants.items old.begun old.uploads.entries old.catalog.objects old.accepted in
+    let t = c.args.tenant in
+    let at = c.args.address in
+    let k = c.in-Some.ensures.found in
+    let o = k.object in
+    let known = k.found in
+    let all = passed (is_absent b t) NoTenant _ (ap (λ (x : Books g.row.H-Part.Denot g.row.O.Denot). forget_refusal address x t at) c.self.view_is ∙ c.requires) in
+    let there = leb-false (length b.limits) t all.0 in
+    let held = is_held (is_held_by t o) (full_refusal b) (rw known at all.1) in
+    let left = leaves len size address b t at o known c.self.invariant.sound (room b held.1) there held.0 in
+    let next = with_left address b t at (Some o) in
+    let bytes : c.gone.result ≡ where_so (nat_le (length o.holders) 1) (size o.content) = c.gone.ensures ∙ ap₂ (λ (x : Bool) (y : ℕ). where_so x y) k.is_alone k.size in
+    omega (arith, bytes, left.bytes, c.self.invariant.object_bytes_is)
+
+pub invariant_of-self : goal.invariant_of-self
+invariant_of-self g c =
+    let old = c.self.inside in
+    let len = g.H.Part.Length.len in
+    let size = g.O.Content.size in
+    let address = g.O.Content.address in
+    let b : Books g.row.H-Part.Denot g.row.O.Denot = books_of old.limits old.tenants.items old.begun old.uploads.entries old.catalog.objects old.accepted in
+    let t = c.args.tenant in
+    let at = c.args.address in
+    let k = c.in-Some.ensures.found in
+    let o = k.object in
+    let known = k.found in
+    let all = passed (is_absent b t) NoTenant _ (ap (λ (x : Books g.row.H-Part.Denot g.row.O.Denot). forget_refusal address x t at) c.self.view_is ∙ c.requires) in
+    let there = leb-false (length b.limits) t all.0 in
+    let held = is_held (is_held_by t o) (full_refusal b) (rw known at all.1) in
+    let left = leaves len size address b t at o known c.self.invariant.sound (room b held.1) there held.0 in
+    let next = with_left address b t at (Some o) in
+    let bytes : c.gone.result ≡ where_so (nat_le (length o.holders) 1) (size o.content) = c.gone.ensures ∙ ap₂ (λ (x : Bool) (y : ℕ). where_so x y) k.is_alone k.size in
+    let new = c.drop_holder-gone.ensures.left o known in
+    let filings = ap (λ (x : Catalogued g.row.O.Denot). x.filings) new in
+    let kept = kept_after len size address t (falls (size o.content)) none b next old.tenants.items old.catalog.filings old.object_bytes old.held old.parts c.drop_holder-gone.new.self.filings (old.object_bytes - c.gone.result) old.held old.parts
+    left.moves refl c.self.invariant (omega (arith, filings)) (omega (arith, bytes, left.bytes, c.self.invariant.object_bytes_is)) c.self.invariant.held_is c.self.invariant.parts_is in
+    let now = c.change_sums.ensures.sums ∙ ap (λ (n : ℕ). changed_sums old.tenants.items t (falls n) none) k.size in
+    let objects = ap (λ (x : Catalogued g.row.O.Denot). x.objects) new in
+    kept_as len size address old.limits t (falls (size o.content)) none old.begun (old.accepted + 1) c.drop_holder-gone.new.self.filings (old.object_bytes - c.gone.result) old.held old.parts old.tenants.items _ _ _ next.objects _ now refl objects kept

@@ -1,0 +1,7 @@
+pub mod Books
+pub mod Commands
+pub mod Questions
+pub mod Refusals
+pub mod Totals
+pub mod Catalog
+pub mod Kept

@@ -1,0 +1,139 @@
+//! Open uploads with their tenants, by their numbers.
+
+ghost use Rattle.std.specs.Prelude.{◌≡◌, ◌<◌, ◌∷◌, ◌++◌, [], IfErr, IfOk, IfSome, IsSome, None, OnErr, OnOk, Some, length};
+ghost use Rattle.std.specs.List.{AllByRecursion};
+ghost use Rattle.std.specs.Map.{lookup, remove_entry, set_value};
+ghost use Rattle.store_books.specs.Books.{Begun, is_number};
+ghost use Rattle.store_upload.specs.Uploads.{Fits, IsUpload, fix_refusal, fixed_at, length_of, place_refusal, with_more};
+
+use std::alloc::AllocError;
+use std::collections::BTreeMap;
+use std::marker::Model;
+use store_upload::{HeldParts, Open};
+
+/// An upload that is not closed yet, and the tenant that began it.
+#[derive(Drop)]
+pub struct BegunUpload<H: HeldParts> {
+    tenant: u64,
+    upload: Open<H>,
+}
+
+impl<H: HeldParts> Model for BegunUpload<H> {
+    ghost use Rattle.store_books.specs.Books.{Begun};
+
+    ghost Value = { Begun H.Part };
+
+    ghost view = { λ u. record { tenant = u.tenant; upload = u.upload } };
+}
+
+impl<H: HeldParts> BegunUpload<H> {
+    /// A tenant's upload.
+    pub(crate) fn new(tenant: u64, upload: Open<H>) -> BegunUpload<H>
+        ensures { result ≡ record { tenant = tenant; upload = upload } }
+    {
+        BegunUpload { tenant, upload }
+    }
+
+    /// The number of the tenant that began it.
+    pub fn tenant(&self) -> u64
+        ensures { result ≡ self.now.tenant }
+    {
+        self.tenant
+    }
+
+    /// The upload.
+    pub fn upload(&self) -> &Open<H>
+        ensures { result.now ≡ self.now.upload }
+    {
+        &self.upload
+    }
+
+    /// The upload, taken out.
+    pub(crate) fn into_upload(self) -> Open<H>
+        ensures { result ≡ self.upload }
+    {
+        let BegunUpload { upload, .. } = self;
+        upload
+    }
+
+    // The upload takes the part. Answers its length then.
+    fn put(&mut self, part: H::Given, work: &mut H::Work) -> Result<u64, H::Given>
+        requires fits { Fits self.old.upload.plan (H.start part) (H.Part.len (H.kept part)) }
+        requires free { place_refusal H.Part.len self.old.upload (H.start part) (H.Part.len (H.kept part)) ≡ None }
+        ensures put { OnOk result (self.new ≡ record self.old { upload = with_more H.Part.len self.old.upload (H.start part) (H.kept part) }) }
+        ensures length { IfOk result (λ n. n ≡ length_of self.new.upload) }
+        ensures count { OnOk result (work.new ≡ H.works self.old.upload.parts (H.start part) (H.kept part) work.old) }
+        ensures back { IfErr result (λ back. back ≡ part) }
+        ensures unchanged { OnErr result (self.new ≡ self.old) }
+        ensures uncounted { OnErr result (work.new ≡ work.old) }
+    {
+        match self.upload.put(part, work) {
+            Ok(()) => Ok(self.upload.length()),
+            Err(part) => Err(part),
+        }
+    }
+
+    // The upload's end is fixed.
+    fn fix(&mut self, len: u64)
+        requires { fix_refusal H.Part.len self.old.upload len ≡ None }
+        ensures { self.new ≡ record self.old { upload = fixed_at self.old.upload len } }
+    {
+        self.upload.fix(len);
+    }
+}
+
+/// An upload behind all others.
+pub(crate) fn begin<H: HeldParts>(
+    uploads: &mut BTreeMap<u64, BegunUpload<H>>,
+    number: u64,
+    begun: BegunUpload<H>,
+) -> Result<(), AllocError>
+    requires { AllByRecursion (λ e. e.0 < number) uploads.old.entries }
+    ensures begun { OnOk result (uploads.new.entries ≡ uploads.old.entries ++ (number, begun) ∷ []) }
+    ensures unchanged { OnErr result (uploads.new.entries ≡ uploads.old.entries) }
+{
+    let Ok(_none) = uploads.insert(number, begun) else {
+        return Err(AllocError);
+    };
+    Ok(())
+}
+
+/// The upload of the number takes the part. Answers its length then.
+pub(crate) fn put<H: HeldParts>(
+    uploads: &mut BTreeMap<u64, BegunUpload<H>>,
+    number: u64,
+    part: H::Given,
+    work: &mut H::Work,
+) -> Result<u64, H::Given>
+    requires there { IsSome (lookup (is_number number) uploads.old.entries) }
+    requires fits { IfSome (lookup (is_number number) uploads.old.entries) (λ u. Fits u.upload.plan (H.start part) (H.Part.len (H.kept part))) }
+    requires free { IfSome (lookup (is_number number) uploads.old.entries) (λ u. place_refusal H.Part.len u.upload (H.start part) (H.Part.len (H.kept part)) ≡ None) }
+    ensures put { OnOk result ((u : Begun H.Part) → lookup (is_number number) uploads.old.entries ≡ Some u
+        → uploads.new.entries ≡ set_value (is_number number) uploads.old.entries (record u { upload = with_more H.Part.len u.upload (H.start part) (H.kept part) })) }
+    ensures length { IfOk result (λ n. (u : Begun H.Part) → lookup (is_number number) uploads.old.entries ≡ Some u → n ≡ length_of (with_more H.Part.len u.upload (H.start part) (H.kept part))) }
+    ensures count { OnOk result ((u : Begun H.Part) → lookup (is_number number) uploads.old.entries ≡ Some u → work.new ≡ H.works u.upload.parts (H.start part) (H.kept part) work.old) }
+    ensures back { IfErr result (λ back. back ≡ part) }
+    ensures unchanged { OnErr result (uploads.new.entries ≡ uploads.old.entries) }
+    ensures uncounted { OnErr result (work.new ≡ work.old) }
+{
+    match uploads.get_mut(&number) {
+        Some(begun) => begun.put(part, work),
+        None => unreachable!(),
+    }
+}
+
+/// The end of the upload of the number is fixed.
+pub(crate) fn fix<H: HeldParts>(
+    uploads: &mut BTreeMap<u64, BegunUpload<H>>,
+    number: u64,
+    len: u64,
+)
+    requires there { IsSome (lookup (is_number number) uploads.old.entries) }
+    requires may { IfSome (lookup (is_number number) uploads.old.entries) (λ u. fix_refusal H.Part.len u.upload len ≡ None) }
+    ensures { (u : Begun H.Part) → lookup (is_number number) uploads.old.entries ≡ Some u → uploads.new.entries ≡ set_value (is_number number) uploads.old.entries (record u { upload = fixed_at u.upload len }) }
+{
+    match uploads.get_mut(&number) {
+        Some(begun) => begun.fix(len),
+        None => unreachable!(),
+    }
+}

@@ -1,0 +1,168 @@
+//! Commands on objects.
+
+ghost use Rattle.std.specs.Prelude.{◌≡◌, IfNone, IfOk, IfSome, IsSome, None, OnErr, OnOk, Some, length, nat_le, if◌then◌else◌};
+ghost use Rattle.store_books.specs.Books.{Filed, object_at, upload_at};
+ghost use Rattle.store_books.specs.Commands.{file_refusal, finish_refused as finish_refused_of, forget_refusal, ready_refusal, with_filed, with_forgotten, with_joined};
+ghost use Rattle.store_upload.specs.Uploads.{length_of};
+
+use crate::address::Address;
+use crate::books::Books;
+use crate::content::Content;
+use crate::index::AddressIndex;
+use crate::refusal::Refusal;
+use crate::tenant::{Change, change_sums, tenant_of};
+use std::alloc::AllocError;
+use store_upload::{FinishFault, HeldParts, Open};
+
+impl<H: HeldParts, O: Content, I: AddressIndex> Books<H, O, I> {
+    /// Why the upload would not be sealed, before its content is looked at. S7, S16, S10.
+    pub fn ready_refusal(&self, number: u64) -> Option<Refusal>
+        ensures { result ≡ ready_refusal H.Part.len self.now number }
+    {
+        let Some(begun) = self.uploads.get(&number) else {
+            return Some(Refusal::NoUpload);
+        };
+        match begun.upload().finish_fault() {
+            Some(fault) => Some(finish_refused(fault)),
+            None => None,
+        }
+    }
+
+    /// Why a complete upload, whose content has this address, would not be filed. S7, S6, S13.
+    pub fn file_refusal(&self, number: u64, address: Address) -> Option<Refusal>
+        ensures { result ≡ file_refusal O.size O.address self.now number address }
+    {
+        let Some(begun) = self.uploads.get(&number) else {
+            return Some(Refusal::NoUpload);
+        };
+        let tenant = begun.tenant();
+        let len = begun.upload().length();
+        let Some(known) = self.catalog.known(address, tenant) else {
+            return self.full_refusal();
+        };
+        let found = tenant_of(&self.tenants, tenant);
+        let free = found.limit - found.used - found.reserved;
+        if known.is_over(len + free) {
+            return Some(Refusal::OverQuota { free });
+        }
+        self.full_refusal()
+    }
+
+    /// The object of the address.
+    pub fn object(&self, address: Address) -> Option<&O>
+        ensures some { IfSome result (λ content. (o : Filed O) × (object_at O.address self.now address ≡ Some o) × (content.now ≡ o.content)) }
+        ensures none { IfNone result (object_at O.address self.now address ≡ None) }
+    {
+        self.catalog.content(address)
+    }
+
+    /// Files a complete upload's content, which is new, last, and hands out the upload.
+    pub fn seal_new(&mut self, number: u64, content: O) -> Result<Open<H>, AllocError>
+        requires ready { ready_refusal H.Part.len self.old number ≡ None }
+        requires free { file_refusal O.size O.address self.old number (O.address content) ≡ None }
+        requires new { object_at O.address self.old (O.address content) ≡ None }
+        requires size { IfSome (upload_at self.old number) (λ u. O.size content ≡ length_of u.upload) }
+        ensures filed { OnOk result (self.new ≡ with_filed self.old number content) }
+        ensures given { IfOk result (λ gone. IfSome (upload_at self.old number) (λ u. gone ≡ u.upload)) }
+        ensures unchanged { OnErr result (self.new ≡ self.old) }
+    {
+        let Some(begun) = self.uploads.get(&number) else {
+            unreachable!();
+        };
+        let tenant = begun.tenant();
+        let len = begun.upload().length();
+        self.catalog.file_last(self.alloc, content, tenant)?;
+        let Some(begun) = self.uploads.remove(&number) else {
+            unreachable!();
+        };
+        let upload = begun.into_upload();
+        let used = Change { less: 0, more: len };
+        let reserved = Change { less: len, more: 0 };
+        change_sums(&mut self.tenants, tenant, used, reserved);
+        self.object_bytes += len;
+        self.held -= upload.held();
+        self.parts -= upload.count();
+        self.accepted += 1;
+        Ok(upload)
+    }
+
+    /// Adds a complete upload's tenant to the holders of the object of its content's address, and hands out the upload.
+    pub fn seal_known(&mut self, number: u64, address: Address) -> Result<Open<H>, AllocError>
+        requires ready { ready_refusal H.Part.len self.old number ≡ None }
+        requires free { file_refusal O.size O.address self.old number address ≡ None }
+        requires known { IsSome (object_at O.address self.old address) }
+        ensures joined { OnOk result (self.new ≡ with_joined O.address self.old number address) }
+        ensures given { IfOk result (λ gone. IfSome (upload_at self.old number) (λ u. gone ≡ u.upload)) }
+        ensures unchanged { OnErr result (self.new ≡ self.old) }
+    {
+        let Some(begun) = self.uploads.get(&number) else {
+            unreachable!();
+        };
+        let tenant = begun.tenant();
+        let Some(known) = self.catalog.known(address, tenant) else {
+            unreachable!();
+        };
+        self.catalog.add_holder(address, tenant)?;
+        let Some(begun) = self.uploads.remove(&number) else {
+            unreachable!();
+        };
+        let upload = begun.into_upload();
+        let used = Change {
+            less: 0,
+            more: known.more_used(),
+        };
+        let reserved = Change {
+            less: upload.length(),
+            more: 0,
+        };
+        change_sums(&mut self.tenants, tenant, used, reserved);
+        self.held -= upload.held();
+        self.parts -= upload.count();
+        self.accepted += 1;
+        Ok(upload)
+    }
+
+    /// Why the tenant would not be taken from the holders of the object. S1, S12, S13.
+    pub fn forget_refusal(&self, tenant: u64, address: Address) -> Option<Refusal>
+        ensures { result ≡ forget_refusal O.address self.now tenant address }
+    {
+        if tenant >= self.tenants.len() as u64 {
+            return Some(Refusal::NoTenant);
+        }
+        match self.catalog.known(address, tenant) {
+            Some(known) if known.is_holder => self.full_refusal(),
+            _ => Some(Refusal::NotHeld),
+        }
+    }
+
+    /// Takes the tenant from the holders of the object, and hands out the object where it has no other.
+    pub fn forget(&mut self, tenant: u64, address: Address) -> Option<O>
+        requires { forget_refusal O.address self.old tenant address ≡ None }
+        ensures left { self.new ≡ with_forgotten O.address self.old tenant address }
+        ensures gone { IfSome (object_at O.address self.old address) (λ o. result ≡ (if nat_le (length o.holders) 1 then Some o.content else None)) }
+    {
+        let Some(known) = self.catalog.known(address, tenant) else {
+            unreachable!();
+        };
+        let gone = self.catalog.drop_holder(address, tenant, known.is_alone);
+        let used = Change {
+            less: known.size,
+            more: 0,
+        };
+        let reserved = Change { less: 0, more: 0 };
+        change_sums(&mut self.tenants, tenant, used, reserved);
+        self.object_bytes -= known.gone();
+        self.accepted += 1;
+        gone
+    }
+}
+
+// What an upload lacks, in a store.
+fn finish_refused(fault: FinishFault) -> Refusal
+    ensures { result ≡ finish_refused_of fault }
+{
+    match fault {
+        FinishFault::NotFixed => Refusal::NotFixed,
+        FinishFault::Incomplete { missing } => Refusal::Incomplete { missing },
+    }
+}

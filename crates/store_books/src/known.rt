@@ -1,0 +1,37 @@
+//! Objects that are filed already.
+
+ghost use Rattle.std.specs.Prelude.{◌≡◌, ◌&&◌, if◌then◌else◌, nat_lt, not};
+
+// A filed object's length, whether a tenant holds it, and whether it has one holder alone.
+#[derive(Clone, Copy, Debug)]
+pub(crate) struct Known {
+    pub(crate) size: u64,
+    pub(crate) is_holder: bool,
+    pub(crate) is_alone: bool,
+}
+
+impl Known {
+    /// Whether the tenant doesn't hold the object yet, and it is longer than this.
+    pub(crate) fn is_over(&self, most: u64) -> bool
+        ensures { result ≡ (not self.now.is_holder && nat_lt most self.now.size) }
+    {
+        if self.is_holder {
+            return false;
+        }
+        self.size > most
+    }
+
+    /// What the tenant uses more where it holds the object.
+    pub(crate) fn more_used(&self) -> u64
+        ensures { result ≡ (if not self.now.is_holder then self.now.size else 0) }
+    {
+        if self.is_holder { 0 } else { self.size }
+    }
+
+    /// The bytes that go where the tenant holds the object no longer.
+    pub(crate) fn gone(&self) -> u64
+        ensures { result ≡ (if self.now.is_alone then self.now.size else 0) }
+    {
+        if self.is_alone { self.size } else { 0 }
+    }
+}

@@ -1,0 +1,48 @@
+//! Numbers of tenants.
+
+ghost use Rattle.std.specs.Prelude.{◌≡◌, Some};
+ghost use Rattle.std.specs.Fmt.{decimal};
+
+use std::fmt;
+use std::marker::Model;
+
+/// The tenant's number. Contracts see it as that number.
+#[derive(Clone, Copy, Debug, PartialEq, Eq, PartialOrd, Ord, Hash)]
+pub struct TenantId {
+    number: u64,
+}
+
+impl Model for TenantId {
+    ghost use Rattle.std.specs.Prelude.{ℕ};
+
+    ghost Value = { ℕ };
+
+    ghost view = { λ id. id.number };
+
+    ghost inverse = { λ number. record { number = number } };
+}
+
+impl TenantId {
+    /// The tenant of this number.
+    pub fn new(number: u64) -> TenantId
+        ensures { result ≡ number }
+    {
+        TenantId { number }
+    }
+
+    /// The number.
+    pub fn number(&self) -> u64
+        ensures { result ≡ self.now }
+    {
+        self.number
+    }
+}
+
+/// The number in decimal.
+impl fmt::Display for TenantId {
+    ghost output = { λ id. Some (decimal id) };
+
+    fn fmt<W: fmt::Write>(&self, f: &mut fmt::Formatter<W>) -> fmt::Result {
+        write!(f, "{}", self.number)
+    }
+}
