@@ -1,21 +1,19 @@
 -- What each command on uploads leaves.
-use Rattle.std.proofs.Common.{◌≡◌, ◌∙◌, ◌+◌, ◌-◌, ◌^◌, ◌<◌, ◌≤◌, ℕ, Bool, true, false, List, [], ◌∷◌, ◌++◌, Option, Some, None, cond, refl, ap, sym, arith, length, get_or, subst, inl, inr}
-use Rattle.std.specs.Prelude.{◌==◌, if◌then◌else◌, nat_le, nat_lt, option_map, sum_by, unwrap_or}
+use Rattle.std.proofs.Common.{◌≡◌, ◌∙◌, ◌+◌, ◌^◌, ◌<◌, ◌≤◌, ℕ, Bool, true, false, List, [], ◌∷◌, ◌++◌, Option, Some, None, cond, refl, ap, sym, arith, length, subst, inl, inr}
+use Rattle.std.specs.Prelude.{if◌then◌else◌, nat_lt, option_map, sum_by, unwrap_or}
 use Rattle.std.specs.List.{AllByRecursion}
 use Rattle.std.specs.Map.{keys_of, lookup, remove_entry, set_value, values_of}
 use Rattle.std.specs.Option.{option_or}
 use Rattle.std.proofs.lemmas.Bool.{cases_Bool, eq-eqb, leb-false, ltb-false, ne_eqb}
-use Rattle.std.proofs.lemmas.List.{map-append}
-use Rattle.std.proofs.lemmas.List.Sums.{sum_by-cons, sum_by_push}
+use Rattle.std.proofs.lemmas.List.Sums.{sum_by_push}
 use Rattle.std.proofs.lemmas.Map.{keys-set_value}
 use Rattle.std.proofs.lemmas.Map.Entries.{sum_by-remove_entry, sum_by-set_value}
-use Rattle.store_books.specs.declared.refusal.Refusal.{Refusal}
-use Rattle.store_books.specs.declared.refusal.Refusal.TheVariants.{JournalFull, NoTenant, OverQuota, TooLong}
+use Rattle.store_books.specs.declared.refusal.Refusal.TheVariants.{JournalFull, NoTenant, TooLong}
 use Rattle.store_books.specs.declared.tenant.Change.{Change}
-use Rattle.store_books.specs.Books.{AreSound, Begun, Books, IsAmong, IsRisingFrom, held_bytes_of, in_use, is_absent, is_full, is_number, limit_of, parts_of, reserved_by, reserved_of, upload_at, use_of}
+use Rattle.store_books.specs.Books.{AreSound, Begun, Books, IsAmong, IsRisingFrom, held_bytes_of, in_use, is_absent, is_full, is_number, limit_of, parts_of, reserved_by, reserved_of, upload_at}
 use Rattle.store_books.specs.Commands.{add_refused, begin_refusal, fix_refused, full_refusal, with_begun, with_upload, without_upload}
-use Rattle.store_upload.specs.Uploads.{Fits, IsUpload, Upload, UploadPlan, end_with, first_end, fix_refusal, fixed_at, held_bytes, length_of, most_bytes, new_upload, place_refusal, with_more}
-use Rattle.store_upload.proofs.Ends.{Grows, fixed_within, fixes, grown, nothing_held}
+use Rattle.store_upload.specs.Uploads.{Fits, IsUpload, UploadPlan, first_end, fix_refusal, fixed_at, held_bytes, length_of, most_bytes, new_upload, place_refusal, with_more}
+use Rattle.store_upload.proofs.Ends.{fixed_within, fixes, grown, nothing_held}
 use Rattle.store_upload.proofs.Places.{not_some}
 use Rattle.store_books.proofs.Lists.{all_found, all_push, all_removed, all_set, all_weaker, values_push}
 use Rattle.store_books.proofs.Sums.{Moves}

@@ -1,5 +1,5 @@
 -- The filings of what one tenant holds, in order, are those of the objects that list it among their holders.
-use Rattle.std.proofs.Common.{◌≡◌, ◌≢◌, ◌∙◌, ◌+◌, ◌<◌, ◌≤◌, ℕ, Bool, true, false, cond, List, [], ◌∷◌, Option, None, Some, refl, ap, sym, subst, arith, inl, inr, length, map}
+use Rattle.std.proofs.Common.{◌≡◌, ◌≢◌, ◌∙◌, ◌+◌, ◌<◌, ◌≤◌, ℕ, Bool, true, false, cond, List, [], ◌∷◌, Option, None, Some, refl, ap, sym, subst, arith, inl, inr, map}
 use Rattle.std.specs.Prelude.{◌==◌, ◌||◌, ◌&&◌, IsSome, filter, is_some, nat_lt, not}
 use Rattle.std.specs.BTreeMap.{BTreeMap, IsOrdered, get, is_at}
 use Rattle.std.specs.BTreeMap.Range.{range_contains}

@@ -1,15 +1,15 @@
 -- What each command on objects leaves.
-use Rattle.std.proofs.Common.{◌≡◌, ◌∙◌, ◌+◌, ◌-◌, ◌^◌, ◌<◌, ◌≤◌, ℕ, Bool, true, false, List, [], ◌∷◌, ◌++◌, Option, Some, None, cond, refl, ap, sym, arith, length, subst, inl, inr}
-use Rattle.std.specs.Prelude.{◌==◌, ◌&&◌, ◌||◌, if◌then◌else◌, nat_le, nat_lt, not, sum_by}
+use Rattle.std.proofs.Common.{◌≡◌, ◌∙◌, ◌+◌, ◌<◌, ◌≤◌, ℕ, Bool, true, false, List, [], ◌∷◌, Option, Some, None, cond, refl, ap, sym, arith, length, inl, inr}
+use Rattle.std.specs.Prelude.{◌==◌, ◌&&◌, ◌||◌, if◌then◌else◌, nat_le, nat_lt, not}
 use Rattle.std.specs.List.{AllByRecursion}
-use Rattle.std.specs.Map.{lookup, remove_entry, set_value, values_of}
+use Rattle.std.specs.Map.{remove_entry, set_value}
 use Rattle.std.specs.Str.{bytes_eq}
-use Rattle.std.proofs.lemmas.Bool.{cases_Bool, eq-eqb, leb-false, ltb-false, ne_eqb}
+use Rattle.std.proofs.lemmas.Bool.{cases_Bool, eq-eqb, ltb-false, ne_eqb}
 use Rattle.std.proofs.lemmas.List.Sums.{sum_by_push}
 use Rattle.store_books.specs.declared.refusal.Refusal.{Refusal}
 use Rattle.store_books.specs.declared.refusal.Refusal.TheVariants.{NotHeld}
-use Rattle.store_books.specs.Books.{AreSound, Begun, Books, Filed, IsFiledAmong, IsRisingFrom, addressed, free_of, in_use, is_absent, is_held_by, limit_of, object_among, object_at, object_bytes_of, upload_at, use_by, use_of, held_bytes_of, parts_of}
-use Rattle.store_books.specs.Commands.{file_refusal, full_refusal, is_over, with_holder, with_holders, with_known, with_left, with_new, without_holder, without_upload}
+use Rattle.store_books.specs.Books.{AreSound, Begun, Books, Filed, IsFiledAmong, IsRisingFrom, addressed, free_of, is_held_by, object_among, object_at, object_bytes_of, upload_at, use_by, use_of, held_bytes_of, parts_of}
+use Rattle.store_books.specs.Commands.{is_over, with_holder, with_holders, with_known, with_left, with_new, without_holder}
 use Rattle.store_upload.specs.Uploads.{finish_refusal, held_bytes, length_of}
 use Rattle.store_upload.proofs.Complete.{whole_is}
 use Rattle.store_upload.proofs.Places.{not_some}

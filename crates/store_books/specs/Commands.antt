@@ -1,5 +1,5 @@
 -- Commands on the books: why each is refused, the first reason that applies, and what it leaves where it is accepted.
-use Rattle.std.specs.Prelude.{◌≡◌, ◌+◌, ◌==◌, ◌&&◌, ℕ, Bool, true, false, not, List, [], ◌∷◌, ◌++◌, Option, Some, None, is_some, length, if◌then◌else◌, nat_le, nat_lt, option_map, slice_set}
+use Rattle.std.specs.Prelude.{◌+◌, ◌==◌, ◌&&◌, ℕ, Bool, true, false, not, List, [], ◌∷◌, ◌++◌, Option, Some, None, length, if◌then◌else◌, nat_le, nat_lt, option_map, slice_set}
 use Rattle.std.specs.Map.{remove_entry, set_value, values_of}
 use Rattle.std.specs.Option.{option_map_or, option_or}
 use Rattle.std.specs.Str.{bytes_eq}
@@ -11,7 +11,7 @@ use Rattle.store_upload.specs.declared.refusal.FinishFault.{FinishFault}
 use Rattle.store_upload.specs.declared.refusal.FinishFault.TheVariants as finish
 use Rattle.store_upload.specs.declared.refusal.FixFault.{FixFault}
 use Rattle.store_upload.specs.declared.refusal.FixFault.TheVariants as fix
-use Rattle.store_upload.specs.Uploads.{Upload, UploadPlan, finish_refusal, fix_refusal, fixed_at, length_of, most_bytes, new_upload, place_refusal, with_more}
+use Rattle.store_upload.specs.Uploads.{UploadPlan, finish_refusal, fix_refusal, fixed_at, length_of, most_bytes, new_upload, place_refusal, with_more}
 use Rattle.store_books.specs.Books.{Begun, Books, Filed, addressed, free_of, in_use, is_absent, is_full, is_held_by, is_number, limit_of, most_limit, object_at, upload_at}
 
 -- what an upload's refusals are in a store

@@ -5,3 +5,4 @@ pub mod Refusals
 pub mod Totals
 pub mod Catalog
 pub mod Kept
+pub mod Replay

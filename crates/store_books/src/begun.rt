@@ -123,11 +123,7 @@ pub(crate) fn put<H: HeldParts>(
 }
 
 /// The end of the upload of the number is fixed.
-pub(crate) fn fix<H: HeldParts>(
-    uploads: &mut BTreeMap<u64, BegunUpload<H>>,
-    number: u64,
-    len: u64,
-)
+pub(crate) fn fix<H: HeldParts>(uploads: &mut BTreeMap<u64, BegunUpload<H>>, number: u64, len: u64)
     requires there { IsSome (lookup (is_number number) uploads.old.entries) }
     requires may { IfSome (lookup (is_number number) uploads.old.entries) (λ u. fix_refusal H.Part.len u.upload len ≡ None) }
     ensures { (u : Begun H.Part) → lookup (is_number number) uploads.old.entries ≡ Some u → uploads.new.entries ≡ set_value (is_number number) uploads.old.entries (record u { upload = fixed_at u.upload len }) }

@@ -163,12 +163,7 @@ impl<O: Content, I: AddressIndex> Catalog<O, I> {
     }
 
     /// Takes a holder from the object of the address, and hands out the object where it has no other.
-    pub(crate) fn drop_holder(
-        &mut self,
-        address: Address,
-        tenant: u64,
-        is_alone: bool,
-    ) -> Option<O>
+    pub(crate) fn drop_holder(&mut self, address: Address, tenant: u64, is_alone: bool) -> Option<O>
         requires found { IsSome (object_among O.address self.old.objects address) }
         requires held { (o : Item O) → object_among O.address self.old.objects address ≡ Some o → (is_held_by tenant o ≡ true) × (is_alone ≡ nat_le (length o.holders) 1) }
         ensures left { (o : Item O) → object_among O.address self.old.objects address ≡ Some o

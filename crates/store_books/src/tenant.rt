@@ -27,12 +27,7 @@ pub(crate) struct Change {
 }
 
 /// A tenant's use and its reservation change.
-pub(crate) fn change_sums(
-    tenants: &mut Vec<Tenant>,
-    number: u64,
-    used: Change,
-    reserved: Change,
-)
+pub(crate) fn change_sums(tenants: &mut Vec<Tenant>, number: u64, used: Change, reserved: Change)
     requires { HasRoom tenants.old.items number used reserved }
     ensures sums { tenants.new.items ≡ changed_sums tenants.old.items number used reserved }
     ensures limits { limits_of tenants.new.items ≡ limits_of tenants.old.items }

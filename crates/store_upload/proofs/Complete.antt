@@ -1,6 +1,6 @@
 -- What a complete upload holds.
-use Rattle.std.proofs.Common.{◌≡◌, ◌∙◌, ◌+◌, ◌<◌, ◌≤◌, ℕ, Bool, true, false, List, [], ◌∷◌, Option, Some, None, refl, sym, ap, arith, inl, inr}
-use Rattle.std.specs.Prelude.{◌==◌, IsSome, if◌then◌else◌, is_some, nat_lt, option_map}
+use Rattle.std.proofs.Common.{◌≡◌, ◌∙◌, ◌+◌, ◌≤◌, ℕ, List, [], ◌∷◌, Some, None, refl, sym, ap, arith, inl, inr}
+use Rattle.std.specs.Prelude.{IsSome, is_some, nat_lt, option_map}
 use Rattle.std.proofs.lemmas.Bool.{cases_Bool, cases_eq, eq-eqb, ltb-false, ne_eqb}
 use Rattle.store_upload.specs.declared.refusal.FinishFault.TheVariants.{Incomplete, NotFixed}
 use Rattle.store_upload.specs.Uploads.{ArePlaced, IsUpload, Upload, end_of, finish_refusal, first_gap, first_missing, held_bytes, length_of}

@@ -1,6 +1,6 @@
 -- Where an upload ends: what a part more and a fixed end leave of it.
-use Rattle.std.proofs.Common.{◌≡◌, ◌∙◌, ◌+◌, ◌%◌, ◌^◌, ◌<◌, ◌≤◌, ℕ, Bool, true, false, List, [], ◌∷◌, Option, Some, None, nat_lt, refl, ap, sym, subst, arith, inl, inr, length}
-use Rattle.std.specs.Prelude.{◌==◌, ◌&&◌, ◌||◌, if◌then◌else◌, is_some, max, not, option_map, unwrap_or}
+use Rattle.std.proofs.Common.{◌≡◌, ◌∙◌, ◌+◌, ◌%◌, ◌^◌, ◌<◌, ◌≤◌, ℕ, Bool, true, false, List, [], ◌∷◌, Option, Some, None, nat_lt, refl, sym, subst, arith, inl, inr, length}
+use Rattle.std.specs.Prelude.{◌==◌, ◌&&◌, ◌||◌, if◌then◌else◌, option_map, unwrap_or}
 use Rattle.std.specs.BTreeMap.{insert_entry}
 use Rattle.std.specs.List.{AllByRecursion}
 use Rattle.std.specs.Option.{option_or}
@@ -10,7 +10,7 @@ use Rattle.std.proofs.lemmas.Bool.Decides.{nat_tests}
 use Rattle.store_upload.specs.declared.refusal.AddFault.TheVariants.{Overlap, PastLast}
 use Rattle.store_upload.specs.declared.refusal.FixFault.TheVariants as fix
 use Rattle.store_upload.specs.Inner.{AreApart}
-use Rattle.store_upload.specs.Uploads.{ArePartsOfSome, ArePlaced, Fits, IsUpload, MayTake, Upload, UploadPlan, closed_plan, end_of, end_with, ends_elsewhere, first_end, fix_refusal, fixed_at, held_bytes, is_ragged, last_end, length_of, most_bytes, new_upload, overlap_at, past_last, place_refusal, reached, with_more}
+use Rattle.store_upload.specs.Uploads.{ArePartsOfSome, ArePlaced, Fits, IsUpload, MayTake, Upload, UploadPlan, closed_plan, end_of, end_with, ends_elsewhere, first_end, fix_refusal, fixed_at, held_bytes, is_ragged, last_end, length_of, most_bytes, overlap_at, past_last, place_refusal, reached, with_more}
 use Rattle.store_upload.proofs.Places.{IsWith, at, begins_behind, bytes_within, clear_parts, end-cons, ends_before, is_with, none_at, put-behind, put-front}
 
 -- ---- tests

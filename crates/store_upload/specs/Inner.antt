@@ -1,5 +1,5 @@
 -- What the functions within say of parts in an ordered map.
-use Rattle.std.specs.Prelude.{◌+◌, ◌<◌, ◌≤◌, ◌&&◌, ◌||◌, ℕ, Bool, false, List, [], ◌∷◌, nat_le, nat_lt}
+use Rattle.std.specs.Prelude.{◌<◌, ◌≤◌, ◌&&◌, ◌||◌, ℕ, Bool, false, List, [], ◌∷◌, nat_le, nat_lt}
 use Rattle.store_upload.specs.Uploads.{end_of}
 
 -- parts of at least one byte, in order from an offset on, none of which overlaps another, within n bytes

@@ -1,4 +1,4 @@
-use Rattle.std.proofs.Common.{◌∙◌, ◌+◌, ◌<◌, ◌++◌, ◌∷◌, [], ℕ, List, arith, ap, refl, sym}
+use Rattle.std.proofs.Common.{◌∙◌, ◌+◌, ◌<◌, ◌++◌, ◌∷◌, [], ℕ, arith, ap, refl, sym}
 use Rattle.store_books.specs.Books.{Begun, Books, IsAmong}
 use Rattle.store_books.specs.Commands.{begin_refusal, with_begun}
 use Rattle.store_books.specs.Kept.{books_of, changed_sums}

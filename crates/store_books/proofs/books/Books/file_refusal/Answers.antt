@@ -1,11 +1,7 @@
-use Rattle.std.proofs.Common.{◌≡◌, ◌∙◌, ◌+◌, ◌-◌, ◌<◌, ◌≤◌, ℕ, Bool, true, false, Option, Some, None, arith, ap, length, refl, subst, sym}
-use Rattle.store_books.specs.declared.refusal.Refusal.{Refusal}
-use Rattle.store_books.specs.declared.refusal.Refusal.TheVariants.{OverQuota}
+use Rattle.std.proofs.Common.{◌≡◌, ◌∙◌, ◌-◌, ◌≤◌, arith, ap, refl, subst, sym}
 use Rattle.store_books.specs.declared.tenant.Tenant.{Tenant}
-use Rattle.store_books.specs.Books.{Begun, Books, free_of}
-use Rattle.store_books.specs.Commands.{file_refusal, is_over}
+use Rattle.store_books.specs.Books.{Books}
 use Rattle.store_books.specs.Kept.{books_of, tenant_at}
-use Rattle.store_upload.specs.Uploads.{Upload, length_of}
 use Rattle.store_books.proofs.Commands.{found_among}
 use Rattle.store_books.proofs.Sums.{count_is, tenant_is}
 use Rattle.store_books.proofs.books.Books.file_refusal.Goals as goal

@@ -1,17 +1,14 @@
-use Rattle.std.proofs.Common.{◌≡◌, ◌∙◌, ◌+◌, ◌-◌, ◌++◌, ◌∷◌, [], ℕ, List, Option, Some, None, arith, Bool, ap, ap₂, length, refl, subst, sym}
+use Rattle.std.proofs.Common.{◌≡◌, ◌∙◌, ◌+◌, ◌-◌, ℕ, Some, arith, Bool, ap, ap₂, length, refl, subst, sym}
 use Rattle.std.specs.Prelude.{nat_le}
 use Rattle.std.proofs.lemmas.Bool.{leb-false}
 use Rattle.store_books.specs.declared.refusal.Refusal.TheVariants.{NoTenant}
-use Rattle.store_books.specs.declared.tenant.Change.{Change}
 use Rattle.store_books.specs.Books.{Books, is_absent, is_held_by}
 use Rattle.store_books.specs.Catalog.{Catalogued}
-use Rattle.store_books.specs.Commands.{forget_refusal, full_refusal, with_holders, with_left, without_holder}
+use Rattle.store_books.specs.Commands.{forget_refusal, full_refusal, with_left}
 use Rattle.store_books.specs.Kept.{HasRoom, books_of, changed_sums}
-use Rattle.store_upload.specs.Uploads.{length_of}
-use Rattle.store_upload.proofs.Places.{some_is}
 use Rattle.store_books.proofs.Commands.{falls, none, passed, room}
 use Rattle.store_books.proofs.Objects.{is_held, leaves, where_so}
-use Rattle.store_books.proofs.Sums.{change_is, kept_after, kept_as, room_for}
+use Rattle.store_books.proofs.Sums.{kept_after, kept_as, room_for}
 use Rattle.store_books.proofs.books.Books.forget.Goals as goal
 
 pub change_sums-requires : goal.change_sums-requires

@@ -1,7 +1,6 @@
-use Rattle.std.proofs.Common.{◌≡◌, ◌∙◌, ◌+◌, ◌-◌, ◌++◌, ◌∷◌, [], ℕ, List, Option, Some, None, arith, Bool, ap, ap₂, length, refl, subst, sym}
+use Rattle.std.proofs.Common.{◌≡◌, ◌∙◌, ◌+◌, ◌-◌, ℕ, Some, arith, Bool, ap, ap₂, length, refl, subst, sym}
 use Rattle.std.specs.Prelude.{not}
-use Rattle.store_books.specs.declared.tenant.Change.{Change}
-use Rattle.store_books.specs.Books.{Begun, Books, Filed, is_held_by, object_at}
+use Rattle.store_books.specs.Books.{Begun, Books, is_held_by}
 use Rattle.store_books.specs.Catalog.{Catalogued}
 use Rattle.store_books.specs.Commands.{file_refusal, full_refusal, is_over, with_holder, with_holders, with_known}
 use Rattle.store_books.specs.Kept.{HasRoom, books_of, changed_sums}
@@ -9,7 +8,7 @@ use Rattle.store_upload.specs.Uploads.{Upload, held_bytes, length_of}
 use Rattle.store_upload.proofs.Places.{some_is}
 use Rattle.store_books.proofs.Commands.{falls, passed, rises, room}
 use Rattle.store_books.proofs.Objects.{joins, more_by, where_so}
-use Rattle.store_books.proofs.Sums.{change_is, kept_after, kept_as, room_for}
+use Rattle.store_books.proofs.Sums.{kept_after, kept_as, room_for}
 use Rattle.store_books.proofs.books.Books.seal_known.Goals as goal
 
 pub change_sums-requires : goal.change_sums-requires

@@ -1,6 +1,5 @@
-use Rattle.std.proofs.Common.{◌≡◌, ◌∙◌, ◌+◌, ◌-◌, ◌++◌, ◌∷◌, [], ℕ, List, Option, Some, None, arith, ap, length, refl, subst, sym}
-use Rattle.store_books.specs.declared.tenant.Change.{Change}
-use Rattle.store_books.specs.Books.{Begun, Books, Filed, object_at, upload_at}
+use Rattle.std.proofs.Common.{◌≡◌, ◌∙◌, ◌+◌, ◌-◌, ◌++◌, ◌∷◌, [], ℕ, Some, arith, ap, length, refl, subst, sym}
+use Rattle.store_books.specs.Books.{Begun, Books, object_at, upload_at}
 use Rattle.store_books.specs.Catalog.{Catalogued}
 use Rattle.store_books.specs.Commands.{file_refusal, finish_refused, ready_refusal, with_new}
 use Rattle.store_books.specs.Kept.{HasRoom, books_of, changed_sums}
@@ -8,7 +7,7 @@ use Rattle.store_upload.specs.Uploads.{Upload, finish_refusal, held_bytes, lengt
 use Rattle.store_upload.proofs.Places.{some_is}
 use Rattle.store_books.proofs.Commands.{falls, none_mapped, rises, room}
 use Rattle.store_books.proofs.Objects.{files}
-use Rattle.store_books.proofs.Sums.{change_is, kept_after, kept_as, room_for}
+use Rattle.store_books.proofs.Sums.{kept_after, kept_as, room_for}
 use Rattle.store_books.proofs.books.Books.seal_new.Goals as goal
 
 pub change_sums-requires : goal.change_sums-requires

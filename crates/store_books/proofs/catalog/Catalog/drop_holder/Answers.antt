@@ -1,4 +1,4 @@
-use Rattle.std.proofs.Common.{◌≡◌, ◌∙◌, List, ℕ, Option, Some, ap, sym}
+use Rattle.std.proofs.Common.{◌≡◌, ◌∙◌, List, ℕ, Some, ap, sym}
 use Rattle.std.specs.Option.{option_map}
 use Rattle.store_books.specs.Books.{Filed, object_among}
 use Rattle.store_books.specs.Catalog.{Catalogued}

@@ -2,7 +2,7 @@ use Rattle.std.proofs.Common.{◌≡◌, ◌∙◌, ◌+◌, ap, arith, subst, s
 use Rattle.std.specs.BTreeMap.{insert_entry}
 use Rattle.std.specs.Ordering.{nat_cmp}
 use Rattle.store_upload.specs.Uploads.{Fits, IsUpload, Upload, end_with, held_bytes, place_refusal}
-use Rattle.store_upload.proofs.Ends.{Grows, grown, upload_with}
+use Rattle.store_upload.proofs.Ends.{grown, upload_with}
 use Rattle.store_upload.proofs.open.Open.put.Goals as goal
 
 pub add-requires : goal.add-requires
