@@ -12,3 +12,4 @@ pub mod Commands
 pub mod NewTenant
 pub mod Objects
 pub mod Replays
+pub mod Forgets

@@ -6,3 +6,4 @@ pub mod Totals
 pub mod Catalog
 pub mod Kept
 pub mod Replay
+pub mod Forgetting
