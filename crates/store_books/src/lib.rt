@@ -1,4 +1,16 @@
 //! The books of a store: all that can be said of it without bytes.
+//!
+//! - `TenantId`, `UploadId` and `Address` name tenants, uploads and objects. `Entry` is a command that was accepted, and `Refusal` why
+//!   one was not. `Limits` says how many tenants, entries and workers there may be.
+//! - `Books` keeps tenants with their limits, their use and their reservation, open uploads, and objects in the order in which they were
+//!   filed. Each command has a question beside it, which tells why it would be refused. Open uploads hold their parts in any `HeldParts`,
+//!   objects are any `Content`, and an `AddressIndex` leads to them.
+//! - `replay` applies the entries of a journal to books of lengths alone, and tells the first that is not legal. `Replayed::apply` takes
+//!   them one by one.
+//!
+//! Contracts see books as lists (`specs/Books.antt`), and each command as its refusals in order and what it leaves
+//! (`specs/Commands.antt`). `forgetting_laws` states that both are seen without what parts and objects are, and `replay_laws` that a
+//! journal with one legal entry more leaves what that entry leaves behind the others.
 #![tactic(auto)]
 
 mod address;
@@ -33,3 +45,6 @@ pub use replaying::{AcceptedPuts, ReplayFault, Replayed, replay};
 pub use tenant_id::TenantId;
 pub use totals::Totals;
 pub use upload_id::UploadId;
+
+#[cfg(test)]
+mod tests;
