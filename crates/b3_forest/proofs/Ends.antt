@@ -5,10 +5,11 @@ use Rattle.std.specs.List.{AllByRecursion}
 use Rattle.std.specs.Option.{option_or}
 use Rattle.std.proofs.lemmas.Bool.Decides.{nat_tests}
 use Rattle.b3_forest.specs.Subtrees.{HaveRoom, Keeps, Subtrees}
-use Rattle.b3_forest.specs.Parts.{Fits, Part, PlannedPart, UploadPlan, closed_plan, end_of, is_ragged, most_bytes, same_plan}
+use Rattle.store_upload.specs.Uploads.{Fits, UploadPlan, closed_plan, most_bytes, same_plan}
+use Rattle.b3_forest.specs.Parts.{Part, PlannedPart, end_of, is_ragged}
 use Rattle.b3_forest.specs.Uploads.{ArePlaced, IsUpload, Upload, add_refusal, ends_elsewhere, fix_refusal, fixed_at, last_end, length_of, new_upload, overlap_at, past_last, reached, with_more, with_part}
-use Rattle.b3_forest.specs.declared.refusal.AddFault.TheVariants.{Overlap, PastLast, WrongPlan}
-use Rattle.b3_forest.specs.declared.refusal.FixFault.TheVariants as fix
+use Rattle.store_upload.specs.declared.refusal.AddFault.TheVariants.{Overlap, PastLast, WrongPlan}
+use Rattle.store_upload.specs.declared.refusal.FixFault.TheVariants as fix
 use Rattle.b3_forest.proofs.HeldParts.{placed_more, with_part_first, with_part_later}
 use Rattle.b3_forest.proofs.Holding.{placed_upload}
 use Rattle.b3_forest.proofs.OneForest.{bool_cases}

@@ -7,7 +7,8 @@ use Rattle.std.proofs.lemmas.Bool.Decides.{nat_tests}
 use Rattle.std.proofs.lemmas.List.{drop-drop, drop_all, length-append, length-drop, length-take, take-append-drop}
 use Rattle.b3_forest.specs.Followed.{AllNoted, ArePartsOf, Followed, Follows, IsFirstNoted, IsFirstUnnoted, IsIn, IsNoted, IsNotedWith, NothingNoted, bytes_at, followed, has_chunk, noted_chunk, noting_merges, pieces_noted, range_of}
 use Rattle.b3_forest.specs.Subtrees.{HasChunk, HaveRoom, Keeps, Subtrees, is_held, subtree_at}
-use Rattle.b3_forest.specs.Parts.{Fits, Part, PlannedPart, UploadPlan, chunk_in, chunks_of, closed_plan, end_of}
+use Rattle.store_upload.specs.Uploads.{Fits, UploadPlan, closed_plan}
+use Rattle.b3_forest.specs.Parts.{Part, PlannedPart, chunk_in, chunks_of, end_of}
 use Rattle.b3_forest.specs.Pieces.{is_full, piece_count, pieces_of, root_level}
 use Rattle.b3_forest.specs.Uploads.{ArePlaced, IsFirstMissing, IsFirstOverlap, IsHeldAt, Upload, content_of, first_gap, first_missing, merges_of, overlap_at, with_part, upload_of}
 use Rattle.b3_forest.specs.declared.piece.Subtree.{Subtree}

@@ -7,7 +7,8 @@ use Rattle.std.proofs.lemmas.List.{length-drop, length-take}
 use Rattle.std.proofs.lemmas.List.Sums.{sum_by-cons}
 use Rattle.b3_forest.specs.Kept.{IsNew, without}
 use Rattle.b3_forest.specs.Subtrees.{AreChunks, is_held}
-use Rattle.b3_forest.specs.Parts.{Part, Fits, chunk_in, chunks_of, end_of, closed_plan}
+use Rattle.b3_forest.specs.Parts.{Part, chunk_in, chunks_of, end_of}
+use Rattle.store_upload.specs.Uploads.{Fits, closed_plan}
 use Rattle.b3_forest.specs.Uploads.{ArePlaced, held_bytes, overlap_at, overlaps, with_part}
 use Rattle.b3_forest.proofs.Growing.{IsUnionOf}
 use Rattle.b3_forest.proofs.OneForest.{bool_cases}

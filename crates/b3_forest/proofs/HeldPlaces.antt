@@ -4,7 +4,8 @@ use Rattle.std.specs.Prelude.{max}
 use Rattle.std.proofs.lemmas.Bool.Decides.{nat_tests}
 use Rattle.std.proofs.lemmas.Bool.{cases_lt}
 use Rattle.b3_forest.specs.Subtrees.{IsLeastHeld, NoneHeld, is_held}
-use Rattle.b3_forest.specs.Parts.{Part, Fits, chunk_in, end_of, UploadPlan}
+use Rattle.b3_forest.specs.Parts.{Part, chunk_in, end_of}
+use Rattle.store_upload.specs.Uploads.{Fits, UploadPlan}
 use Rattle.b3_forest.specs.Uploads.{ArePlaced, overlap_at, overlaps}
 use Rattle.b3_forest.proofs.HeldParts.{none_held_in_nothing, BeginsOut, in_or_out, not_both, held_here, held_there, held_after}
 use Rattle.b3_forest.proofs.OneForest.{bool_cases}

@@ -11,7 +11,8 @@ use Rattle.b3_core.specs.Tree.{Inputs, tree_top}
 use Rattle.b3_forest.specs.Forests.{IsForest}
 use Rattle.b3_forest.specs.Kept.{IsNew, without}
 use Rattle.b3_forest.specs.Subtrees.{Subtrees, AreForest, AreFresh, HaveRoom, IsFirstGap, Keeps, firsts, is_held, top_over, with_subtrees}
-use Rattle.b3_forest.specs.Parts.{Part, chunk_in, chunks_of, most_bytes}
+use Rattle.b3_forest.specs.Parts.{Part, chunk_in, chunks_of}
+use Rattle.store_upload.specs.Uploads.{most_bytes}
 use Rattle.b3_forest.specs.Pieces.{most_chunks, piece_count, pieces_of, root_level}
 use Rattle.b3_forest.specs.Uploads.{ArePlaced, IsUpload, content_of, first_gap, first_missing, held_bytes, merges_of, overlap_at, with_part, upload_of}
 use Rattle.b3_forest.specs.declared.piece.Piece.{Piece}

@@ -1,7 +1,8 @@
 -- Parts that are noted over the bytes that they are to be of.
 use Rattle.std.specs.Prelude.{◌≡◌, ◌≢◌, ◌↔◌, ℕ, ◌+◌, ◌-◌, ◌*◌, ◌^◌, ◌<◌, ◌≤◌, ◌⊎◌, ◌/◌, ◌&&◌, ◌||◌, Bool, true, false, nat_le, nat_lt, if◌then◌else◌, List, [], ◌∷◌, length, map, take, drop}
 use Rattle.b3_forest.specs.Subtrees.{Keeps, Subtrees}
-use Rattle.b3_forest.specs.Parts.{Part, PlannedPart, chunks_of, closed_plan, end_of}
+use Rattle.b3_forest.specs.Parts.{Part, PlannedPart, chunks_of, end_of}
+use Rattle.store_upload.specs.Uploads.{closed_plan}
 use Rattle.b3_forest.specs.Pieces.{piece_count}
 use Rattle.b3_forest.specs.Uploads.{IsHeldAt, IsUpload, Upload, length_of, pieces_held}
 use Rattle.b3_forest.specs.declared.refusal.NoteFault.{NoteFault}

@@ -4,7 +4,6 @@ pub mod Gaps
 pub mod Kept
 pub mod Subtrees
 pub mod Texts
-pub mod PartRefusals
 pub mod Parts
 pub mod Pieces
 pub mod Uploads

@@ -1,30 +1,6 @@
 -- The parts of an upload: what callers hand in.
-use Rattle.std.specs.Prelude.{◌≡◌, ◌≢◌, ℕ, ◌+◌, ◌-◌, ◌*◌, ◌%◌, ◌^◌, ◌<◌, ◌≤◌, ◌==◌, ◌&&◌, Bool, not, if◌then◌else◌, nat_lt, nat_le, true, false, List, [], ◌∷◌, length, take, drop}
-
--- the most bytes of an upload
-abbrev pub most_bytes : ℕ
-most_bytes = 2 ^ 44
-
--- the most bytes of a part
-abbrev pub most_part_bytes : ℕ
-most_part_bytes = 2 ^ 24
-
--- the plan of an upload: the most bytes that it may have, and whether its length is fixed later
-pub record UploadPlan : Type 0 where
-  pub bound : ℕ
-  pub is_open : Bool
-
--- the plan of an upload whose length is known
-abbrev pub closed_plan : ℕ → UploadPlan
-closed_plan n = record { bound = n; is_open = false }
-
--- the plan of an upload whose length is fixed later
-abbrev pub open_plan : ℕ → UploadPlan
-open_plan n = record { bound = n; is_open = true }
-
--- whether two plans are one: of one number and of one kind
-abbrev pub same_plan : UploadPlan → UploadPlan → Bool
-same_plan p q = p.bound == q.bound && (if p.is_open then q.is_open else not q.is_open)
+use Rattle.std.specs.Prelude.{ℕ, ◌+◌, ◌-◌, ◌*◌, ◌%◌, ◌==◌, ◌&&◌, Bool, not, nat_lt, nat_le, true, false, List, [], ◌∷◌, length, take, drop}
+use Rattle.store_upload.specs.Uploads.{UploadPlan}
 
 -- bytes that begin at an offset of the upload
 pub record Part : Type 0 where
@@ -38,15 +14,6 @@ end_of p = p.offset + length p.bytes
 -- a part's length is no multiple of a chunk's
 abbrev pub is_ragged : Part → Bool
 is_ragged p = not (length p.bytes % 1024 == 0)
-
--- len bytes at an offset fit a plan: they are 1 to `most_part_bytes` bytes within its bound, and begin with a chunk; where the plan
--- has the upload's length, they end with a chunk or with the upload
-pub record Fits (plan : UploadPlan) (offset len : ℕ) : Type 0 where
-  pub some : 0 < len
-  pub aligned : offset % 1024 ≡ 0
-  pub within : offset + len ≤ plan.bound
-  pub whole : plan.is_open ≡ false → len % 1024 ≢ 0 → offset + len ≡ plan.bound
-  pub small : len ≤ most_part_bytes
 
 -- the bytes of chunk i where the parts hold it, and none where they don't
 unfoldable pub chunk_in : List Part → ℕ → List ℕ

@@ -3,7 +3,8 @@
 use Rattle.std.specs.Prelude.{◌≡◌, ℕ, zero, suc, ◌+◌, ◌-◌, ◌*◌, ◌/◌, ◌^◌, nat_lt, Bool, true, false, ◌&&◌, List, [], ◌∷◌, ◌++◌, length}
 use Rattle.b3_core.specs.Modes.{hash_mode}
 use Rattle.b3_core.specs.Tree.{tree_top}
-use Rattle.b3_forest.specs.Parts.{Fits, PlannedPart, chunks_of, most_bytes}
+use Rattle.store_upload.specs.Uploads.{Fits, most_bytes}
+use Rattle.b3_forest.specs.Parts.{PlannedPart, chunks_of}
 use Rattle.b3_forest.specs.declared.piece.Piece.{Piece}
 
 -- the bytes of 2 ^ k chunks from chunk s on

@@ -7,7 +7,8 @@ use Rattle.std.specs.Ordering.{nat_cmp}
 use Rattle.b3_core.specs.Modes.{hash_mode}
 use Rattle.b3_core.specs.Tree.{Inputs, parent_top}
 use Rattle.b3_forest.specs.Forests.{IsForest, IsPiece}
-use Rattle.b3_forest.specs.Parts.{Fits, Part, chunk_in, closed_plan}
+use Rattle.store_upload.specs.Uploads.{Fits, closed_plan}
+use Rattle.b3_forest.specs.Parts.{Part, chunk_in}
 use Rattle.b3_forest.specs.Pieces.{most_chunks, root_level}
 use Rattle.b3_forest.specs.Uploads.{IsUpload, overlap_at, upload_of}
 use Rattle.b3_forest.specs.declared.subtrees.Halves.{Halves}

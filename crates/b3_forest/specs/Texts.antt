@@ -1,57 +1,15 @@
 -- What is shown of refusals, and of what holds bytes: numbers and sizes, and no byte.
 use Rattle.std.specs.Prelude.{ℕ, List, ◌++◌, codes, length}
 use Rattle.std.specs.Fmt.{decimal}
-use Rattle.b3_forest.specs.PartRefusals.{part_fault_text}
+use Rattle.store_upload.specs.Texts.{add_fault_text, part_fault_text}
 use Rattle.b3_forest.specs.Parts.{Part}
 use Rattle.b3_forest.specs.Uploads.{Upload, held_bytes, length_of}
-use Rattle.b3_forest.specs.declared.refusal.PartFault.{PartFault}
-use Rattle.b3_forest.specs.declared.refusal.AddFault.{AddFault}
-use Rattle.b3_forest.specs.declared.refusal.AddFault.TheVariants.{WrongPlan, Overlap, PastLast, NoMemory}
-use Rattle.b3_forest.specs.declared.refusal.FixFault.{FixFault}
-use Rattle.b3_forest.specs.declared.refusal.FixFault.TheVariants as fix
-use Rattle.b3_forest.specs.declared.refusal.FinishFault.{FinishFault}
-use Rattle.b3_forest.specs.declared.refusal.FinishFault.TheVariants as finish
+use Rattle.store_upload.specs.declared.refusal.PartFault.{PartFault}
+use Rattle.store_upload.specs.declared.refusal.AddFault.{AddFault}
 use Rattle.b3_forest.specs.declared.refusal.NoteFault.{NoteFault}
 use Rattle.b3_forest.specs.declared.refusal.NoteFault.TheVariants as note
 
 -- ---- refusals: the number of each, and its text, the number with what it carries
-
-abbrev pub too_long_text : List ℕ
-too_long_text = codes "F1"
-
-abbrev pub add_fault_code : AddFault → List ℕ
-add_fault_code WrongPlan = codes "F7"
-add_fault_code (Overlap at) = codes "F8"
-add_fault_code (PastLast end) = codes "F12"
-add_fault_code NoMemory = codes "F9"
-
-abbrev pub add_fault_text : AddFault → List ℕ
-add_fault_text WrongPlan = codes "F7"
-add_fault_text (Overlap at) = codes "F8 at " ++ decimal at
-add_fault_text (PastLast end) = codes "F12 end " ++ decimal end
-add_fault_text NoMemory = codes "F9"
-
-abbrev pub fix_fault_code : FixFault → List ℕ
-fix_fault_code fix.TooLong = codes "F1"
-fix_fault_code (fix.PastLast end) = codes "F12"
-
-abbrev pub fix_fault_text : FixFault → List ℕ
-fix_fault_text fix.TooLong = codes "F1"
-fix_fault_text (fix.PastLast end) = codes "F12 end " ++ decimal end
-
-abbrev pub incomplete_code : List ℕ
-incomplete_code = codes "F10"
-
-abbrev pub incomplete_text : ℕ → List ℕ
-incomplete_text missing = codes "F10 missing " ++ decimal missing
-
-abbrev pub finish_fault_code : FinishFault → List ℕ
-finish_fault_code finish.NotFixed = codes "F13"
-finish_fault_code (finish.Incomplete missing) = incomplete_code
-
-abbrev pub finish_fault_text : FinishFault → List ℕ
-finish_fault_text finish.NotFixed = codes "F13"
-finish_fault_text (finish.Incomplete missing) = incomplete_text missing
 
 abbrev pub note_fault_code : NoteFault → List ℕ
 note_fault_code note.WrongPlan = codes "F7"

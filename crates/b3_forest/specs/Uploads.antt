@@ -3,15 +3,16 @@ use Rattle.std.specs.Prelude.{◌≡◌, ℕ, ◌<◌, ◌+◌, ◌-◌, ◌*◌
 use Rattle.std.specs.Arc.{arc_value}
 use Rattle.std.specs.List.{AllByRecursion}
 use Rattle.std.specs.Option.{option_or}
-use Rattle.b3_forest.specs.Parts.{Part, PlannedPart, UploadPlan, Fits, closed_plan, end_of, chunk_in, chunks_of, is_ragged, most_bytes, same_plan}
+use Rattle.b3_forest.specs.Parts.{Part, PlannedPart, end_of, chunk_in, chunks_of, is_ragged}
+use Rattle.store_upload.specs.Uploads.{UploadPlan, Fits, closed_plan, most_bytes, same_plan}
 use Rattle.b3_forest.specs.Pieces.{piece_count}
 use Rattle.b3_forest.specs.declared.segment.Segment.{Segment}
-use Rattle.b3_forest.specs.declared.refusal.AddFault.{AddFault}
-use Rattle.b3_forest.specs.declared.refusal.AddFault.TheVariants.{WrongPlan, Overlap, PastLast}
-use Rattle.b3_forest.specs.declared.refusal.FinishFault.{FinishFault}
-use Rattle.b3_forest.specs.declared.refusal.FinishFault.TheVariants.{NotFixed, Incomplete}
-use Rattle.b3_forest.specs.declared.refusal.FixFault.{FixFault}
-use Rattle.b3_forest.specs.declared.refusal.FixFault.TheVariants as fix
+use Rattle.store_upload.specs.declared.refusal.AddFault.{AddFault}
+use Rattle.store_upload.specs.declared.refusal.AddFault.TheVariants.{WrongPlan, Overlap, PastLast}
+use Rattle.store_upload.specs.declared.refusal.FinishFault.{FinishFault}
+use Rattle.store_upload.specs.declared.refusal.FinishFault.TheVariants.{NotFixed, Incomplete}
+use Rattle.store_upload.specs.declared.refusal.FixFault.{FixFault}
+use Rattle.store_upload.specs.declared.refusal.FixFault.TheVariants as fix
 
 -- an upload: its plan, its end once that is fixed, and the parts that it holds, by offset
 pub record Upload : Type 0 where

@@ -3,11 +3,11 @@
 
 ghost use Rattle.std.specs.Prelude.{◌≡◌, ℕ, ◌+◌, ◌-◌, ◌*◌, ◌/◌, ◌^◌, ◌<◌, ◌≤◌, ◌++◌, OnOk, length, min, max};
 ghost use Rattle.b3_core.specs.Work.{NeverFalls, counted};
-ghost use Rattle.b3_forest.specs.Parts.{chunks_of, most_part_bytes};
+ghost use Rattle.b3_forest.specs.Parts.{chunks_of};
+ghost use Rattle.store_upload.specs.Uploads.{most_part_bytes};
 ghost use Rattle.b3_forest.specs.Pieces.{most_chunks, part_work, piece_at, piece_count, pieces_of, root_level};
 
-use crate::piece::Piece;
-use crate::plan::{MOST_CHUNKS, ROOT_LEVEL};
+use crate::piece::{MOST_CHUNKS, Piece, ROOT_LEVEL};
 use b3_core::{CHUNK_LEN, Mode, Top, Work};
 use std::alloc::AllocError;
 

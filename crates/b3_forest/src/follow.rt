@@ -6,12 +6,11 @@ ghost use Rattle.b3_core.specs.Modes.{hash_mode};
 ghost use Rattle.b3_core.specs.Tree.{tree_top};
 ghost use Rattle.b3_core.specs.Work.{counted};
 ghost use Rattle.b3_forest.specs.Followed.{AllNoted, IsFirstUnnoted, IsNoted, IsNotedWith, IsRefused, MayNote, bytes_at, noting_merges, pieces_noted};
-ghost use Rattle.b3_forest.specs.Parts.{closed_plan, most_bytes};
+ghost use Rattle.store_upload.specs.Uploads.{closed_plan, most_bytes};
 ghost use Rattle.b3_forest.specs.Texts.{follow_text};
 
 use crate::held;
 use crate::piece::Subtree;
-use crate::plan::{Plan, TooLong};
 use crate::prepared::Prepared;
 use crate::refusal::{Incomplete, NoteFault};
 use b3_core::{Top, Work};
@@ -19,6 +18,7 @@ use std::alloc::Global;
 use std::collections::BTreeMap;
 use std::fmt;
 use std::marker::Model;
+use store_upload::{Plan, TooLong};
 
 /// The parts of an upload whose bytes are lent: the pieces of those that were noted, without copies of their bytes.
 #[derive(Drop)]
@@ -28,7 +28,7 @@ pub struct Follow<'a> {
 }
 
 impl<'a> Model for Follow<'a> {
-    ghost use Rattle.b3_forest.specs.Parts.{most_bytes};
+    ghost use Rattle.store_upload.specs.Uploads.{most_bytes};
     ghost use Rattle.b3_forest.specs.Followed.{Followed, Follows, followed};
 
     ghost Value = { Followed };

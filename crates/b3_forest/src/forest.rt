@@ -7,22 +7,22 @@ ghost use Rattle.b3_core.specs.Work.{counted};
 ghost use Rattle.b3_forest.specs.Gaps.{gaps_of};
 ghost use Rattle.b3_forest.specs.Texts.{forest_text};
 ghost use Rattle.b3_forest.specs.Uploads.{ArePlaced, IsComplete, IsUpload, add_refusal, content_of, end_with, finish_refusal, finish_work, first_missing, fix_refusal, fixed_at, held_bytes, length_of, merges_of, new_upload, part_of, past_last, put_work, reached, with_more};
-ghost use Rattle.b3_forest.specs.declared.refusal.AddFault.TheVariants.{NoMemory};
+ghost use Rattle.store_upload.specs.declared.refusal.AddFault.TheVariants.{NoMemory};
 
 use crate::by_offset::ByOffset;
 use crate::gap::Gap;
 use crate::held;
 use crate::kept::{Segments, put_part};
 use crate::piece::Subtree;
-use crate::plan::Plan;
 use crate::prepared::Prepared;
-use crate::refusal::{AddFault, AddRefused, FinishFault, FixFault, Incomplete};
+use crate::refusal::{AddRefused, Incomplete};
 use crate::segment::Segment;
 use b3_core::{Top, Work};
 use std::alloc::{AllocError, Global};
 use std::collections::BTreeMap;
 use std::fmt;
 use std::marker::Model;
+use store_upload::{AddFault, FinishFault, FixFault, Plan};
 
 /// The parts that an upload holds. It keeps their bytes by offset, and the pieces of all of them: neighbours that are
 /// the halves of one aligned range are merged, so that a run of held chunks has at most two pieces of each width.

@@ -5,17 +5,18 @@ ghost use Rattle.b3_core.specs.Modes.{hash_mode};
 ghost use Rattle.b3_core.specs.Tree.{tree_top};
 ghost use Rattle.b3_core.specs.Work.{counted};
 ghost use Rattle.b3_forest.specs.Subtrees.{AreOfUpload, HaveRoom, Keeps};
-ghost use Rattle.b3_forest.specs.Parts.{Fits, Part};
+ghost use Rattle.store_upload.specs.Uploads.{Fits};
+ghost use Rattle.b3_forest.specs.Parts.{Part};
 ghost use Rattle.b3_forest.specs.Uploads.{content_of, finish_work, first_missing as first_missing_of, merges_of, overlap_at, upload_of, with_part};
 
 use crate::piece::Subtree;
-use crate::plan::CHUNK_LEN;
 use crate::prepared::Prepared;
 use crate::refusal::Incomplete;
 use crate::subtrees::{first_gap, first_held, put_in, settle_all, top_of};
 use b3_core::{Mode, Top, Work, tree_laws};
 use std::alloc::AllocError;
 use std::collections::BTreeMap;
+use store_upload::CHUNK_LEN;
 
 /// The least offset of a part that is held already.
 pub(crate) fn overlap(subtrees: &BTreeMap<u64, Subtree>, part: &Prepared) -> Option<u64>

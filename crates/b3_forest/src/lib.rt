@@ -26,7 +26,6 @@ mod held;
 mod kept;
 mod laws;
 mod piece;
-mod plan;
 mod prepared;
 mod refusal;
 mod segment;
@@ -36,10 +35,9 @@ pub use follow::Follow;
 pub use forest::{Forest, MappedForest};
 pub use gap::Gap;
 pub use laws::{forest_laws, upload_laws};
-pub use plan::{MOST_BYTES, Plan, TooLong};
 pub use prepared::Prepared;
-pub use refusal::{
-    AddFault, AddRefused, FinishFault, FixFault, Incomplete, MOST_PART_BYTES, NoteFault, PartFault,
-    PartRefused,
-};
+pub use refusal::{AddRefused, Incomplete, NoteFault, PartRefused};
 pub use segment::Segment;
+pub use store_upload::{
+    AddFault, FinishFault, FixFault, MOST_BYTES, MOST_PART_BYTES, PartFault, Plan, TooLong,
+};

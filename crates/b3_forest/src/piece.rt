@@ -4,6 +4,12 @@ ghost use Rattle.std.specs.Prelude.{◌≡◌, ◌^◌, ◌≤◌};
 ghost use Rattle.b3_forest.specs.Pieces.{root_level};
 
 use b3_core::Top;
+use store_upload::{CHUNK_LEN, MOST_BYTES};
+
+/// The number of all chunks that an upload may have, and the level of their range.
+pub(crate) const MOST_CHUNKS: u64 = MOST_BYTES / CHUNK_LEN;
+
+pub(crate) const ROOT_LEVEL: u32 = 34;
 
 /// The top over 2^level chunks from the chunk `first` on, which is a multiple of 2^level.
 #[derive(Clone, Copy, PartialEq, Eq, Debug)]

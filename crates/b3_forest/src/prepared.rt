@@ -3,22 +3,22 @@
 ghost use Rattle.std.specs.Prelude.{◌≡◌, ◌+◌, ◌≤◌, IfErr, IfOk, IfSome, OnOk, Some, length, unwrap_or, vec_len};
 ghost use Rattle.std.specs.Arc.{arc_value};
 ghost use Rattle.b3_core.specs.Work.{NeverFalls, counted};
-ghost use Rattle.b3_forest.specs.PartRefusals.{part_refusal};
-ghost use Rattle.b3_forest.specs.Parts.{Fits, PlannedPart, chunks_of, end_of, is_ragged, most_bytes, planned};
+ghost use Rattle.store_upload.specs.Uploads.{Fits, most_bytes, part_refusal};
+ghost use Rattle.b3_forest.specs.Parts.{PlannedPart, chunks_of, end_of, is_ragged, planned};
 ghost use Rattle.b3_forest.specs.Texts.{prepared_text};
 ghost use Rattle.b3_forest.specs.Uploads.{part_of};
 ghost use Rattle.b3_forest.specs.Pieces.{IsPrepared, part_work, piece_count, pieces_of, root_level};
 
 use crate::cutting::push_all;
 use crate::piece::Piece;
-use crate::plan::Plan;
-use crate::refusal::{PartFault, PartRefused, fault_of};
+use crate::refusal::PartRefused;
 use crate::segment::Segment;
 use b3_core::Work;
 use std::alloc::{AllocError, Global};
 use std::fmt;
 use std::marker::Model;
 use std::sync::Arc;
+use store_upload::{PartFault, Plan};
 
 /// A part of an upload with its pieces: complete subtrees of the tree over the whole upload. It was hashed with no
 /// other part at hand.
@@ -63,7 +63,7 @@ impl Prepared {
         ensures uncounted { IfSome (part_refusal plan.now offset (vec_len bytes)) (λ _. work.new ≡ work.old) }
         ensures never_falls { NeverFalls work.old work.new }
     {
-        if let Some(fault) = fault_of(plan, offset, bytes.len() as u64) {
+        if let Some(fault) = plan.part_fault(offset, bytes.len() as u64) {
             return Err(PartRefused { fault, bytes });
         }
         let mut pieces = Vec::new(alloc);

@@ -7,8 +7,7 @@ ghost use Rattle.b3_core.specs.Work.{counted};
 ghost use Rattle.b3_forest.specs.Subtrees.{AreBoth, AreChunks, AreForest, AreFresh, ArePiecesOfSome, IsAlone, IsBound, IsFirstGap, IsLastUpto, IsLeastHeld, IsMerged, IsNextFrom, IsOtherHalf, IsPair, IsSettling, NoneFrom, NoneHeld, NoneUpto, firsts, is_held, top_over, with_subtrees};
 ghost use Rattle.b3_forest.specs.Pieces.{most_chunks, root_level};
 
-use crate::piece::{Piece, Subtree};
-use crate::plan::MOST_CHUNKS;
+use crate::piece::{MOST_CHUNKS, Piece, Subtree};
 use b3_core::{Mode, Top, Work, tree_laws};
 use std::alloc::AllocError;
 use std::collections::BTreeMap;

@@ -5,7 +5,8 @@ use Rattle.b3_core.specs.Compression.{mix, columns, diagonals, message, rounds, 
 use Rattle.b3_core.specs.ExtendedOutput.{output_byte}
 use Rattle.b3_core.specs.Modes.{digest_of}
 use Rattle.b3_core.specs.Tree.{chain, chunk_top, parent_top, power_below, left_length, tree_top_within, tree_top}
-use Rattle.b3_forest.specs.Parts.{Part, closed_plan, open_plan, planned}
+use Rattle.b3_forest.specs.Parts.{Part, planned}
+use Rattle.store_upload.specs.Uploads.{closed_plan, open_plan}
 use Rattle.b3_forest.specs.Uploads.{content_of, first_gap, last_end, overlap_at, with_part}
 use Rattle.store_core.specs.declared.store.Held.{Held}
 use Rattle.store_journal.specs.declared.replayed.Totals.{Totals}

@@ -4,7 +4,8 @@ use Rattle.std.specs.Map.{remove_entry, set_value, values_of}
 use Rattle.std.specs.Option.{option_map_or}
 use Rattle.std.specs.Str.{bytes_eq}
 use Rattle.b3_core.specs.Modes.{hash_of}
-use Rattle.b3_forest.specs.Parts.{PlannedPart, UploadPlan, closed_plan, most_bytes, open_plan, same_plan}
+use Rattle.b3_forest.specs.Parts.{PlannedPart}
+use Rattle.store_upload.specs.Uploads.{UploadPlan, closed_plan, most_bytes, open_plan, same_plan}
 use Rattle.b3_forest.specs.Uploads.{Upload, ends_elsewhere, first_missing, fixed_at, held_bytes, length_of, new_upload, overlap_at, past_last, pieces_held, put_work, reached, with_more}
 use Rattle.store_journal.specs.declared.entry.Entry.{Entry}
 use Rattle.store_journal.specs.declared.entry.Entry.TheVariants as entry

@@ -4,7 +4,7 @@ use Rattle.std.specs.Arc.{arc_value}
 use Rattle.std.specs.List.{slice_index_or}
 use Rattle.std.specs.Map.{remove_entry}
 use Rattle.b3_core.specs.Modes.{hash_of}
-use Rattle.b3_forest.specs.Parts.{most_bytes}
+use Rattle.store_upload.specs.Uploads.{most_bytes}
 use Rattle.b3_forest.specs.Uploads.{held_bytes, length_of}
 use Rattle.store_core.specs.declared.open_upload.Closing.{Closing}
 use Rattle.store_core.specs.declared.contents.Contents.{Contents}

@@ -1,6 +1,7 @@
 -- Runs of the model store: commands and questions along a list, with their replies.
 use Rattle.std.specs.Prelude.{◌≡◌, ℕ, List, [], ◌∷◌, Result, Ok, Err}
-use Rattle.b3_forest.specs.Parts.{PlannedPart, UploadPlan}
+use Rattle.b3_forest.specs.Parts.{PlannedPart}
+use Rattle.store_upload.specs.Uploads.{UploadPlan}
 use Rattle.store_journal.specs.declared.entry.Entry.{Entry}
 use Rattle.store_core.specs.declared.store.Held.{Held}
 use Rattle.store_core.specs.declared.refusal.Refusal.{Refusal}

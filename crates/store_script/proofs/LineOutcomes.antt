@@ -1,10 +1,10 @@
 -- What a line comes to.
 use Rattle.std.proofs.Common.{◌≡◌, ◌<◌, ℕ, List, [], ◌∷◌, Some, None, Ok, Err, Result, refl, ap, sym, subst, arith, length}
 use Rattle.std.specs.Prelude.{Option, IfOk, unwrap_or, codes}
-use Rattle.b3_forest.specs.Parts.{PlannedPart, UploadPlan, planned}
-use Rattle.b3_forest.specs.PartRefusals.{part_refusal}
-use Rattle.b3_forest.specs.declared.refusal.PartFault.{PartFault}
-use Rattle.b3_forest.specs.declared.refusal.PartFault.TheVariants as faults
+use Rattle.b3_forest.specs.Parts.{PlannedPart, planned}
+use Rattle.store_upload.specs.Uploads.{UploadPlan, part_refusal}
+use Rattle.store_upload.specs.declared.refusal.PartFault.{PartFault}
+use Rattle.store_upload.specs.declared.refusal.PartFault.TheVariants as faults
 use Rattle.store_core.specs.declared.refusal.Refusal.{Refusal}
 use Rattle.store_core.specs.Commands.{plan_in}
 use Rattle.store_core.specs.Model.{Shown}

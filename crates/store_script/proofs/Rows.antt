@@ -3,7 +3,7 @@ use Rattle.std.proofs.Common.{◌≡◌, ◌∷◌, ◌++◌, ℕ, List, [], Som
 use Rattle.std.specs.Prelude.{⊤, Option}
 use Rattle.std.specs.Fmt.{digits}
 use Rattle.hex.proofs.OnLiterals.{hex_on_literals}
-use Rattle.b3_forest.specs.declared.refusal.PartFault.TheVariants as faults
+use Rattle.store_upload.specs.declared.refusal.PartFault.TheVariants as faults
 use Rattle.store_core.specs.declared.refusal.Refusal.TheVariants as refusals
 use Rattle.store_journal.specs.Journal.{lines_of}
 use Rattle.store_core.specs.Runs.{begin, begin_open, fix, now_held, now_sealed, open_tenant, opened_tenant, seal_as, set_limit, the_bytes, the_list, totals}

@@ -7,9 +7,9 @@ use Rattle.std.specs.Io.KnownBytes.{Appends, IsAtEnd}
 use Rattle.std.proofs.lemmas.Bool.{lt-ltb}
 use Rattle.std.proofs.lemmas.List.{append-nil}
 use Rattle.std.proofs.lemmas.List.Concat.{flat_map-append}
-use Rattle.b3_forest.specs.Parts.{PlannedPart, UploadPlan, planned}
-use Rattle.b3_forest.specs.PartRefusals.{part_refusal}
-use Rattle.b3_forest.specs.declared.refusal.PartFault.{PartFault}
+use Rattle.b3_forest.specs.Parts.{PlannedPart, planned}
+use Rattle.store_upload.specs.Uploads.{UploadPlan, part_refusal}
+use Rattle.store_upload.specs.declared.refusal.PartFault.{PartFault}
 use Rattle.store_core.specs.declared.refusal.Refusal.{Refusal}
 use Rattle.store_core.specs.Commands.{plan_in}
 use Rattle.store_core.specs.declared.limits.Limits.{Limits}

@@ -2,10 +2,10 @@
 use Rattle.std.specs.Prelude.{◌≡◌, ◌≢◌, ℕ, List, [], ◌∷◌, ◌++◌, Option, Some, None, Result, Ok, Err, length, codes}
 use Rattle.std.specs.Io.KnownBytes.{Appends, IsAtEnd}
 use Rattle.std.specs.List.{flat_map}
-use Rattle.b3_forest.specs.Parts.{PlannedPart, UploadPlan, planned}
-use Rattle.b3_forest.specs.PartRefusals.{part_refusal}
-use Rattle.b3_forest.specs.declared.refusal.PartFault.{PartFault}
-use Rattle.b3_forest.specs.declared.refusal.PartFault.TheVariants as faults
+use Rattle.b3_forest.specs.Parts.{PlannedPart, planned}
+use Rattle.store_upload.specs.Uploads.{UploadPlan, part_refusal}
+use Rattle.store_upload.specs.declared.refusal.PartFault.{PartFault}
+use Rattle.store_upload.specs.declared.refusal.PartFault.TheVariants as faults
 use Rattle.store_core.specs.declared.refusal.Refusal.{Refusal}
 use Rattle.store_core.specs.declared.refusal.Refusal.TheVariants as refusals
 use Rattle.store_core.specs.Commands.{plan_in}

@@ -2,8 +2,8 @@
 use Rattle.std.specs.Prelude.{ℕ, List, [], ◌∷◌, ◌++◌, Option, Some, None, Result, Ok, Err, length, codes}
 use Rattle.std.specs.Fmt.{decimal}
 use Rattle.std.specs.List.{flat_map}
-use Rattle.b3_forest.specs.declared.refusal.PartFault.{PartFault}
-use Rattle.b3_forest.specs.declared.refusal.PartFault.TheVariants as faults
+use Rattle.store_upload.specs.declared.refusal.PartFault.{PartFault}
+use Rattle.store_upload.specs.declared.refusal.PartFault.TheVariants as faults
 use Rattle.hex.specs.Hex.{encode_lower}
 use Rattle.store_journal.specs.declared.entry.Entry.{Entry}
 use Rattle.store_core.specs.declared.refusal.Refusal.{Refusal}
@@ -12,7 +12,7 @@ use Rattle.store_journal.specs.declared.replayed.Totals.{Totals}
 use Rattle.store_core.specs.declared.store.Usage.{Usage}
 use Rattle.store_core.specs.Commands.{ModelSealed}
 use Rattle.store_core.specs.Refusals.{refusal_text}
-use Rattle.b3_forest.specs.PartRefusals.{part_fault_text}
+use Rattle.store_upload.specs.Texts.{part_fault_text}
 use Rattle.store_journal.specs.Entries.{filing_word}
 use Rattle.store_journal.specs.Journal.{entry_lines}
 use Rattle.store_journal.specs.Totals.{totals_text}

@@ -2,7 +2,7 @@
 
 ghost use Rattle.std.specs.Prelude.{◌≡◌, IfOk, [], codes};
 ghost use Rattle.b3_forest.specs.Parts.{planned};
-ghost use Rattle.b3_forest.specs.PartRefusals.{part_refusal};
+ghost use Rattle.store_upload.specs.Uploads.{part_refusal};
 ghost use Rattle.store_core.specs.Commands.{plan_in, reply_seen};
 ghost use Rattle.store_script.specs.Commands.{reply_of};
 ghost use Rattle.store_script.specs.Script.{Answered, Plays, PutsBy, fault_ending, refusal_ending, reply_ending};

@@ -1,7 +1,7 @@
 //! The threads of an upload.
 
 ghost use Rattle.std.specs.Prelude.{◌≡◌, ◌+◌, ◌<◌, ◌≤◌, ◌^◌, [], All, IfOk, IfSome, length, map, vec_capacity, vec_len};
-ghost use Rattle.b3_forest.specs.Parts.{most_bytes};
+ghost use Rattle.store_upload.specs.Uploads.{most_bytes};
 ghost use Rattle.store_board.specs.Passes.{IsGiverOf, IsTakerOf};
 ghost use Rattle.store_board.specs.Seats.{IsNewSeat, IsSeatOf, parts_of};
 ghost use Rattle.store_shared.specs.Cuts.{part_count};

@@ -3,7 +3,7 @@
 ghost use Rattle.std.specs.Prelude.{◌≡◌, ◌+◌, ◌<◌, ◌≤◌, ◌^◌, ℕ, [], All, Err, IfErr, IfOk, IfSome, IsTrue, None, OnErr, OnOk, length, max, min, vec_capacity, vec_len};
 ghost use Rattle.std.specs.Arc.{arc_value};
 ghost use Rattle.b3_core.specs.Modes.{hash_of};
-ghost use Rattle.b3_forest.specs.Parts.{most_bytes};
+ghost use Rattle.store_upload.specs.Uploads.{most_bytes};
 ghost use Rattle.store_board.specs.Passes.{IsTakerOf};
 ghost use Rattle.store_board.specs.Seats.{IsSeatOf, seats_of};
 ghost use Rattle.store_shared.specs.Cuts.{IsBadCut, RoseBySome, cut_of};

@@ -1,7 +1,7 @@
 //! The workers of an upload.
 
 ghost use Rattle.std.specs.Prelude.{◌≡◌, ◌<◌, ◌≤◌, ◌^◌, IfErr, IfNone, IfSome, OnOk, length};
-ghost use Rattle.b3_forest.specs.Parts.{most_bytes};
+ghost use Rattle.store_upload.specs.Uploads.{most_bytes};
 ghost use Rattle.store_board.specs.Seats.{IsNewSeat, IsSeatOf, numbers_of, parts_of};
 ghost use Rattle.store_shared.specs.Cuts.{part_count};
 ghost use Rattle.store_shared.specs.Gates.{IsFaultOf, fault_for};

@@ -1,5 +1,5 @@
 use Rattle.std.proofs.Common.{rules, ◌≡◌, None, Err, length}
-use Rattle.b3_forest.specs.PartRefusals.{part_refusal}
+use Rattle.store_upload.specs.Uploads.{part_refusal}
 use Rattle.store_core.specs.Commands.{reply_seen}
 use Rattle.store_script.specs.Commands.{reply_of}
 use Rattle.store_script.proofs.LineOutcomes.{PutTurn, by_fault, by_reply, made, no_part, no_plan}

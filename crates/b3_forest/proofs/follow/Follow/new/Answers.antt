@@ -1,6 +1,6 @@
 use Rattle.std.proofs.Common.{[], ap, arith, refl, length}
 use Rattle.b3_forest.specs.Subtrees.{Keeps}
-use Rattle.b3_forest.specs.Parts.{UploadPlan}
+use Rattle.store_upload.specs.Uploads.{UploadPlan}
 use Rattle.b3_forest.proofs.Following.{nothing_noted}
 use Rattle.b3_forest.proofs.Holding.{keeps_nothing}
 use Rattle.b3_forest.proofs.follow.Follow.new.Goals as goal

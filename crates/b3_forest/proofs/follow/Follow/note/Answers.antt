@@ -1,7 +1,7 @@
 use Rattle.std.proofs.Common.{◌≡◌, length, refl, sym, subst, ◌∙◌}
 use Rattle.b3_forest.specs.Followed.{Followed, IsFirstNoted, IsNotedWith, MayNote, NothingNoted, bytes_at, followed, noting_merges}
 use Rattle.std.specs.Prelude.{◌≢◌}
-use Rattle.b3_forest.specs.Parts.{closed_plan}
+use Rattle.store_upload.specs.Uploads.{closed_plan}
 use Rattle.b3_forest.specs.Uploads.{with_part}
 use Rattle.b3_forest.proofs.Following.{merges_noted, noted_with, parts_with, room_of, told_apart, told_overlap}
 use Rattle.b3_forest.proofs.follow.Follow.note.Goals as goal
