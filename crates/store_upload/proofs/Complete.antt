@@ -7,11 +7,11 @@ use Rattle.store_upload.specs.Uploads.{ArePlaced, IsUpload, Upload, end_of, fini
 use Rattle.store_upload.proofs.Places.{held-cons}
 
 module _ {P : Type 0} (len : P → ℕ) where
-  gap_here : (a : ℕ) (p : ℕ × P) (ps : List (ℕ × P)) → p.0 ≡ a → first_gap len a (p ∷ ps) ≡ first_gap len (end_of len p) ps
+  pub gap_here : (a : ℕ) (p : ℕ × P) (ps : List (ℕ × P)) → p.0 ≡ a → first_gap len a (p ∷ ps) ≡ first_gap len (end_of len p) ps
   unfolding first_gap
   gap_here a p ps same = rw (eq-eqb p.0 a same, first_gap) refl
 
-  gap_stops : (a : ℕ) (p : ℕ × P) (ps : List (ℕ × P)) → (p.0 ≡ a → ⊥) → first_gap len a (p ∷ ps) ≡ a
+  pub gap_stops : (a : ℕ) (p : ℕ × P) (ps : List (ℕ × P)) → (p.0 ≡ a → ⊥) → first_gap len a (p ∷ ps) ≡ a
   unfolding first_gap
   gap_stops a p ps other = rw (ne_eqb p.0 a other, first_gap) refl
 

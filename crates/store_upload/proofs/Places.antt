@@ -155,11 +155,11 @@ module _ {P : Type 0} (len : P → ℕ) where
 
   -- ---- the least offset that is held
 
-  over-step : (offset n : ℕ) (e : ℕ × P) (es : List (ℕ × P)) → overlaps len offset n e ≡ true → overlap_at len offset n (e ∷ es) ≡ Some (max offset e.0)
+  pub over-step : (offset n : ℕ) (e : ℕ × P) (es : List (ℕ × P)) → overlaps len offset n e ≡ true → overlap_at len offset n (e ∷ es) ≡ Some (max offset e.0)
   unfolding overlap_at
   over-step offset n e es h = rw (h, overlap_at) refl
 
-  clear-step : (offset n : ℕ) (e : ℕ × P) (es : List (ℕ × P)) → overlaps len offset n e ≡ false → overlap_at len offset n (e ∷ es) ≡ overlap_at len offset n es
+  pub clear-step : (offset n : ℕ) (e : ℕ × P) (es : List (ℕ × P)) → overlaps len offset n e ≡ false → overlap_at len offset n (e ∷ es) ≡ overlap_at len offset n es
   unfolding overlap_at
   clear-step offset n e es h = rw (h, overlap_at) refl
 
@@ -172,7 +172,7 @@ module _ {P : Type 0} (len : P → ℕ) where
     | inr a ↦ and_left _ _ (le-ltb e.0 (offset + n) a)
   ]
 
-  over_from : (offset n : ℕ) (e : ℕ × P) → e.0 < offset + n → offset < e.0 + len e.1 → overlaps len offset n e ≡ true
+  pub over_from : (offset n : ℕ) (e : ℕ × P) → e.0 < offset + n → offset < e.0 + len e.1 → overlaps len offset n e ≡ true
   over_from offset n e a b = and_from _ _ (lt-ltb e.0 (offset + n) a) (lt-ltb offset (e.0 + len e.1) b)
 
   some_eq : (a b : ℕ) → a ≡ b → ◌≡◌ {A = Option ℕ} (Some a) (Some b)

@@ -1,3 +1,4 @@
 pub mod Uploads
+pub mod Laws
 pub mod Texts
 pub mod Inner

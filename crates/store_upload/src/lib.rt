@@ -10,6 +10,7 @@
 #![tactic(auto)]
 
 mod held_parts;
+mod laws;
 mod length;
 mod open;
 mod parts;
@@ -17,6 +18,7 @@ mod plan;
 mod refusal;
 
 pub use held_parts::HeldParts;
+pub use laws::upload_laws;
 pub use length::Length;
 pub use open::Open;
 pub use plan::{CHUNK_LEN, MOST_BYTES, MOST_PART_BYTES, Plan, TooLong};
