@@ -1,138 +1,112 @@
--- Where an upload ends: what a part more and a fixed end leave of it.
-use Rattle.std.proofs.Common.{◌≡◌, ℕ, ◌%◌, ◌≤◌, List, [], ◌∷◌, length, Option, Some, None, nat_lt, true, false, arith, refl, ap, ap₂, subst, sym, ◌∙◌, inl, inr}
-use Rattle.std.specs.Prelude.{◌==◌, ◌&&◌, ◌||◌, Bool, not, max, if◌then◌else◌, option_map, unwrap_or}
-use Rattle.std.specs.List.{AllByRecursion}
-use Rattle.std.specs.Option.{option_or}
-use Rattle.std.proofs.lemmas.Bool.Decides.{nat_tests}
-use Rattle.b3_forest.specs.Subtrees.{HaveRoom, Keeps, Subtrees}
-use Rattle.store_upload.specs.Uploads.{Fits, UploadPlan, closed_plan, most_bytes, same_plan}
-use Rattle.b3_forest.specs.Parts.{Part, PlannedPart, end_of, is_ragged}
-use Rattle.b3_forest.specs.Uploads.{ArePlaced, IsUpload, Upload, add_refusal, ends_elsewhere, fix_refusal, fixed_at, last_end, length_of, new_upload, overlap_at, past_last, reached, with_more, with_part}
-use Rattle.store_upload.specs.declared.refusal.AddFault.TheVariants.{Overlap, PastLast, WrongPlan}
-use Rattle.store_upload.specs.declared.refusal.FixFault.TheVariants as fix
-use Rattle.b3_forest.proofs.HeldParts.{placed_more, with_part_first, with_part_later}
-use Rattle.b3_forest.proofs.Holding.{placed_upload}
-use Rattle.b3_forest.proofs.OneForest.{bool_cases}
+-- Parts and their pieces, where no end is known.
+use Rattle.std.proofs.Common.{◌≡◌, ℕ, ◌+◌, ◌<◌, ◌≤◌, List, [], ◌∷◌, Option, Some, None, length, true, false, nat_lt, arith, refl, ap, ap₂, subst, sym, ◌∙◌, inl, inr}
+use Rattle.std.specs.Prelude.{◌≢◌, ◌==◌, Bool, if◌then◌else◌, max, not, option_map}
 use Rattle.std.proofs.lemmas.Bool.{cases_lt}
-
-abbrev pub AreWhole : List Part → Type 0
-AreWhole ps = AllByRecursion (λ p. is_ragged p ≡ false) ps
-
--- ---- tests
-
-neither : (a b : Bool) → (a || b) ≡ false → (a ≡ false) × (b ≡ false)
-neither true b test = cc
-neither false b test = (refl, test)
-
-not_second : (a b : Bool) → (a && b) ≡ false → a ≡ true → b ≡ false
-not_second true b test is = test
-not_second false b test is = cc
-
-no_value : {A : Type 0} (b : Bool) (x : A) → (if b then Some x else None) ≡ None → b ≡ false
-no_value true x none = cc
-no_value false x none = refl
-
-whole_length : (p : Part) → is_ragged p ≡ false → length p.bytes % 1024 ≡ 0
-whole_length p whole = elim (cases_lt 0 (length p.bytes % 1024)) [
-  | inr none ↦ omega (arith, none)
-  | inl some ↦
-      let test : (length p.bytes % 1024 == 0) ≡ false = grind (arith, nat_tests, some) in
-      let bad : is_ragged p ≡ true = rw test refl in
-      cc
-]
+use Rattle.std.proofs.lemmas.Bool.Decides.{nat_tests}
+use Rattle.store_upload.specs.Uploads.{ArePlaced, IsComplete, MayTake, Upload, UploadPlan, end_of, finish_refusal, first_gap, first_missing, last_end, length_of, most_bytes, place_refusal, same_plan}
+use Rattle.std.specs.BTreeMap.{is_at}
+use Rattle.std.specs.Map.{lookup}
+use Rattle.std.specs.Option.{option_or}
+use Rattle.std.specs.Ordering.{nat_cmp}
+use Rattle.store_upload.specs.declared.refusal.AddFault.TheVariants.{Overlap, PastLast, WrongPlan}
+use Rattle.store_upload.specs.declared.refusal.FinishFault.TheVariants.{Incomplete, NotFixed}
+use Rattle.b3_forest.specs.Parts.{HeldPart, Part, PlannedPart, chunk_in, chunks_of, held_as}
+use Rattle.b3_forest.specs.Subtrees.{AreHashed, AreWhole, HaveRoom, Keeps, Subtrees}
+use Rattle.b3_forest.specs.Pieces.{piece_count, root_level}
+use Rattle.b3_forest.specs.Uploads.{add_refusal, overlap_at, past_last, pieces_held, with_part}
+use Rattle.b3_forest.proofs.Contents.{gap_follows, gap_here}
+use Rattle.b3_forest.proofs.Counts.{count_joined}
+use Rattle.b3_forest.proofs.HeldParts.{IsApart, goes, no_overlap, overlap_order, parts_joined, with_held}
+use Rattle.b3_forest.proofs.Maps.{at_other, same_or}
+use Rattle.b3_forest.proofs.OneForest.{bool_cases}
 
 -- ---- the greatest end
 
-last_of : (p : Part) (ps : List Part) → last_end (p ∷ ps) ≡ max (end_of p) (last_end ps)
+last_of : (p : HeldPart) (ps : List HeldPart) → last_end length (p ∷ ps) ≡ max (end_of length p) (last_end length ps)
 unfolding last_end
 last_of p ps = refl
 
-pub last_of_none : last_end [] ≡ 0
+pub last_of_none : last_end {P = List ℕ} length [] ≡ 0
 unfolding last_end
 last_of_none = refl
 
-pub last_with : (p : Part) (ps : List Part) → last_end (with_part p ps) ≡ max (last_end ps) (end_of p)
-unfolding with_part
-last_with p [] = let one = last_of p [] in let none = last_of_none in omega (arith, one, none)
-last_with p (q ∷ qs) = elim (cases_lt p.offset q.offset) [
-  | inl before ↦ let one = last_of p (q ∷ qs) in ap last_end (with_part_first p q qs before) ∙ omega (arith, one)
-  | inr after ↦
-      let rest = last_with p qs in
-      let one = last_of q (with_part p qs) in
-      let other = last_of q qs in
-      ap last_end (with_part_later p q qs after) ∙ omega (arith, rest, one, other)
-]
+last_with : (n a : ℕ) (p : HeldPart) (ps : List HeldPart) → 0 < length p.1 → ArePlaced length n a ps → IsApart p ps → last_end length (with_held p ps) ≡ max (last_end length ps) (end_of length p)
+last_with n a p [] some placed none = let one = last_of p [] in let no_one = last_of_none in omega (arith, one, no_one)
+last_with n a p (q ∷ qs) some placed none =
+    let apart = no_overlap p.0 (length p.1) q qs none in
+    elim (goes p q qs some placed.1.some apart.0) [
+      | inl first ↦ let one = last_of p (q ∷ qs) in ap (last_end length) first.put ∙ omega (arith, one)
+      | inr later ↦
+          let rest = last_with n (end_of length q) p qs some placed.2 apart.1 in
+          let one = last_of q (with_held p qs) in
+          let other = last_of q qs in
+          ap (last_end length) later.put ∙ omega (arith, rest, one, other)
+    ]
 
-pub last_within : (n a : ℕ) (ps : List Part) → ArePlaced n a ps → last_end ps ≤ n
+last_within : (n a : ℕ) (ps : List HeldPart) → ArePlaced length n a ps → last_end length ps ≤ n
 last_within n a [] placed = let none = last_of_none in omega (arith, none)
 last_within n a (p ∷ ps) placed =
-    let rest = last_within n (end_of p) ps placed.2 in
+    let rest = last_within n (end_of length p) ps placed.2 in
     let one = last_of p ps in
     omega (arith, rest, one, placed.1.within)
 
--- ---- parts under another end
-
--- whole chunks fit an upload of any length that they are within
-refit : (n m a : ℕ) (ps : List Part) → AreWhole ps → last_end ps ≤ m → ArePlaced n a ps → ArePlaced m a ps
-refit n m a [] whole last placed = tt
-refit n m a (p ∷ ps) whole last placed =
-    let one = last_of p ps in
-    let len = whole_length p whole.0 in (
+-- parts fit an upload that ends no sooner than they do
+placed_down : (n m a : ℕ) (ps : List HeldPart) → ArePlaced length n a ps → last_end length ps ≤ m → m ≤ n → ArePlaced length m a ps
+placed_down n m a [] placed last less = tt
+placed_down n m a (p ∷ ps) placed last less =
+    let one = last_of p ps in (
       placed.0,
       record {
         some = placed.1.some;
         aligned = placed.1.aligned;
         within = omega (arith, one, last);
-        whole = λ _ ragged. absurd (ragged len);
+        whole = λ closed ragged. let end = placed.1.whole closed ragged in omega (arith, end, one, last, less);
         small = placed.1.small;
       },
-      refit n m (end_of p) ps whole.1 (omega (arith, one, last)) placed.2,
+      placed_down n m (end_of length p) ps placed.2 (omega (arith, one, last)) less,
     )
 
-all_with_part : (p : Part) (ps : List Part) → is_ragged p ≡ false → AreWhole ps → AreWhole (with_part p ps)
-unfolding with_part
-all_with_part p [] own all = (own, tt)
-all_with_part p (q ∷ qs) own all = elim (cases_lt p.offset q.offset) [
-  | inl before ↦ subst AreWhole (sym (with_part_first p q qs before)) (own, all)
-  | inr after ↦ subst AreWhole (sym (with_part_later p q qs after)) (all.0, all_with_part p qs own all.1)
-]
+-- no part begins where one does that overlaps none
+pub not_begun : (n a : ℕ) (p : HeldPart) (ps : List HeldPart) → 0 < length p.1 → ArePlaced length n a ps → IsApart p ps → lookup (is_at (nat_cmp p.0)) ps ≡ None
+not_begun n a p [] some placed none = refl
+not_begun n a p (q ∷ qs) some placed none =
+    let apart = no_overlap p.0 (length p.1) q qs none in
+    let other : p.0 ≢ q.0 = λ same. elim (overlap_order p q some placed.1.some apart.0) [ inl before ↦ omega (arith, same, before.0) | inr after ↦ omega (arith, same, after.0) ] in
+    rw (at_other p.0 q.0 other) (not_begun n (end_of length q) p qs some placed.2 apart.1)
 
--- a whole part fits an upload of any length that it is within
-fits_whole : (plan : UploadPlan) (n : ℕ) (p : Part) → Fits plan p.offset (length p.bytes) → is_ragged p ≡ false → end_of p ≤ n → Fits (closed_plan n) p.offset (length p.bytes)
-fits_whole plan n p fits whole within =
-    let len = whole_length p whole in
-    record { some = fits.some; aligned = fits.aligned; within = within; whole = λ _ ragged. absurd (ragged len); small = fits.small }
+-- ---- parts and pieces
 
--- a part fits an upload that it ends
-fits_last : (plan : UploadPlan) (n : ℕ) (p : Part) → Fits plan p.offset (length p.bytes) → end_of p ≡ n → Fits (closed_plan n) p.offset (length p.bytes)
-fits_last plan n p fits ends = record { some = fits.some; aligned = fits.aligned; within = omega (arith, ends); whole = λ _ _. ends; small = fits.small }
+keeps_to : (n m : ℕ) (ps : List HeldPart) (es : Subtrees) → m ≤ most_bytes → ArePlaced length m 0 ps → Keeps n ps es → Keeps m ps es
+keeps_to n m ps es most placed keeps = record { most = most; placed = placed; forest = keeps.forest; sorted = keeps.sorted }
 
--- ---- a part more
+-- the pieces of an upload are those of one that ends with the last part
+keeps_tight : (n : ℕ) (ps : List HeldPart) (es : Subtrees) → Keeps n ps es → Keeps (last_end length ps) ps es
+keeps_tight n ps es keeps =
+    let within = last_within n 0 ps keeps.placed in
+    keeps_to n (last_end length ps) ps es (omega (arith, within, keeps.most)) (placed_down n (last_end length ps) 0 ps keeps.placed (omega arith) within) keeps
 
-abbrev pub upload_with : UploadPlan → Option ℕ → List Part → Upload
-upload_with plan end ps = record { plan = plan; end = end; parts = ps }
+-- what may take a part has room for it
+pub room_for : (end : ℕ) (ps : List HeldPart) (es : Subtrees) (p : Part) → AreHashed end ps es → (may : MayTake length ps p.offset p.bytes) → HaveRoom may.size ps p es
+room_for end ps es p is may = record {
+  keeps = keeps_to end may.size ps es may.most may.placed is.keeps;
+  fits = may.fits;
+  apart = may.clear;
+}
 
--- an upload that holds nothing has its end exactly where its plan is closed
-pub nothing_held : (plan : UploadPlan) → plan.bound ≤ most_bytes → IsUpload (new_upload plan) × (length_of (new_upload plan) ≡ plan.bound)
-nothing_held plan most = go plan.is_open refl
-  where
-    go : (b : Bool) → plan.is_open ≡ b → IsUpload (new_upload plan) × (length_of (new_upload plan) ≡ plan.bound)
-    go true is =
-        let none : (if plan.is_open then None else Some plan.bound) ≡ None = rw is refl in (
-          subst (λ (e : Option ℕ). IsUpload (upload_with plan e [])) (sym none) (record { most = most; within = omega arith; placed = tt; closed = λ closed. let bad = sym is ∙ closed in cc; whole = λ none. tt }),
-          ap (λ (e : Option ℕ). unwrap_or e plan.bound) none,
-        )
-    go false is =
-        let some : (if plan.is_open then None else Some plan.bound) ≡ Some plan.bound = rw is refl in (
-          subst (λ (e : Option ℕ). IsUpload (upload_with plan e [])) (sym some) (record { most = most; within = omega arith; placed = tt; closed = λ closed. refl; whole = λ none. cc }),
-          ap (λ (e : Option ℕ). unwrap_or e plan.bound) some,
-        )
+pub hashed_with : (end n : ℕ) (ps : List HeldPart) (before after : Subtrees) (p : Part) → AreHashed end ps before → HaveRoom n ps p before → Keeps n (with_part p ps) after
+    → AreHashed (max end (p.offset + length p.bytes)) (with_part p ps) after
+hashed_with end n ps before after p is room keeps =
+    let more = last_with n 0 (held_as p) ps room.fits.some room.keeps.placed room.apart in
+    let last : max end (p.offset + length p.bytes) ≡ last_end length (with_part p ps) = ap (λ i. max i (p.offset + length p.bytes)) is.end_is ∙ sym more in
+    record { end_is = last; keeps = subst (λ i. Keeps i (with_part p ps) after) (sym last) (keeps_tight n (with_part p ps) after keeps) }
 
--- a part that is not refused
-pub record IsAllowed (u : Upload) (p : PlannedPart) : Type 0 where
-  pub plan : p.plan ≡ u.plan
-  pub apart : overlap_at p.part u.parts ≡ None
-  pub last : past_last u p.part ≡ None
+-- where no offset is missing before the greatest end
+pub whole_of : (end : ℕ) (ps now : List HeldPart) (es : Subtrees) → ps ≡ now → AreHashed end ps es → first_gap length 0 now ≡ last_end length now → AreWhole end now es
+whole_of end ps now es view is all =
+    let own = subst (λ (qs : List HeldPart). AreHashed end qs es) view is in
+    record { keeps = own.keeps; all = all ∙ sym own.end_is }
+
+-- ---- an upload that takes a part
 
 same_plan_is : (p q : UploadPlan) → same_plan p q ≡ true → p ≡ q
 same_plan_is p q same =
@@ -150,132 +124,74 @@ same_plan_is p q same =
     same_kind true false same = cc
     same_kind false true same = cc
 
-pub allowed : (u : Upload) (p : PlannedPart) → None ≡ add_refusal u p → IsAllowed u p
+-- a part that is not refused was made for the upload's plan, and may go where it is
+pub record IsAllowed (u : Upload (List ℕ)) (p : PlannedPart) : Type 0 where
+  pub plan : p.plan ≡ u.plan
+  pub free : place_refusal length u p.part.offset (length p.part.bytes) ≡ None
+
+pub allowed : (u : Upload (List ℕ)) (p : PlannedPart) → None ≡ add_refusal u p → IsAllowed u p
 allowed u p free = elim (bool_cases (same_plan p.plan u.plan)) [
   | inr other ↦ let wrong : add_refusal u p ≡ Some WrongPlan = rw other refl in let bad = free ∙ wrong in cc
+  | inl same ↦ record { plan = same_plan_is p.plan u.plan same; free = sym (rw same refl) ∙ sym free }
+]
+
+no_overlap_of : (o l : Option ℕ) → option_or (option_map Overlap o) (option_map PastLast l) ≡ None → o ≡ None
+no_overlap_of None l none = refl
+no_overlap_of (Some at) l none = cc
+
+-- the merges are no more than the pieces before and those of the part
+pub merges_most : (u : Upload (List ℕ)) (p : PlannedPart) → ArePlaced length (length_of u) 0 u.parts → 0 < length p.part.bytes → None ≡ add_refusal u p
+    → pieces_held (with_part p.part u.parts) ≤ pieces_held u.parts + piece_count (chunks_of p.part)
+merges_most u p placed some free =
+    let apart = no_overlap_of (overlap_at p.part u.parts) (past_last u p.part) (allowed u p free).free in
+    count_joined (chunk_in u.parts) (chunks_of p.part) (chunk_in (with_part p.part u.parts)) root_level 0 (parts_joined (length_of u) (held_as p.part) u.parts some placed apart)
+
+-- ---- an upload that is complete
+
+-- no offset before the greatest end is missing, and that is the upload's
+pub record IsAll (n : ℕ) (ps : List HeldPart) : Type 0 where
+  pub gap : first_gap length 0 ps ≡ last_end length ps
+  pub end : last_end length ps ≡ n
+
+gap_within : (n a : ℕ) (ps : List HeldPart) → ArePlaced length n a ps → first_gap length a ps ≤ max a (last_end length ps)
+unfolding first_gap
+gap_within n a [] placed = omega arith
+gap_within n a (p ∷ ps) placed = elim (same_or p.0 a) [
+  | inr other ↦ let here = gap_here a p ps other in omega (arith, here)
   | inl same ↦
-      let rest : option_or (option_map Overlap (overlap_at p.part u.parts)) (option_map PastLast (past_last u p.part)) ≡ None = sym (rw same refl) ∙ sym free in
-      let both = neither_of (overlap_at p.part u.parts) (past_last u p.part) rest in
-      record { plan = same_plan_is p.plan u.plan same; apart = both.0; last = both.1 }
+      let on = gap_follows a p ps same in
+      let rest = gap_within n (end_of length p) ps placed.2 in
+      let one = last_of p ps in
+      omega (arith, on, rest, one)
 ]
+
+pub all_held : (n : ℕ) (ps : List HeldPart) → ArePlaced length n 0 ps → n ≤ first_gap length 0 ps → IsAll n ps
+all_held n ps placed all =
+    let low = gap_within n 0 ps placed in
+    let high = last_within n 0 ps placed in
+    record { gap = omega (arith, low, high, all); end = omega (arith, low, high, all) }
+
+pub complete_is : (u : Upload (List ℕ)) → None ≡ finish_refusal length u → IsComplete length u
+complete_is u free = by u.end refl free
   where
-    neither_of : (o l : Option ℕ) → option_or (option_map Overlap o) (option_map PastLast l) ≡ None → (o ≡ None) × (l ≡ None)
-    neither_of (Some at) l none = cc
-    neither_of None (Some end) none = cc
-    neither_of None None none = (refl, refl)
+    by : (e : Option ℕ) → u.end ≡ e → None ≡ finish_refusal length u → IsComplete length u
+    by None is free = let fault : finish_refusal length u ≡ Some NotFixed = rw is refl in let bad = free ∙ fault in cc
+    by (Some n) is free =
+        let missing : finish_refusal length u ≡ option_map Incomplete (first_missing length u) = rw is refl in
+        (rw is refl, none_of (first_missing length u) (free ∙ missing))
+      where
+        none_of : (o : Option ℕ) → None ≡ option_map Incomplete o → o ≡ None
+        none_of None none = refl
+        none_of (Some m) none = cc
 
--- the pieces have room for the part in an upload of the length that it leaves, which is lawful
-pub record Grows (u : Upload) (p : Part) (es : Subtrees) : Type 0 where
-  pub room : HaveRoom (length_of (with_more u p)) u.parts p es
-  pub lawful : IsUpload (with_more u p)
-
-grows_to_end : (plan : UploadPlan) (e : ℕ) (ps : List Part) (p : Part) (es : Subtrees) → IsUpload (upload_with plan (Some e) ps) → Keeps e ps es → overlap_at p ps ≡ None
-    → past_last (upload_with plan (Some e) ps) p ≡ None → Fits plan p.offset (length p.bytes) → Grows (upload_with plan (Some e) ps) p es
-grows_to_end plan e ps p es lawful keeps apart last fits =
-    let tests = neither (nat_lt e (end_of p)) (is_ragged p && nat_lt (end_of p) e) (no_value _ e last) in
-    let within : end_of p ≤ e = let test = tests.0 in grind (arith, nat_tests, test) in
-    let own : Fits (closed_plan e) p.offset (length p.bytes) = elim (bool_cases (is_ragged p)) [
-      | inr whole ↦ fits_whole plan e p fits whole within
-      | inl ragged ↦ let test = not_second _ _ tests.1 ragged in let after : e ≤ end_of p = grind (arith, nat_tests, test) in fits_last plan e p fits (omega (arith, within, after))
-    ] in
-    record {
-      room = record { keeps = keeps; fits = own; apart = apart };
-      lawful = record {
-        most = lawful.most;
-        within = lawful.within;
-        placed = placed_more e 0 p ps (omega arith) own lawful.placed apart;
-        closed = lawful.closed;
-        whole = λ none. cc;
-      };
-    }
-
-grows_to_part : (plan : UploadPlan) (ps : List Part) (p : Part) (es : Subtrees) → IsUpload (upload_with plan None ps) → Keeps plan.bound ps es → overlap_at p ps ≡ None
-    → past_last (upload_with plan None ps) p ≡ None → Fits plan p.offset (length p.bytes) → Grows (upload_with plan None ps) p es
-grows_to_part plan ps p es lawful keeps apart last fits = elim (bool_cases (is_ragged p)) [
-  | inl ragged ↦
-      let test = not_second _ _ (no_value _ (last_end ps) last) ragged in
-      let after : last_end ps ≤ end_of p = grind (arith, nat_tests, test) in
-      let placed = refit plan.bound (end_of p) 0 ps (lawful.whole refl) after lawful.placed in
-      let own = fits_last plan (end_of p) p fits refl in
-      let more = placed_more (end_of p) 0 p ps (omega arith) own placed apart in
-      let fixed : (if is_ragged p then Some (end_of p) else None) ≡ Some (end_of p) = rw ragged refl in
-      let room : HaveRoom (end_of p) ps p es = record {
-        keeps = record { upload = placed_upload (end_of p) ps (omega (arith, fits.within, lawful.most)) placed; forest = keeps.forest; sorted = keeps.sorted };
-        fits = own;
-        apart = apart;
-      } in
-      let is : IsUpload (upload_with plan (Some (end_of p)) (with_part p ps)) = record {
-        most = lawful.most;
-        within = fits.within;
-        placed = more;
-        closed = λ closed. let none = lawful.closed closed in cc;
-        whole = λ none. cc;
-      } in
-      record {
-        room = subst (λ (e : Option ℕ). HaveRoom (unwrap_or e plan.bound) ps p es) (sym fixed) room;
-        lawful = subst (λ (e : Option ℕ). IsUpload (upload_with plan e (with_part p ps))) (sym fixed) is;
-      }
-  | inr whole ↦
-      let own = fits_whole plan plan.bound p fits whole fits.within in
-      let more = placed_more plan.bound 0 p ps (omega arith) own lawful.placed apart in
-      let fixed : (if is_ragged p then Some (end_of p) else None) ≡ None = rw whole refl in
-      let room : HaveRoom plan.bound ps p es = record { keeps = keeps; fits = own; apart = apart } in
-      let is : IsUpload (upload_with plan None (with_part p ps)) = record {
-        most = lawful.most;
-        within = lawful.within;
-        placed = more;
-        closed = lawful.closed;
-        whole = λ none. all_with_part p ps whole (lawful.whole refl);
-      } in
-      record {
-        room = subst (λ (e : Option ℕ). HaveRoom (unwrap_or e plan.bound) ps p es) (sym fixed) room;
-        lawful = subst (λ (e : Option ℕ). IsUpload (upload_with plan e (with_part p ps))) (sym fixed) is;
-      }
-]
-
-pub grows : (plan : UploadPlan) (end : Option ℕ) (ps : List Part) (p : PlannedPart) (es : Subtrees) → IsUpload (upload_with plan end ps) → Keeps (unwrap_or end plan.bound) ps es
-    → IsAllowed (upload_with plan end ps) p → Fits p.plan p.part.offset (length p.part.bytes) → Grows (upload_with plan end ps) p.part es
-grows plan (Some e) ps p es lawful keeps ok fits = grows_to_end plan e ps p.part es lawful keeps ok.apart ok.last (subst (λ q. Fits q p.part.offset (length p.part.bytes)) ok.plan fits)
-grows plan None ps p es lawful keeps ok fits = grows_to_part plan ps p.part es lawful keeps ok.apart ok.last (subst (λ q. Fits q p.part.offset (length p.part.bytes)) ok.plan fits)
-
-pub grown : (u : Upload) (plan : UploadPlan) (end : Option ℕ) (ps : List Part) (p : PlannedPart) (es : Subtrees) → upload_with plan end ps ≡ u → None ≡ add_refusal u p
-    → IsUpload (upload_with plan end ps) → Keeps (unwrap_or end plan.bound) ps es → Fits p.plan p.part.offset (length p.part.bytes) → Grows (upload_with plan end ps) p.part es
-grown u plan end ps p es seen free lawful keeps fits =
-    grows plan end ps p es lawful keeps (allowed (upload_with plan end ps) p (free ∙ ap (λ (v : Upload). add_refusal v p) (sym seen))) fits
-
--- ---- an end
-
-pub record IsFixed (u : Upload) (len : ℕ) (es : Subtrees) : Type 0 where
-  pub keeps : Keeps len u.parts es
-  pub lawful : IsUpload (fixed_at u len)
-
-pub fixes : (plan : UploadPlan) (end : Option ℕ) (ps : List Part) (es : Subtrees) (len : ℕ) → IsUpload (upload_with plan end ps) → Keeps (unwrap_or end plan.bound) ps es
-    → None ≡ fix_refusal (upload_with plan end ps) len → IsFixed (upload_with plan end ps) len es
-fixes plan end ps es len lawful keeps free = elim (bool_cases (nat_lt plan.bound len)) [
-  | inl long ↦ let wrong : fix_refusal (upload_with plan end ps) len ≡ Some fix.TooLong = rw long refl in let bad = free ∙ wrong in cc
-  | inr short ↦
-      let rest : (if ends_elsewhere (upload_with plan end ps) len then Some (fix.PastLast (reached (upload_with plan end ps))) else None) ≡ None = sym (rw short refl) ∙ sym free in
-      ends plan end ps es len lawful keeps (grind (arith, nat_tests, short)) (no_value _ _ rest)
-]
-  where
-    ends : (plan : UploadPlan) (end : Option ℕ) (ps : List Part) (es : Subtrees) (len : ℕ) → IsUpload (upload_with plan end ps) → Keeps (unwrap_or end plan.bound) ps es
-        → len ≤ plan.bound → ends_elsewhere (upload_with plan end ps) len ≡ false → IsFixed (upload_with plan end ps) len es
-    ends plan (Some e) ps es len lawful keeps short test =
-        let same : e ≡ len = grind (arith, nat_tests, test) in
-        record {
-          keeps = subst (λ n. Keeps n ps es) same keeps;
-          lawful = subst (λ n. IsUpload (upload_with plan (Some n) ps)) same lawful;
-        }
-    ends plan None ps es len lawful keeps short test =
-        let after : last_end ps ≤ len = grind (arith, nat_tests, test) in
-        let placed = refit plan.bound len 0 ps (lawful.whole refl) after lawful.placed in
-        record {
-          keeps = record { upload = placed_upload len ps (omega (arith, short, lawful.most)) placed; forest = keeps.forest; sorted = keeps.sorted };
-          lawful = record {
-            most = lawful.most;
-            within = short;
-            placed = placed;
-            closed = λ closed. let none = lawful.closed closed in cc;
-            whole = λ none. cc;
-          };
-        }
+pub complete_all : (u : Upload (List ℕ)) → ArePlaced length (length_of u) 0 u.parts → None ≡ finish_refusal length u → IsAll (length_of u) u.parts
+complete_all u placed free =
+    let none = (complete_is u free).1 in
+    let n = length_of u in
+    elim (cases_lt (first_gap length 0 u.parts) n) [
+      | inr all ↦ all_held n u.parts placed all
+      | inl gap ↦
+          let test : nat_lt (first_gap length 0 u.parts) n ≡ true = grind (arith, nat_tests, gap) in
+          let some : first_missing length u ≡ Some (first_gap length 0 u.parts) = rw test refl in
+          let bad = sym none ∙ some in cc
+    ]

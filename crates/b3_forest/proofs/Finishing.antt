@@ -3,7 +3,6 @@ use Rattle.std.proofs.Common.{◌≡◌, ℕ, zero, suc, ◌+◌, ◌-◌, ◌*�
 use Rattle.std.specs.Prelude.{min}
 use Rattle.std.specs.Map.{values_of}
 use Rattle.std.proofs.lemmas.Bool.Decides.{nat_tests}
-use Rattle.std.proofs.lemmas.Bool.{cases_lt}
 use Rattle.std.proofs.lemmas.List.{length-take, length-drop, drop-drop, append-nil, take_all}
 use Rattle.std.proofs.lemmas.Nat.{pow_pos}
 use Rattle.std.proofs.Math.Nat.{two-pow-succ}
@@ -11,10 +10,10 @@ use Rattle.std.proofs.Math.Seq.{take-add}
 use Rattle.b3_core.specs.Laws.{NeighboursJoin}
 use Rattle.b3_core.specs.Modes.{hash_mode}
 use Rattle.b3_core.specs.Tree.{tree_top}
-use Rattle.b3_forest.specs.Subtrees.{Subtrees, AreChunks, Keeps, is_held, subtree_of, over, piece_from, top_before, top_over}
-use Rattle.b3_forest.specs.Parts.{Part, chunk_in}
+use Rattle.b3_forest.specs.Subtrees.{Subtrees, AreChunks, AreWhole, Keeps, is_held, subtree_of, over, piece_from, top_before, top_over}
+use Rattle.b3_forest.specs.Parts.{HeldPart, chunk_in}
 use Rattle.b3_forest.specs.Pieces.{content_at, is_full, piece_at, pieces_of, root_level}
-use Rattle.b3_forest.specs.Uploads.{content_of, first_gap, first_missing, upload_of}
+use Rattle.b3_forest.specs.Uploads.{content_of}
 use Rattle.b3_forest.specs.declared.piece.Subtree.{Subtree}
 use Rattle.b3_forest.specs.declared.piece.Piece.{Piece}
 use Rattle.b3_forest.proofs.Canonical.{AreSorted, forest_is_halved}
@@ -124,31 +123,24 @@ chunk_held_iff b i =
       (λ held. let some : 0 < length (take 1024 (drop (1024 * i) b)) = grind (arith, nat_tests, held) in omega (arith, len, some)),
     )
 
--- an upload of which nothing is missing
-pub nothing_missing : (n : ℕ) (ps : List Part) → first_missing (upload_of n ps) ≡ None → n ≤ first_gap 0 ps
-nothing_missing n ps none = elim (cases_lt (first_gap 0 ps) n) [
-  | inr all ↦ all
-  | inl gap ↦ let test : nat_lt (first_gap 0 ps) n ≡ true = grind (arith, nat_tests, gap) in let some : first_missing (upload_of n ps) ≡ Some (first_gap 0 ps) = rw test refl in cc
-]
-
-pub whole_upload : (n : ℕ) (ps : List Part) (es : Subtrees) → Keeps n ps es → first_missing (upload_of n ps) ≡ None → IsWhole n 0 ps
-whole_upload n ps es keeps none = whole_from n 0 ps (omega arith) keeps.upload.placed (nothing_missing n ps none)
+pub whole_upload : (n : ℕ) (ps : List HeldPart) (es : Subtrees) → AreWhole n ps es → IsWhole n 0 ps
+whole_upload n ps es whole = let all = whole.all in whole_from n 0 ps (omega arith) whole.keeps.placed (omega (arith, all))
 
 values_are_subtrees : (es : Subtrees) → values_of es ≡ map subtree_of (map piece_from es)
 values_are_subtrees [] = refl
 values_are_subtrees (e ∷ es) = ap (λ (ns : List Subtree). e.1 ∷ ns) (values_are_subtrees es)
 
-pub top_of_pieces : (n : ℕ) (ps : List Part) (es : Subtrees) → AreSorted es → Keeps n ps es → top_over (values_of es) ≡ top_over (map subtree_of (pieces_of (chunk_in ps) root_level 0))
+pub top_of_pieces : (n : ℕ) (ps : List HeldPart) (es : Subtrees) → AreSorted es → Keeps n ps es → top_over (values_of es) ≡ top_over (map subtree_of (pieces_of (chunk_in ps) root_level 0))
 top_of_pieces n ps es sorted keeps = ap top_over (values_are_subtrees es ∙ ap (map subtree_of) (forest_is_halved (chunk_in ps) es sorted keeps.forest))
 
 drop_zero : (b : List ℕ) → drop 0 b ≡ b
 drop_zero b = refl
 
-pub empty_top : (n : ℕ) (ps : List Part) (es : Subtrees) → AreSorted es → Keeps n ps es → IsWhole n 0 ps → n ≡ 0 → top_over (values_of es) ≡ None
+pub empty_top : (n : ℕ) (ps : List HeldPart) (es : Subtrees) → AreSorted es → Keeps n ps es → IsWhole n 0 ps → n ≡ 0 → top_over (values_of es) ≡ None
 unfolding top_before
 empty_top n ps es sorted keeps whole none =
     let x = chunk_in ps in
-    let placed = keeps.upload.placed in
+    let placed = keeps.placed in
     let gap : (i : ℕ) → is_held x i ≡ false = λ i. elim (bool_cases (is_held x i)) [
       | inr no_chunk ↦ no_chunk
       | inl held ↦ let low = (held_after n 0 i ps placed held).1 in absurd (omega (arith, low, none))
@@ -156,7 +148,7 @@ empty_top n ps es sorted keeps whole none =
     let empty = nothing x root_level 0 (λ i j low held. let bad = gap j in cc) (gap 0) in
     top_of_pieces n ps es sorted keeps ∙ ap (λ (l : List Piece). top_over (map subtree_of l)) empty.pieces
 
-pub whole_top : (n : ℕ) (ps : List Part) (es : Subtrees) → NeighboursJoin → AreSorted es → Keeps n ps es → IsWhole n 0 ps → 0 < n
+pub whole_top : (n : ℕ) (ps : List HeldPart) (es : Subtrees) → NeighboursJoin → AreSorted es → Keeps n ps es → IsWhole n 0 ps → 0 < n
     → top_over (values_of es) ≡ Some (tree_top (content_of ps) 0 hash_mode)
 whole_top n ps es join sorted keeps whole some =
     let x = chunk_in ps in
@@ -169,7 +161,7 @@ whole_top n ps es join sorted keeps whole some =
     let held : (i : ℕ) → 1024 * i < n → is_held x i ≡ true = λ i before.
     ap (λ (c : List ℕ). nat_lt 0 (length c)) (chunks i) ∙ (chunk_held_iff b i).0 (omega (arith, before, len)) in
     let first : IsFirst x = λ i j low is. let before = (chunk_held_iff b j).1 (ap (λ (c : List ℕ). nat_lt 0 (length c)) (sym (chunks j)) ∙ is) in held i (omega (arith, before, low, len)) in
-    let content : content_at x root_level 0 ≡ b = content_all x b root_level 0 chunks ∙ take_all (1024 * 2 ^ root_level) (drop 0 b) (omega (arith, len, keeps.upload.most, length-drop 0 b)) ∙ drop_zero b in
+    let content : content_at x root_level 0 ≡ b = content_all x b root_level 0 chunks ∙ take_all (1024 * 2 ^ root_level) (drop 0 b) (omega (arith, len, keeps.most, length-drop 0 b)) ∙ drop_zero b in
     top_of_pieces n ps es sorted keeps
-    ∙ range_top n x root_level 0 join (placed_chunks n 0 ps keeps.upload.placed) first (held 0 (omega (arith, some)))
+    ∙ range_top n x root_level 0 join (placed_chunks n 0 ps keeps.placed) first (held 0 (omega (arith, some)))
     ∙ ap (λ (c : List ℕ). Some (tree_top c 0 hash_mode)) content

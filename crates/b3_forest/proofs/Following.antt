@@ -1,22 +1,21 @@
 -- What is noted of lent bytes.
-use Rattle.std.proofs.Common.{◌≡◌, ℕ, zero, suc, ◌+◌, ◌-◌, ◌*◌, ◌/◌, ◌%◌, ◌^◌, ◌<◌, ◌≤◌, ◌⊎◌, ◌++◌, List, [], ◌∷◌, length, take, drop, Option, Some, None, true, false, nat_lt, arith, refl, ap, ap₂, subst, sym, ◌∙◌, inl, inr}
-use Rattle.std.specs.Prelude.{Bool, nat_le, ◌&&◌, ◌||◌, ◌↔◌, IfErr, IfNone, IfOk, IfSome, OnOk, Result, Ok, Err}
+use Rattle.std.proofs.Common.{◌≡◌, ℕ, zero, suc, ◌+◌, ◌-◌, ◌*◌, ◌/◌, ◌%◌, ◌^◌, ◌<◌, ◌≤◌, ◌⊎◌, ◌++◌, List, [], ◌∷◌, length, take, drop, Some, None, true, false, nat_lt, arith, refl, ap, ap₂, subst, sym, ◌∙◌, inl, inr}
+use Rattle.std.specs.Prelude.{Bool, nat_le, ◌&&◌, ◌||◌, ◌↔◌, IfNone, IfSome}
 use Rattle.std.specs.List.Sorted.{IsStrictlySortedBy}
 use Rattle.std.proofs.lemmas.Bool.{cases_lt}
 use Rattle.std.proofs.lemmas.Bool.Decides.{nat_tests}
 use Rattle.std.proofs.lemmas.List.{drop-drop, drop_all, length-append, length-drop, length-take, take-append-drop}
-use Rattle.b3_forest.specs.Followed.{AllNoted, ArePartsOf, Followed, Follows, IsFirstNoted, IsFirstUnnoted, IsIn, IsNoted, IsNotedWith, NothingNoted, bytes_at, followed, has_chunk, noted_chunk, noting_merges, pieces_noted, range_of}
+use Rattle.b3_forest.specs.Followed.{AllNoted, ArePartsOf, Followed, Follows, IsFirstNoted, IsFirstUnnoted, IsNoted, IsNotedWith, NothingNoted, bytes_at, followed, has_chunk, noted_chunk, noting_merges, pieces_noted, range_of}
 use Rattle.b3_forest.specs.Subtrees.{HasChunk, HaveRoom, Keeps, Subtrees, is_held, subtree_at}
-use Rattle.store_upload.specs.Uploads.{Fits, UploadPlan, closed_plan}
-use Rattle.b3_forest.specs.Parts.{Part, PlannedPart, chunk_in, chunks_of, end_of}
+use Rattle.store_upload.specs.Laws.{IsFirstMissing, IsFirstOverlap, IsHeldAt, LeastMissing, LeastOverlap}
+use Rattle.store_upload.specs.Uploads.{ArePlaced, Fits, IsUpload, Upload, UploadPlan, closed_plan, end_of, first_gap, first_missing}
+use Rattle.b3_forest.specs.Parts.{HeldPart, Part, PlannedPart, chunk_in, chunks_of, held_as}
 use Rattle.b3_forest.specs.Pieces.{is_full, piece_count, pieces_of, root_level}
-use Rattle.b3_forest.specs.Uploads.{ArePlaced, IsFirstMissing, IsFirstOverlap, IsHeldAt, Upload, content_of, first_gap, first_missing, merges_of, overlap_at, with_part, upload_of}
+use Rattle.b3_forest.specs.Uploads.{content_of, merges_of, overlap_at, with_part}
 use Rattle.b3_forest.specs.declared.piece.Subtree.{Subtree}
 use Rattle.b3_forest.proofs.Canonical.{AreSorted, forest_count, head_at, in_tail, tail_at}
 use Rattle.b3_forest.proofs.Contents.{gap_follows, gap_here}
-use Rattle.b3_forest.proofs.Finishing.{nothing_missing}
-use Rattle.b3_forest.proofs.HeldOffsets.{least_missing, least_overlap, offset_after}
-use Rattle.b3_forest.proofs.HeldParts.{held_after, in_or_out, held_here, held_there, none_held_in_nothing, with_part_first, with_part_later}
+use Rattle.b3_forest.proofs.HeldParts.{IsApart, goes, held_after, held_here, held_there, in_or_out, no_overlap, none_held_in_nothing, with_held}
 use Rattle.b3_forest.proofs.Maps.{same_or}
 use Rattle.b3_forest.proofs.Merging.{some_same}
 use Rattle.b3_forest.proofs.OneForest.{bool_cases}
@@ -25,23 +24,29 @@ use Rattle.b3_forest.proofs.Ranges.{pieces_of-full, pieces_of-halves}
 
 -- ---- offsets and chunks
 
-chunk_of_offset : (n a i : ℕ) (ps : List Part) → ArePlaced n a ps → IsHeldAt ps i → is_held (chunk_in ps) (i / 1024) ≡ true
+-- a part is within the upload
+offset_after : (n a i : ℕ) (ps : List HeldPart) → ArePlaced length n a ps → IsHeldAt length ps i → i < n
+offset_after n a i [] placed held = absurd held
+offset_after n a i (p ∷ ps) placed (inl inside) = omega (arith, inside.1, placed.1.within)
+offset_after n a i (p ∷ ps) placed (inr later) = offset_after n (end_of length p) i ps placed.2 later
+
+chunk_of_offset : (n a i : ℕ) (ps : List HeldPart) → ArePlaced length n a ps → IsHeldAt length ps i → is_held (chunk_in ps) (i / 1024) ≡ true
 chunk_of_offset n a i [] placed held = absurd held
 chunk_of_offset n a i (p ∷ ps) placed held = elim (in_or_out p (i / 1024)) [
   | inl inside ↦ held_here p ps (i / 1024) inside
   | inr out ↦ held_there p ps (i / 1024) out ∙ elim held [
-    | inr later ↦ chunk_of_offset n (end_of p) i ps placed.2 later
+    | inr later ↦ chunk_of_offset n (end_of length p) i ps placed.2 later
     | inl inside ↦ absurd (elim out [ inl before ↦ omega (arith, before, inside.0, placed.1.aligned) | inr behind ↦ omega (arith, behind, inside.1) ])
   ]
 ]
 
-offset_of_chunk : (n a i : ℕ) (ps : List Part) → ArePlaced n a ps → i < n → is_held (chunk_in ps) (i / 1024) ≡ true → IsHeldAt ps i
+offset_of_chunk : (n a i : ℕ) (ps : List HeldPart) → ArePlaced length n a ps → i < n → is_held (chunk_in ps) (i / 1024) ≡ true → IsHeldAt length ps i
 offset_of_chunk n a i [] placed low held = let none = none_held_in_nothing (i / 1024) in cc
 offset_of_chunk n a i (p ∷ ps) placed low held = elim (in_or_out p (i / 1024)) [
-  | inr out ↦ inr (offset_of_chunk n (end_of p) i ps placed.2 low (sym (held_there p ps (i / 1024) out) ∙ held))
+  | inr out ↦ inr (offset_of_chunk n (end_of length p) i ps placed.2 low (sym (held_there p ps (i / 1024) out) ∙ held))
   | inl inside ↦ inl (
     omega (arith, inside.0),
-    elim (cases_lt 0 (length p.bytes % 1024)) [
+    elim (cases_lt 0 (length p.1 % 1024)) [
       | inl ragged ↦ let end = placed.1.whole refl (λ none. omega (arith, none, ragged)) in omega (arith, end, low)
       | inr whole ↦ omega (arith, whole, placed.1.aligned, inside.1)
     ],
@@ -85,100 +90,128 @@ subtree_over (e ∷ es) i sorted noted = elim (cases_lt i e.0) [
     subtree_later : (e : ℕ × Subtree) (es : Subtrees) (i : ℕ) → AreSorted (e ∷ es) → HasChunk es i → HasChunk (e ∷ es) i
     subtree_later e es i sorted has = record { first = has.first; subtree = has.subtree; is = in_tail e es has.first has.subtree sorted has.is; after = has.after; before = has.before }
 
-pub noted_of : (b : List ℕ) (ps : List Part) (es : Subtrees) (i : ℕ) → Keeps (length b) ps es → IsHeldAt ps i → IsNoted (followed b es) i
+pub noted_of : (b : List ℕ) (ps : List HeldPart) (es : Subtrees) (i : ℕ) → Keeps (length b) ps es → IsHeldAt length ps i → IsNoted (followed b es) i
 noted_of b ps es i keeps held =
-    let low = offset_after (length b) 0 i ps keeps.upload.placed held in
-    let chunk = chunk_of_offset (length b) 0 i ps keeps.upload.placed held in
-    let has = keeps.forest.all (i / 1024) chunk (omega (arith, low.1, keeps.upload.most)) in
-    (low.1, in_subtrees es has.first (i / 1024) has.subtree has.is has.after has.before)
+    let low = offset_after (length b) 0 i ps keeps.placed held in
+    let chunk = chunk_of_offset (length b) 0 i ps keeps.placed held in
+    let has = keeps.forest.all (i / 1024) chunk (omega (arith, low, keeps.most)) in
+    (low, in_subtrees es has.first (i / 1024) has.subtree has.is has.after has.before)
 
-pub held_of : (b : List ℕ) (ps : List Part) (es : Subtrees) (i : ℕ) → Keeps (length b) ps es → IsNoted (followed b es) i → IsHeldAt ps i
+pub held_of : (b : List ℕ) (ps : List HeldPart) (es : Subtrees) (i : ℕ) → Keeps (length b) ps es → IsNoted (followed b es) i → IsHeldAt length ps i
 held_of b ps es i keeps noted =
     let has = subtree_over es (i / 1024) keeps.sorted noted.1 in
     let chunk = held_in (chunk_in ps) es has.first (i / 1024) has.subtree keeps.forest.pieces has.is has.after has.before in
-    offset_of_chunk (length b) 0 i ps keeps.upload.placed noted.0 chunk
+    offset_of_chunk (length b) 0 i ps keeps.placed noted.0 chunk
 
 -- ---- what is told
 
-pub told_missing : (b : List ℕ) (ps : List Part) (es : Subtrees) (m : ℕ) → Keeps (length b) ps es → first_missing (upload_of (length b) ps) ≡ Some m → IsFirstUnnoted (followed b es) m
-told_missing b ps es m keeps is =
-    let u : Upload = upload_of (length b) ps in
-    let first = subst (λ o. IfSome o (IsFirstMissing u)) is (least_missing u keeps.upload).some in
+abbrev pub Missing : Type 0
+Missing = LeastMissing (λ (x : List ℕ). length x)
+
+abbrev pub Overlap : Type 0
+Overlap = LeastOverlap (λ (x : List ℕ). length x)
+
+-- an upload of n bytes that holds these parts
+abbrev pub upload_of : ℕ → List HeldPart → Upload (List ℕ)
+upload_of n ps = record { plan = closed_plan n; end = Some n; parts = ps }
+
+is_upload : (n : ℕ) (ps : List HeldPart) (es : Subtrees) → Keeps n ps es → IsUpload length (upload_of n ps)
+is_upload n ps es keeps = record { most = keeps.most; within = omega arith; placed = keeps.placed; closed = λ _. refl; whole = λ none. cc }
+
+pub told_missing : (b : List ℕ) (ps : List HeldPart) (es : Subtrees) (m : ℕ) → Missing → Keeps (length b) ps es → m ≡ first_gap length 0 ps → m < length b → IsFirstUnnoted (followed b es) m
+told_missing b ps es m law keeps is below =
+    let u : Upload (List ℕ) = upload_of (length b) ps in
+    let low : first_gap length 0 ps < length b = omega (arith, is, below) in
+    let test : nat_lt (first_gap length 0 ps) (length b) ≡ true = grind (arith, nat_tests, low) in
+    let some : first_missing length u ≡ Some (first_gap length 0 ps) = rw test refl in
+    let told : first_missing length u ≡ Some m = some ∙ ap Some (sym is) in
+    let first = subst (λ o. IfSome o (IsFirstMissing length u)) told (law u (is_upload (length b) ps es keeps)).some in
     record {
       below = first.below;
       missing = λ noted. first.missing (held_of b ps es m keeps noted);
       least = λ i before. noted_of b ps es i keeps (first.least i before);
     }
 
-pub told_all : (b : List ℕ) (ps : List Part) (es : Subtrees) → Keeps (length b) ps es → first_missing (upload_of (length b) ps) ≡ None → AllNoted (followed b es)
-told_all b ps es keeps is i low =
-    let u : Upload = upload_of (length b) ps in
-    let all = subst (λ o. IfNone o ((j : ℕ) → j < length b → IsHeldAt ps j)) is (least_missing u keeps.upload).none in
-    noted_of b ps es i keeps (all i low)
+pub told_all : (b : List ℕ) (ps : List HeldPart) (es : Subtrees) → Missing → Keeps (length b) ps es → length b ≤ first_gap length 0 ps → AllNoted (followed b es)
+told_all b ps es law keeps all i low =
+    let u : Upload (List ℕ) = upload_of (length b) ps in
+    let test : nat_lt (first_gap length 0 ps) (length b) ≡ false = grind (arith, nat_tests, all) in
+    let none : first_missing length u ≡ None = rw test refl in
+    let held = subst (λ o. IfNone o ((j : ℕ) → j < length b → IsHeldAt length ps j)) none (law u (is_upload (length b) ps es keeps)).none in
+    noted_of b ps es i keeps (held i low)
 
-pub told_overlap : (b : List ℕ) (ps : List Part) (es : Subtrees) (p : Part) (at : ℕ) → Keeps (length b) ps es → 0 < length p.bytes → overlap_at p ps ≡ Some at → IsFirstNoted (followed b es) p at
-told_overlap b ps es p at keeps some is =
-    let u : Upload = upload_of (length b) ps in
-    let first = subst (λ o. IfSome o (IsFirstOverlap p ps)) is (least_overlap u p keeps.upload some).some in
+pub told_overlap : (b : List ℕ) (ps : List HeldPart) (es : Subtrees) (p : Part) (at : ℕ) → Overlap → Keeps (length b) ps es → 0 < length p.bytes → overlap_at p ps ≡ Some at → IsFirstNoted (followed b es) p at
+told_overlap b ps es p at law keeps some is =
+    let n = length p.bytes in
+    let first = subst (λ o. IfSome o (IsFirstOverlap length p.offset n ps)) is (law (upload_of (length b) ps) p.offset n (is_upload (length b) ps es keeps) some).some in
     record {
       inside = (first.after, first.before);
       noted = noted_of b ps es at keeps first.held;
       least = λ i after before noted. first.least i after before (held_of b ps es i keeps noted);
     }
 
-pub told_apart : (b : List ℕ) (ps : List Part) (es : Subtrees) (p : Part) → Keeps (length b) ps es → 0 < length p.bytes → overlap_at p ps ≡ None → NothingNoted (followed b es) p
-told_apart b ps es p keeps some is i inside noted =
-    let u : Upload = upload_of (length b) ps in
-    let none = subst (λ o. IfNone o ((j : ℕ) → p.offset ≤ j → j < end_of p → IsHeldAt ps j → ⊥)) is (least_overlap u p keeps.upload some).none in
+pub told_apart : (b : List ℕ) (ps : List HeldPart) (es : Subtrees) (p : Part) → Overlap → Keeps (length b) ps es → 0 < length p.bytes → overlap_at p ps ≡ None → NothingNoted (followed b es) p
+told_apart b ps es p law keeps some is i inside noted =
+    let n = length p.bytes in
+    let none = subst (λ o. IfNone o ((j : ℕ) → p.offset ≤ j → j < p.offset + n → IsHeldAt length ps j → ⊥)) is (law (upload_of (length b) ps) p.offset n (is_upload (length b) ps es keeps) some).none in
     none i inside.0 inside.1 (held_of b ps es i keeps noted)
 
 -- ---- a part more
 
-held_with_more : (p : Part) (ps : List Part) (i : ℕ) → IsHeldAt (with_part p ps) i → IsHeldAt ps i ⊎ IsIn p i
-unfolding with_part
-held_with_more p [] i held = elim held [ inl own ↦ inr own | inr no_more ↦ inl no_more ]
-held_with_more p (q ∷ qs) i held = elim (cases_lt p.offset q.offset) [
-  | inl before ↦ elim (subst (λ (l : List Part). IsHeldAt l i) (with_part_first p q qs before) held) [ inl own ↦ inr own | inr others ↦ inl others ]
-  | inr after ↦ elim (subst (λ (l : List Part). IsHeldAt l i) (with_part_later p q qs after) held) [
-    | inl first ↦ inl (inl first)
-    | inr later ↦ elim (held_with_more p qs i later) [ inl others ↦ inl (inr others) | inr own ↦ inr own ]
-  ]
-]
+abbrev IsInside : HeldPart → ℕ → Type 0
+IsInside p i = (p.0 ≤ i) × (i < end_of length p)
 
-held_more_of : (p : Part) (ps : List Part) (i : ℕ) → IsHeldAt ps i ⊎ IsIn p i → IsHeldAt (with_part p ps) i
-unfolding with_part
-held_more_of p [] i (inl held) = absurd held
-held_more_of p [] i (inr own) = inl own
-held_more_of p (q ∷ qs) i held = elim (cases_lt p.offset q.offset) [
-  | inl before ↦ subst (λ (l : List Part). IsHeldAt l i) (sym (with_part_first p q qs before)) (elim held [ inl others ↦ inr others | inr own ↦ inl own ])
-  | inr after ↦ subst (λ (l : List Part). IsHeldAt l i) (sym (with_part_later p q qs after)) (elim held [
-    | inr own ↦ inr (held_more_of p qs i (inr own))
-    | inl others ↦ elim others [ inl first ↦ inl first | inr later ↦ inr (held_more_of p qs i (inl later)) ]
-  ])
-]
+held_with_more : (n a : ℕ) (p : HeldPart) (ps : List HeldPart) (i : ℕ) → 0 < length p.1 → ArePlaced length n a ps → IsApart p ps → IsHeldAt length (with_held p ps) i → IsHeldAt length ps i ⊎ IsInside p i
+held_with_more n a p [] i some placed none held = elim held [ inl own ↦ inr own | inr no_more ↦ inl no_more ]
+held_with_more n a p (q ∷ qs) i some placed none held =
+    let apart = no_overlap p.0 (length p.1) q qs none in
+    elim (goes p q qs some placed.1.some apart.0) [
+      | inl before ↦ elim (subst (λ (l : List HeldPart). IsHeldAt length l i) before.put held) [ inl own ↦ inr own | inr others ↦ inl others ]
+      | inr after ↦ elim (subst (λ (l : List HeldPart). IsHeldAt length l i) after.put held) [
+        | inl first ↦ inl (inl first)
+        | inr later ↦ elim (held_with_more n (end_of length q) p qs i some placed.2 apart.1 later) [ inl others ↦ inl (inr others) | inr own ↦ inr own ]
+      ]
+    ]
 
-pub noted_with : (b : List ℕ) (ps : List Part) (es fs : Subtrees) (p : Part) → Keeps (length b) ps es → Keeps (length b) (with_part p ps) fs → IsNotedWith (followed b es) (followed b fs) p
-noted_with b ps es fs p old new = record {
+held_more_of : (n a : ℕ) (p : HeldPart) (ps : List HeldPart) (i : ℕ) → 0 < length p.1 → ArePlaced length n a ps → IsApart p ps → IsHeldAt length ps i ⊎ IsInside p i → IsHeldAt length (with_held p ps) i
+held_more_of n a p [] i some placed none (inl held) = absurd held
+held_more_of n a p [] i some placed none (inr own) = inl own
+held_more_of n a p (q ∷ qs) i some placed none held =
+    let apart = no_overlap p.0 (length p.1) q qs none in
+    elim (goes p q qs some placed.1.some apart.0) [
+      | inl before ↦ subst (λ (l : List HeldPart). IsHeldAt length l i) (sym before.put) (elim held [ inl others ↦ inr others | inr own ↦ inl own ])
+      | inr after ↦ subst (λ (l : List HeldPart). IsHeldAt length l i) (sym after.put) (elim held [
+        | inr own ↦ inr (held_more_of n (end_of length q) p qs i some placed.2 apart.1 (inr own))
+        | inl others ↦ elim others [ inl first ↦ inl first | inr later ↦ inr (held_more_of n (end_of length q) p qs i some placed.2 apart.1 (inl later)) ]
+      ])
+    ]
+
+pub noted_with : (b : List ℕ) (ps : List HeldPart) (es fs : Subtrees) (p : Part) → HaveRoom (length b) ps p es → Keeps (length b) (with_part p ps) fs → IsNotedWith (followed b es) (followed b fs) p
+noted_with b ps es fs p room new = record {
   bytes = refl;
   noted = λ i. (
-    (λ noted. elim (held_with_more p ps i (held_of b (with_part p ps) fs i new noted)) [
-      | inl held ↦ inl (noted_of b ps es i old held)
+    (λ noted. elim (held_with_more (length b) 0 (held_as p) ps i room.fits.some room.keeps.placed room.apart (held_of b (with_part p ps) fs i new noted)) [
+      | inl held ↦ inl (noted_of b ps es i room.keeps held)
       | inr own ↦ inr own
     ]),
-    (λ either. noted_of b (with_part p ps) fs i new (held_more_of p ps i (elim either [
-      | inl noted ↦ inl (held_of b ps es i old noted)
+    (λ either. noted_of b (with_part p ps) fs i new (held_more_of (length b) 0 (held_as p) ps i room.fits.some room.keeps.placed room.apart (elim either [
+      | inl noted ↦ inl (held_of b ps es i room.keeps noted)
       | inr own ↦ inr own
     ]))),
   );
 }
 
-pub parts_with : (b : List ℕ) (p : Part) (ps : List Part) → p.bytes ≡ bytes_at b p → ArePartsOf b ps → ArePartsOf b (with_part p ps)
-unfolding with_part
-parts_with b p [] same all = (same, all)
-parts_with b p (q ∷ qs) same all = elim (cases_lt p.offset q.offset) [
-  | inl before ↦ subst (ArePartsOf b) (sym (with_part_first p q qs before)) (same, all)
-  | inr after ↦ subst (ArePartsOf b) (sym (with_part_later p q qs after)) (all.0, parts_with b p qs same all.1)
-]
+parts_put : (b : List ℕ) (n a : ℕ) (p : HeldPart) (ps : List HeldPart) → 0 < length p.1 → ArePlaced length n a ps → IsApart p ps → p.1 ≡ take (length p.1) (drop p.0 b) → ArePartsOf b ps → ArePartsOf b (with_held p ps)
+parts_put b n a p [] some placed none same all = (same, all)
+parts_put b n a p (q ∷ qs) some placed none same all =
+    let apart = no_overlap p.0 (length p.1) q qs none in
+    elim (goes p q qs some placed.1.some apart.0) [
+      | inl before ↦ subst (ArePartsOf b) (sym before.put) (same, all)
+      | inr after ↦ subst (ArePartsOf b) (sym after.put) (all.0, parts_put b n (end_of length q) p qs some placed.2 apart.1 same all.1)
+    ]
+
+pub parts_with : (b : List ℕ) (es : Subtrees) (p : Part) (ps : List HeldPart) → HaveRoom (length b) ps p es → p.bytes ≡ bytes_at b p → ArePartsOf b ps → ArePartsOf b (with_part p ps)
+parts_with b es p ps room same all = parts_put b (length b) 0 (held_as p) ps room.fits.some room.keeps.placed room.apart same all
 
 -- the pieces have room for a part of the bytes' plan that overlaps no other
 pub room_of : (b : List ℕ) (es : Subtrees) (w : Follows b es) (p : PlannedPart) → p.plan ≡ closed_plan (length b) → Fits p.plan p.part.offset (length p.part.bytes)
@@ -191,20 +224,20 @@ room_of b es w p plan fits apart = record {
 
 -- ---- the content
 
-content_from : (b : List ℕ) (a : ℕ) (ps : List Part) → a ≤ length b → ArePlaced (length b) a ps → length b ≤ first_gap a ps → ArePartsOf b ps → content_of ps ≡ drop a b
+content_from : (b : List ℕ) (a : ℕ) (ps : List HeldPart) → a ≤ length b → ArePlaced length (length b) a ps → length b ≤ first_gap length a ps → ArePartsOf b ps → content_of ps ≡ drop a b
 unfolding content_of first_gap
 content_from b a [] most placed all same = sym (drop_all a b all)
-content_from b a (p ∷ ps) most placed all same = elim (same_or p.offset a) [
+content_from b a (p ∷ ps) most placed all same = elim (same_or p.0 a) [
   | inr other ↦ let here = gap_here a p ps other in absurd (omega (arith, here, all, placed.0, placed.1.within, placed.1.some))
   | inl at ↦
-      let rest = content_from b (end_of p) ps placed.1.within placed.2 (subst (λ i. length b ≤ i) (gap_follows a p ps at) all) same.1 in
-      let own : p.bytes ≡ take (length p.bytes) (drop a b) = same.0 ∙ ap (λ i. take (length p.bytes) (drop i b)) at in
-      let next : drop (end_of p) b ≡ drop (length p.bytes) (drop a b) = ap (λ i. drop (i + length p.bytes) b) at ∙ sym (drop-drop (length p.bytes) a b) in
-      ap₂ (λ (l r : List ℕ). l ++ r) own (rest ∙ next) ∙ take-append-drop (length p.bytes) (drop a b)
+      let rest = content_from b (end_of length p) ps placed.1.within placed.2 (subst (λ i. length b ≤ i) (gap_follows a p ps at) all) same.1 in
+      let own : p.1 ≡ take (length p.1) (drop a b) = same.0 ∙ ap (λ i. take (length p.1) (drop i b)) at in
+      let next : drop (end_of length p) b ≡ drop (length p.1) (drop a b) = ap (λ i. drop (i + length p.1) b) at ∙ sym (drop-drop (length p.1) a b) in
+      ap₂ (λ (l r : List ℕ). l ++ r) own (rest ∙ next) ∙ take-append-drop (length p.1) (drop a b)
 ]
 
-pub content_is : (b : List ℕ) (es : Subtrees) (w : Follows b es) → first_missing (upload_of (length b) w.parts) ≡ None → content_of w.parts ≡ b
-content_is b es w none = content_from b 0 w.parts (omega arith) w.keeps.upload.placed (nothing_missing (length b) w.parts none) w.same
+pub content_is : (b : List ℕ) (es : Subtrees) (w : Follows b es) → length b ≤ first_gap length 0 w.parts → content_of w.parts ≡ b
+content_is b es w all = content_from b 0 w.parts (omega arith) w.keeps.placed all w.same
 
 -- ---- counts
 
@@ -251,7 +284,7 @@ noted_some f i held = elim (bool_cases (has_chunk f.ranges i)) [
       ]
 ]
 
-noted_as_held : (f : Followed) (n : ℕ) (ps : List Part) → n ≡ length f.bytes → ArePlaced n 0 ps → ((i : ℕ) → IsNoted f i ↔ IsHeldAt ps i)
+noted_as_held : (f : Followed) (n : ℕ) (ps : List HeldPart) → n ≡ length f.bytes → ArePlaced length n 0 ps → ((i : ℕ) → IsNoted f i ↔ IsHeldAt length ps i)
     → (i : ℕ) → is_held (noted_chunk f) i ≡ is_held (chunk_in ps) i
 noted_as_held f n ps len placed same i =
     let at : 1024 * i / 1024 ≡ i = omega arith in
@@ -268,39 +301,17 @@ noted_as_held f n ps len placed same i =
       ]
     ]
 
-pub noted_pieces : (f : Followed) (n : ℕ) (ps : List Part) → n ≡ length f.bytes → ArePlaced n 0 ps → ((i : ℕ) → IsNoted f i ↔ IsHeldAt ps i)
+pub noted_pieces : (f : Followed) (n : ℕ) (ps : List HeldPart) → n ≡ length f.bytes → ArePlaced length n 0 ps → ((i : ℕ) → IsNoted f i ↔ IsHeldAt length ps i)
     → pieces_noted f ≡ piece_count (chunk_in ps)
 noted_pieces f n ps len placed same = same_count (noted_chunk f) (chunk_in ps) root_level 0 (noted_as_held f n ps len placed same)
 
-pub noted_count : (b : List ℕ) (ps : List Part) (es : Subtrees) → Keeps (length b) ps es → piece_count (chunk_in ps) ≡ pieces_noted (followed b es)
+pub noted_count : (b : List ℕ) (ps : List HeldPart) (es : Subtrees) → Keeps (length b) ps es → piece_count (chunk_in ps) ≡ pieces_noted (followed b es)
 noted_count b ps es keeps =
-    sym (noted_pieces (followed b es) (length b) ps refl keeps.upload.placed (λ i. (held_of b ps es i keeps, noted_of b ps es i keeps)))
+    sym (noted_pieces (followed b es) (length b) ps refl keeps.placed (λ i. (held_of b ps es i keeps, noted_of b ps es i keeps)))
 
 pub nothing_noted : (b : List ℕ) (es : Subtrees) → Keeps (length b) [] es → es ≡ [] → pieces_noted (followed b es) ≡ 0
 nothing_noted b es keeps empty = sym (noted_count b [] es keeps) ∙ sym (forest_count (chunk_in []) es keeps.sorted keeps.forest) ∙ ap length empty
 
-pub merges_noted : (b : List ℕ) (ps : List Part) (es fs : Subtrees) (p : Part) → Keeps (length b) ps es → Keeps (length b) (with_part p ps) fs
-    → merges_of (upload_of (length b) ps) p ≡ noting_merges (followed b es) (followed b fs) p
+pub merges_noted : (b : List ℕ) (ps : List HeldPart) (es fs : Subtrees) (p : Part) → Keeps (length b) ps es → Keeps (length b) (with_part p ps) fs
+    → merges_of ps p ≡ noting_merges (followed b es) (followed b fs) p
 merges_noted b ps es fs p old new = ap₂ (λ i j. i + piece_count (chunks_of p) - j) (noted_count b ps es old) (noted_count b (with_part p ps) fs new)
-
--- ---- answers
-
-pub if_err_by : {A E : Type 0} (r : Result A E) (P Q : E → Type 0) → ((e : E) → P e → Q e) → IfErr r P → IfErr r Q
-if_err_by (Ok a) P Q by holds = tt
-if_err_by (Err e) P Q by holds = by e holds
-
-pub on_ok_by : {A E : Type 0} (r : Result A E) (P Q : Type 0) → (P → Q) → OnOk r P → OnOk r Q
-on_ok_by (Ok a) P Q by holds = by holds
-on_ok_by (Err e) P Q by holds = tt
-
-pub told_some : (b : List ℕ) (ps : List Part) (es : Subtrees) (o : Option ℕ) → Keeps (length b) ps es → o ≡ first_missing (upload_of (length b) ps) → IfSome o (IsFirstUnnoted (followed b es))
-told_some b ps es None keeps is = tt
-told_some b ps es (Some m) keeps is = told_missing b ps es m keeps (sym is)
-
-pub told_none : (b : List ℕ) (ps : List Part) (es : Subtrees) (o : Option ℕ) → Keeps (length b) ps es → o ≡ first_missing (upload_of (length b) ps) → IfNone o (AllNoted (followed b es))
-told_none b ps es None keeps is = told_all b ps es keeps (sym is)
-told_none b ps es (Some m) keeps is = tt
-
-pub if_ok_both : {A E : Type 0} (r : Result A E) (R : Type 0) (P Q : A → Type 0) → ((a : A) → R → P a → Q a) → OnOk r R → IfOk r P → IfOk r Q
-if_ok_both (Ok a) R P Q by first holds = by a first holds
-if_ok_both (Err e) R P Q by first holds = tt

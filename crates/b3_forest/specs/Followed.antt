@@ -1,10 +1,11 @@
 -- Parts that are noted over the bytes that they are to be of.
 use Rattle.std.specs.Prelude.{◌≡◌, ◌≢◌, ◌↔◌, ℕ, ◌+◌, ◌-◌, ◌*◌, ◌^◌, ◌<◌, ◌≤◌, ◌⊎◌, ◌/◌, ◌&&◌, ◌||◌, Bool, true, false, nat_le, nat_lt, if◌then◌else◌, List, [], ◌∷◌, length, map, take, drop}
 use Rattle.b3_forest.specs.Subtrees.{Keeps, Subtrees}
-use Rattle.b3_forest.specs.Parts.{Part, PlannedPart, chunks_of, end_of}
-use Rattle.store_upload.specs.Uploads.{closed_plan}
+use Rattle.b3_forest.specs.Parts.{HeldPart, Part, PlannedPart, chunks_of}
+use Rattle.store_upload.specs.Laws.{IsHeldAt}
+use Rattle.store_upload.specs.Uploads.{IsUpload, Upload, closed_plan, length_of}
 use Rattle.b3_forest.specs.Pieces.{piece_count}
-use Rattle.b3_forest.specs.Uploads.{IsHeldAt, IsUpload, Upload, length_of, pieces_held}
+use Rattle.b3_forest.specs.Uploads.{pieces_held}
 use Rattle.b3_forest.specs.declared.refusal.NoteFault.{NoteFault}
 use Rattle.b3_forest.specs.declared.refusal.NoteFault.TheVariants.{NoMemory, Overlap, Stranger, WrongPlan}
 
@@ -32,12 +33,12 @@ pieces_noted f = piece_count (noted_chunk f)
 
 -- they are as many as those of an upload that holds the same offsets
 abbrev pub NotedAsHeld : Type 0
-NotedAsHeld = (f : Followed) (u : Upload) → IsUpload u → length_of u ≡ length f.bytes → ((i : ℕ) → IsNoted f i ↔ IsHeldAt u.parts i)
-    → pieces_noted f ≡ pieces_held u
+NotedAsHeld = (f : Followed) (u : Upload (List ℕ)) → IsUpload length u → length_of u ≡ length f.bytes → ((i : ℕ) → IsNoted f i ↔ IsHeldAt length u.parts i)
+    → pieces_noted f ≡ pieces_held u.parts
 
 -- offset i is in the part
 abbrev pub IsIn : Part → ℕ → Type 0
-IsIn p i = (p.offset ≤ i) × (i < end_of p)
+IsIn p i = (p.offset ≤ i) × (i < p.offset + length p.bytes)
 
 -- the bytes that stand where a part is
 abbrev pub bytes_at : List ℕ → Part → List ℕ
@@ -95,12 +96,12 @@ abbrev pub followed : List ℕ → Subtrees → Followed
 followed b es = record { bytes = b; ranges = range_of es }
 
 -- each part has the bytes that stand where it is
-abbrev pub ArePartsOf : List ℕ → List Part → Type 0
+abbrev pub ArePartsOf : List ℕ → List HeldPart → Type 0
 ArePartsOf b [] = Unit {0}
-ArePartsOf b (p ∷ ps) = (p.bytes ≡ bytes_at b p) × ArePartsOf b ps
+ArePartsOf b (p ∷ ps) = (p.1 ≡ take (length p.1) (drop p.0 b)) × ArePartsOf b ps
 
 -- the pieces are those of some parts of the bytes
 pub record Follows (b : List ℕ) (es : Subtrees) : Type 0 where
-  pub parts : List Part
+  pub parts : List HeldPart
   pub keeps : Keeps (length b) parts es
   pub same : ArePartsOf b parts

@@ -1,7 +1,6 @@
 pub mod Followed
 pub mod Forests
 pub mod Gaps
-pub mod Kept
 pub mod Subtrees
 pub mod Texts
 pub mod Parts

@@ -1,27 +1,11 @@
--- The parts of an upload: what callers hand in.
-use Rattle.std.specs.Prelude.{ℕ, ◌+◌, ◌-◌, ◌*◌, ◌%◌, ◌==◌, ◌&&◌, Bool, not, nat_lt, nat_le, true, false, List, [], ◌∷◌, length, take, drop}
-use Rattle.store_upload.specs.Uploads.{UploadPlan}
+-- The parts of an upload: as they are handed in, and as an upload holds them.
+use Rattle.std.specs.Prelude.{ℕ, ◌-◌, ◌*◌, ◌&&◌, nat_lt, nat_le, true, false, List, [], ◌∷◌, length, take, drop}
+use Rattle.store_upload.specs.Uploads.{UploadPlan, end_of}
 
 -- bytes that begin at an offset of the upload
 pub record Part : Type 0 where
   pub offset : ℕ
   pub bytes : List ℕ
-
--- the offset past a part
-abbrev pub end_of : Part → ℕ
-end_of p = p.offset + length p.bytes
-
--- a part's length is no multiple of a chunk's
-abbrev pub is_ragged : Part → Bool
-is_ragged p = not (length p.bytes % 1024 == 0)
-
--- the bytes of chunk i where the parts hold it, and none where they don't
-unfoldable pub chunk_in : List Part → ℕ → List ℕ
-chunk_in [] i = []
-chunk_in (p ∷ ps) i = elim (nat_le p.offset (1024 * i) && nat_lt (1024 * i) (end_of p)) [
-  | true ↦ take 1024 (drop (1024 * i - p.offset) p.bytes)
-  | false ↦ chunk_in ps i
-]
 
 -- a part and the plan that it was made for
 pub record PlannedPart : Type 0 where
@@ -32,6 +16,21 @@ pub record PlannedPart : Type 0 where
 abbrev pub planned : UploadPlan → ℕ → List ℕ → PlannedPart
 planned plan offset bytes = record { plan = plan; part = record { offset = offset; bytes = bytes } }
 
+-- a part as an upload holds it: where it begins, and its bytes
+abbrev pub HeldPart : Type 0
+HeldPart = ℕ × List ℕ
+
+abbrev pub held_as : Part → HeldPart
+held_as p = (p.offset, p.bytes)
+
+-- the bytes of chunk i where the parts hold it, and none where they don't
+unfoldable pub chunk_in : List HeldPart → ℕ → List ℕ
+chunk_in [] i = []
+chunk_in (p ∷ ps) i = elim (nat_le p.0 (1024 * i) && nat_lt (1024 * i) (end_of length p)) [
+  | true ↦ take 1024 (drop (1024 * i - p.0) p.1)
+  | false ↦ chunk_in ps i
+]
+
 -- the chunks of one part
 abbrev pub chunks_of : Part → ℕ → List ℕ
-chunks_of p = chunk_in (p ∷ [])
+chunks_of p = chunk_in (held_as p ∷ [])

@@ -7,10 +7,10 @@ use Rattle.std.specs.Ordering.{nat_cmp}
 use Rattle.b3_core.specs.Modes.{hash_mode}
 use Rattle.b3_core.specs.Tree.{Inputs, parent_top}
 use Rattle.b3_forest.specs.Forests.{IsForest, IsPiece}
-use Rattle.store_upload.specs.Uploads.{Fits, closed_plan}
-use Rattle.b3_forest.specs.Parts.{Part, chunk_in}
+use Rattle.store_upload.specs.Uploads.{ArePlaced, Fits, closed_plan, first_gap, last_end, most_bytes}
+use Rattle.b3_forest.specs.Parts.{HeldPart, Part, chunk_in}
 use Rattle.b3_forest.specs.Pieces.{most_chunks, root_level}
-use Rattle.b3_forest.specs.Uploads.{IsUpload, overlap_at, upload_of}
+use Rattle.b3_forest.specs.Uploads.{overlap_at}
 use Rattle.b3_forest.specs.declared.subtrees.Halves.{Halves}
 use Rattle.b3_forest.specs.declared.piece.Subtree.{Subtree}
 use Rattle.b3_forest.specs.declared.piece.Piece.{Piece}
@@ -147,21 +147,32 @@ AreFresh [] es = Unit {0}
 AreFresh (p ∷ ps) es = (subtree_at es p.first ≡ None) × AreFresh ps (insert_entry nat_cmp es p.first (subtree_of p))
 
 -- the subtrees are those of an upload of n bytes that holds these parts
-pub record Keeps (n : ℕ) (ps : List Part) (es : Subtrees) : Type 0 where
-  pub upload : IsUpload (upload_of n ps)
+pub record Keeps (n : ℕ) (ps : List HeldPart) (es : Subtrees) : Type 0 where
+  pub most : n ≤ most_bytes
+  pub placed : ArePlaced length n 0 ps
   pub forest : AreForest (chunk_in ps) [] es
   pub sorted : IsStrictlySortedBy nat_cmp (keys_of es)
 
 -- what is so kept is a canonical forest of what the parts hold
 abbrev pub KeptIsForest : Type 0
-KeptIsForest = (n : ℕ) (ps : List Part) (es : Subtrees) → Keeps n ps es → IsForest (chunk_in ps) root_level 0 (pieces_in es)
+KeptIsForest = (n : ℕ) (ps : List HeldPart) (es : Subtrees) → Keeps n ps es → IsForest (chunk_in ps) root_level 0 (pieces_in es)
 
 -- the subtrees are those of some parts of an upload of n bytes
 abbrev pub AreOfUpload : ℕ → Subtrees → Type 0
-AreOfUpload n es = (ps : List Part) × Keeps n ps es
+AreOfUpload n es = (ps : List HeldPart) × Keeps n ps es
 
--- and this one fits the upload, and none of its offsets is held
-pub record HaveRoom (n : ℕ) (ps : List Part) (p : Part) (es : Subtrees) : Type 0 where
+-- the pieces are those of these parts, of which the last ends there
+pub record AreHashed (end : ℕ) (ps : List HeldPart) (es : Subtrees) : Type 0 where
+  pub end_is : end ≡ last_end length ps
+  pub keeps : Keeps end ps es
+
+-- the subtrees are those of parts that begin with the first offset and leave none out
+pub record AreWhole (n : ℕ) (ps : List HeldPart) (es : Subtrees) : Type 0 where
+  pub keeps : Keeps n ps es
+  pub all : first_gap length 0 ps ≡ n
+
+-- the subtrees are those of an upload of n bytes, this part fits it, and none of the part's offsets is held
+pub record HaveRoom (n : ℕ) (ps : List HeldPart) (p : Part) (es : Subtrees) : Type 0 where
   pub keeps : Keeps n ps es
   pub fits : Fits (closed_plan n) p.offset (length p.bytes)
   pub apart : overlap_at p ps ≡ None

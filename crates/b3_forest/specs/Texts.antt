@@ -2,8 +2,8 @@
 use Rattle.std.specs.Prelude.{ℕ, List, ◌++◌, codes, length}
 use Rattle.std.specs.Fmt.{decimal}
 use Rattle.store_upload.specs.Texts.{add_fault_text, part_fault_text}
-use Rattle.b3_forest.specs.Parts.{Part}
-use Rattle.b3_forest.specs.Uploads.{Upload, held_bytes, length_of}
+use Rattle.store_upload.specs.Uploads.{Upload, held_bytes, length_of}
+use Rattle.b3_forest.specs.Parts.{HeldPart, Part}
 use Rattle.store_upload.specs.declared.refusal.PartFault.{PartFault}
 use Rattle.store_upload.specs.declared.refusal.AddFault.{AddFault}
 use Rattle.b3_forest.specs.declared.refusal.NoteFault.{NoteFault}
@@ -34,8 +34,8 @@ abbrev pub prepared_text : Part → List ℕ
 prepared_text p = codes "Prepared" ++ bytes_text p.offset (length p.bytes)
 
 -- a part as an upload keeps it
-abbrev pub segment_text : Part → List ℕ
-segment_text p = codes "Segment" ++ bytes_text p.offset (length p.bytes)
+abbrev pub segment_text : HeldPart → List ℕ
+segment_text p = codes "Segment" ++ bytes_text p.0 (length p.1)
 
 abbrev pub part_refused_text : PartFault → ℕ → List ℕ
 part_refused_text fault len = codes "PartRefused { fault: " ++ (part_fault_text fault ++ (codes ", bytes: " ++ (decimal len ++ codes " }")))
@@ -44,8 +44,8 @@ abbrev pub add_refused_text : AddFault → Part → List ℕ
 add_refused_text fault p = codes "AddRefused { fault: " ++ (add_fault_text fault ++ (codes ", part: " ++ (prepared_text p ++ codes " }")))
 
 -- a forest: how many bytes and parts it holds, and of how many
-abbrev pub forest_text : Upload → List ℕ
-forest_text u = codes "Forest { parts: " ++ (decimal (length u.parts) ++ (codes ", held: " ++ (decimal (held_bytes u.parts) ++ (codes ", length: " ++ (decimal (length_of u) ++ codes " }")))))
+abbrev pub forest_text : Upload (List ℕ) → List ℕ
+forest_text u = codes "Forest { parts: " ++ (decimal (length u.parts) ++ (codes ", held: " ++ (decimal (held_bytes length u.parts) ++ (codes ", length: " ++ (decimal (length_of u) ++ codes " }")))))
 
 -- what follows lent bytes: how many they are
 abbrev pub follow_text : ℕ → List ℕ

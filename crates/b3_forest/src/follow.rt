@@ -13,12 +13,13 @@ use crate::held;
 use crate::piece::Subtree;
 use crate::prepared::Prepared;
 use crate::refusal::{Incomplete, NoteFault};
+use crate::shared_bytes::SharedBytes;
 use b3_core::{Top, Work};
 use std::alloc::Global;
 use std::collections::BTreeMap;
 use std::fmt;
 use std::marker::Model;
-use store_upload::{Plan, TooLong};
+use store_upload::{Plan, TooLong, upload_laws};
 
 /// The parts of an upload whose bytes are lent: the pieces of those that were noted, without copies of their bytes.
 #[derive(Drop)]
@@ -68,10 +69,13 @@ impl<'a> Follow<'a> {
         ensures unchanged { OnErr result (self.new ≡ self.old) }
         ensures uncounted { OnErr result (work.new ≡ work.old) }
     {
+        // For the proof alone: the laws of uploads.
+        upload_laws::<SharedBytes>();
         if !part.plan().is_of(self.bytes.len() as u64) {
             return Err(NoteFault::WrongPlan);
         }
-        if let Some(at) = held::overlap(&self.subtrees, part) {
+        let len = part.fitting().len() as u64;
+        if let Some(at) = held::overlap(&self.subtrees, part.offset(), len) {
             return Err(NoteFault::Overlap { at });
         }
         if !has_bytes(self.bytes, part) {
@@ -88,7 +92,11 @@ impl<'a> Follow<'a> {
         ensures some { IfSome result (IsFirstUnnoted self.now) }
         ensures none { IfNone result (AllNoted self.now) }
     {
-        held::first_missing(&self.subtrees, self.bytes.len() as u64)
+        // For the proof alone: the laws of uploads.
+        upload_laws::<SharedBytes>();
+        let len = self.bytes.len() as u64;
+        let missing = held::least_missing(&self.subtrees, len);
+        if missing < len { Some(missing) } else { None }
     }
 
     /// The top of the tree over the lent bytes, or F10 with the least offset that was not noted. It makes two
@@ -100,7 +108,14 @@ impl<'a> Follow<'a> {
         ensures count { OnOk result (work.new ≡ counted work.old (2 * (pieces_noted self.now - 1))) }
         ensures uncounted { OnErr result (work.new ≡ work.old) }
     {
-        held::finish(&self.subtrees, self.bytes.len() as u64, work)
+        // For the proof alone: the laws of uploads.
+        upload_laws::<SharedBytes>();
+        let len = self.bytes.len() as u64;
+        let missing = held::least_missing(&self.subtrees, len);
+        if missing < len {
+            return Err(Incomplete { missing });
+        }
+        Ok(held::top(&self.subtrees, work))
     }
 }
 

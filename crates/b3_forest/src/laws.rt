@@ -3,7 +3,6 @@
 ghost use Rattle.b3_forest.specs.Followed.{NotedAsHeld};
 ghost use Rattle.b3_forest.specs.Forests.{OneForest, PiecesAreForest};
 ghost use Rattle.b3_forest.specs.Subtrees.{KeptIsForest};
-ghost use Rattle.b3_forest.specs.Uploads.{LeastMissing, LeastOverlap};
 
 /// States that what a `Forest` or a `Follow` keeps is a canonical forest of what its parts hold, that halving finds one,
 /// and that there is no other. So the number of its pieces, on which counts of compressions stand, is a function of the
@@ -13,11 +12,4 @@ pub fn forest_laws()
     ensures forest { PiecesAreForest }
     ensures one { OneForest }
     ensures noted { NotedAsHeld }
-{}
-
-/// States what an upload's parts tell: the offset that is told to be missing is the least that no part holds, and the
-/// offset at which a part overlaps others is the least of it that is held.
-pub fn upload_laws()
-    ensures missing { LeastMissing }
-    ensures overlap { LeastOverlap }
 {}

@@ -6,10 +6,11 @@
 //!
 //! A `Forest` holds the parts of one upload. `Forest::add` puts a part's pieces among the others, and merges those that
 //! are the halves of one aligned range; it hashes no bytes. `Forest::finish` gives the top of the tree over the whole
-//! content, whichever way it was cut and in whatever order its parts came. `Forest::gaps` lists what is missing.
+//! content, whichever way it was cut and in whatever order its parts came. `Forest::gaps` lists what is missing. Parts stand in
+//! an ordered map: one is added in logarithmic time wherever it lies.
 //!
-//! A `MappedForest` is the same with its parts in an ordered map: one is added in logarithmic time wherever it lies, and
-//! `shared_segments` lists them, where a `Forest` shows them as a slice.
+//! The rules of an upload, where parts may lie, what is missing and where it ends, are those of `store_upload`: a `Forest` is an
+//! `Open` upload that holds its parts as `HashedParts`, which know of bytes and of pieces alone.
 //!
 //! A `Follow` does the same for bytes that are lent: it notes parts of them, and tells their top, without copies.
 //!
@@ -17,27 +18,29 @@
 //! forest of what is held. They stand in an ordered map by their first chunk.
 #![tactic(auto)]
 
-mod by_offset;
 mod cutting;
 mod follow;
 mod forest;
 mod gap;
+mod hashed_parts;
 mod held;
-mod kept;
 mod laws;
 mod piece;
 mod prepared;
 mod refusal;
 mod segment;
+mod shared_bytes;
 mod subtrees;
 
 pub use follow::Follow;
-pub use forest::{Forest, MappedForest};
+pub use forest::Forest;
 pub use gap::Gap;
-pub use laws::{forest_laws, upload_laws};
+pub use hashed_parts::HashedParts;
+pub use laws::forest_laws;
 pub use prepared::Prepared;
 pub use refusal::{AddRefused, Incomplete, NoteFault, PartRefused};
 pub use segment::Segment;
+pub use shared_bytes::SharedBytes;
 pub use store_upload::{
     AddFault, FinishFault, FixFault, MOST_BYTES, MOST_PART_BYTES, PartFault, Plan, TooLong,
 };

@@ -4,17 +4,16 @@ ghost use Rattle.std.specs.Prelude.{◌≡◌, ◌+◌, ◌≤◌, IfErr, IfOk, 
 ghost use Rattle.std.specs.Arc.{arc_value};
 ghost use Rattle.b3_core.specs.Work.{NeverFalls, counted};
 ghost use Rattle.store_upload.specs.Uploads.{Fits, most_bytes, part_refusal};
-ghost use Rattle.b3_forest.specs.Parts.{PlannedPart, chunks_of, end_of, is_ragged, planned};
+ghost use Rattle.b3_forest.specs.Parts.{PlannedPart, chunks_of, planned};
 ghost use Rattle.b3_forest.specs.Texts.{prepared_text};
-ghost use Rattle.b3_forest.specs.Uploads.{part_of};
 ghost use Rattle.b3_forest.specs.Pieces.{IsPrepared, part_work, piece_count, pieces_of, root_level};
 
 use crate::cutting::push_all;
 use crate::piece::Piece;
 use crate::refusal::PartRefused;
-use crate::segment::Segment;
+use crate::shared_bytes::SharedBytes;
 use b3_core::Work;
-use std::alloc::{AllocError, Global};
+use std::alloc::Global;
 use std::fmt;
 use std::marker::Model;
 use std::sync::Arc;
@@ -124,17 +123,10 @@ impl Prepared {
 
     /// Where the part ends in its upload.
     pub(crate) fn end(&self) -> u64
-        ensures { result ≡ end_of self.now.part }
+        ensures { result ≡ self.now.part.offset + length self.now.part.bytes }
     {
         let start = self.offset();
         start + self.fitting().len() as u64
-    }
-
-    /// Whether its length is not a multiple of 1024.
-    pub(crate) fn is_ragged(&self) -> bool
-        ensures { result ≡ is_ragged self.now.part }
-    {
-        self.bytes().len() % 1024 != 0
     }
 
     /// The plan that the part was made for.
@@ -164,11 +156,12 @@ impl Prepared {
         self.pieces.as_slice()
     }
 
-    /// The part's bytes, shared, and where they begin.
-    pub(crate) fn segment(&self) -> Result<Segment, AllocError>
-        ensures { IfOk result (λ segment. part_of segment ≡ self.now.part) }
+    /// The part's bytes, without the pieces.
+    pub(crate) fn into_shared(self) -> SharedBytes
+        ensures { result ≡ self.part.bytes }
     {
-        Segment::sharing(self.offset, &self.bytes)
+        let Prepared { bytes, .. } = self;
+        SharedBytes::new(bytes)
     }
 
     /// How many pieces the part has.

@@ -1,11 +1,11 @@
 use Rattle.std.proofs.Common.{arith}
+use Rattle.store_upload.specs.Uploads.{length_of}
 use Rattle.b3_forest.proofs.Canonical.{forest_is_canonical}
 use Rattle.b3_forest.proofs.Following.{noted_pieces}
 use Rattle.b3_forest.proofs.OneForest.{one_forest}
 use Rattle.b3_forest.proofs.PiecesAreForest.{pieces_are_forest}
 use Rattle.b3_forest.specs.Parts.{chunk_in}
 use Rattle.b3_forest.specs.Pieces.{root_level}
-use Rattle.b3_forest.specs.Uploads.{length_of}
 use Rattle.b3_forest.proofs.laws.forest_laws.Goals as goal
 
 pub returns : goal.returns

@@ -1,17 +1,18 @@
-use Rattle.std.proofs.Common.{subst}
-use Rattle.std.specs.Prelude.{IfNone, IfSome}
+use Rattle.std.proofs.Common.{arith, subst}
 use Rattle.b3_forest.specs.Followed.{AllNoted, Followed, IsFirstUnnoted}
-use Rattle.b3_forest.proofs.Following.{told_none, told_some}
+use Rattle.b3_forest.proofs.Following.{told_all, told_missing}
 use Rattle.b3_forest.proofs.follow.Follow.first_missing.Goals as goal
 
-pub returns-clause-some : goal.returns-clause-some
-returns-clause-some c =
+pub returns-then-missing-len-clause-some : goal.returns-then-missing-len-clause-some
+returns-then-missing-len-clause-some c =
     let w = c.self.invariant in
-    subst (λ (f : Followed). IfSome c.first_missing.result (IsFirstUnnoted f)) c.self.view_is
-    (told_some c.self.inside.bytes.now w.parts c.self.inside.subtrees.entries c.first_missing.result w.keeps (c.first_missing.ensures w.parts w.keeps))
+    let gap = c.least_missing-missing.ensures.least w.parts w.keeps in
+    subst (λ (f : Followed). IsFirstUnnoted f c.least_missing-missing.result) c.self.view_is
+    (told_missing c.self.inside.bytes.now w.parts c.self.inside.subtrees.entries c.least_missing-missing.result c.upload_laws.ensures.missing w.keeps gap c.if-missing-len.true)
 
-pub returns-clause-none : goal.returns-clause-none
-returns-clause-none c =
+pub returns-else-missing-len-clause-none : goal.returns-else-missing-len-clause-none
+returns-else-missing-len-clause-none c =
     let w = c.self.invariant in
-    subst (λ (f : Followed). IfNone c.first_missing.result (AllNoted f)) c.self.view_is
-    (told_none c.self.inside.bytes.now w.parts c.self.inside.subtrees.entries c.first_missing.result w.keeps (c.first_missing.ensures w.parts w.keeps))
+    let gap = c.least_missing-missing.ensures.least w.parts w.keeps in
+    subst (λ (f : Followed). AllNoted f) c.self.view_is
+    (told_all c.self.inside.bytes.now w.parts c.self.inside.subtrees.entries c.upload_laws.ensures.missing w.keeps (omega (arith, gap, c.if-missing-len.false)))

@@ -1,7 +1,8 @@
-use Rattle.std.proofs.Common.{◌≡◌, length, refl, sym, subst, ◌∙◌}
-use Rattle.b3_forest.specs.Followed.{Followed, IsFirstNoted, IsNotedWith, MayNote, NothingNoted, bytes_at, followed, noting_merges}
+use Rattle.std.proofs.Common.{◌≡◌, length, refl, sym, subst, ap, ap₂, ◌∙◌, ℕ}
 use Rattle.std.specs.Prelude.{◌≢◌}
 use Rattle.store_upload.specs.Uploads.{closed_plan}
+use Rattle.store_upload.specs.Uploads as upload
+use Rattle.b3_forest.specs.Followed.{Followed, IsFirstNoted, IsNotedWith, MayNote, NothingNoted, bytes_at, followed, noting_merges}
 use Rattle.b3_forest.specs.Uploads.{with_part}
 use Rattle.b3_forest.proofs.Following.{merges_noted, noted_with, parts_with, room_of, told_apart, told_overlap}
 use Rattle.b3_forest.proofs.follow.Follow.note.Goals as goal
@@ -13,9 +14,9 @@ returns-in-Some-clause-fault c =
     let es = c.self.inside.subtrees.entries in
     let p = c.args.part.now in
     let plan = sym c.plan.ensures ∙ c.if-not-is_of.ensures.yes refl in
-    let fits = c.overlap.ensures.fits in
+    let told = c.in-Some.ensures (length b) w.parts w.keeps ∙ ap₂ (λ (i n : ℕ). upload.overlap_at length i n w.parts) c.offset.ensures (ap length c.fitting.ensures.bytes) in
     subst (λ (f : Followed). (p.plan ≡ closed_plan (length f.bytes)) × IsFirstNoted f p.part c.in-Some.at) c.self.view_is
-    (plan, told_overlap b w.parts es p.part c.in-Some.at w.keeps fits.some (sym (c.in-Some.ensures.at (length b) w.parts w.keeps)))
+    (plan, told_overlap b w.parts es p.part c.in-Some.at c.upload_laws.ensures.overlap w.keeps c.fitting.ensures.fits.some (sym told))
 
 pub returns-then-not-has_bytes-clause-fault : goal.returns-then-not-has_bytes-clause-fault
 returns-then-not-has_bytes-clause-fault c =
@@ -24,9 +25,9 @@ returns-then-not-has_bytes-clause-fault c =
     let es = c.self.inside.subtrees.entries in
     let p = c.args.part.now in
     let plan = sym c.plan.ensures ∙ c.if-not-is_of.ensures.yes refl in
-    let fits = c.overlap.ensures.fits in
+    let told = c.in_default.ensures (length b) w.parts w.keeps ∙ ap₂ (λ (i n : ℕ). upload.overlap_at length i n w.parts) c.offset.ensures (ap length c.fitting.ensures.bytes) in
     subst (λ (f : Followed). (p.plan ≡ closed_plan (length f.bytes)) × NothingNoted f p.part × (p.part.bytes ≢ bytes_at f.bytes p.part)) c.self.view_is
-    (plan, told_apart b w.parts es p.part w.keeps fits.some (sym (c.in_default.ensures.at (length b) w.parts w.keeps)), c.if-not-has_bytes.ensures.no refl)
+    (plan, told_apart b w.parts es p.part c.upload_laws.ensures.overlap w.keeps c.fitting.ensures.fits.some (sym told), c.if-not-has_bytes.ensures.no refl)
 
 pub returns-in_default-add-clause-fault : goal.returns-in_default-add-clause-fault
 returns-in_default-add-clause-fault c =
@@ -35,9 +36,17 @@ returns-in_default-add-clause-fault c =
     let es = c.self.inside.subtrees.entries in
     let p = c.args.part.now in
     let plan = sym c.plan.ensures ∙ c.if-not-is_of.ensures.yes refl in
-    let fits = c.overlap.ensures.fits in
+    let told = c.in_default.ensures (length b) w.parts w.keeps ∙ ap₂ (λ (i n : ℕ). upload.overlap_at length i n w.parts) c.offset.ensures (ap length c.fitting.ensures.bytes) in
     subst (λ (f : Followed). MayNote f p) c.self.view_is
-    (record { plan = plan; apart = told_apart b w.parts es p.part w.keeps fits.some (sym (c.in_default.ensures.at (length b) w.parts w.keeps)); same = c.if-not-has_bytes.ensures.yes refl })
+    (record { plan = plan; apart = told_apart b w.parts es p.part c.upload_laws.ensures.overlap w.keeps c.fitting.ensures.fits.some (sym told); same = c.if-not-has_bytes.ensures.yes refl })
+
+pub add-requires : goal.add-requires
+add-requires c =
+    let w = c.self.invariant in
+    let b = c.self.inside.bytes.now in
+    let plan = sym c.plan.ensures ∙ c.if-not-is_of.ensures.yes refl in
+    let told = c.in_default.ensures (length b) w.parts w.keeps ∙ ap₂ (λ (i n : ℕ). upload.overlap_at length i n w.parts) c.offset.ensures (ap length c.fitting.ensures.bytes) in
+    (length b, w.parts, room_of b c.self.inside.subtrees.entries w c.args.part.now plan c.fitting.ensures.fits told)
 
 pub invariant_of-self-2 : goal.invariant_of-self-2
 invariant_of-self-2 c =
@@ -46,8 +55,9 @@ invariant_of-self-2 c =
     let es = c.self.inside.subtrees.entries in
     let p = c.args.part.now in
     let plan = sym c.plan.ensures ∙ c.if-not-is_of.ensures.yes refl in
-    let room = room_of b es w p plan c.overlap.ensures.fits (c.in_default.ensures.at (length b) w.parts w.keeps) in
-    record { parts = with_part p.part w.parts; keeps = c.in-Ok.ensures.kept (length b) w.parts room; same = parts_with b p.part w.parts (c.if-not-has_bytes.ensures.yes refl) w.same }
+    let told = c.in_default.ensures (length b) w.parts w.keeps ∙ ap₂ (λ (i n : ℕ). upload.overlap_at length i n w.parts) c.offset.ensures (ap length c.fitting.ensures.bytes) in
+    let room = room_of b es w p plan c.fitting.ensures.fits told in
+    record { parts = with_part p.part w.parts; keeps = c.in-Ok.ensures.kept (length b) w.parts room; same = parts_with b es p.part w.parts room (c.if-not-has_bytes.ensures.yes refl) w.same }
 
 pub returns-clause-noted : goal.returns-clause-noted
 returns-clause-noted c =
@@ -56,9 +66,10 @@ returns-clause-noted c =
     let es = c.self.inside.subtrees.entries in
     let p = c.args.part.now in
     let plan = sym c.plan.ensures ∙ c.if-not-is_of.ensures.yes refl in
-    let room = room_of b es w p plan c.overlap.ensures.fits (c.in_default.ensures.at (length b) w.parts w.keeps) in
+    let told = c.in_default.ensures (length b) w.parts w.keeps ∙ ap₂ (λ (i n : ℕ). upload.overlap_at length i n w.parts) c.offset.ensures (ap length c.fitting.ensures.bytes) in
+    let room = room_of b es w p plan c.fitting.ensures.fits told in
     let kept = c.in-Ok.ensures.kept (length b) w.parts room in
-    subst (λ (f : Followed). IsNotedWith f (followed b c.add.new.subtrees.entries) p.part) c.self.view_is (noted_with b w.parts es c.add.new.subtrees.entries p.part w.keeps kept)
+    subst (λ (f : Followed). IsNotedWith f (followed b c.add.new.subtrees.entries) p.part) c.self.view_is (noted_with b w.parts es c.add.new.subtrees.entries p.part room kept)
 
 pub returns-clause-allowed : goal.returns-clause-allowed
 returns-clause-allowed c =
@@ -67,9 +78,9 @@ returns-clause-allowed c =
     let es = c.self.inside.subtrees.entries in
     let p = c.args.part.now in
     let plan = sym c.plan.ensures ∙ c.if-not-is_of.ensures.yes refl in
-    let fits = c.overlap.ensures.fits in
+    let told = c.in_default.ensures (length b) w.parts w.keeps ∙ ap₂ (λ (i n : ℕ). upload.overlap_at length i n w.parts) c.offset.ensures (ap length c.fitting.ensures.bytes) in
     subst (λ (f : Followed). MayNote f p) c.self.view_is
-    (record { plan = plan; apart = told_apart b w.parts es p.part w.keeps fits.some (sym (c.in_default.ensures.at (length b) w.parts w.keeps)); same = c.if-not-has_bytes.ensures.yes refl })
+    (record { plan = plan; apart = told_apart b w.parts es p.part c.upload_laws.ensures.overlap w.keeps c.fitting.ensures.fits.some (sym told); same = c.if-not-has_bytes.ensures.yes refl })
 
 pub returns-clause-merges : goal.returns-clause-merges
 returns-clause-merges c =
@@ -78,8 +89,9 @@ returns-clause-merges c =
     let es = c.self.inside.subtrees.entries in
     let p = c.args.part.now in
     let plan = sym c.plan.ensures ∙ c.if-not-is_of.ensures.yes refl in
-    let room = room_of b es w p plan c.overlap.ensures.fits (c.in_default.ensures.at (length b) w.parts w.keeps) in
+    let told = c.in_default.ensures (length b) w.parts w.keeps ∙ ap₂ (λ (i n : ℕ). upload.overlap_at length i n w.parts) c.offset.ensures (ap length c.fitting.ensures.bytes) in
+    let room = room_of b es w p plan c.fitting.ensures.fits told in
     let kept = c.in-Ok.ensures.kept (length b) w.parts room in
-    let told : c.in-Ok.merges ≡ noting_merges (followed b es) (followed b c.add.new.subtrees.entries) p.part =
+    let merges : c.in-Ok.merges ≡ noting_merges (followed b es) (followed b c.add.new.subtrees.entries) p.part =
     c.in-Ok.ensures.merges (length b) w.parts room ∙ merges_noted b w.parts es c.add.new.subtrees.entries p.part w.keeps kept in
-    subst (λ (f : Followed). c.in-Ok.merges ≡ noting_merges f (followed b c.add.new.subtrees.entries) p.part) c.self.view_is told
+    subst (λ (f : Followed). c.in-Ok.merges ≡ noting_merges f (followed b c.add.new.subtrees.entries) p.part) c.self.view_is merges
