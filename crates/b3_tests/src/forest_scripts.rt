@@ -206,9 +206,10 @@ impl Upload {
 
     fn segments(&mut self) -> Result<String, AllocError> {
         let mut text = String::new(self.alloc);
-        for segment in self.forest.segments() {
-            let (offset, size) = (segment.offset, segment.bytes.len() as u64);
-            let is_wanted = is_pattern(segment.bytes.as_slice(), offset, size);
+        for (offset, shared) in self.forest.segments() {
+            let bytes = shared.as_slice();
+            let size = bytes.len() as u64;
+            let is_wanted = is_pattern(bytes, *offset, size);
             text.push_str(format!(in self.alloc; "[{offset} {size} {is_wanted}]")?.as_str())?;
         }
         Ok(text)

@@ -92,7 +92,7 @@ fn time_until<R: Clock + AllocGlobal>(
 ) -> io::Result<u128> {
     let plan = forest.plan();
     let from = held.saturating_sub(TIMED);
-    for i in forest.parts() as u64..from {
+    for i in forest.parts()..from {
         let part = chunk(rt.alloc(), &plan, jumping(i), work)?;
         if forest.add(part, work).is_err() {
             return Err(failed());

@@ -5,9 +5,9 @@ use Rattle.b3_core.specs.Compression.{mix, columns, diagonals, message, rounds, 
 use Rattle.b3_core.specs.ExtendedOutput.{output_byte}
 use Rattle.b3_core.specs.Modes.{digest_of}
 use Rattle.b3_core.specs.Tree.{chain, chunk_top, parent_top, power_below, left_length, tree_top_within, tree_top}
-use Rattle.b3_forest.specs.Parts.{Part, planned}
-use Rattle.store_upload.specs.Uploads.{closed_plan, open_plan}
-use Rattle.b3_forest.specs.Uploads.{content_of, first_gap, last_end, overlap_at, with_part}
+use Rattle.b3_forest.specs.Parts.{HeldPart, planned}
+use Rattle.store_upload.specs.Uploads.{closed_plan, first_gap, last_end, open_plan, overlap_at}
+use Rattle.b3_forest.specs.Uploads.{content_of}
 use Rattle.store_core.specs.declared.store.Held.{Held}
 use Rattle.store_journal.specs.declared.replayed.Totals.{Totals}
 use Rattle.store_core.specs.declared.store.Usage.{Usage}
@@ -18,7 +18,7 @@ use Rattle.store_core.specs.Model.{AreJoined, ModelStore, totals_of}
 use Rattle.store_journal.specs.Replay.{with_holder, without_holder}
 
 unfoldable on_literals : ⊤
-unfolding content_of first_gap last_end overlap_at with_part with_holder without_holder
+unfolding content_of first_gap last_end overlap_at with_holder without_holder
 on_literals = tt
 
 unfoldable on_hashes : ⊤
@@ -285,8 +285,8 @@ no_tenant = refl
 
 -- ---- parts in a row
 
-abbrev part : ℕ → List ℕ → Part
-part offset xs = record { offset = offset; bytes = xs }
+abbrev part : ℕ → List ℕ → HeldPart
+part offset xs = (offset, xs)
 
 in_a_row : AreJoined 0 (part 0 (7 ∷ 8 ∷ []) ∷ part 2 (9 ∷ []) ∷ [])
 in_a_row = (refl, omega arith, (refl, omega arith, tt))

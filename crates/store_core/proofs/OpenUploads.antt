@@ -9,7 +9,7 @@ use Rattle.std.specs.declared.cmp.Ordering.TheVariants.{Less, Equal, Greater}
 use Rattle.std.proofs.lemmas.Bool.{le-ltb, ltb-true, ne_eqb}
 use Rattle.std.proofs.lemmas.Map.Made.{lookup-map_values}
 use Rattle.std.proofs.lemmas.Map.Steps.{set_value_same}
-use Rattle.b3_forest.specs.Uploads.{Upload}
+use Rattle.store_upload.specs.Uploads.{Upload}
 use Rattle.store_core.specs.declared.open_upload.OpenUpload.{OpenUpload}
 use Rattle.store_core.specs.Lawful.{model_upload, model_uploads}
 use Rattle.store_core.specs.Model.{ModelUpload}
@@ -73,5 +73,5 @@ written_here u es o w x found is same =
 -- the same upload in its place
 pub unchanged_here : (u : ℕ) (es : List (ℕ × OpenUpload)) (o w : OpenUpload) → lookup (is_at (nat_cmp u)) es ≡ Some o → w.tenant ≡ o.tenant → w.forest ≡ o.forest → set_value (is_at (nat_cmp u)) es w ≡ es
 unchanged_here u es o w found tenant forest =
-    let same : w ≡ o = ap₂ (λ (t : ℕ) (f : Upload). record { tenant = t; forest = f }) tenant forest in
+    let same : w ≡ o = ap₂ (λ (t : ℕ) (f : Upload (List ℕ)). record { tenant = t; forest = f }) tenant forest in
     ap (set_value (is_at (nat_cmp u)) es) same ∙ set_value_same (is_at (nat_cmp u)) es o found

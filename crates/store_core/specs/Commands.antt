@@ -5,8 +5,8 @@ use Rattle.std.specs.Option.{option_map_or}
 use Rattle.std.specs.Str.{bytes_eq}
 use Rattle.b3_core.specs.Modes.{hash_of}
 use Rattle.b3_forest.specs.Parts.{PlannedPart}
-use Rattle.store_upload.specs.Uploads.{UploadPlan, closed_plan, most_bytes, open_plan, same_plan}
-use Rattle.b3_forest.specs.Uploads.{Upload, ends_elsewhere, first_missing, fixed_at, held_bytes, length_of, new_upload, overlap_at, past_last, pieces_held, put_work, reached, with_more}
+use Rattle.store_upload.specs.Uploads.{Upload, UploadPlan, closed_plan, ends_elsewhere, first_missing, fixed_at, held_bytes, length_of, most_bytes, new_upload, open_plan, reached, same_plan}
+use Rattle.b3_forest.specs.Uploads.{overlap_at, past_last, pieces_held, put_work, with_more}
 use Rattle.store_journal.specs.declared.entry.Entry.{Entry}
 use Rattle.store_journal.specs.declared.entry.Entry.TheVariants as entry
 use Rattle.store_core.specs.declared.store.Held.{Held}
@@ -155,8 +155,8 @@ abbrev pub begin_open_in : ModelStore → ℕ → ℕ → Result (Acceptance (�
 begin_open_in s tenant at_most = begin_plan_in s tenant (open_plan at_most)
 
 -- how many bytes are held, and the least offset that is not held
-abbrev pub held_of : Upload → Held
-held_of upload = record { held = held_bytes upload.parts; missing = first_missing upload }
+abbrev pub held_of : Upload (List ℕ) → Held
+held_of upload = record { held = held_bytes length upload.parts; missing = first_missing length upload }
 
 abbrev pub was_put : ModelStore → ℕ → PlannedPart → ModelUpload → Acceptance Held
 was_put s number part u = record {
@@ -194,7 +194,7 @@ was_fixed s number len u = record {
 abbrev pub fixable_in : ModelStore → ℕ → ℕ → Result ModelUpload Refusal
 fixable_in s number len = on_upload s number (λ u.
     refuse_if (nat_lt u.upload.plan.bound len) TooLong
-    (refuse_if (ends_elsewhere u.upload len) (PastLast (reached u.upload))
+    (refuse_if (ends_elsewhere length u.upload len) (PastLast (reached length u.upload))
     (Ok u)))
 
 abbrev pub fix_in : ModelStore → ℕ → ℕ → Result (Acceptance (Unit {0})) Refusal
@@ -204,14 +204,14 @@ abbrev pub without_upload : ModelStore → ℕ → List (ℕ × ModelUpload)
 without_upload s number = remove_entry (is_number number) s.uploads
 
 -- the upload goes, and what it held is handed back
-abbrev pub aborted : ModelStore → ℕ → ModelUpload → Acceptance Upload
+abbrev pub aborted : ModelStore → ℕ → ModelUpload → Acceptance (Upload (List ℕ))
 aborted s number u = record {
   reply = u.upload;
   state = record s { uploads = without_upload s number; accepted = s.accepted + 1 };
   entry = entry.Abort number;
 }
 
-abbrev pub abort_in : ModelStore → ℕ → Result (Acceptance Upload) Refusal
+abbrev pub abort_in : ModelStore → ℕ → Result (Acceptance (Upload (List ℕ))) Refusal
 abort_in s number = on_upload s number (λ u. refuse_if (is_full s) JournalFull (Ok (aborted s number u)))
 
 -- ---- objects
@@ -231,7 +231,7 @@ pub record ModelSealed : Type 0 where
 abbrev pub ready_in : ModelStore → ℕ → Result ModelUpload Refusal
 ready_in s number = on_upload s number (λ u.
     refuse_if (not (is_some u.upload.end)) NotFixed
-    (refuse_at Incomplete (first_missing u.upload)
+    (refuse_at Incomplete (first_missing length u.upload)
     (Ok u)))
 
 -- the content is filed last, and the upload goes
@@ -317,7 +317,7 @@ list_in s tenant = refuse_if (is_absent s tenant) NoTenant (Ok (listed tenant s.
 
 -- of a part that is put: two for each merge in its upload
 abbrev pub put_work_in : ModelStore → ℕ → PlannedPart → ℕ
-put_work_in s number part = option_map_or (λ u. put_work u.upload part.part) (upload_at s number) 0
+put_work_in s number part = option_map_or (λ u. put_work u.upload.parts part.part) (upload_at s number) 0
 
 -- of a seal of m pieces: one for the root, and two for each piece after the first
 abbrev pub seal_work : ℕ → ℕ
@@ -325,7 +325,7 @@ seal_work m = if m == 0 then 1 else 2 * (m - 1) + 1
 
 -- of a seal: none where the upload isn't open and complete
 abbrev pub seal_work_of : Result ModelUpload Refusal → ℕ
-seal_work_of (Ok u) = seal_work (pieces_held u.upload)
+seal_work_of (Ok u) = seal_work (pieces_held u.upload.parts)
 seal_work_of (Err refusal) = 0
 
 abbrev pub seal_work_in : ModelStore → ℕ → ℕ

@@ -4,8 +4,7 @@ use Rattle.std.specs.Arc.{arc_value}
 use Rattle.std.specs.List.{slice_index_or}
 use Rattle.std.specs.Map.{remove_entry}
 use Rattle.b3_core.specs.Modes.{hash_of}
-use Rattle.store_upload.specs.Uploads.{most_bytes}
-use Rattle.b3_forest.specs.Uploads.{held_bytes, length_of}
+use Rattle.store_upload.specs.Uploads.{held_bytes, length_of, most_bytes}
 use Rattle.store_core.specs.declared.open_upload.Closing.{Closing}
 use Rattle.store_core.specs.declared.contents.Contents.{Contents}
 use Rattle.store_journal.specs.declared.entry.Entry.{Entry}
@@ -91,7 +90,7 @@ pub record IsClosing (s : ModelStore) (number : ℕ) (c : Closing) : Type 0 wher
   pub found : upload_at s number ≡ Some upload
   pub tenant : c.tenant ≡ upload.tenant
   pub len : c.len ≡ length_of upload.upload
-  pub held : c.held ≡ held_bytes upload.upload.parts
+  pub held : c.held ≡ held_bytes length upload.upload.parts
   pub parts : c.parts ≡ length upload.upload.parts
   -- its tenant is there, and its sums are parts of the store's
   pub there : c.tenant < length s.limits

@@ -4,8 +4,9 @@ use Rattle.std.specs.List.{list_any, slice_index_or}
 use Rattle.std.specs.Map.{lookup, values_of}
 use Rattle.std.specs.Str.{bytes_eq}
 use Rattle.b3_core.specs.Modes.{hash_of}
-use Rattle.b3_forest.specs.Parts.{Part, end_of}
-use Rattle.b3_forest.specs.Uploads.{Upload, content_of, held_bytes, length_of}
+use Rattle.b3_forest.specs.Parts.{HeldPart}
+use Rattle.store_upload.specs.Uploads.{Upload, end_of, held_bytes, length_of}
+use Rattle.b3_forest.specs.Uploads.{content_of}
 use Rattle.store_journal.specs.declared.entry.Entry.{Entry}
 use Rattle.store_journal.specs.declared.replayed.Totals.{Totals}
 use Rattle.store_journal.specs.Replay.{is_number}
@@ -13,7 +14,7 @@ use Rattle.store_journal.specs.Replay.{is_number}
 -- an open upload: its tenant, and its plan, its end and its parts
 pub record ModelUpload : Type 0 where
   pub tenant : ℕ
-  pub upload : Upload
+  pub upload : Upload (List ℕ)
 
 -- an object, and the tenants that hold it, by number
 pub record ModelObject : Type 0 where
@@ -57,9 +58,9 @@ abbrev pub content : ModelUpload → List ℕ
 content u = content_of u.upload.parts
 
 -- parts with bytes of which the first begins at offset a, and each other where the one before it ends
-abbrev pub AreJoined : ℕ → List Part → Type 0
+abbrev pub AreJoined : ℕ → List HeldPart → Type 0
 AreJoined a [] = Unit {0}
-AreJoined a (p ∷ ps) = (p.offset ≡ a) × (0 < length p.bytes) × AreJoined (end_of p) ps
+AreJoined a (p ∷ ps) = (p.0 ≡ a) × (0 < length p.1) × AreJoined (end_of length p) ps
 
 -- ---- objects
 
@@ -107,7 +108,7 @@ abbrev pub object_bytes_of : ModelStore → ℕ
 object_bytes_of s = sum_by (λ o. length o.bytes) s.objects
 
 abbrev pub held_bytes_of : ModelStore → ℕ
-held_bytes_of s = sum_by (λ u. held_bytes u.upload.parts) (values_of s.uploads)
+held_bytes_of s = sum_by (λ u. held_bytes length u.upload.parts) (values_of s.uploads)
 
 abbrev pub parts_of : ModelStore → ℕ
 parts_of s = sum_by (λ u. length u.upload.parts) (values_of s.uploads)
