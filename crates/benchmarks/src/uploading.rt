@@ -13,7 +13,9 @@ use std::thread::Threads;
 use std::time::{Duration, Instant};
 use std::{io, thread};
 use store_core::Limits;
-use store_shared::{ALL_PARTS, Draw, Gate, GateStop, PassAll, Shared, lent_open_tenant, upload};
+use store_shared::{
+    ALL_PARTS, Draw, Gate, GateStop, PassAll, Shared, UploadRequest, lent_open_tenant,
+};
 
 // The tenant's limit, in bytes.
 const LIMIT: u64 = 1 << 40;
@@ -65,18 +67,15 @@ fn time_one<B: Ledger, C: Ledger, G: Gate + Sync, T: Threads + Wait + Sync + Run
     let Ok(tenant) = lent_open_tenant(&mut *shared.lock(threads), LIMIT) else {
         return Err(io::Error::from(ErrorKind::Other));
     };
-    let start = Instant::now(rt)?;
-    let (_share, sealed) = upload(
-        threads,
-        alloc,
-        &shared,
-        share,
-        gate,
+    let request = UploadRequest {
         tenant,
-        &input.as_slice()[..most],
-        load.part_chunks as u64,
-        load.workers as u64,
-    );
+        bytes: &input.as_slice()[..most],
+        part_chunks: load.part_chunks as u64,
+        workers: load.workers as u64,
+        gate,
+    };
+    let start = Instant::now(rt)?;
+    let (_share, sealed) = request.upload(threads, alloc, &shared, share);
     let time = start.elapsed(rt)?;
     match sealed {
         Ok(sealed) => report(rt, &sealed.address.bytes(), time.as_micros()),
@@ -84,7 +83,7 @@ fn time_one<B: Ledger, C: Ledger, G: Gate + Sync, T: Threads + Wait + Sync + Run
     }
 }
 
-/// Times the call `upload` alone.
+/// Times the upload alone.
 pub fn time_upload<T: Threads + Wait + Sync + Runtime>(
     rt: &(impl Print + Eprint + Clock + AllocGlobal),
     threads: &T,

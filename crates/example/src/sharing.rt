@@ -13,7 +13,7 @@ use std::sync::ledger::{Blank, Ledger};
 use std::thread::Threads;
 use store_core::{Address, Limits};
 use store_ledger::{ALL_PARTS, Accepted};
-use store_shared::{PassAll, Shared, lent_open_tenant, upload};
+use store_shared::{PassAll, Shared, UploadRequest, lent_open_tenant};
 
 // How many chunks of 1024 bytes a part has, and how many threads hash parts.
 const PART_CHUNKS: u64 = 1;
@@ -46,17 +46,14 @@ fn back_up_counted<B: Ledger, C: Ledger, T: Threads + Wait + Sync + Runtime>(
 {
     let (shared, share) = Shared::<B, C>::new(alloc, Limits::full(), of_bytes, of_calls);
     let tenant = lent_open_tenant(&mut *shared.lock(threads), 1 << 40)?;
-    let (share, uploaded) = upload(
-        threads,
-        alloc,
-        &shared,
-        share,
-        &PassAll,
+    let request = UploadRequest {
         tenant,
         bytes,
-        PART_CHUNKS,
-        WORKERS,
-    );
+        part_chunks: PART_CHUNKS,
+        workers: WORKERS,
+        gate: &PassAll,
+    };
+    let (share, uploaded) = request.upload(threads, alloc, &shared, share);
     let sealed = uploaded?;
     let mut share = share;
     let accepted = shared.close().settle(&mut share)?;

@@ -20,7 +20,7 @@ use store_command_line::UploadOptions;
 use store_core::{Address, Entry, Limits, Refusal};
 use store_ledger::Share;
 use store_script::{Cause, Verdict, write_all};
-use store_shared::{Locked, PassAll, Shared, UploadFaultKind, lent_open_tenant};
+use store_shared::{Locked, PassAll, Shared, UploadFaultKind, UploadRequest, lent_open_tenant};
 
 // The tenant's limit, in bytes.
 const LIMIT: u64 = 1 << 40;
@@ -132,17 +132,14 @@ pub fn upload<B: Ledger, C: Ledger, T: Threads + Wait + Sync + Runtime, R: Read,
         Ok(tenant) => tenant,
         Err(refusal) => return refuse(alloc, UploadFaultKind::Refused(refusal), writer),
     };
-    let (share, uploaded) = store_shared::upload(
-        rt,
-        alloc,
-        &shared,
-        share,
-        &PassAll,
+    let request = UploadRequest {
         tenant,
-        input.as_slice(),
-        options.part_chunks as u64,
-        options.workers as u64,
-    );
+        bytes: input.as_slice(),
+        part_chunks: options.part_chunks as u64,
+        workers: options.workers as u64,
+        gate: &PassAll,
+    };
+    let (share, uploaded) = request.upload(rt, alloc, &shared, share);
     match uploaded {
         Ok(sealed) => {
             let text = uploaded_text(

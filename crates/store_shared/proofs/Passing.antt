@@ -1,6 +1,6 @@
 -- Numbers that were drawn and have passed, and what workers report of them.
-use Rattle.std.proofs.Common.{◌≡◌, ℕ, zero, suc, ◌<◌, List, [], ◌∷◌, ◌++◌, Option, Some, None, Result, Ok, Err, All, map, sum_by, length, subst, sym, refl, ap, inl, inr, arith, ◌∙◌}
-use Rattle.std.specs.Prelude.{IfSome, IfNone, OnOk}
+use Rattle.std.proofs.Common.{◌≡◌, ℕ, zero, suc, ◌<◌, List, [], ◌∷◌, ◌++◌, Option, Some, None, All, map, sum_by, subst, sym, refl, ap, inl, inr, arith, ◌∙◌}
+use Rattle.std.specs.Prelude.{IfSome, IfNone}
 use Rattle.std.specs.Option.{option_or}
 use Rattle.std.proofs.lemmas.Bool.{cases_eq, cases_lt}
 use Rattle.std.proofs.lemmas.List.Sums.{sum_by-cons}
@@ -9,15 +9,12 @@ use Rattle.store_board.specs.Drawn.{times}
 use Rattle.store_board.specs.Seats.{IsNewSeat, IsSeatOf, numbers_of}
 use Rattle.store_board.specs.declared.board.seat.BoardSeat.{BoardSeat}
 use Rattle.store_board.specs.declared.board.view.SeatView.{SeatView}
-use Rattle.store_shared.specs.Cuts.{cut_of}
 use Rattle.store_shared.specs.Gates.{IsFaultOf}
-use Rattle.store_shared.specs.Uploading.{Cutting, count_of}
 use Rattle.store_shared.specs.Workers.{AllPassed, IsReportOf, fault_of_first}
 use Rattle.store_shared.specs.declared.fault.UploadFaultKind.{UploadFaultKind}
 use Rattle.store_shared.specs.declared.job.Exchange.{Exchange}
 use Rattle.store_shared.specs.declared.worker.Report.{Report}
 use Rattle.store_shared.proofs.Numbers.{times_cons, hit_other}
-use Rattle.store_shared.proofs.Noting.{count_is}
 
 passed_in : (P : ℕ → Type 0) (k : ℕ) (xs : List ℕ) → 0 < times k xs → All P xs → P k
 passed_in P k [] some all = absurd (omega (arith, some))
@@ -37,10 +34,6 @@ passed_by P k (s ∷ ss) some all = elim (cases_lt 0 (times k (numbers_of s))) [
 -- a new seat has drawn nothing
 pub passed_none : (P : ℕ → Type 0) (s : BoardSeat) → IsNewSeat s → AllPassed P s
 passed_none P s new = let none : numbers_of s ≡ [] = ap (λ (v : SeatView). v.drawn) new in subst (λ xs. All P xs) (sym none) (λ k d inside. absurd (omega (arith, inside)))
-
-pub uploaded_passed : {A B : Type 0} (P : ℕ → Type 0) (c : Cutting) (r : Result A B) → OnOk r ((k : ℕ) → k < count_of c → P k) → OnOk r ((k : ℕ) → k < length (cut_of c.bytes c.part_chunks) → P k)
-uploaded_passed P c (Ok a) is = λ k below. is k (omega (arith, below, count_is c))
-uploaded_passed P c (Err e) is = tt
 
 -- ---- reports
 

@@ -29,10 +29,11 @@ use store_ledger::Share;
 // The most parts that are put at one taking of the lock.
 const MOST_IN_HAND: usize = 16;
 
-// What was noted of the upload's bytes, the share that rises by what is put, the collector's own fault, and the
-// compressions that it makes.
+// The store and its upload, the share that rises by what is put, what was noted of the upload's bytes, the collector's
+// own fault, and the compressions that it makes.
 #[derive(Drop)]
 pub(crate) struct Collector<'a, B: Ledger, C: Ledger> {
+    pub(crate) shared: &'a Shared<B, C>,
     pub(crate) upload: UploadId,
     pub(crate) share: Share<B, C>,
     pub(crate) follow: Follow<'a>,
@@ -134,7 +135,6 @@ impl<'a, B: Ledger, C: Ledger> Collector<'a, B, C> {
         &mut self,
         rt: &R,
         cut: &Cut<'_>,
-        shared: &Shared<B, C>,
         parts: Vec<Prepared>,
     ) -> Result<(), UploadFaultKind>
         requires { self.old.follow.bytes ≡ cut.now.bytes }
@@ -148,7 +148,7 @@ impl<'a, B: Ledger, C: Ledger> Collector<'a, B, C> {
             return Err(kind);
         }
         let (share, work) = (&mut self.share, &mut self.work);
-        if let Err(refused) = put_all(rt, shared, self.upload, parts, share, work) {
+        if let Err(refused) = put_all(rt, self.shared, self.upload, parts, share, work) {
             return Err(UploadFaultKind::Refused(refused.refusal));
         }
         Ok(())
@@ -160,7 +160,6 @@ impl<'a, B: Ledger, C: Ledger> Collector<'a, B, C> {
         rt: &R,
         alloc: Global,
         job: &Job<'_, G>,
-        shared: &Shared<B, C>,
         pass: &mut TakePass,
     ) -> bool
         requires taker { IsTakerOf job.now.exchange.hand_over pass.old }
@@ -184,7 +183,7 @@ impl<'a, B: Ledger, C: Ledger> Collector<'a, B, C> {
         if parts.is_empty() {
             return false;
         }
-        if let Err(kind) = self.note_and_put(rt, &job.cut, shared, parts) {
+        if let Err(kind) = self.note_and_put(rt, &job.cut, parts) {
             self.fault = Some(kind);
         }
         true
@@ -196,7 +195,6 @@ impl<'a, B: Ledger, C: Ledger> Collector<'a, B, C> {
         rt: &R,
         alloc: Global,
         job: &Job<'_, G>,
-        shared: &Shared<B, C>,
         started: u64,
         pass: TakePass,
     )
@@ -214,7 +212,7 @@ impl<'a, B: Ledger, C: Ledger> Collector<'a, B, C> {
                 job.exchange.progress.give_up();
             }
             let all_ended = job.exchange.progress.ended() >= started;
-            if self.collect_some(rt, alloc, job, shared, &mut pass) {
+            if self.collect_some(rt, alloc, job, &mut pass) {
                 backoff = Backoff::new();
             } else {
                 if all_ended {
@@ -238,6 +236,7 @@ impl<'a, B: Ledger, C: Ledger> Collector<'a, B, C> {
         ensures fault { IfErr result.1 (λ kind. (self.entry.fault ≡ Some kind) ⊎ (workers_fault ≡ Some kind) ⊎ (kind ≡ StrangePart)) }
     {
         let Collector {
+            shared: _,
             upload: _,
             share,
             follow,

@@ -1,13 +1,14 @@
 //! The threads of an upload.
 
-ghost use Rattle.std.specs.Prelude.{◌≡◌, ◌+◌, ◌<◌, ◌≤◌, ◌^◌, [], All, IfOk, IfSome, length, map, vec_capacity, vec_len};
+ghost use Rattle.std.specs.Prelude.{◌≡◌, ◌+◌, ◌<◌, ◌≤◌, ◌^◌, [], All, IfOk, IfSome, Some, length, map, vec_capacity, vec_len};
 ghost use Rattle.store_upload.specs.Uploads.{most_bytes};
 ghost use Rattle.store_board.specs.Passes.{IsGiverOf, IsTakerOf};
 ghost use Rattle.store_board.specs.Seats.{IsNewSeat, IsSeatOf, parts_of};
 ghost use Rattle.store_shared.specs.Cuts.{part_count};
 ghost use Rattle.store_shared.specs.Gates.{IsFaultOf, IsOwnFault};
 ghost use Rattle.store_shared.specs.Uploading.{count_of};
-ghost use Rattle.store_shared.specs.Workers.{AreWorkersOf, IsReportOf, IsWorkerOf, fault_of_first};
+ghost use Rattle.store_shared.specs.Workers.{AreWorkersOf, IsReportOf, IsThreadOf, IsWorkerOf, fault_of_first};
+ghost use Rattle.store_shared.specs.declared.fault.UploadFaultKind.TheVariants.{NoMemory};
 
 use crate::fault::UploadFaultKind;
 use crate::gate::Gate;
@@ -18,6 +19,13 @@ use std::alloc::{AllocError, Global};
 use std::sync::Wait;
 use std::thread::{PromisedHandle, Scope, Threads};
 use store_board::{BoardSeat, GivePass};
+
+// The threads that were started, room for what they report, and why not all were started.
+pub(crate) struct Crew<'s, G: Gate> {
+    pub(crate) handles: Vec<PromisedHandle<Report, ReportOf<'s, G>>>,
+    pub(crate) reports: Vec<Report>,
+    pub(crate) unstarted: Option<UploadFaultKind>,
+}
 
 /// A worker for each seat and pass, the first of them last.
 pub(crate) fn workers_of<G: Gate, R: Runtime>(
@@ -55,15 +63,11 @@ pub(crate) fn start_all<'s, E, G: Gate + Sync, R: Wait + Sync>(
     alloc: Global,
     job: &'s Job<'s, G>,
     workers: Vec<Worker>,
-) -> (
-    Vec<PromisedHandle<Report, ReportOf<'s, G>>>,
-    Vec<Report>,
-    Option<UploadFaultKind>,
-)
+) -> Crew<'s, G>
     requires { AreWorkersOf job.now.exchange workers.items }
-    ensures handles { All (λ h. (h.promise.bytes.now ≡ job.now.cut.bytes) × (h.promise.part_chunks ≡ job.now.cut.part_chunks) × (h.promise.gate.now ≡ job.now.gate.now) × (h.promise.exchange.now ≡ job.now.exchange)) result.0.items }
-    ensures room { (result.1.items ≡ []) × (vec_len result.1 + vec_len result.0 ≤ vec_capacity result.1) }
-    ensures fault { IfSome result.2 IsOwnFault }
+    ensures handles { All (IsThreadOf job.now.cut job.now.gate.now job.now.exchange) result.handles.items }
+    ensures room { (result.reports.items ≡ []) × (vec_len result.reports + vec_len result.handles ≤ vec_capacity result.reports) }
+    ensures fault { IfSome result.unstarted IsOwnFault }
 {
     let bytes = job.cut.bytes();
     let part_chunks = job.cut.part_chunks();
@@ -72,12 +76,12 @@ pub(crate) fn start_all<'s, E, G: Gate + Sync, R: Wait + Sync>(
     let mut handles = Vec::new(alloc);
     let mut reports = Vec::new(alloc);
     if reports.reserve(workers.len()).is_err() {
-        return (handles, reports, Some(UploadFaultKind::NoMemory));
+        return broken_off(handles, reports);
     }
     let mut workers = workers;
     while let Some(worker) = workers.pop() {
         if handles.reserve(1).is_err() {
-            return (handles, reports, Some(UploadFaultKind::NoMemory));
+            return broken_off(handles, reports);
         }
         let started = scope.spawn_with(
             ReportOf {
@@ -93,10 +97,28 @@ pub(crate) fn start_all<'s, E, G: Gate + Sync, R: Wait + Sync>(
         );
         match started {
             Ok(handle) => handles.push_reserved(handle),
-            Err(_) => return (handles, reports, Some(UploadFaultKind::NoMemory)),
+            Err(_) => return broken_off(handles, reports),
         }
     }
-    (handles, reports, None)
+    Crew {
+        handles,
+        reports,
+        unstarted: None,
+    }
+}
+
+// A crew to which memory was refused for a thread more.
+fn broken_off<'s, G: Gate>(
+    handles: Vec<PromisedHandle<Report, ReportOf<'s, G>>>,
+    reports: Vec<Report>,
+) -> Crew<'s, G>
+    ensures { (result.handles ≡ handles.entry) × (result.reports ≡ reports) × (result.unstarted ≡ Some NoMemory) }
+{
+    Crew {
+        handles,
+        reports,
+        unstarted: Some(UploadFaultKind::NoMemory),
+    }
 }
 
 // Joins one thread, and answers what its worker reports.
@@ -105,7 +127,7 @@ fn join_one<'s, G: Gate, R: Threads>(
     job: &'s Job<'s, G>,
     handle: PromisedHandle<Report, ReportOf<'s, G>>,
 ) -> Report
-    requires { (handle.promise.bytes.now ≡ job.now.cut.bytes) × (handle.promise.part_chunks ≡ job.now.cut.part_chunks) × (handle.promise.gate.now ≡ job.now.gate.now) × (handle.promise.exchange.now ≡ job.now.exchange) }
+    requires { IsThreadOf job.now.cut job.now.gate.now job.now.exchange handle }
     ensures { IsReportOf job.now.exchange (G.may_stop job.now.gate.now) (G.may_fault job.now.gate.now) (G.has_passed job.now.gate.now) (count_of job.now.cut) result }
 {
     handle.join(rt)
@@ -118,7 +140,7 @@ pub(crate) fn join_all<'s, G: Gate, R: Threads>(
     handles: Vec<PromisedHandle<Report, ReportOf<'s, G>>>,
     reports: Vec<Report>,
 ) -> Vec<Report>
-    requires handles { All (λ h. (h.promise.bytes.now ≡ job.now.cut.bytes) × (h.promise.part_chunks ≡ job.now.cut.part_chunks) × (h.promise.gate.now ≡ job.now.gate.now) × (h.promise.exchange.now ≡ job.now.exchange)) handles.items }
+    requires handles { All (IsThreadOf job.now.cut job.now.gate.now job.now.exchange) handles.items }
     requires room { (reports.items ≡ []) × (vec_len reports + vec_len handles ≤ vec_capacity reports) }
     ensures { All (λ r. IsReportOf job.now.exchange (G.may_stop job.now.gate.now) (G.may_fault job.now.gate.now) (G.has_passed job.now.gate.now) (count_of job.now.cut) r) result.items }
 {

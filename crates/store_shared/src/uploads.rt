@@ -1,19 +1,19 @@
 //! Uploads by several workers.
 
-ghost use Rattle.std.specs.Prelude.{◌≡◌, ◌+◌, ◌<◌, ◌≤◌, ◌^◌, ℕ, [], All, Err, IfErr, IfOk, IfSome, IsTrue, None, OnErr, OnOk, length, max, min, vec_capacity, vec_len};
+ghost use Rattle.std.specs.Prelude.{◌≡◌, ◌+◌, ◌<◌, ◌≤◌, ℕ, [], All, IfErr, IfOk, IfSome, IsTrue, None, OnOk, false, length, max, min, true, vec_capacity, vec_len};
 ghost use Rattle.std.specs.Arc.{arc_value};
 ghost use Rattle.b3_core.specs.Modes.{hash_of};
 ghost use Rattle.store_upload.specs.Uploads.{most_bytes};
 ghost use Rattle.store_board.specs.Passes.{IsTakerOf};
 ghost use Rattle.store_board.specs.Seats.{IsSeatOf, seats_of};
-ghost use Rattle.store_shared.specs.Cuts.{IsBadCut, RoseBySome, cut_of};
-ghost use Rattle.store_shared.specs.Gates.{IsOwnFault, MayStop};
+ghost use Rattle.store_shared.specs.Cuts.{IsBadCut};
+ghost use Rattle.store_shared.specs.Gates.{IsOwnFault};
 ghost use Rattle.store_shared.specs.Uploading.{AreNoted, Cutting, IsCollected, IsUploaded, count_of};
-ghost use Rattle.store_shared.specs.Workers.{AllPassed, AreWorkersOf, IsReportOf, fault_of_first};
-ghost use Rattle.store_shared.specs.declared.fault.UploadFaultKind.TheVariants.{BadCut, GateFault, Stopped};
+ghost use Rattle.store_shared.specs.Uploads.{IsAnswered};
+ghost use Rattle.store_shared.specs.Workers.{AllPassed, AreWorkersOf, IsReportOf, IsThreadOf, fault_of_first};
 
 use crate::collector::Collector;
-use crate::crew::{first_fault, join_all, seats_from, start_all, workers_of};
+use crate::crew::{Crew, first_fault, join_all, seats_from, start_all, workers_of};
 use crate::cut::{Cut, MOST_PART_CHUNKS};
 use crate::fault::{UploadFault, UploadFaultKind};
 use crate::gate::Gate;
@@ -21,31 +21,71 @@ use crate::job::{Exchange, Job};
 use crate::lent::{lent_abort, lent_begin, lent_seal_as};
 use crate::progress::Progress;
 use crate::shared::Shared;
-use crate::worker::{Report, ReportOf, Worker};
+use crate::worker::{Report, Worker};
 use b3_core::{Runtime, Work};
 use b3_forest::Follow;
 use std::alloc::Global;
 use std::sync::Wait;
 use std::sync::ledger::Ledger;
 use std::thread;
-use std::thread::{PromisedHandle, Threads};
+use std::thread::Threads;
 use store_board::{Board, BoardSeat, HandOver, TakePass, Unasked};
 use store_core::{Address, Refusal, Sealed, TenantId, UploadId};
 use store_ledger::Share;
 
-/// Uploads bytes for a tenant, and files them under their hash.
-///
-/// The bytes are cut into parts of `part_chunks` chunks. Each of the workers runs in a thread of its own, and no more are
-/// started than there are parts: it draws the number of a part, copies and hashes it, asks the gate, and hands it over.
-/// The calling thread notes what is handed over and puts it, several parts at one taking of the lock, with the caller's
-/// share. Where nothing fails, it seals the upload under the address that it has computed itself; the gate has then
-/// passed each part.
-///
-/// U2 comes first, and nothing was begun. U1 is a refusal of the store, U3 and U4 are a gate's answers, U5 is want of
-/// memory outside the store's commands, and U6 a part that is not one of the cut. The collector's own fault is told
-/// before those of the workers, and of these that of the worker with the least number. After a fault past the beginning
-/// all workers are joined and the upload is aborted; `left` names it only where that was refused, and it is still open.
-/// The share has risen by the parts that were accepted. It may wait, and keeps its promise if it returns.
+/// What an upload is asked for: bytes for a tenant, cut into parts of so many chunks of 1024 bytes, by so many workers, and
+/// the gate that they ask after each part.
+#[derive(Drop)]
+pub struct UploadRequest<'a, G: Gate> {
+    pub tenant: TenantId,
+    pub bytes: &'a [u8],
+    pub part_chunks: u64,
+    pub workers: u64,
+    pub gate: &'a G,
+}
+
+impl<'a, G: Gate + Sync> UploadRequest<'a, G> {
+    /// Uploads the bytes for the tenant, and files them under their hash.
+    ///
+    /// Each of the workers runs in a thread of its own, and no more are started than there are parts: it draws the number of a
+    /// part, copies and hashes it, asks the gate, and hands it over. The calling thread notes what is handed over and puts it,
+    /// several parts at one taking of the lock, with the caller's share. Where nothing fails, it seals the upload under the
+    /// address that it has computed itself; the gate has then passed each part.
+    ///
+    /// U2 comes first, and nothing was begun. U1 is a refusal of the store, U3 and U4 are a gate's answers, U5 is want of
+    /// memory outside the store's commands, and U6 a part that is not one of the cut. The collector's own fault is told
+    /// before those of the workers, and of these that of the worker with the least number. After a fault past the beginning
+    /// all workers are joined and the upload is aborted; `left` names it only where that was refused, and it is still open.
+    /// The share has risen by the parts that were accepted. It may wait, and keeps its promise if it returns.
+    pub fn upload<B: Ledger, C: Ledger, R: Threads + Wait + Sync + Runtime>(
+        &self,
+        rt: &R,
+        alloc: Global,
+        shared: &Shared<B, C>,
+        share: Share<B, C>,
+    ) -> (Share<B, C>, Result<Sealed, UploadFault>)
+        ensures { IsAnswered (G.may_stop self.now.gate.now) (G.may_fault self.now.gate.now) (G.has_passed self.now.gate.now) (record { bytes = self.now.bytes.now; part_chunks = self.now.part_chunks }) self.now.workers shared.now share result.0 result.1 }
+    {
+        if self.has_bad_cut(shared.workers()) {
+            let fault = UploadFault::unbegun(UploadFaultKind::BadCut);
+            return (share, Err(fault));
+        }
+        upload_parts(rt, alloc, shared, share, self)
+    }
+
+    // Whether a part would have no chunk or too many, or there would be no worker or more than may be.
+    fn has_bad_cut(&self, most: u64) -> bool
+        ensures yes { result ≡ true → IsBadCut self.now.part_chunks self.now.workers most }
+        ensures no { result ≡ false → (0 < self.now.part_chunks) × (self.now.part_chunks ≤ 16384) × (0 < self.now.workers) × (self.now.workers ≤ most) }
+    {
+        if self.part_chunks == 0 || self.part_chunks > MOST_PART_CHUNKS {
+            return true;
+        }
+        self.workers == 0 || self.workers > most
+    }
+}
+
+/// Uploads bytes, as `UploadRequest::upload` does with these in its fields.
 pub fn upload<B: Ledger, C: Ledger, G: Gate + Sync, R: Threads + Wait + Sync + Runtime>(
     rt: &R,
     alloc: Global,
@@ -57,55 +97,28 @@ pub fn upload<B: Ledger, C: Ledger, G: Gate + Sync, R: Threads + Wait + Sync + R
     part_chunks: u64,
     workers: u64,
 ) -> (Share<B, C>, Result<Sealed, UploadFault>)
-    ensures parts { result.0.parts ≡ share.parts }
-    ensures ok { IfOk result.1 (λ sealed. (sealed.address ≡ hash_of bytes.now) × (hash_of (arc_value sealed.object) ≡ hash_of bytes.now)) }
-    ensures passed { OnOk result.1 ((k : ℕ) → k < length (cut_of bytes.now part_chunks) → G.has_passed gate.now k) }
-    ensures share { OnOk result.1 (result.0 ≡ record { parts = share.parts; bytes = share.bytes + length bytes.now; calls = share.calls + length (cut_of bytes.now part_chunks) }) }
-    ensures fault { OnErr result.1 (RoseBySome bytes.now part_chunks share result.0) }
-    ensures bad_cut { IsBadCut part_chunks workers shared.now → (result.1 ≡ Err (record { kind = BadCut; left = None })) × (result.0 ≡ share) }
-    ensures good_cut { IfErr result.1 (λ f. f.kind ≡ BadCut → IsBadCut part_chunks workers shared.now) }
-    ensures stopped { IfErr result.1 (λ f. f.kind ≡ Stopped → MayStop (G.may_stop gate.now) (length (cut_of bytes.now part_chunks))) }
-    ensures gate_fault { IfErr result.1 (λ f. (part code : ℕ) → f.kind ≡ GateFault part code → (part < length (cut_of bytes.now part_chunks)) × G.may_fault gate.now part code) }
+    ensures { IsAnswered (G.may_stop gate.now) (G.may_fault gate.now) (G.has_passed gate.now) (record { bytes = bytes.now; part_chunks = part_chunks }) workers shared.now share result.0 result.1 }
 {
-    if part_chunks == 0 || part_chunks > MOST_PART_CHUNKS {
-        let fault = UploadFault::unbegun(UploadFaultKind::BadCut);
-        return (share, Err(fault));
-    }
-    if workers == 0 || workers > shared.workers() {
-        let fault = UploadFault::unbegun(UploadFaultKind::BadCut);
-        return (share, Err(fault));
-    }
-    let request = Request {
+    let request = UploadRequest {
         tenant,
         bytes,
         part_chunks,
         workers,
         gate,
     };
-    upload_parts(rt, alloc, shared, share, &request)
+    request.upload(rt, alloc, shared, share)
 }
 
-// What is uploaded of a good cut, for whom, by how many workers, and the gate that they ask.
-#[derive(Drop)]
-struct Request<'a, G: Gate> {
-    tenant: TenantId,
-    bytes: &'a [u8],
-    part_chunks: u64,
-    workers: u64,
-    gate: &'a G,
-    ghost some: { 0 < part_chunks },
-    ghost most: { part_chunks ≤ 16384 },
-    ghost few: { workers ≤ 16 },
-}
-
-// Uploads what is asked for.
+// Uploads what is asked for, of a good cut.
 fn upload_parts<B: Ledger, C: Ledger, G: Gate + Sync, R: Threads + Wait + Sync + Runtime>(
     rt: &R,
     alloc: Global,
     shared: &Shared<B, C>,
     share: Share<B, C>,
-    request: &Request<'_, G>,
+    request: &UploadRequest<'_, G>,
 ) -> (Share<B, C>, Result<Sealed, UploadFault>)
+    requires part_chunks { (0 < request.now.part_chunks) × (request.now.part_chunks ≤ 16384) }
+    requires workers { request.now.workers ≤ 16 }
     ensures passed { OnOk result.1 ((k : ℕ) → k < count_of (record { bytes = request.now.bytes.now; part_chunks = request.now.part_chunks }) → G.has_passed request.now.gate.now k) }
     ensures uploaded { IsUploaded (G.may_stop request.now.gate.now) (G.may_fault request.now.gate.now) (record { bytes = request.now.bytes.now; part_chunks = request.now.part_chunks }) share result.0 result.1 }
 {
@@ -190,10 +203,11 @@ fn put_parts<B: Ledger, C: Ledger, G: Gate + Sync, R: Threads + Wait + Sync + Ru
     alloc: Global,
     shared: &Shared<B, C>,
     share: Share<B, C>,
-    request: &Request<'_, G>,
+    request: &UploadRequest<'_, G>,
     cut: Cut<'_>,
     upload: UploadId,
 ) -> (Share<B, C>, Result<Address, UploadFaultKind>)
+    requires workers { request.now.workers ≤ 16 }
     ensures passed { OnOk result.1 ((k : ℕ) → k < count_of cut.entry → G.has_passed request.now.gate.now k) }
     ensures collected { IsCollected (G.may_stop request.now.gate.now) (G.may_fault request.now.gate.now) cut.entry share result.0 result.1 }
 {
@@ -226,15 +240,14 @@ fn put_parts<B: Ledger, C: Ledger, G: Gate + Sync, R: Threads + Wait + Sync + Ru
         return (share, no_memory);
     };
     let collector = Collector {
+        shared,
         upload,
         share,
         follow,
         fault: None,
         work: Work::new(rt),
     };
-    let (share, hashed, reports) = work_together(
-        rt, alloc, &job, shared, workers, take_pass, collector,
-    );
+    let (share, hashed, reports) = work_together(rt, alloc, &job, workers, take_pass, collector);
     let address = match hashed {
         Ok(address) => address,
         Err(kind) => return (share, Err(kind)),
@@ -275,7 +288,6 @@ fn work_together<B: Ledger, C: Ledger, G: Gate + Sync, R: Threads + Wait + Sync>
     rt: &R,
     alloc: Global,
     job: &Job<'_, G>,
-    shared: &Shared<B, C>,
     workers: Vec<Worker>,
     take_pass: TakePass,
     collector: Collector<'_, B, C>,
@@ -295,10 +307,8 @@ fn work_together<B: Ledger, C: Ledger, G: Gate + Sync, R: Threads + Wait + Sync>
             requires { (0 < job.now.cut.part_chunks) × AreWorkersOf job.now.exchange workers.items × IsTakerOf job.now.exchange.hand_over take_pass × AreNoted job.now.cut collector.follow [] }
             ensures { IsCollected (G.may_stop job.entry.now.gate.now) (G.may_fault job.entry.now.gate.now) job.entry.now.cut collector.entry.share result.0 result.1 × All (λ r. IsReportOf job.entry.now.exchange (G.may_stop job.entry.now.gate.now) (G.may_fault job.entry.now.gate.now) (G.has_passed job.entry.now.gate.now) (count_of job.entry.now.cut) r) result.2.items × OnOk result.1 (fault_of_first result.2.items ≡ None) }
         {
-            let (handles, reports, unstarted) = start_all(scope, rt, alloc, job, workers);
-            gather(
-                rt, alloc, job, shared, handles, reports, unstarted, take_pass, collector,
-            )
+            let crew = start_all(scope, rt, alloc, job, workers);
+            gather(rt, alloc, job, crew, take_pass, collector)
         },
     )
 }
@@ -308,27 +318,29 @@ fn gather<'s, B: Ledger, C: Ledger, G: Gate, R: Threads + Wait>(
     rt: &R,
     alloc: Global,
     job: &'s Job<'s, G>,
-    shared: &Shared<B, C>,
-    handles: Vec<PromisedHandle<Report, ReportOf<'s, G>>>,
-    reports: Vec<Report>,
-    unstarted: Option<UploadFaultKind>,
+    crew: Crew<'s, G>,
     take_pass: TakePass,
     collector: Collector<'_, B, C>,
 ) -> (Share<B, C>, Result<Address, UploadFaultKind>, Vec<Report>)
     requires some { 0 < job.now.cut.part_chunks }
-    requires handles { All (λ h. (h.promise.bytes.now ≡ job.now.cut.bytes) × (h.promise.part_chunks ≡ job.now.cut.part_chunks) × (h.promise.gate.now ≡ job.now.gate.now) × (h.promise.exchange.now ≡ job.now.exchange)) handles.items }
-    requires room { (reports.items ≡ []) × (vec_len reports + vec_len handles ≤ vec_capacity reports) }
-    requires own { IfSome unstarted IsOwnFault }
+    requires handles { All (IsThreadOf job.now.cut job.now.gate.now job.now.exchange) crew.handles.items }
+    requires room { (crew.reports.items ≡ []) × (vec_len crew.reports + vec_len crew.handles ≤ vec_capacity crew.reports) }
+    requires own { IfSome crew.unstarted IsOwnFault }
     requires taker { IsTakerOf job.now.exchange.hand_over take_pass }
     requires fresh { AreNoted job.now.cut collector.follow [] }
     ensures collected { IsCollected (G.may_stop job.now.gate.now) (G.may_fault job.now.gate.now) job.now.cut collector.entry.share result.0 result.1 }
     ensures reports { All (λ r. IsReportOf job.now.exchange (G.may_stop job.now.gate.now) (G.may_fault job.now.gate.now) (G.has_passed job.now.gate.now) (count_of job.now.cut) r) result.2.items }
     ensures none { OnOk result.1 (fault_of_first result.2.items ≡ None) }
 {
+    let Crew {
+        handles,
+        reports,
+        unstarted,
+    } = crew;
     let started = handles.len() as u64;
     let mut collector = collector;
     collector.fault = unstarted;
-    collector.collect(rt, alloc, job, shared, started, take_pass);
+    collector.collect(rt, alloc, job, started, take_pass);
     let reports = join_all(rt, job, handles, reports);
     let (share, address) = collector.address(first_fault(reports.as_slice()));
     (share, address, reports)

@@ -1,11 +1,11 @@
-use Rattle.std.specs.Prelude.{◌≡◌, ◌+◌, ◌≤◌, All, length, vec_capacity, vec_len}
+use Rattle.std.specs.Prelude.{◌+◌, ◌≤◌, All, length, vec_capacity, vec_len}
 use Rattle.std.specs.Vec.Iter.{into_iter_items}
 use Rattle.store_shared.specs.Uploading.{count_of}
-use Rattle.store_shared.specs.Workers.{IsReportOf}
+use Rattle.store_shared.specs.Workers.{IsReportOf, IsThreadOf}
 use Rattle.store_shared.proofs.crew.join_all.Given as goal
 
 abbrev pub invariant-loop-handle : goal.invariant-loop-handle
-invariant-loop-handle g l = All (λ h. (h.promise.bytes.now ≡ l.job.cut.bytes) × (h.promise.part_chunks ≡ l.job.cut.part_chunks) × (h.promise.gate.now ≡ l.job.gate.now) × (h.promise.exchange.now ≡ l.job.exchange)) (into_iter_items l.rest)
+invariant-loop-handle g l = All (IsThreadOf l.job.cut l.job.gate.now l.job.exchange) (into_iter_items l.rest)
     × (vec_len l.reports + length (into_iter_items l.rest) ≤ vec_capacity l.reports)
     × All (λ r. IsReportOf l.job.exchange (g.G.Gate.may_stop l.job.gate.now) (g.G.Gate.may_fault l.job.gate.now) (g.G.Gate.has_passed l.job.gate.now) (count_of l.job.cut) r) l.reports.items
 

@@ -1,9 +1,9 @@
-use Rattle.std.specs.Prelude.{◌≡◌, ◌+◌, ◌≤◌, All, vec_capacity, vec_len}
-use Rattle.store_shared.specs.Workers.{AreWorkersOf}
+use Rattle.std.specs.Prelude.{◌+◌, ◌≤◌, All, vec_capacity, vec_len}
+use Rattle.store_shared.specs.Workers.{AreWorkersOf, IsThreadOf}
 use Rattle.store_shared.proofs.crew.start_all.Given as goal
 
 abbrev pub invariant-loop-worker : goal.invariant-loop-worker
-invariant-loop-worker g l = AreWorkersOf l.job.exchange l.workers.items × All (λ h. (h.promise.bytes.now ≡ l.job.cut.bytes) × (h.promise.part_chunks ≡ l.job.cut.part_chunks) × (h.promise.gate.now ≡ l.job.gate.now) × (h.promise.exchange.now ≡ l.job.exchange)) l.handles.items
+invariant-loop-worker g l = AreWorkersOf l.job.exchange l.workers.items × All (IsThreadOf l.job.cut l.job.gate.now l.job.exchange) l.handles.items
     × (vec_len l.handles + vec_len l.workers ≤ vec_capacity l.reports)
 
 abbrev pub decreases-loop-worker : goal.decreases-loop-worker

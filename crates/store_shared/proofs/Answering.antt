@@ -1,0 +1,55 @@
+-- What an upload answers.
+use Rattle.std.proofs.Common.{◌∙◌, ℕ, ◌<◌, ◌≤◌, Result, Ok, Err, ap, subst, sym, inl, inr, arith}
+use Rattle.std.specs.Prelude.{OnOk}
+use Rattle.store_core.specs.declared.store.Sealed.{Sealed}
+use Rattle.store_ledger.specs.declared.holding.Holding.{Holding}
+use Rattle.store_shared.specs.Cuts.{IsBadCut}
+use Rattle.store_shared.specs.Gates.{IsFaultOf, MayStop}
+use Rattle.store_shared.specs.Uploading.{Cutting, IsUploaded, count_of}
+use Rattle.store_shared.specs.Uploads.{IsAnswered}
+use Rattle.store_shared.specs.declared.fault.UploadFault.{UploadFault}
+use Rattle.store_shared.proofs.Noting.{count_is, with_cut}
+
+good_cut : (part_chunks workers most : ℕ) → (0 < part_chunks) × (part_chunks ≤ 16384) × (0 < workers) × (workers ≤ most) → IsBadCut part_chunks workers most → ⊥
+good_cut part_chunks workers most good bad =
+    let some = good.0 in
+    let few = good.1 in
+    let one = good.2 in
+    let within = good.3 in
+    elim bad [
+      | inl none ↦ omega (arith, some, none)
+      | inr other ↦ elim other [
+        | inl many ↦ omega (arith, few, many)
+        | inr third ↦ elim third [
+          | inl no_worker ↦ omega (arith, one, no_worker)
+          | inr above ↦ omega (arith, within, above)
+        ]
+      ]
+    ]
+
+-- an upload of a good cut
+pub answered : (may_stop : ℕ → Type 0) (may_fault : ℕ → ℕ → Type 0) (has_passed : ℕ → Type 0) (c : Cutting) (workers most : ℕ) (old new : Holding) (result : Result Sealed UploadFault)
+    → (0 < c.part_chunks) × (c.part_chunks ≤ 16384) × (0 < workers) × (workers ≤ most) → OnOk result ((k : ℕ) → k < count_of c → has_passed k) → IsUploaded may_stop may_fault c old new result
+    → IsAnswered may_stop may_fault has_passed c workers most old new result
+answered may_stop may_fault has_passed c workers most old new (Ok sealed) good passed is = record {
+  parts = ap (λ h. h.parts) is.2;
+  ok = (is.0, is.1);
+  passed = λ k below. passed k (omega (arith, below, count_is c));
+  share = is.2 ∙ with_cut c old good.0;
+  fault = tt;
+  bad_cut = λ bad. absurd (good_cut c.part_chunks workers most good bad);
+  good_cut = tt;
+  stopped = tt;
+  gate_fault = tt;
+}
+answered may_stop may_fault has_passed c workers most old new (Err f) good passed is = record {
+  parts = ap (λ h. h.parts) is.1.2;
+  ok = tt;
+  passed = tt;
+  share = tt;
+  fault = is.1;
+  bad_cut = λ bad. absurd (good_cut c.part_chunks workers most good bad);
+  good_cut = λ e. absurd (subst (λ kind. IsFaultOf may_stop may_fault (count_of c) kind) e is.0);
+  stopped = λ e. subst (λ n. MayStop may_stop n) (sym (count_is c)) (subst (λ kind. IsFaultOf may_stop may_fault (count_of c) kind) e is.0);
+  gate_fault = λ part code e. subst (λ n. (part < n) × may_fault part code) (sym (count_is c)) (subst (λ kind. IsFaultOf may_stop may_fault (count_of c) kind) e is.0);
+}
