@@ -1,39 +1,89 @@
--- Numbers that were drawn and have passed, and what workers report of them.
-use Rattle.std.proofs.Common.{◌≡◌, ℕ, zero, suc, ◌<◌, List, [], ◌∷◌, ◌++◌, Option, Some, None, All, map, sum_by, subst, sym, refl, ap, inl, inr, arith, ◌∙◌}
-use Rattle.std.specs.Prelude.{IfSome, IfNone}
+-- Parts that were handed over and have passed, and what workers report of them.
+use Rattle.std.proofs.Common.{◌≡◌, ℕ, ◌*◌, ◌<◌, List, [], ◌∷◌, ◌++◌, Option, Some, None, Result, Ok, Err, All, map, nat_eq, subst, sym, refl, ap, inl, inr, arith, ◌∙◌}
+use Rattle.std.specs.Prelude.{IfNone, IfOk, IfSome, OnOk}
 use Rattle.std.specs.Option.{option_or}
-use Rattle.std.proofs.lemmas.Bool.{cases_eq, cases_lt}
-use Rattle.std.proofs.lemmas.List.Sums.{sum_by-cons}
-use Rattle.std.proofs.lemmas.List.Elements.{All-cons, All-head, All-map, All-nil, All-tail, All-weaker}
+use Rattle.std.proofs.lemmas.Bool.{cases_eq, eq-eqb, ne_eqb}
+use Rattle.std.proofs.lemmas.List.Elements.{All-append, All-cons, All-filter, All-head, All-map, All-nil, All-tail, All-weaker}
+use Rattle.b3_core.specs.Modes.{hash_of}
+use Rattle.b3_forest.specs.Followed.{AllNoted, Followed}
+use Rattle.b3_forest.specs.Parts.{Part}
 use Rattle.store_board.specs.Drawn.{times}
-use Rattle.store_board.specs.Seats.{IsNewSeat, IsSeatOf, numbers_of}
-use Rattle.store_board.specs.declared.board.seat.BoardSeat.{BoardSeat}
-use Rattle.store_board.specs.declared.board.view.SeatView.{SeatView}
+use Rattle.store_board.specs.HandOverRule.{of_giver}
+use Rattle.store_board.specs.Passes.{all_given, given_of}
+use Rattle.store_board.specs.declared.hand_over.give_pass.GivePass.{GivePass}
+use Rattle.store_board.specs.declared.hand_over.taken.Taken.{Taken}
+use Rattle.store_ledger.specs.declared.holding.Holding.{Holding}
+use Rattle.store_shared.specs.Cuts.{part_at, parts_at}
 use Rattle.store_shared.specs.Gates.{IsFaultOf}
-use Rattle.store_shared.specs.Workers.{AllPassed, IsReportOf, fault_of_first}
+use Rattle.store_shared.specs.Uploading.{Cutting, HasCollected, IsCollecting, count_of, parts_in}
+use Rattle.store_shared.specs.Workers.{AllPassed, IsPassedPart, IsReportOf, fault_of_first}
 use Rattle.store_shared.specs.declared.fault.UploadFaultKind.{UploadFaultKind}
 use Rattle.store_shared.specs.declared.job.Exchange.{Exchange}
 use Rattle.store_shared.specs.declared.worker.Report.{Report}
-use Rattle.store_shared.proofs.Numbers.{times_cons, hit_other}
+use Rattle.store_shared.proofs.Numbers.{once_in, times_cons, hit_other}
+use Rattle.store_shared.proofs.Noting.{each_once}
+use Rattle.store_shared.proofs.PartPlaces.{begins_alike}
 
-passed_in : (P : ℕ → Type 0) (k : ℕ) (xs : List ℕ) → 0 < times k xs → All P xs → P k
-passed_in P k [] some all = absurd (omega (arith, some))
-passed_in P k (x ∷ xs) some all = elim (cases_eq x k) [
-  | inl same ↦ subst P same (all zero x (omega arith))
-  | inr apart ↦ passed_in P k xs (omega (arith, times_cons k x xs, hit_other k x apart, some)) (λ j d inside. all (suc j) d (omega (arith, inside)))
+-- ---- what was taken
+
+of_own : (x : Taken) (xs : List Taken) → of_giver x.giver (x ∷ xs) ≡ x ∷ of_giver x.giver xs
+of_own x xs = rw (eq-eqb x.giver x.giver refl) refl
+
+of_other : (g : ℕ) (x : Taken) (xs : List Taken) → (x.giver ≡ g → ⊥) → of_giver g (x ∷ xs) ≡ of_giver g xs
+of_other g x xs apart = rw (ne_eqb x.giver g apart) refl
+
+of_rest : (P : Taken → Type 0) (g : ℕ) (x : Taken) (xs : List Taken) → All P (of_giver g (x ∷ xs)) → All P (of_giver g xs)
+of_rest P g x xs all = elim (cases_eq x.giver g) [
+  | inl same ↦
+      let own = subst (λ k. All P (of_giver k (x ∷ xs))) (sym same) all in
+      subst (λ k. All P (of_giver k xs)) same (All-tail P x (of_giver x.giver xs) (subst (All P) (of_own x xs) own))
+  | inr apart ↦ subst (All P) (of_other g x xs apart) all
 ]
 
--- a number that one of the seats drew has passed
-pub passed_by : (P : ℕ → Type 0) (k : ℕ) (seats : List BoardSeat) → 0 < sum_by (λ s. times k (numbers_of s)) seats → All (λ s. AllPassed P s) seats → P k
-passed_by P k [] some all = absurd (omega (arith, some))
-passed_by P k (s ∷ ss) some all = elim (cases_lt 0 (times k (numbers_of s))) [
-  | inl here ↦ passed_in P k (numbers_of s) here (all zero s (omega arith))
-  | inr none ↦ passed_by P k ss (omega (arith, sum_by-cons (λ (s : BoardSeat). times k (numbers_of s)) s ss, none, some)) (λ j d inside. all (suc j) d (omega (arith, inside)))
+-- what holds of the items of each giver holds of all
+all_of : (P : Taken → Type 0) (xs : List Taken) → ((g : ℕ) → All P (of_giver g xs)) → All P xs
+all_of P [] each = All-nil P
+all_of P (x ∷ xs) each =
+    All-cons P x xs (All-head P x (of_giver x.giver xs) (subst (All P) (of_own x xs) (each x.giver))) (all_of P xs (λ g. of_rest P g x xs (each g)))
+
+-- what holds of all that was given holds of what was taken, where that is the same of each giver
+taken_as_given : (P : Taken → Type 0) (taken given : List Taken) → ((g : ℕ) → of_giver g taken ≡ of_giver g given) → All P given → All P taken
+taken_as_given P taken given same all = all_of P taken (λ g. subst (All P) (sym (same g)) (All-filter (λ (x : Taken). nat_eq x.giver g) P given all))
+
+first_is : {X : Type 0} (x y : X) (xs ys : List X) → x ∷ xs ≡ y ∷ ys → x ≡ y
+first_is x y xs ys same = ap (λ (l : List _). elim l [ [] ↦ x | z ∷ zs ↦ z ]) same
+
+rest_is : {X : Type 0} (x y : X) (xs ys : List X) → x ∷ xs ≡ y ∷ ys → xs ≡ ys
+rest_is x y xs ys same = ap (λ (l : List _). elim l [ [] ↦ xs | z ∷ zs ↦ zs ]) same
+
+-- a number whose part was taken has passed
+passed_at : (P : ℕ → Type 0) (c : Cutting) (k : ℕ) (ks : List ℕ) (taken : List Taken) → 0 < c.part_chunks → parts_in taken ≡ parts_at c.bytes c.part_chunks ks → All (IsPassedPart P c) taken → 0 < times k ks → P k
+passed_at P c k [] taken some same all there = absurd (omega (arith, there))
+passed_at P c k (x ∷ xs) [] some same all there = absurd (let no : ⊥ = cc in no)
+passed_at P c k (x ∷ xs) (t ∷ ts) some same all there = elim (cases_eq x k) [
+  | inl is ↦
+      let one = All-head (IsPassedPart P c) t ts all in
+      let alike : part_at c.bytes c.part_chunks one.number ≡ part_at c.bytes c.part_chunks x = sym one.part ∙ first_is t.part.part (part_at c.bytes c.part_chunks x) (parts_in ts) (parts_at c.bytes c.part_chunks xs) same in
+      subst P (begins_alike (1024 * c.part_chunks) one.number x (omega (arith, some)) (ap (λ (p : Part). p.offset) alike) ∙ is) one.passed
+  | inr apart ↦ passed_at P c k xs ts some (rest_is t.part.part (part_at c.bytes c.part_chunks x) (parts_in ts) (parts_at c.bytes c.part_chunks xs) same) (All-tail (IsPassedPart P c) t ts all)
+      (omega (arith, times_cons k x xs, hit_other k x apart, there))
 ]
 
--- a new seat has drawn nothing
-pub passed_none : (P : ℕ → Type 0) (s : BoardSeat) → IsNewSeat s → AllPassed P s
-passed_none P s new = let none : numbers_of s ≡ [] = ap (λ (v : SeatView). v.drawn) new in subst (λ xs. All P xs) (sym none) (λ k d inside. absurd (omega (arith, inside)))
+-- all that the givers gave has passed
+given_passed : (P : Taken → Type 0) (passes : List GivePass) → All (λ p. All P (given_of p)) passes → All P (all_given passes)
+given_passed P [] all = All-nil P
+given_passed P (p ∷ ps) all =
+    All-append P (given_of p) (all_given ps) (All-head (λ q. All P (given_of q)) p ps all) (given_passed P ps (All-tail (λ q. All P (given_of q)) p ps all))
+
+-- where nothing failed and all was noted, all parts have passed
+pub collected_passed : (P : ℕ → Type 0) (c : Cutting) (start share : Holding) (f : Followed) (fault : Option UploadFaultKind) (passes : List GivePass) (result : Result (List ℕ) UploadFaultKind) → 0 < c.part_chunks
+    → HasCollected c start f share fault (all_given passes) → All (AllPassed P c) passes → IfOk result (λ a. (fault ≡ None) × (a ≡ hash_of f.bytes) × AllNoted f) → OnOk result ((k : ℕ) → k < count_of c → P k)
+collected_passed P c start share f fault passes (Err kind) some has all ok = tt
+collected_passed P c start share f fault passes (Ok a) some has all ok = λ k below.
+    let same = subst (λ o. IfNone o ((g : ℕ) → of_giver g has.taken ≡ of_giver g (all_given passes))) ok.0 has.all in
+    let is = subst (λ o. IsCollecting c start f share (parts_in has.taken) o) ok.0 has.collecting in
+    let once = each_once c f is.0 some is.1 ok.2 k in
+    passed_at P c k is.0 has.taken some is.3 (taken_as_given (IsPassedPart P c) has.taken (all_given passes) same (given_passed (IsPassedPart P c) passes all)) (omega (arith, once, once_in k (count_of c) below))
 
 -- ---- reports
 
@@ -49,10 +99,6 @@ or_is : (F : UploadFaultKind → Type 0) (a b : Option UploadFaultKind) → IfSo
 or_is F None b one more = more
 or_is F (Some kind) b one more = one
 
-or_none : (a b : Option UploadFaultKind) → option_or a b ≡ None → (a ≡ None) × (b ≡ None)
-or_none None b e = (refl, e)
-or_none (Some kind) b e = absurd (subst (λ o. IfSome o (λ k. ⊥)) (sym e) tt)
-
 -- the first fault of one report more
 pub fault_push : (rs : List Report) (r : Report) → fault_of_first (rs ++ r ∷ []) ≡ option_or (fault_of_first rs) r.fault
 unfolding fault_of_first
@@ -60,36 +106,19 @@ fault_push [] r = or_nothing r.fault
 fault_push (q ∷ qs) r = ap (option_or q.fault) (fault_push qs r) ∙ or_or q.fault (fault_of_first qs) r.fault
 
 -- what holds of each fault holds of the first
-pub fault_is : (F : UploadFaultKind → Type 0) (rs : List Report) → All (λ r. IfSome r.fault F) rs → IfSome (fault_of_first rs) F
+fault_is : (F : UploadFaultKind → Type 0) (rs : List Report) → All (λ r. IfSome r.fault F) rs → IfSome (fault_of_first rs) F
 unfolding fault_of_first
 fault_is F [] all = tt
 fault_is F (r ∷ rs) all = or_is F r.fault (fault_of_first rs) (All-head (λ r. IfSome r.fault F) r rs all) (fault_is F rs (All-tail (λ r. IfSome r.fault F) r rs all))
 
--- where there is no first fault, there is none
-no_fault : (A : Report → Type 0) (rs : List Report) → fault_of_first rs ≡ None → All (λ r. IfNone r.fault (A r)) rs → All A rs
-unfolding fault_of_first
-no_fault A [] none all = All-nil A
-no_fault A (r ∷ rs) none all =
-    let both = or_none r.fault (fault_of_first rs) none in
-    All-cons A r rs (subst (λ o. IfNone o (A r)) both.0 (All-head (λ r. IfNone r.fault (A r)) r rs all)) (no_fault A rs both.1 (All-tail (λ r. IfNone r.fault (A r)) r rs all))
-
 -- the first fault is one of the upload
-pub reports_fault : (e : Exchange) (may_stop : ℕ → Type 0) (may_fault : ℕ → ℕ → Type 0) (P : ℕ → Type 0) (n : ℕ) (rs : List Report) → All (λ r. IsReportOf e may_stop may_fault P n r) rs
-    → IfSome (fault_of_first rs) (IsFaultOf may_stop may_fault n)
-reports_fault e may_stop may_fault P n rs all =
-    fault_is (IsFaultOf may_stop may_fault n) rs (All-weaker (λ r. IsReportOf e may_stop may_fault P n r) (λ r. IfSome r.fault (IsFaultOf may_stop may_fault n)) (λ r x. x.0) rs all)
+pub reports_fault : (e : Exchange) (may_stop : ℕ → Type 0) (may_fault : ℕ → ℕ → Type 0) (P : ℕ → Type 0) (c : Cutting) (rs : List Report) → All (λ r. IsReportOf e may_stop may_fault P c r) rs
+    → IfSome (fault_of_first rs) (IsFaultOf may_stop may_fault (count_of c))
+reports_fault e may_stop may_fault P c rs all =
+    fault_is (IsFaultOf may_stop may_fault (count_of c)) rs (All-weaker (λ r. IsReportOf e may_stop may_fault P c r) (λ r. IfSome r.fault (IsFaultOf may_stop may_fault (count_of c))) (λ r x. x.0) rs all)
 
--- the seats are of the board
-pub reports_seats : (e : Exchange) (may_stop : ℕ → Type 0) (may_fault : ℕ → ℕ → Type 0) (P : ℕ → Type 0) (n : ℕ) (rs : List Report) (seats : List BoardSeat) → seats ≡ map (λ (r : Report). r.worker.seat) rs
-    → All (λ r. IsReportOf e may_stop may_fault P n r) rs → All (λ s. IsSeatOf e.board s) seats
-reports_seats e may_stop may_fault P n rs seats same all =
-    subst (All (λ s. IsSeatOf e.board s)) (sym same)
-    (All-map (λ s. IsSeatOf e.board s) (λ (r : Report). r.worker.seat) rs (All-weaker (λ r. IsReportOf e may_stop may_fault P n r) (λ r. IsSeatOf e.board r.worker.seat) (λ r x. x.1.0) rs all))
-
--- where there is no fault, all that was drawn has passed
-pub reports_passed : (e : Exchange) (may_stop : ℕ → Type 0) (may_fault : ℕ → ℕ → Type 0) (P : ℕ → Type 0) (n : ℕ) (rs : List Report) (seats : List BoardSeat) → seats ≡ map (λ (r : Report). r.worker.seat) rs
-    → fault_of_first rs ≡ None → All (λ r. IsReportOf e may_stop may_fault P n r) rs → All (λ s. AllPassed P s) seats
-reports_passed e may_stop may_fault P n rs seats same none all =
-    subst (All (λ s. AllPassed P s)) (sym same)
-    (All-map (λ s. AllPassed P s) (λ (r : Report). r.worker.seat) rs
-    (no_fault (λ r. AllPassed P r.worker.seat) rs none (All-weaker (λ r. IsReportOf e may_stop may_fault P n r) (λ r. IfNone r.fault (AllPassed P r.worker.seat)) (λ r x. x.2) rs all)))
+-- all that the workers gave has passed
+pub reports_passed : (e : Exchange) (may_stop : ℕ → Type 0) (may_fault : ℕ → ℕ → Type 0) (P : ℕ → Type 0) (c : Cutting) (rs : List Report) → All (λ r. IsReportOf e may_stop may_fault P c r) rs
+    → All (AllPassed P c) (map (λ (r : Report). r.worker.pass) rs)
+reports_passed e may_stop may_fault P c rs all =
+    All-map (AllPassed P c) (λ (r : Report). r.worker.pass) rs (All-weaker (λ r. IsReportOf e may_stop may_fault P c r) (λ r. AllPassed P c r.worker.pass) (λ r x. x.2) rs all)

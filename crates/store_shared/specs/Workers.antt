@@ -1,12 +1,14 @@
 -- The workers of an upload, and what their threads report.
-use Rattle.std.specs.Prelude.{◌≡◌, ℕ, List, [], ◌∷◌, Option, None, All, IfNone, IfSome}
+use Rattle.std.specs.Prelude.{◌≡◌, ℕ, List, [], ◌∷◌, Option, None, All, IfSome}
 use Rattle.std.specs.Option.{option_or}
 use Rattle.std.specs.declared.thread.PromisedHandle.{PromisedHandle}
-use Rattle.store_board.specs.Passes.{IsGiverOf}
-use Rattle.store_board.specs.Seats.{IsNewSeat, IsSeatOf, numbers_of}
-use Rattle.store_board.specs.declared.board.seat.BoardSeat.{BoardSeat}
+use Rattle.store_board.specs.Passes.{IsGiverOf, given_of}
+use Rattle.store_board.specs.Seats.{IsSeatOf}
+use Rattle.store_board.specs.declared.hand_over.give_pass.GivePass.{GivePass}
+use Rattle.store_board.specs.declared.hand_over.taken.Taken.{Taken}
+use Rattle.store_shared.specs.Cuts.{part_at}
 use Rattle.store_shared.specs.Gates.{IsFaultOf}
-use Rattle.store_shared.specs.Uploading.{Cutting}
+use Rattle.store_shared.specs.Uploading.{Cutting, count_of}
 use Rattle.store_shared.specs.declared.fault.UploadFaultKind.{UploadFaultKind}
 use Rattle.store_shared.specs.declared.job.Exchange.{Exchange}
 use Rattle.store_shared.specs.declared.worker.Report.{Report}
@@ -17,19 +19,24 @@ use Rattle.store_shared.specs.declared.worker.Worker.{Worker}
 abbrev pub IsWorkerOf : Exchange → Worker → Type 0
 IsWorkerOf exchange worker = IsSeatOf exchange.board worker.seat × IsGiverOf exchange.hand_over worker.pass
 
--- workers whose seats have drawn nothing
+-- workers that have given nothing
 abbrev pub AreWorkersOf : Exchange → List Worker → Type 0
-AreWorkersOf exchange workers = All (λ worker. IsWorkerOf exchange worker × IsNewSeat worker.seat) workers
+AreWorkersOf exchange workers = All (λ worker. IsWorkerOf exchange worker × (given_of worker.pass ≡ [])) workers
 
--- every number that the seat drew has passed
-abbrev pub AllPassed : (ℕ → Type 0) → BoardSeat → Type 0
-AllPassed has_passed seat = All has_passed (numbers_of seat)
+-- what was handed over is a part of the cut whose number has passed
+pub record IsPassedPart (has_passed : ℕ → Type 0) (c : Cutting) (t : Taken) : Type 0 where
+  pub number : ℕ
+  pub part : t.part.part ≡ part_at c.bytes c.part_chunks number
+  pub passed : has_passed number
 
--- a report on an upload of n parts: a fault that the gate may have caused, or want of memory; or none, and then all numbers
--- that the worker drew have passed
-abbrev pub IsReportOf : Exchange → (ℕ → Type 0) → (ℕ → ℕ → Type 0) → (ℕ → Type 0) → ℕ → Report → Type 0
-IsReportOf exchange may_stop may_fault has_passed n report =
-    IfSome report.fault (IsFaultOf may_stop may_fault n) × IsWorkerOf exchange report.worker × IfNone report.fault (AllPassed has_passed report.worker.seat)
+-- all that was given is such parts
+abbrev pub AllPassed : (ℕ → Type 0) → Cutting → GivePass → Type 0
+AllPassed has_passed c pass = All (IsPassedPart has_passed c) (given_of pass)
+
+-- a report on an upload of a cut: a fault that the gate may have caused, or want of memory, or none; and all that the worker gave has passed
+abbrev pub IsReportOf : Exchange → (ℕ → Type 0) → (ℕ → ℕ → Type 0) → (ℕ → Type 0) → Cutting → Report → Type 0
+IsReportOf exchange may_stop may_fault has_passed c report =
+    IfSome report.fault (IsFaultOf may_stop may_fault (count_of c)) × IsWorkerOf exchange report.worker × AllPassed has_passed c report.worker.pass
 
 -- the thread's promise is of this cut, gate and exchange
 abbrev pub IsThreadOf : {G : Type 0} → Cutting → G → Exchange → PromisedHandle Report (ReportOf G) → Type 0

@@ -1,32 +1,35 @@
 //! The collector of an upload: it notes the parts that workers hand over, and puts them.
 
-ghost use Rattle.std.specs.Prelude.{◌≡◌, [], ◌∷◌, ◌⊎◌, Err, IfErr, IfOk, IfSome, None, OnErr, OnOk, Some, map};
+ghost use Rattle.std.specs.Prelude.{◌≡◌, [], ◌∷◌, ◌++◌, ◌⊎◌, All, Err, IfErr, IfNone, IfOk, IfSome, List, None, OnErr, OnOk, Some, map, vec_len};
 ghost use Rattle.b3_core.specs.Modes.{hash_of};
 ghost use Rattle.b3_forest.specs.Followed.{AllNoted};
-ghost use Rattle.store_board.specs.Passes.{IsTakerOf};
+ghost use Rattle.b3_forest.specs.Parts.{Part};
+ghost use Rattle.store_board.specs.Passes.{IsAllTaken, IsGiverOf, IsTakerOf, IsWholeOf, all_given, given_by_all, givers_of, taken_by_all, taken_of};
 ghost use Rattle.store_ledger.specs.declared.holding.Holding.{Holding};
 ghost use Rattle.store_shared.specs.Cuts.{RoseBySome, holding_with};
 ghost use Rattle.store_shared.specs.Gates.{IsOwnFault};
-ghost use Rattle.store_shared.specs.Uploading.{IsCollecting, NotesMore, RoseByBeginning};
+ghost use Rattle.store_shared.specs.Uploading.{HasCollected, IsCollecting, NotesMore, RoseByBeginning, parts_in};
 ghost use Rattle.store_shared.specs.declared.fault.UploadFaultKind.TheVariants.{StrangePart};
 
 use crate::backoff::Backoff;
+use crate::crew::passes_from;
 use crate::cut::Cut;
 use crate::fault::UploadFaultKind;
 use crate::gate::Gate;
 use crate::job::Job;
 use crate::lent::lent_put;
 use crate::shared::Shared;
+use crate::worker::Report;
 use b3_core::Work;
 use b3_forest::{Follow, NoteFault, Prepared};
 use std::alloc::Global;
 use std::sync::Wait;
 use std::sync::ledger::Ledger;
-use store_board::{HandOver, TakePass, Taken, Unasked};
+use store_board::{HandOver, TakePass, Taken, Unasked, WholePass};
 use store_core::{Address, PutRefused, UploadId};
 use store_ledger::Share;
 
-// The most parts that are put at one taking of the lock.
+// The most parts that are put at one taking of the lock while workers work.
 const MOST_IN_HAND: usize = 16;
 
 // The store and its upload, the share that rises by what is put, what was noted of the upload's bytes, the collector's
@@ -115,6 +118,7 @@ fn take_some<R: Wait>(
 ) -> Result<Vec<Prepared>, UploadFaultKind>
     requires { IsTakerOf hand_over.now pass.old }
     ensures same { IsTakerOf hand_over.now pass.new }
+    ensures taken { IfOk result (λ parts. parts_in (taken_of pass.new) ≡ parts_in (taken_of pass.old) ++ map (λ p. p.part) parts.items) }
     ensures fault { IfErr result IsOwnFault }
 {
     let mut parts = Vec::new(alloc);
@@ -129,6 +133,31 @@ fn take_some<R: Wait>(
     Ok(parts)
 }
 
+// Takes all that is left.
+fn take_all<R: Wait>(
+    rt: &R,
+    alloc: Global,
+    hand_over: &HandOver<Unasked>,
+    pass: &mut WholePass,
+) -> Result<Vec<Prepared>, UploadFaultKind>
+    requires { IsWholeOf hand_over.now pass.old }
+    ensures same { given_by_all pass.new ≡ given_by_all pass.old }
+    ensures taken { IfOk result (λ parts. parts_in (taken_by_all pass.new) ≡ parts_in (taken_by_all pass.old) ++ map (λ p. p.part) parts.items) }
+    ensures all { OnOk result (IsAllTaken pass.new) }
+    ensures fault { IfErr result IsOwnFault }
+{
+    let mut parts = Vec::new(alloc);
+    for _ in rt.forever() {
+        let Some(Taken { giver: _, part }) = hand_over.take_rest(rt, pass) else {
+            return Ok(parts);
+        };
+        if parts.push(part).is_err() {
+            return Err(UploadFaultKind::NoMemory);
+        }
+    }
+    unreachable!()
+}
+
 impl<'a, B: Ledger, C: Ledger> Collector<'a, B, C> {
     // Notes parts, and puts them.
     fn note_and_put<R: Wait>(
@@ -140,8 +169,8 @@ impl<'a, B: Ledger, C: Ledger> Collector<'a, B, C> {
         requires { self.old.follow.bytes ≡ cut.now.bytes }
         ensures bytes { self.new.follow.bytes ≡ cut.now.bytes }
         ensures same { self.new.fault ≡ self.old.fault }
-        ensures ok { OnOk result ((start : Holding) → IsCollecting cut.now start self.old.follow self.old.share None → IsCollecting cut.now start self.new.follow self.new.share None) }
-        ensures err { OnErr result ((start : Holding) → IsCollecting cut.now start self.old.follow self.old.share None → RoseBySome cut.now.bytes cut.now.part_chunks start self.new.share) }
+        ensures ok { OnOk result ((start : Holding) (taken : List Part) → IsCollecting cut.now start self.old.follow self.old.share taken None → IsCollecting cut.now start self.new.follow self.new.share (taken ++ map (λ p. p.part) parts.items) None) }
+        ensures err { OnErr result ((start : Holding) (taken : List Part) → IsCollecting cut.now start self.old.follow self.old.share taken None → RoseBySome cut.now.bytes cut.now.part_chunks start self.new.share) }
         ensures fault { IfErr result IsOwnFault }
     {
         if let Err(kind) = note_all(cut, &mut self.follow, parts.as_slice(), &mut self.work) {
@@ -168,7 +197,8 @@ impl<'a, B: Ledger, C: Ledger> Collector<'a, B, C> {
         ensures taker { IsTakerOf job.now.exchange.hand_over pass.new }
         ensures bytes { self.new.follow.bytes ≡ job.now.cut.bytes }
         ensures own { IfSome self.new.fault IsOwnFault }
-        ensures kept { (start : Holding) → IsCollecting job.now.cut start self.old.follow self.old.share self.old.fault → IsCollecting job.now.cut start self.new.follow self.new.share self.new.fault }
+        ensures kept { (start : Holding) → IsCollecting job.now.cut start self.old.follow self.old.share (parts_in (taken_of pass.old)) self.old.fault → IsCollecting job.now.cut start self.new.follow self.new.share (parts_in (taken_of pass.new)) self.new.fault }
+        ensures failed { self.new.fault ≡ None → self.old.fault ≡ None }
     {
         if self.fault.is_some() {
             return job.exchange.hand_over.take(rt, pass).is_some();
@@ -189,37 +219,92 @@ impl<'a, B: Ledger, C: Ledger> Collector<'a, B, C> {
         true
     }
 
-    /// Collects until so many workers have ended and nothing is left. Once something failed, the workers are told to end.
+    /// Collects until so many workers have ended. Once something failed, the workers are told to end.
     pub(crate) fn collect<G: Gate, R: Wait>(
         &mut self,
         rt: &R,
         alloc: Global,
         job: &Job<'_, G>,
         started: u64,
-        pass: TakePass,
+        pass: &mut TakePass,
     )
-        requires taker { IsTakerOf job.now.exchange.hand_over pass }
+        requires taker { IsTakerOf job.now.exchange.hand_over pass.old }
         requires bytes { self.old.follow.bytes ≡ job.now.cut.bytes }
         requires own { IfSome self.old.fault IsOwnFault }
+        ensures taker { IsTakerOf job.now.exchange.hand_over pass.new }
         ensures bytes { self.new.follow.bytes ≡ job.now.cut.bytes }
         ensures own { IfSome self.new.fault IsOwnFault }
-        ensures kept { (start : Holding) → IsCollecting job.now.cut start self.old.follow self.old.share self.old.fault → IsCollecting job.now.cut start self.new.follow self.new.share self.new.fault }
+        ensures kept { (start : Holding) → IsCollecting job.now.cut start self.old.follow self.old.share (parts_in (taken_of pass.old)) self.old.fault → IsCollecting job.now.cut start self.new.follow self.new.share (parts_in (taken_of pass.new)) self.new.fault }
+        ensures failed { self.new.fault ≡ None → self.old.fault ≡ None }
     {
-        let mut pass = pass;
         let mut backoff = Backoff::new();
         for _ in rt.forever() {
             if self.fault.is_some() {
                 job.exchange.progress.give_up();
             }
-            let all_ended = job.exchange.progress.ended() >= started;
-            if self.collect_some(rt, alloc, job, &mut pass) {
+            if job.exchange.progress.ended() >= started {
+                break;
+            }
+            if self.collect_some(rt, alloc, job, pass) {
                 backoff = Backoff::new();
             } else {
-                if all_ended {
-                    break;
-                }
                 backoff.wait(rt);
             }
+        }
+    }
+
+    /// Takes what is left once all workers have handed back their passes, notes and puts it. Once something failed, it is left.
+    pub(crate) fn collect_rest<G: Gate, R: Wait>(
+        &mut self,
+        rt: &R,
+        alloc: Global,
+        job: &Job<'_, G>,
+        reports: Vec<Report>,
+        pass: TakePass,
+    )
+        requires all { self.old.fault ≡ None → vec_len reports ≡ givers_of job.now.exchange.hand_over }
+        requires givers { All (λ r. IsGiverOf job.now.exchange.hand_over r.worker.pass) reports.items }
+        requires taker { IsTakerOf job.now.exchange.hand_over pass }
+        requires bytes { self.old.follow.bytes ≡ job.now.cut.bytes }
+        requires own { IfSome self.old.fault IsOwnFault }
+        ensures own { IfSome self.new.fault IsOwnFault }
+        ensures collected { (start : Holding) → IsCollecting job.now.cut start self.old.follow self.old.share (parts_in (taken_of pass)) self.old.fault → HasCollected job.now.cut start self.new.follow self.new.share self.new.fault (all_given (map (λ r. r.worker.pass) reports.items)) }
+    {
+        if self.fault.is_some() {
+            return;
+        }
+        match passes_from(alloc, reports) {
+            Ok(passes) => {
+                let mut whole = job.exchange.hand_over.gather(passes, pass);
+                self.collect_all(rt, alloc, job, &mut whole);
+            }
+            Err(_) => self.fault = Some(UploadFaultKind::NoMemory),
+        }
+    }
+
+    // Takes all that is left, notes and puts it.
+    fn collect_all<G: Gate, R: Wait>(
+        &mut self,
+        rt: &R,
+        alloc: Global,
+        job: &Job<'_, G>,
+        whole: &mut WholePass,
+    )
+        requires whole { IsWholeOf job.now.exchange.hand_over whole.old }
+        requires bytes { self.old.follow.bytes ≡ job.now.cut.bytes }
+        requires none { self.old.fault ≡ None }
+        ensures own { IfSome self.new.fault IsOwnFault }
+        ensures collected { (start : Holding) → IsCollecting job.now.cut start self.old.follow self.old.share (parts_in (taken_by_all whole.old)) None → HasCollected job.now.cut start self.new.follow self.new.share self.new.fault (given_by_all whole.old) }
+    {
+        let parts = match take_all(rt, alloc, &job.exchange.hand_over, whole) {
+            Ok(parts) => parts,
+            Err(kind) => {
+                self.fault = Some(kind);
+                return;
+            }
+        };
+        if let Err(kind) = self.note_and_put(rt, &job.cut, parts) {
+            self.fault = Some(kind);
         }
     }
 

@@ -1,12 +1,11 @@
 //! The threads of an upload.
 
-ghost use Rattle.std.specs.Prelude.{◌≡◌, ◌+◌, ◌<◌, ◌≤◌, ◌^◌, [], All, IfOk, IfSome, Some, length, map, vec_capacity, vec_len};
+ghost use Rattle.std.specs.Prelude.{◌≡◌, ◌+◌, ◌<◌, ◌≤◌, ◌^◌, [], All, IfNone, IfOk, IfSome, Some, length, map, vec_capacity, vec_len};
 ghost use Rattle.store_upload.specs.Uploads.{most_bytes};
-ghost use Rattle.store_board.specs.Passes.{IsGiverOf, IsTakerOf};
-ghost use Rattle.store_board.specs.Seats.{IsNewSeat, IsSeatOf, parts_of};
+ghost use Rattle.store_board.specs.Passes.{IsGiverOf, given_of};
+ghost use Rattle.store_board.specs.Seats.{IsSeatOf, parts_of};
 ghost use Rattle.store_shared.specs.Cuts.{part_count};
-ghost use Rattle.store_shared.specs.Gates.{IsFaultOf, IsOwnFault};
-ghost use Rattle.store_shared.specs.Uploading.{count_of};
+ghost use Rattle.store_shared.specs.Gates.{IsOwnFault};
 ghost use Rattle.store_shared.specs.Workers.{AreWorkersOf, IsReportOf, IsThreadOf, IsWorkerOf, fault_of_first};
 ghost use Rattle.store_shared.specs.declared.fault.UploadFaultKind.TheVariants.{NoMemory};
 
@@ -35,16 +34,17 @@ pub(crate) fn workers_of<G: Gate, R: Runtime>(
     seats: Vec<BoardSeat>,
     passes: Vec<GivePass>,
 ) -> Result<Vec<Worker>, AllocError>
-    requires seats { All (λ s. IsSeatOf job.now.exchange.board s × IsNewSeat s) seats.items }
-    requires passes { All (λ p. IsGiverOf job.now.exchange.hand_over p) passes.items }
-    ensures { IfOk result (λ workers. AreWorkersOf job.now.exchange workers.items) }
+    requires seats { All (λ s. IsSeatOf job.now.exchange.board s) seats.items }
+    requires passes { All (λ p. IsGiverOf job.now.exchange.hand_over p × (given_of p ≡ [])) passes.items }
+    requires as_many { vec_len passes ≡ vec_len seats }
+    ensures { IfOk result (λ workers. AreWorkersOf job.now.exchange workers.items × (vec_len workers ≡ vec_len seats)) }
 {
     let mut seats = seats;
     let mut passes = passes;
     let mut workers = Vec::new(alloc);
     while let Some(seat) = seats.pop() {
         let Some(pass) = passes.pop() else {
-            break;
+            unreachable!()
         };
         workers.push(Worker {
             seat,
@@ -66,6 +66,7 @@ pub(crate) fn start_all<'s, E, G: Gate + Sync, R: Wait + Sync>(
 ) -> Crew<'s, G>
     requires { AreWorkersOf job.now.exchange workers.items }
     ensures handles { All (IsThreadOf job.now.cut job.now.gate.now job.now.exchange) result.handles.items }
+    ensures all { IfNone result.unstarted (vec_len result.handles ≡ vec_len workers) }
     ensures room { (result.reports.items ≡ []) × (vec_len result.reports + vec_len result.handles ≤ vec_capacity result.reports) }
     ensures fault { IfSome result.unstarted IsOwnFault }
 {
@@ -91,8 +92,8 @@ pub(crate) fn start_all<'s, E, G: Gate + Sync, R: Wait + Sync>(
                 exchange,
             },
             move || -> Report
-                requires { IsWorkerOf exchange.now worker × IsNewSeat worker.seat × (parts_of exchange.now.board ≡ part_count (length bytes.now) part_chunks) × (length bytes.now ≤ most_bytes) × (0 < part_chunks) × (part_chunks ≤ 16384) }
-                ensures { IsReportOf exchange.entry.now (G.may_stop gate.entry.now) (G.may_fault gate.entry.now) (G.has_passed gate.entry.now) (part_count (length bytes.entry.now) part_chunks) result }
+                requires { IsWorkerOf exchange.now worker × (given_of worker.pass ≡ []) × (parts_of exchange.now.board ≡ part_count (length bytes.now) part_chunks) × (length bytes.now ≤ most_bytes) × (0 < part_chunks) × (part_chunks ≤ 16384) }
+                ensures { IsReportOf exchange.entry.now (G.may_stop gate.entry.now) (G.may_fault gate.entry.now) (G.has_passed gate.entry.now) (record { bytes = bytes.entry.now; part_chunks = part_chunks }) result }
             { run(rt, alloc, bytes, part_chunks, gate, exchange, worker) },
         );
         match started {
@@ -128,7 +129,7 @@ fn join_one<'s, G: Gate, R: Threads>(
     handle: PromisedHandle<Report, ReportOf<'s, G>>,
 ) -> Report
     requires { IsThreadOf job.now.cut job.now.gate.now job.now.exchange handle }
-    ensures { IsReportOf job.now.exchange (G.may_stop job.now.gate.now) (G.may_fault job.now.gate.now) (G.has_passed job.now.gate.now) (count_of job.now.cut) result }
+    ensures { IsReportOf job.now.exchange (G.may_stop job.now.gate.now) (G.may_fault job.now.gate.now) (G.has_passed job.now.gate.now) job.now.cut result }
 {
     handle.join(rt)
 }
@@ -142,7 +143,8 @@ pub(crate) fn join_all<'s, G: Gate, R: Threads>(
 ) -> Vec<Report>
     requires handles { All (IsThreadOf job.now.cut job.now.gate.now job.now.exchange) handles.items }
     requires room { (reports.items ≡ []) × (vec_len reports + vec_len handles ≤ vec_capacity reports) }
-    ensures { All (λ r. IsReportOf job.now.exchange (G.may_stop job.now.gate.now) (G.may_fault job.now.gate.now) (G.has_passed job.now.gate.now) (count_of job.now.cut) r) result.items }
+    ensures count { vec_len result ≡ vec_len handles.entry }
+    ensures reports { All (λ r. IsReportOf job.now.exchange (G.may_stop job.now.gate.now) (G.may_fault job.now.gate.now) (G.has_passed job.now.gate.now) job.now.cut r) result.items }
 {
     let mut rest = handles.into_iter();
     let mut reports = reports;
@@ -163,20 +165,20 @@ pub(crate) fn first_fault(reports: &[Report]) -> Option<UploadFaultKind>
     first
 }
 
-/// The seats of the workers, in their order.
-pub(crate) fn seats_from(alloc: Global, reports: Vec<Report>) -> Result<Vec<BoardSeat>, AllocError>
-    ensures { IfOk result (λ seats. seats.items ≡ map (λ r. r.worker.seat) reports.items) }
+/// The passes of the workers, in their order.
+pub(crate) fn passes_from(alloc: Global, reports: Vec<Report>) -> Result<Vec<GivePass>, AllocError>
+    ensures { IfOk result (λ passes. passes.items ≡ map (λ r. r.worker.pass) reports.items) }
 {
-    let mut seats = Vec::new(alloc);
+    let mut passes = Vec::new(alloc);
     let mut rest = reports.into_iter();
     while let Some(report) = rest.next() {
         let Report { fault: _, worker } = report;
         let Worker {
-            seat,
-            pass: _,
+            seat: _,
+            pass,
             work: _,
         } = worker;
-        seats.push(seat)?;
+        passes.push(pass)?;
     }
-    Ok(seats)
+    Ok(passes)
 }

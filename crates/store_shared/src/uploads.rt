@@ -1,19 +1,18 @@
 //! Uploads by several workers.
 
-ghost use Rattle.std.specs.Prelude.{◌≡◌, ◌+◌, ◌<◌, ◌≤◌, ℕ, [], All, IfErr, IfOk, IfSome, IsTrue, None, OnOk, false, length, max, min, true, vec_capacity, vec_len};
+ghost use Rattle.std.specs.Prelude.{◌≡◌, ◌+◌, ◌<◌, ◌≤◌, ℕ, [], All, IfErr, IfNone, IfOk, IfSome, OnOk, false, length, max, min, true, vec_capacity, vec_len};
 ghost use Rattle.std.specs.Arc.{arc_value};
 ghost use Rattle.b3_core.specs.Modes.{hash_of};
 ghost use Rattle.store_upload.specs.Uploads.{most_bytes};
-ghost use Rattle.store_board.specs.Passes.{IsTakerOf};
-ghost use Rattle.store_board.specs.Seats.{IsSeatOf, seats_of};
+ghost use Rattle.store_board.specs.Passes.{IsTakerOf, givers_of, taken_of};
 ghost use Rattle.store_shared.specs.Cuts.{IsBadCut};
 ghost use Rattle.store_shared.specs.Gates.{IsOwnFault};
 ghost use Rattle.store_shared.specs.Uploading.{AreNoted, Cutting, IsCollected, IsUploaded, count_of};
 ghost use Rattle.store_shared.specs.Uploads.{IsAnswered};
-ghost use Rattle.store_shared.specs.Workers.{AllPassed, AreWorkersOf, IsReportOf, IsThreadOf, fault_of_first};
+ghost use Rattle.store_shared.specs.Workers.{AreWorkersOf, IsThreadOf};
 
 use crate::collector::Collector;
-use crate::crew::{Crew, first_fault, join_all, seats_from, start_all, workers_of};
+use crate::crew::{Crew, first_fault, join_all, start_all, workers_of};
 use crate::cut::{Cut, MOST_PART_CHUNKS};
 use crate::fault::{UploadFault, UploadFaultKind};
 use crate::gate::Gate;
@@ -21,7 +20,7 @@ use crate::job::{Exchange, Job};
 use crate::lent::{lent_abort, lent_begin, lent_seal_as};
 use crate::progress::Progress;
 use crate::shared::Shared;
-use crate::worker::{Report, Worker};
+use crate::worker::Worker;
 use b3_core::{Runtime, Work};
 use b3_forest::Follow;
 use std::alloc::Global;
@@ -29,7 +28,7 @@ use std::sync::Wait;
 use std::sync::ledger::Ledger;
 use std::thread;
 use std::thread::Threads;
-use store_board::{Board, BoardSeat, HandOver, TakePass, Unasked};
+use store_board::{Board, HandOver, TakePass, Unasked};
 use store_core::{Address, Refusal, Sealed, TenantId, UploadId};
 use store_ledger::Share;
 
@@ -126,8 +125,7 @@ fn upload_parts<B: Ledger, C: Ledger, G: Gate + Sync, R: Threads + Wait + Sync +
         Ok(upload) => upload,
         Err(kind) => return (share, Err(UploadFault::unbegun(kind))),
     };
-    let cut = Cut::new(request.bytes, request.part_chunks);
-    let (share, hashed) = put_parts(rt, alloc, shared, share, request, cut, upload);
+    let (share, hashed) = put_parts(rt, alloc, shared, share, request, upload);
     let kind = match hashed {
         Ok(address) => match seal(rt, shared, upload, address) {
             Ok(sealed) => return (share, Ok(sealed)),
@@ -204,13 +202,15 @@ fn put_parts<B: Ledger, C: Ledger, G: Gate + Sync, R: Threads + Wait + Sync + Ru
     shared: &Shared<B, C>,
     share: Share<B, C>,
     request: &UploadRequest<'_, G>,
-    cut: Cut<'_>,
     upload: UploadId,
 ) -> (Share<B, C>, Result<Address, UploadFaultKind>)
+    requires bytes { length request.now.bytes.now ≤ most_bytes }
+    requires part_chunks { (0 < request.now.part_chunks) × (request.now.part_chunks ≤ 16384) }
     requires workers { request.now.workers ≤ 16 }
-    ensures passed { OnOk result.1 ((k : ℕ) → k < count_of cut.entry → G.has_passed request.now.gate.now k) }
-    ensures collected { IsCollected (G.may_stop request.now.gate.now) (G.may_fault request.now.gate.now) cut.entry share result.0 result.1 }
+    ensures passed { OnOk result.1 ((k : ℕ) → k < count_of (record { bytes = request.now.bytes.now; part_chunks = request.now.part_chunks }) → G.has_passed request.now.gate.now k) }
+    ensures collected { IsCollected (G.may_stop request.now.gate.now) (G.may_fault request.now.gate.now) (record { bytes = request.now.bytes.now; part_chunks = request.now.part_chunks }) share result.0 result.1 }
 {
+    let cut = Cut::new(request.bytes, request.part_chunks);
     let worker_count = workers_for(cut.parts(), request.workers);
     let no_memory = Err(UploadFaultKind::NoMemory);
     let Ok((board, seats)) = Board::new(alloc, cut.parts(), worker_count) else {
@@ -247,40 +247,7 @@ fn put_parts<B: Ledger, C: Ledger, G: Gate + Sync, R: Threads + Wait + Sync + Ru
         fault: None,
         work: Work::new(rt),
     };
-    let (share, hashed, reports) = work_together(rt, alloc, &job, workers, take_pass, collector);
-    let address = match hashed {
-        Ok(address) => address,
-        Err(kind) => return (share, Err(kind)),
-    };
-    let Ok(seats) = seats_from(alloc, reports) else {
-        return (share, no_memory);
-    };
-    if !drew_all(job, worker_count, seats) {
-        return (share, Err(UploadFaultKind::StrangePart));
-    }
-    (share, Ok(address))
-}
-
-// Whether these seats are all and drew all numbers. Where the numbers of each have passed the gate, all parts have.
-fn drew_all<G: Gate>(job: Job<'_, G>, workers: u64, seats: Vec<BoardSeat>) -> bool
-    requires workers { workers ≡ seats_of job.exchange.board }
-    requires seats { All (λ s. IsSeatOf job.exchange.board s) seats.items }
-    ensures { IsTrue result → All (λ s. AllPassed (G.has_passed job.entry.gate.now) s) seats.items → (k : ℕ) → k < count_of job.entry.cut → G.has_passed job.entry.gate.now k }
-{
-    if seats.len() as u64 != workers {
-        return false;
-    }
-    let Job {
-        cut: _,
-        gate: _,
-        exchange,
-    } = job;
-    let Exchange {
-        board,
-        hand_over: _,
-        progress: _,
-    } = exchange;
-    board.close(seats).spent
+    work_together(rt, alloc, &job, workers, take_pass, collector)
 }
 
 // Runs all workers, and the collector beside them.
@@ -291,21 +258,21 @@ fn work_together<B: Ledger, C: Ledger, G: Gate + Sync, R: Threads + Wait + Sync>
     workers: Vec<Worker>,
     take_pass: TakePass,
     collector: Collector<'_, B, C>,
-) -> (Share<B, C>, Result<Address, UploadFaultKind>, Vec<Report>)
+) -> (Share<B, C>, Result<Address, UploadFaultKind>)
     requires some { 0 < job.now.cut.part_chunks }
     requires workers { AreWorkersOf job.now.exchange workers.items }
-    requires taker { IsTakerOf job.now.exchange.hand_over take_pass }
+    requires all { vec_len workers ≡ givers_of job.now.exchange.hand_over }
+    requires taker { IsTakerOf job.now.exchange.hand_over take_pass × (taken_of take_pass ≡ []) }
     requires fresh { AreNoted job.now.cut collector.follow [] }
     ensures collected { IsCollected (G.may_stop job.now.gate.now) (G.may_fault job.now.gate.now) job.now.cut collector.entry.share result.0 result.1 }
-    ensures reports { All (λ r. IsReportOf job.now.exchange (G.may_stop job.now.gate.now) (G.may_fault job.now.gate.now) (G.has_passed job.now.gate.now) (count_of job.now.cut) r) result.2.items }
-    ensures none { OnOk result.1 (fault_of_first result.2.items ≡ None) }
+    ensures passed { OnOk result.1 ((k : ℕ) → k < count_of job.now.cut → G.has_passed job.now.gate.now k) }
 {
     thread::scope(
         thread::scope_env(),
         rt,
-        move |scope| -> (Share<B, C>, Result<Address, UploadFaultKind>, Vec<Report>)
-            requires { (0 < job.now.cut.part_chunks) × AreWorkersOf job.now.exchange workers.items × IsTakerOf job.now.exchange.hand_over take_pass × AreNoted job.now.cut collector.follow [] }
-            ensures { IsCollected (G.may_stop job.entry.now.gate.now) (G.may_fault job.entry.now.gate.now) job.entry.now.cut collector.entry.share result.0 result.1 × All (λ r. IsReportOf job.entry.now.exchange (G.may_stop job.entry.now.gate.now) (G.may_fault job.entry.now.gate.now) (G.has_passed job.entry.now.gate.now) (count_of job.entry.now.cut) r) result.2.items × OnOk result.1 (fault_of_first result.2.items ≡ None) }
+        move |scope| -> (Share<B, C>, Result<Address, UploadFaultKind>)
+            requires { (0 < job.now.cut.part_chunks) × AreWorkersOf job.now.exchange workers.items × (vec_len workers ≡ givers_of job.now.exchange.hand_over) × (IsTakerOf job.now.exchange.hand_over take_pass × (taken_of take_pass ≡ [])) × AreNoted job.now.cut collector.follow [] }
+            ensures { IsCollected (G.may_stop job.entry.now.gate.now) (G.may_fault job.entry.now.gate.now) job.entry.now.cut collector.entry.share result.0 result.1 × OnOk result.1 ((k : ℕ) → k < count_of job.entry.now.cut → G.has_passed job.entry.now.gate.now k) }
         {
             let crew = start_all(scope, rt, alloc, job, workers);
             gather(rt, alloc, job, crew, take_pass, collector)
@@ -313,7 +280,8 @@ fn work_together<B: Ledger, C: Ledger, G: Gate + Sync, R: Threads + Wait + Sync>
     )
 }
 
-// Collects while the workers work, joins them all, and answers the address of all bytes, or what failed.
+// Collects while the workers work, joins them all and collects the rest, and answers the address of all bytes, or what
+// failed.
 fn gather<'s, B: Ledger, C: Ledger, G: Gate, R: Threads + Wait>(
     rt: &R,
     alloc: Global,
@@ -321,16 +289,16 @@ fn gather<'s, B: Ledger, C: Ledger, G: Gate, R: Threads + Wait>(
     crew: Crew<'s, G>,
     take_pass: TakePass,
     collector: Collector<'_, B, C>,
-) -> (Share<B, C>, Result<Address, UploadFaultKind>, Vec<Report>)
+) -> (Share<B, C>, Result<Address, UploadFaultKind>)
     requires some { 0 < job.now.cut.part_chunks }
     requires handles { All (IsThreadOf job.now.cut job.now.gate.now job.now.exchange) crew.handles.items }
+    requires all { IfNone crew.unstarted (vec_len crew.handles ≡ givers_of job.now.exchange.hand_over) }
     requires room { (crew.reports.items ≡ []) × (vec_len crew.reports + vec_len crew.handles ≤ vec_capacity crew.reports) }
     requires own { IfSome crew.unstarted IsOwnFault }
-    requires taker { IsTakerOf job.now.exchange.hand_over take_pass }
+    requires taker { IsTakerOf job.now.exchange.hand_over take_pass × (taken_of take_pass ≡ []) }
     requires fresh { AreNoted job.now.cut collector.follow [] }
     ensures collected { IsCollected (G.may_stop job.now.gate.now) (G.may_fault job.now.gate.now) job.now.cut collector.entry.share result.0 result.1 }
-    ensures reports { All (λ r. IsReportOf job.now.exchange (G.may_stop job.now.gate.now) (G.may_fault job.now.gate.now) (G.has_passed job.now.gate.now) (count_of job.now.cut) r) result.2.items }
-    ensures none { OnOk result.1 (fault_of_first result.2.items ≡ None) }
+    ensures passed { OnOk result.1 ((k : ℕ) → k < count_of job.now.cut → G.has_passed job.now.gate.now k) }
 {
     let Crew {
         handles,
@@ -339,9 +307,11 @@ fn gather<'s, B: Ledger, C: Ledger, G: Gate, R: Threads + Wait>(
     } = crew;
     let started = handles.len() as u64;
     let mut collector = collector;
+    let mut take_pass = take_pass;
     collector.fault = unstarted;
-    collector.collect(rt, alloc, job, started, take_pass);
+    collector.collect(rt, alloc, job, started, &mut take_pass);
     let reports = join_all(rt, job, handles, reports);
-    let (share, address) = collector.address(first_fault(reports.as_slice()));
-    (share, address, reports)
+    let workers_fault = first_fault(reports.as_slice());
+    collector.collect_rest(rt, alloc, job, reports, take_pass);
+    collector.address(workers_fault)
 }

@@ -1,8 +1,9 @@
 //! The workers of an upload.
 
-ghost use Rattle.std.specs.Prelude.{◌≡◌, ◌<◌, ◌≤◌, ◌^◌, IfErr, IfNone, IfSome, OnOk, length};
+ghost use Rattle.std.specs.Prelude.{◌≡◌, ◌∷◌, ◌++◌, ◌<◌, ◌≤◌, ◌^◌, [], IfErr, IfSome, false, length, true};
 ghost use Rattle.store_upload.specs.Uploads.{most_bytes};
-ghost use Rattle.store_board.specs.Seats.{IsNewSeat, IsSeatOf, numbers_of, parts_of};
+ghost use Rattle.store_board.specs.Passes.{given_of, giver_of};
+ghost use Rattle.store_board.specs.Seats.{IsSeatOf, parts_of};
 ghost use Rattle.store_shared.specs.Cuts.{part_count};
 ghost use Rattle.store_shared.specs.Gates.{IsFaultOf, fault_for};
 ghost use Rattle.store_shared.specs.Uploading.{count_of};
@@ -35,8 +36,8 @@ pub(crate) struct Report {
     pub(crate) worker: Worker,
 }
 
-// What a report is of: its fault is one that the gate may have caused for the cut, or want of memory; where there is none,
-// all numbers that the worker drew have passed the gate.
+// What a report is of: its fault is one that the gate may have caused for the cut, or want of memory, and all that the worker
+// gave is parts of the cut that have passed the gate.
 #[derive(Drop)]
 pub(crate) struct ReportOf<'a, G: Gate> {
     pub(crate) bytes: &'a [u8],
@@ -46,7 +47,7 @@ pub(crate) struct ReportOf<'a, G: Gate> {
 }
 
 impl<'a, G: Gate> Promise<Report> for ReportOf<'a, G> {
-    ghost kept_by = { λ p report. IsReportOf p.exchange.now (G.may_stop p.gate.now) (G.may_fault p.gate.now) (G.has_passed p.gate.now) (part_count (length p.bytes.now) p.part_chunks) report };
+    ghost kept_by = { λ p report. IsReportOf p.exchange.now (G.may_stop p.gate.now) (G.may_fault p.gate.now) (G.has_passed p.gate.now) (record { bytes = p.bytes.now; part_chunks = p.part_chunks }) report };
 }
 
 // The fault that a gate's answer for a part is.
@@ -62,7 +63,7 @@ fn fault_at(part: u64, answer: GateStop) -> UploadFaultKind
 // Whether no more parts are wanted: a worker has stopped the board, or the collector has given up.
 fn is_over(exchange: &Exchange, seat: &mut BoardSeat) -> bool
     requires { IsSeatOf exchange.now.board seat.old }
-    ensures { IsSeatOf exchange.now.board seat.new × (numbers_of seat.new ≡ numbers_of seat.old) }
+    ensures { IsSeatOf exchange.now.board seat.new }
 {
     exchange.board.stopped(seat) || exchange.progress.has_given_up()
 }
@@ -70,7 +71,9 @@ fn is_over(exchange: &Exchange, seat: &mut BoardSeat) -> bool
 // Hands a part over, or drops it once no more are wanted while the queue is full. Answers whether it was handed over.
 fn hand_part<R: Wait>(rt: &R, exchange: &Exchange, worker: &mut Worker, part: Prepared) -> bool
     requires { IsWorkerOf exchange.now worker.old }
-    ensures { IsWorkerOf exchange.now worker.new × (numbers_of worker.new.seat ≡ numbers_of worker.old.seat) }
+    ensures own { IsWorkerOf exchange.now worker.new }
+    ensures given { result ≡ true → given_of worker.new.pass ≡ given_of worker.old.pass ++ record { giver = giver_of worker.old.pass; part = part } ∷ [] }
+    ensures dropped { result ≡ false → given_of worker.new.pass ≡ given_of worker.old.pass }
 {
     let mut part = part;
     let mut backoff = Backoff::new();
@@ -98,9 +101,9 @@ fn make_parts<G: Gate, R: Wait>(
 ) -> Result<(), UploadFaultKind>
     requires own { IsWorkerOf exchange.now worker.old }
     requires parts { parts_of exchange.now.board ≡ count_of cut.now }
-    requires passed { AllPassed (G.has_passed gate.now) worker.old.seat }
+    requires passed { AllPassed (G.has_passed gate.now) cut.now worker.old.pass }
     ensures own { IsWorkerOf exchange.now worker.new }
-    ensures passed { OnOk result (AllPassed (G.has_passed gate.now) worker.new.seat) }
+    ensures passed { AllPassed (G.has_passed gate.now) cut.now worker.new.pass }
     ensures fault { IfErr result (IsFaultOf (G.may_stop gate.now) (G.may_fault gate.now) (count_of cut.now)) }
 {
     for _ in rt.forever() {
@@ -133,14 +136,14 @@ pub(crate) fn run<G: Gate, R: Wait>(
     worker: Worker,
 ) -> Report
     requires own { IsWorkerOf exchange.now worker }
-    requires fresh { IsNewSeat worker.seat }
+    requires fresh { given_of worker.pass ≡ [] }
     requires parts { parts_of exchange.now.board ≡ part_count (length bytes.now) part_chunks }
     requires bytes { length bytes.now ≤ most_bytes }
     requires some { 0 < part_chunks }
     requires most { part_chunks ≤ 16384 }
     ensures fault { IfSome result.fault (IsFaultOf (G.may_stop gate.now) (G.may_fault gate.now) (part_count (length bytes.now) part_chunks)) }
     ensures own { IsWorkerOf exchange.now result.worker }
-    ensures passed { IfNone result.fault (AllPassed (G.has_passed gate.now) result.worker.seat) }
+    ensures passed { AllPassed (G.has_passed gate.now) (record { bytes = bytes.now; part_chunks = part_chunks }) result.worker.pass }
 {
     // A thread is handed bytes and numbers, and makes the cut of them again.
     let cut = Cut::new(bytes, part_chunks);

@@ -1,7 +1,6 @@
 use Rattle.std.proofs.Common.{All, ap, arith, length, subst, sym}
 use Rattle.std.proofs.lemmas.List.Elements.{All-head, All-push, All-rest}
 use Rattle.std.specs.declared.thread.PromisedHandle.{PromisedHandle}
-use Rattle.store_shared.specs.Uploading.{count_of}
 use Rattle.store_shared.specs.Workers.{IsReportOf, IsThreadOf}
 use Rattle.store_shared.specs.declared.worker.Report.{Report}
 use Rattle.store_shared.specs.declared.worker.ReportOf.{ReportOf}
@@ -18,11 +17,12 @@ loop-handle-preserved g c =
     let job = c.args.job.now in
     let i = c.loop-handle.invariant in
     let H : PromisedHandle Report (ReportOf g.row.G.Denot) → Type 0 = IsThreadOf job.cut job.gate.now job.exchange in
-    let P : Report → Type 0 = λ r. IsReportOf job.exchange (g.G.Gate.may_stop job.gate.now) (g.G.Gate.may_fault job.gate.now) (g.G.Gate.has_passed job.gate.now) (count_of job.cut) r in
+    let P : Report → Type 0 = λ r. IsReportOf job.exchange (g.G.Gate.may_stop job.gate.now) (g.G.Gate.may_fault job.gate.now) (g.G.Gate.has_passed job.gate.now) job.cut r in
     let less = ap length c.in-Some.ensures.items in
     let held = c.push_reserved.ensures in
     let room = i.1 in (
       All-rest H _ _ _ c.in-Some.ensures.items i.0,
       omega (arith, less, held.len, held.capacity, room),
       subst (All P) (sym held.items) (All-push P _ _ i.2 c.join_one.ensures),
+      (let count = i.3 in omega (arith, less, held.len, count)),
     )

@@ -1,10 +1,10 @@
 use Rattle.std.proofs.Common.{◌∙◌, ap, subst, sym}
 use Rattle.std.specs.Prelude.{IfSome}
 use Rattle.store_shared.specs.Gates.{IsFaultOf}
-use Rattle.store_shared.specs.Uploading.{IsCollected, count_of}
+use Rattle.store_shared.specs.Uploading.{IsCollected, IsCollecting, count_of, parts_in}
 use Rattle.store_shared.specs.Workers.{fault_of_first}
 use Rattle.store_shared.proofs.Noting.{collected, collecting_begun}
-use Rattle.store_shared.proofs.Passing.{reports_fault}
+use Rattle.store_shared.proofs.Passing.{collected_passed, reports_fault, reports_passed}
 use Rattle.store_shared.proofs.uploads.gather.Goals as goal
 
 pub returns-clause-collected : goal.returns-clause-collected
@@ -12,9 +12,27 @@ returns-clause-collected g c =
     let job = c.args.job.now in
     let may_stop = g.G.Gate.may_stop job.gate.now in
     let may_fault = g.G.Gate.may_fault job.gate.now in
-    let start = c.args.collector.share in
-    let end = c.collect.new.self in
-    let is = c.collect.ensures.kept start (collecting_begun job.cut start c.args.collector.follow c.args.crew.unstarted c.requires.fresh) in
-    subst (λ share. IsCollected may_stop may_fault job.cut start share c.address-share.result.1) (sym c.address-share.ensures.share)
-    (collected may_stop may_fault job.cut start end.share end.follow end.fault c.first_fault.result c.address-share.result.1 c.requires.some is c.collect.ensures.own (subst (λ o. IfSome o (IsFaultOf may_stop may_fault (count_of job.cut))) (sym (c.first_fault.ensures ∙ ap fault_of_first c.as_slice.ensures.value)) (reports_fault job.exchange may_stop may_fault (g.G.Gate.has_passed job.gate.now) (count_of job.cut) c.join_all-reports.result.items c.join_all-reports.ensures))
-    c.address-share.ensures.address c.address-share.ensures.fault)
+    let fresh = c.args.collector in
+    let unstarted = c.args.crew.unstarted in
+    let begun = subst (λ taken. IsCollecting job.cut fresh.share fresh.follow fresh.share (parts_in taken) unstarted) (sym c.requires.taker.1) (collecting_begun job.cut fresh.share fresh.follow unstarted c.requires.fresh) in
+    let has = c.collect_rest.ensures.collected fresh.share (c.collect.ensures.kept fresh.share begun) in
+    let end = c.collect_rest.new.self in
+    subst (λ share. IsCollected may_stop may_fault job.cut fresh.share share c.address.result.1) (sym c.address.ensures.share)
+    (collected may_stop may_fault job.cut fresh.share end.share end.follow (parts_in has.taken) end.fault c.first_fault-workers_fault.result c.address.result.1 c.requires.some has.collecting c.collect_rest.ensures.own
+    (subst (λ o. IfSome o (IsFaultOf may_stop may_fault (count_of job.cut))) (sym (c.first_fault-workers_fault.ensures ∙ ap fault_of_first c.as_slice.ensures.value))
+    (reports_fault job.exchange may_stop may_fault (g.G.Gate.has_passed job.gate.now) job.cut c.join_all-reports.result.items c.join_all-reports.ensures.reports))
+    c.address.ensures.address c.address.ensures.fault)
+
+pub returns-clause-passed : goal.returns-clause-passed
+returns-clause-passed g c =
+    let job = c.args.job.now in
+    let may_stop = g.G.Gate.may_stop job.gate.now in
+    let may_fault = g.G.Gate.may_fault job.gate.now in
+    let has_passed = g.G.Gate.has_passed job.gate.now in
+    let fresh = c.args.collector in
+    let unstarted = c.args.crew.unstarted in
+    let begun = subst (λ taken. IsCollecting job.cut fresh.share fresh.follow fresh.share (parts_in taken) unstarted) (sym c.requires.taker.1) (collecting_begun job.cut fresh.share fresh.follow unstarted c.requires.fresh) in
+    let has = c.collect_rest.ensures.collected fresh.share (c.collect.ensures.kept fresh.share begun) in
+    let end = c.collect_rest.new.self in
+    collected_passed has_passed job.cut fresh.share end.share end.follow end.fault _ c.address.result.1 c.requires.some has
+    (reports_passed job.exchange may_stop may_fault has_passed job.cut c.join_all-reports.result.items c.join_all-reports.ensures.reports) c.address.ensures.address
