@@ -15,7 +15,7 @@ use std::io;
 use std::io::{Read, Write};
 use std::sync::Wait;
 use std::thread::Threads;
-use store_core::{Address, Limits, Sealed, Store, TenantId, UploadId};
+use store_core::{Address, Limits, Store, TenantId, UploadId};
 
 // The bytes of a part. All parts but the last are whole chunks of 1024 bytes.
 const PART_LEN: usize = 1024;
@@ -47,7 +47,7 @@ fn back_up(
     tenant: TenantId,
     bytes: &[u8],
     work: &mut Work,
-) -> Result<Sealed> {
+) -> Result<Address> {
     let (upload, plan) = store.begin(tenant, bytes.len() as u64)?;
     let mut rest = bytes;
     while !rest.is_empty() {
@@ -57,7 +57,8 @@ fn back_up(
         put(alloc, store, upload, &plan, offset, part, work)?;
         rest = front;
     }
-    Ok(store.seal(upload, work)?)
+    let sealed = store.seal(upload, work)?;
+    Ok(sealed.address)
 }
 
 // Files for a tenant what a reader gives, which is as long as it turns out to be, and answers its address.
@@ -67,7 +68,7 @@ fn back_up_stream<R: Read>(
     tenant: TenantId,
     reader: &mut R,
     work: &mut Work,
-) -> Result<Sealed> {
+) -> Result<Address> {
     let (upload, plan) = store.begin_open(tenant, MOST_LEN)?;
     let mut len = 0;
     for _ in 0..u64::MAX {
@@ -83,7 +84,8 @@ fn back_up_stream<R: Read>(
         len = store.put(upload, part, work)?.held;
     }
     store.fix(upload, len)?;
-    Ok(store.seal(upload, work)?)
+    let sealed = store.seal(upload, work)?;
+    Ok(sealed.address)
 }
 
 // Writes the bytes of an object that a tenant holds.
@@ -108,12 +110,12 @@ fn run<T: Threads + Wait + Sync + Runtime>(rt: &HostRuntime, threads: &T) -> Res
 
     let mut store = Store::new(alloc, Limits::full());
     let tenant = store.open_tenant(1 << 40)?;
-    let sealed = back_up(alloc, &mut store, tenant, input.as_slice(), &mut work)?;
+    let address = back_up(alloc, &mut store, tenant, input.as_slice(), &mut work)?;
     let mut stream = input.as_slice();
     let _known = back_up_stream(alloc, &mut store, tenant, &mut stream, &mut work)?;
     let (_same, accepted) = back_up_shared(threads, alloc, input.as_slice())?;
     let totals = store.totals();
-    println!(rt; "{}", sealed.address)?;
+    println!(rt; "{address}")?;
     println!(rt;
         "{} object of {} bytes",
         totals.objects, totals.object_bytes
@@ -125,7 +127,7 @@ fn run<T: Threads + Wait + Sync + Runtime>(rt: &HostRuntime, threads: &T) -> Res
     )?;
     println!(rt; "accepted {} {}", accepted.bytes, accepted.calls)?;
     let mut writer = io::writer(rt);
-    give_back(&store, tenant, sealed.address, &mut writer)?;
+    give_back(&store, tenant, address, &mut writer)?;
     writer.flush()?;
     Ok(())
 }

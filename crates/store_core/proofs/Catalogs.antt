@@ -84,10 +84,14 @@ shown_changed k m p are a n at o hs some =
     ap values_of (replaced (is_at (nat_cmp n)) a (record o { holders = hs }) m.entries (agrees k m p are.filed a n at))
     ∙ ap (λ (es : List (List ℕ × ModelObject)). values_of (set_value (bytes_eq a) es (record o { holders = hs }))) (sym (readdressed (values_of m.entries) are.addressed)) ∙ sym (nonempty_with (shown m.entries) a o hs some)
 
+-- where the object of an address stands
+pub stands_at : (k : ℕ) (m : Objects) (p : Numbers) (x : ModelCatalog) → AreCatalogued k m p → catalog_of k m ≡ x → (a : List ℕ) (q : ℕ) → p a ≡ Some q → (o : ModelObject) → object_among x.objects a ≡ Some o → get nat_cmp m q ≡ Some (a, o)
+stands_at k m p x are is a q number o found = placed k m p are.filed a q number o (sym (among a m.entries are.addressed) ∙ ap (λ (y : ModelCatalog). object_among y.objects a) is ∙ found)
+
 pub catalog_after : (k : ℕ) (m n : Objects) (p : Numbers) (x : ModelCatalog) → AreCatalogued k m p → catalog_of k m ≡ x → (a : List ℕ) (q : ℕ) → p a ≡ Some q → (o : ModelObject) (hs : List ℕ) → 0 < length hs → object_among x.objects a ≡ Some o
     → (get nat_cmp m q ≡ Some (a, o) → WritesThrough nat_cmp (nat_cmp q) m (a, record o { holders = hs }) n) → catalog_of k n ≡ record x { objects = with_holders x.objects a o hs }
 catalog_after k m n p x are is a q number o hs some found writes =
-    let at = placed k m p are.filed a q number o (sym (among a m.entries are.addressed) ∙ ap (λ (y : ModelCatalog). object_among y.objects a) is ∙ found) in
+    let at = stands_at k m p x are is a q number o found in
     ap (λ (os : List ModelObject). record { objects = os; filings = k }) (ap shown (writes at).0 ∙ shown_changed k m p are a q number o hs some)
     ∙ ap (λ (y : ModelCatalog). record y { objects = with_holders y.objects a o hs }) is
 

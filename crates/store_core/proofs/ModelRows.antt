@@ -6,7 +6,7 @@ use Rattle.b3_core.specs.ExtendedOutput.{output_byte}
 use Rattle.b3_core.specs.Modes.{digest_of}
 use Rattle.b3_core.specs.Tree.{chain, chunk_top, parent_top, power_below, left_length, tree_top_within, tree_top}
 use Rattle.b3_forest.specs.Parts.{HeldPart, planned}
-use Rattle.store_upload.specs.Uploads.{closed_plan, first_gap, last_end, open_plan, overlap_at}
+use Rattle.store_upload.specs.Uploads.{Upload, closed_plan, first_gap, last_end, open_plan, overlap_at}
 use Rattle.b3_forest.specs.Uploads.{content_of}
 use Rattle.store_core.specs.declared.store.Held.{Held}
 use Rattle.store_journal.specs.declared.replayed.Totals.{Totals}
@@ -206,14 +206,17 @@ zero_hash =
     0x2d ∷ 0x3a ∷ 0xde ∷ 0xdf ∷ 0xf1 ∷ 0x1b ∷ 0x61 ∷ 0xf1 ∷ 0x4c ∷ 0x88 ∷ 0x6e ∷ 0x35 ∷ 0xaf ∷ 0xa0 ∷ 0x36 ∷ 0x73
     ∷ 0x6d ∷ 0xcd ∷ 0x87 ∷ 0xa7 ∷ 0x4d ∷ 0x27 ∷ 0xb5 ∷ 0xc1 ∷ 0x51 ∷ 0x02 ∷ 0x25 ∷ 0xd0 ∷ 0xf5 ∷ 0x92 ∷ 0xe2 ∷ 0x13 ∷ []
 
-first_new : reply (seal_in put_twice 0) ≡ Ok (record { address = zero_hash; new = true; bytes = 0 ∷ [] })
+abbrev zero_upload : Upload (List ℕ)
+zero_upload = record { plan = closed_plan 1; end = Some 1; parts = (0, 0 ∷ []) ∷ [] }
+
+first_new : reply (seal_in put_twice 0) ≡ Ok (record { address = zero_hash; new = true; bytes = 0 ∷ []; released = zero_upload })
 unfolding on_hashes
 first_new = refl
 
 abbrev sealed_twice : ModelStore
 sealed_twice = next (next put_twice (seal_in put_twice 0)) (seal_in (next put_twice (seal_in put_twice 0)) 1)
 
-then_known : reply (seal_in (next put_twice (seal_in put_twice 0)) 1) ≡ Ok (record { address = zero_hash; new = false; bytes = 0 ∷ [] })
+then_known : reply (seal_in (next put_twice (seal_in put_twice 0)) 1) ≡ Ok (record { address = zero_hash; new = false; bytes = 0 ∷ []; released = zero_upload })
 unfolding on_hashes
 then_known = refl
 
@@ -230,6 +233,10 @@ unfolding on_hashes
 counted_once = refl
 
 -- one forgets, and the other still holds it
+not_gone : reply (forget_in sealed_twice 0 zero_hash) ≡ Ok None
+unfolding on_hashes
+not_gone = refl
+
 forgotten_by_one : list_in (next sealed_twice (forget_in sealed_twice 0 zero_hash)) 1 ≡ Ok ((zero_hash, 1) ∷ [])
 unfolding on_hashes
 forgotten_by_one = refl
@@ -238,9 +245,13 @@ not_held : reply (forget_in (next sealed_twice (forget_in sealed_twice 0 zero_ha
 unfolding on_hashes
 not_held = refl
 
-gone : totals_of (next (next sealed_twice (forget_in sealed_twice 0 zero_hash)) (forget_in (next sealed_twice (forget_in sealed_twice 0 zero_hash)) 1 zero_hash)) ≡ sums 0 0 0 0 0
+gone : reply (forget_in (next sealed_twice (forget_in sealed_twice 0 zero_hash)) 1 zero_hash) ≡ Ok (Some (0 ∷ []))
 unfolding on_hashes
 gone = refl
+
+nothing_left : totals_of (next (next sealed_twice (forget_in sealed_twice 0 zero_hash)) (forget_in (next sealed_twice (forget_in sealed_twice 0 zero_hash)) 1 zero_hash)) ≡ sums 0 0 0 0 0
+unfolding on_hashes
+nothing_left = refl
 
 -- ---- another address
 

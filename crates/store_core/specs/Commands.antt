@@ -221,11 +221,12 @@ abbrev pub with_holders : List ModelObject → List ℕ → ModelObject → List
 with_holders objects address object [] = values_of (remove_entry (bytes_eq address) (addressed objects))
 with_holders objects address object (h ∷ holders) = values_of (set_value (bytes_eq address) (addressed objects) (record object { holders = h ∷ holders }))
 
--- what a seal answers: whether no object was filed under the address before, and the object's bytes
+-- what a seal answers: whether no object was filed under the address before, the object's bytes, and what the upload held
 pub record ModelSealed : Type 0 where
   pub address : List ℕ
   pub new : Bool
   pub bytes : List ℕ
+  pub released : Upload (List ℕ)
 
 -- the upload, where it is open, has its end and is complete
 abbrev pub ready_in : ModelStore → ℕ → Result ModelUpload Refusal
@@ -237,7 +238,7 @@ ready_in s number = on_upload s number (λ u.
 -- the content is filed last, and the upload goes
 abbrev pub filed : ModelStore → ℕ → ModelUpload → Acceptance ModelSealed
 filed s number u = record {
-  reply = record { address = hash_of (content u); new = true; bytes = content u };
+  reply = record { address = hash_of (content u); new = true; bytes = content u; released = u.upload };
   state = record s {
     uploads = without_upload s number;
     objects = s.objects ++ record { bytes = content u; holders = u.tenant ∷ [] } ∷ [];
@@ -249,7 +250,7 @@ filed s number u = record {
 -- the upload's tenant joins the holders of the filed object, and the upload goes
 abbrev pub joined : ModelStore → ℕ → ModelUpload → ModelObject → Acceptance ModelSealed
 joined s number u object = record {
-  reply = record { address = hash_of (content u); new = false; bytes = object.bytes };
+  reply = record { address = hash_of (content u); new = false; bytes = object.bytes; released = u.upload };
   state = record s {
     uploads = without_upload s number;
     objects = with_holders s.objects (hash_of (content u)) object (with_holder u.tenant object.holders);
@@ -281,14 +282,20 @@ seal_as_in s number address = then_on (ready_in s number) (λ u.
     refuse_if (not (bytes_eq (hash_of (content u)) address)) (WrongAddress (hash_of (content u)))
     (file_in s number u))
 
-abbrev pub forgotten : ModelStore → ℕ → List ℕ → ModelObject → Acceptance (Unit {0})
+-- what is gone where these are an object's holders from here on: its bytes where there are none, and else nothing
+abbrev pub gone_of : ModelObject → List ℕ → Option (List ℕ)
+gone_of object [] = Some object.bytes
+gone_of object (h ∷ holders) = None
+
+-- the reply is the bytes of what is gone
+abbrev pub forgotten : ModelStore → ℕ → List ℕ → ModelObject → Acceptance (Option (List ℕ))
 forgotten s tenant address object = record {
-  reply = tt;
+  reply = gone_of object (without_holder tenant object.holders);
   state = record s { objects = with_holders s.objects address object (without_holder tenant object.holders); accepted = s.accepted + 1 };
   entry = entry.Forget tenant address;
 }
 
-abbrev pub forget_in : ModelStore → ℕ → List ℕ → Result (Acceptance (Unit {0})) Refusal
+abbrev pub forget_in : ModelStore → ℕ → List ℕ → Result (Acceptance (Option (List ℕ))) Refusal
 forget_in s tenant address =
     refuse_if (is_absent s tenant) NoTenant
     (on_held s tenant address (λ o. refuse_if (is_full s) JournalFull (Ok (forgotten s tenant address o))))

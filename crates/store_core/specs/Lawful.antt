@@ -1,8 +1,9 @@
 -- What a store keeps, as the model sees it, and what is true of it.
-use Rattle.std.specs.Prelude.{◌≡◌, ◌+◌, ◌-◌, ◌<◌, ◌≤◌, ℕ, List, [], ◌∷◌, ◌++◌, Some, Ok, length, map, if◌then◌else◌, nat_le, slice_set}
+use Rattle.std.specs.Prelude.{◌≡◌, ◌+◌, ◌-◌, ◌<◌, ◌≤◌, ℕ, List, [], ◌∷◌, ◌++◌, Option, Some, Ok, length, map, if◌then◌else◌, nat_le, option_map, slice_set}
 use Rattle.std.specs.Arc.{arc_value}
 use Rattle.std.specs.List.{slice_index_or}
 use Rattle.std.specs.Map.{remove_entry}
+use Rattle.std.specs.declared.sync.Arc.{Arc}
 use Rattle.b3_core.specs.Modes.{hash_of}
 use Rattle.store_upload.specs.Uploads.{held_bytes, length_of, most_bytes}
 use Rattle.store_core.specs.declared.open_upload.Closing.{Closing}
@@ -22,7 +23,11 @@ use Rattle.store_core.specs.Sound.{IsCarried}
 
 -- a seal's reply, whose object is seen as its bytes
 abbrev pub sealed_seen : Sealed → ModelSealed
-sealed_seen s = record { address = s.address; new = s.new; bytes = arc_value s.object }
+sealed_seen s = record { address = s.address; new = s.new; bytes = arc_value s.object; released = s.released }
+
+-- a forget's reply, whose object is seen as its bytes
+abbrev pub gone_seen : {Z : Type 0} → Option (Arc (List ℕ) Z) → Option (List ℕ)
+gone_seen gone = option_map (λ object. arc_value object) gone
 
 abbrev pub model_upload : OpenUpload → ModelUpload
 model_upload u = record { tenant = u.tenant; upload = u.forest }

@@ -8,8 +8,8 @@ ghost use Rattle.std.specs.Option.{option_map};
 ghost use Rattle.std.specs.Ordering.{nat_cmp};
 ghost use Rattle.std.specs.Str.{bytes_eq};
 ghost use Rattle.b3_core.specs.Modes.{hash_of};
-ghost use Rattle.store_core.specs.Commands.{listed, with_holders};
-ghost use Rattle.store_core.specs.Lawful.{IsKnown};
+ghost use Rattle.store_core.specs.Commands.{gone_of, listed, with_holders};
+ghost use Rattle.store_core.specs.Lawful.{IsKnown, gone_seen};
 ghost use Rattle.store_core.specs.Model.{ModelObject as Item, is_held_by, object_among};
 ghost use Rattle.store_journal.specs.Replay.{most_entries, with_holder, without_holder};
 
@@ -172,12 +172,18 @@ impl Catalog {
         Err(refused)
     }
 
-    /// Takes a holder from the object of the address, and the object away where it has no other.
-    pub(crate) fn drop_holder(&mut self, address: Address, tenant: u64, is_alone: bool)
+    /// Takes a holder from the object of the address. Where it has no other, the object is taken away, and handed out.
+    pub(crate) fn drop_holder(
+        &mut self,
+        address: Address,
+        tenant: u64,
+        is_alone: bool,
+    ) -> Option<Arc<Object>>
         requires found { IsSome (object_among self.old.objects address) }
         requires held { (o : Item) → object_among self.old.objects address ≡ Some o → (is_held_by tenant o ≡ true) × (is_alone ≡ nat_le (length o.holders) 1) }
-        ensures { (o : Item) → object_among self.old.objects address ≡ Some o
+        ensures objects { (o : Item) → object_among self.old.objects address ≡ Some o
             → self.new ≡ record self.old { objects = with_holders self.old.objects address o (without_holder tenant o.holders) } }
+        ensures gone { (o : Item) → object_among self.old.objects address ≡ Some o → gone_seen result ≡ gone_of o (without_holder tenant o.holders) }
     {
         let Some(number) = number_of(&self.numbers, address) else {
             unreachable!();
@@ -185,10 +191,13 @@ impl Catalog {
         let _was = self.held.remove(&(tenant, number));
         if is_alone {
             let _number = self.numbers.swap_remove(&address);
-            let _gone = self.filed.remove(&number);
-            return;
+            let Some(gone) = self.filed.remove(&number) else {
+                unreachable!();
+            };
+            return Some(gone.into_object());
         }
         leave_at(&mut self.filed, number, tenant);
+        None
     }
 }
 

@@ -66,6 +66,14 @@ impl Filed {
         Arc::try_clone(&self.object)
     }
 
+    /// The object.
+    pub(crate) fn into_object(self) -> Arc<Object>
+        ensures { arc_value result ≡ self.1.bytes }
+    {
+        let Filed { object, holders: _ } = self;
+        object
+    }
+
     /// Whether the tenant is a holder.
     pub(crate) fn is_held_by(&self, tenant: u64) -> bool
         ensures { result ≡ is_held_by_in tenant self.now.1 }

@@ -4,6 +4,7 @@ use Rattle.std.specs.Prelude.{⊤, Option}
 use Rattle.std.specs.Fmt.{digits}
 use Rattle.hex.proofs.OnLiterals.{hex_on_literals}
 use Rattle.store_upload.specs.declared.refusal.PartFault.TheVariants as faults
+use Rattle.store_upload.specs.Uploads.{closed_plan}
 use Rattle.store_core.specs.declared.refusal.Refusal.TheVariants as refusals
 use Rattle.store_journal.specs.Journal.{lines_of}
 use Rattle.store_core.specs.Runs.{begin, begin_open, fix, now_held, now_sealed, open_tenant, opened_tenant, seal_as, set_limit, the_bytes, the_list, totals}
@@ -121,7 +122,7 @@ all_held : answer_text (Ok (now_held (record { held = 1; missing = None }))) ≡
 unfolding on_literals
 all_held = refl
 
-sealed : answer_text (Ok (now_sealed (record { address = 10 ∷ 255 ∷ []; new = false; bytes = 0 ∷ [] }))) ≡ codes "known 0aff 1\n"
+sealed : answer_text (Ok (now_sealed (record { address = 10 ∷ 255 ∷ []; new = false; bytes = 0 ∷ []; released = record { plan = closed_plan 1; end = Some 1; parts = [] } }))) ≡ codes "known 0aff 1\n"
 unfolding on_literals
 sealed = refl
 

@@ -158,7 +158,7 @@ fn begin<B: Ledger, C: Ledger, R: Wait>(
     }
 }
 
-// Seals a complete upload under its address.
+// Seals a complete upload under its address. What it held is the caller's to free, without the lock.
 fn seal<B: Ledger, C: Ledger, R: Wait + Runtime>(
     rt: &R,
     shared: &Shared<B, C>,

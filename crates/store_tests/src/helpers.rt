@@ -1,5 +1,5 @@
-//! Scripts of a store with one tenant. Behind each answer stand two counts of compressions: those of making a part, and those of the
-//! store. Where memory is refused to a command, all must be as before, and the same command is given again.
+//! Scripts of a store, for one tenant at a time. Behind each answer stand two counts of compressions: those of making a part, and those of
+//! the store. Where memory is refused to a command, all must be as before, and the same command is given again.
 
 use b3_core::{Runtime, Work};
 use b3_forest::{PartFault, Plan, Prepared};
@@ -7,17 +7,19 @@ use b3_tests::{Answers, cut, is_pattern, number, pattern, told, two_numbers};
 use hex::FromHex;
 use std::alloc::{AllocError, Global};
 use std::process::Abort;
+use std::sync::Arc;
 use std::test::Fail;
 use store_core::{
-    Address, Held, Limits, PutRefused, ReadError, Refusal, ReplayError, Sealed, Store, TenantId,
-    UploadId, read_journal, replay, write_journal,
+    Address, Held, Limits, Object, PutRefused, ReadError, Refusal, ReplayError, Sealed, Store,
+    TenantId, UploadId, read_journal, replay, write_journal,
 };
 
-// A store, a part that came back for want of memory, the compressions of making parts, and the store's own.
+// A store, the tenant of its commands, a part that came back for want of memory, the compressions of making parts, and the store's own.
 #[derive(Drop)]
 struct Scripted {
     alloc: Global,
     store: Store,
+    tenant: TenantId,
     part: Option<Prepared>,
     making: Work,
     work: Work,
@@ -70,7 +72,8 @@ impl Scripted {
     fn told(&mut self, word: &str, first: u64, second: u64) -> Result<String, AllocError> {
         let (alloc, upload) = (self.alloc, UploadId::new(first));
         match word {
-            "limit" => done_text(alloc, self.store.set_limit(tenant(), first)),
+            "as" => self.act_as(first),
+            "limit" => done_text(alloc, self.store.set_limit(self.tenant, first)),
             "fix" => done_text(alloc, self.store.fix(upload, second)),
             "abort" => done_text(alloc, self.store.abort(upload).map(|_| ())),
             "usage" => self.usage(),
@@ -98,6 +101,12 @@ impl Scripted {
         }
     }
 
+    // The tenant of the commands that follow.
+    fn act_as(&mut self, number: u64) -> Result<String, AllocError> {
+        self.tenant = TenantId::new(number);
+        format!(in self.alloc; "ok")
+    }
+
     fn open_tenant(&mut self, limit: u64) -> Result<String, AllocError> {
         match self.store.open_tenant(limit) {
             Ok(tenant) => format!(in self.alloc; "tenant {tenant}"),
@@ -106,11 +115,11 @@ impl Scripted {
     }
 
     fn begin(&mut self, len: u64) -> Result<String, AllocError> {
-        begun_text(self.alloc, self.store.begin(tenant(), len))
+        begun_text(self.alloc, self.store.begin(self.tenant, len))
     }
 
     fn begin_open(&mut self, at_most: u64) -> Result<String, AllocError> {
-        begun_text(self.alloc, self.store.begin_open(tenant(), at_most))
+        begun_text(self.alloc, self.store.begin_open(self.tenant, at_most))
     }
 
     // Makes a part of the pattern by an upload's plan.
@@ -189,21 +198,22 @@ impl Scripted {
         let Ok(bytes) = <[u8; 32]>::from_hex(digits) else {
             return format!(in self.alloc; "no address");
         };
-        done_text(self.alloc, self.store.forget(tenant(), Address::new(bytes)))
+        let forgotten = self.store.forget(self.tenant, Address::new(bytes));
+        forgotten_text(self.alloc, forgotten)
     }
 
     fn fetch(&self, digits: &str) -> Result<String, AllocError> {
         let Ok(bytes) = <[u8; 32]>::from_hex(digits) else {
             return format!(in self.alloc; "no address");
         };
-        match self.store.fetch(tenant(), Address::new(bytes)) {
+        match self.store.fetch(self.tenant, Address::new(bytes)) {
             Ok(object) => format!(in self.alloc; "{} {}", object.address(), object.len()),
             Err(refusal) => format!(in self.alloc; "{refusal}"),
         }
     }
 
     fn usage(&self) -> Result<String, AllocError> {
-        match self.store.usage(tenant()) {
+        match self.store.usage(self.tenant) {
             Ok(usage) => format!(in self.alloc;
                 "{} {} {}",
                 usage.used, usage.reserved, usage.limit
@@ -213,7 +223,7 @@ impl Scripted {
     }
 
     fn list(&self) -> Result<String, AllocError> {
-        match self.store.list(tenant()) {
+        match self.store.list(self.tenant) {
             Ok(objects) => objects_text(self.alloc, objects.as_slice()),
             Err(refusal) => format!(in self.alloc; "{refusal}"),
         }
@@ -271,10 +281,6 @@ fn objects_text(alloc: Global, objects: &[(Address, u64)]) -> Result<String, All
     Ok(text)
 }
 
-fn tenant() -> TenantId {
-    TenantId::new(0)
-}
-
 fn begun_text(
     alloc: Global,
     answer: Result<(UploadId, Plan), Refusal>,
@@ -295,12 +301,26 @@ fn done_text(alloc: Global, answer: Result<(), Refusal>) -> Result<String, Alloc
     }
 }
 
+// The address, whether it is new, its length, and how many bytes and parts of the upload came back.
 fn sealed_text(alloc: Global, answer: Result<Sealed, Refusal>) -> Result<String, AllocError> {
     match answer {
         Ok(sealed) => {
             let (new, len) = (sealed.new, sealed.object.len());
-            format!(in alloc; "{} {new} {len}", sealed.address)
+            let (held, parts) = (sealed.released.held(), sealed.released.parts());
+            format!(in alloc; "{} {new} {len} back {held} {parts}", sealed.address)
         }
+        Err(refusal) => format!(in alloc; "{refusal}"),
+    }
+}
+
+// The address and the length of an object that came back.
+fn forgotten_text(
+    alloc: Global,
+    answer: Result<Option<Arc<Object>>, Refusal>,
+) -> Result<String, AllocError> {
+    match answer {
+        Ok(Some(gone)) => format!(in alloc; "back {} {}", gone.address(), gone.len()),
+        Ok(None) => format!(in alloc; "others hold it"),
         Err(refusal) => format!(in alloc; "{refusal}"),
     }
 }
@@ -310,6 +330,7 @@ fn told_of<R: AllocGlobal + Runtime>(rt: &R, script: &str) -> Result<String, All
     let mut on = Scripted {
         alloc: rt.alloc(),
         store: Store::new(rt.alloc(), Limits::full()),
+        tenant: TenantId::new(0),
         part: None,
         making: Work::new(rt),
         work: Work::new(rt),
