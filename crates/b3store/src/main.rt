@@ -74,7 +74,7 @@ fn perform<T: Threads + Wait + Sync + Runtime>(
             let mut work = Work::new(rt);
             Ok(status_of(run(alloc, &mut lines, &mut writer, &mut work)?))
         }
-        Options::Upload(options) => Ok(status_of(upload::<Brand, Brand, _, _, _>(
+        Options::Upload(options) => Ok(status_of(upload::<Brand, _, _, _>(
             threads,
             alloc,
             *options,

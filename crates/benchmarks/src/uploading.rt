@@ -8,13 +8,13 @@ use std::io::ErrorKind;
 use std::marker::Brand;
 use std::rt::Clock;
 use std::sync::Wait;
-use std::sync::ledger::{Blank, Ledger};
+use std::sync::ledger::Blank;
 use std::thread::Threads;
 use std::time::{Duration, Instant};
 use std::{io, thread};
 use store_core::Limits;
 use store_shared::{
-    ALL_PARTS, Draw, Gate, GateStop, PassAll, Shared, UploadRequest, lent_open_tenant,
+    ALL_PARTS, Draw, Gate, GateStop, Ledgers, PassAll, Shared, UploadRequest, lent_open_tenant,
 };
 
 // The tenant's limit, in bytes.
@@ -49,7 +49,7 @@ impl<'a, K: Clock> Gate for Slow<'a, K> {
 }
 
 // Times one upload into a new store, and writes its address.
-fn time_one<B: Ledger, C: Ledger, G: Gate + Sync, T: Threads + Wait + Sync + Runtime>(
+fn time_one<L: Ledgers, G: Gate + Sync, T: Threads + Wait + Sync + Runtime>(
     rt: &(impl Print + Eprint + Clock + AllocGlobal),
     threads: &T,
     gate: &G,
@@ -57,13 +57,13 @@ fn time_one<B: Ledger, C: Ledger, G: Gate + Sync, T: Threads + Wait + Sync + Run
     bytes: Blank,
     calls: Blank,
 ) -> io::Result<()>
-    requires bytes { (bytes.name ≡ B.name) × (bytes.parts ≡ B.parts) × (bytes.parts ≡ 2 ^ 32) }
-    requires calls { (calls.name ≡ C.name) × (calls.parts ≡ C.parts) × (calls.parts ≡ 2 ^ 32) }
+    requires bytes { (bytes.name ≡ L.bytes_name) × (bytes.parts ≡ L.bytes_parts) × (bytes.parts ≡ 2 ^ 32) }
+    requires calls { (calls.name ≡ L.calls_name) × (calls.parts ≡ L.calls_parts) × (calls.parts ≡ 2 ^ 32) }
 {
     let alloc = rt.alloc();
     let input = pattern(alloc, load.mib)?;
     let most = load.most.min(input.len());
-    let (shared, share): (Shared<B, C>, _) = Shared::new(alloc, Limits::full(), bytes, calls);
+    let (shared, share): (Shared<L>, _) = Shared::new(alloc, Limits::full(), bytes, calls);
     let Ok(tenant) = lent_open_tenant(&mut *shared.lock(threads), LIMIT) else {
         return Err(io::Error::from(ErrorKind::Other));
     };
@@ -91,7 +91,7 @@ pub fn time_upload<T: Threads + Wait + Sync + Runtime>(
 ) -> io::Result<()> {
     let bytes = Blank::new(ALL_PARTS);
     let calls = Blank::new(ALL_PARTS);
-    time_one::<Brand, Brand, _, _>(rt, threads, &PassAll, load, bytes, calls)
+    time_one::<Brand, _, _>(rt, threads, &PassAll, load, bytes, calls)
 }
 
 /// Times an upload of 200 parts of one chunk by one worker, with a gate that takes 10 ms for each.
@@ -108,5 +108,5 @@ pub fn time_slow_upload<T: Threads + Wait + Sync + Runtime + Clock>(
     let gate = Slow { clock: threads };
     let bytes = Blank::new(ALL_PARTS);
     let calls = Blank::new(ALL_PARTS);
-    time_one::<Brand, Brand, _, _>(rt, threads, &gate, load, bytes, calls)
+    time_one::<Brand, _, _>(rt, threads, &gate, load, bytes, calls)
 }

@@ -20,7 +20,7 @@ pub(crate) fn uploaded<R: Threads + Wait + Sync + AllocGlobal + Runtime>(
     writer: &mut ByteWriter,
 ) -> Result<Verdict, Cause> {
     let (bytes, calls) = (Blank::new(ALL_PARTS), Blank::new(ALL_PARTS));
-    upload::<Brand, Brand, _, _, _>(rt, rt.alloc(), options, bytes, calls, reader, writer)
+    upload::<Brand, _, _, _>(rt, rt.alloc(), options, bytes, calls, reader, writer)
 }
 
 // What is told of the pattern of 2049 bytes in three parts, before its journal.

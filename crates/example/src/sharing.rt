@@ -9,10 +9,10 @@ use b3_core::Runtime;
 use std::alloc::Global;
 use std::marker::Brand;
 use std::sync::Wait;
-use std::sync::ledger::{Blank, Ledger};
+use std::sync::ledger::Blank;
 use std::thread::Threads;
 use store_core::{Address, Limits};
-use store_ledger::{ALL_PARTS, Accepted};
+use store_ledger::{ALL_PARTS, Accepted, Ledgers};
 use store_shared::{PassAll, Shared, UploadRequest, lent_open_tenant};
 
 // How many chunks of 1024 bytes a part has, and how many threads hash parts.
@@ -29,22 +29,22 @@ pub fn back_up_shared<T: Threads + Wait + Sync + Runtime>(
     ensures { IfOk result (λ told. (told.0 ≡ hash_of bytes.now) × (told.1.bytes ≡ length bytes.now)) }
 {
     let (of_bytes, of_calls) = (Blank::new(ALL_PARTS), Blank::new(ALL_PARTS));
-    back_up_counted::<Brand, Brand, _>(threads, alloc, bytes, of_bytes, of_calls)
+    back_up_counted::<Brand, _>(threads, alloc, bytes, of_bytes, of_calls)
 }
 
-// The same, where the two ledgers of the store's book are parameters.
-fn back_up_counted<B: Ledger, C: Ledger, T: Threads + Wait + Sync + Runtime>(
+// The same, where the two ledgers of the store's book are a parameter.
+fn back_up_counted<L: Ledgers, T: Threads + Wait + Sync + Runtime>(
     threads: &T,
     alloc: Global,
     bytes: &[u8],
     of_bytes: Blank,
     of_calls: Blank,
 ) -> Result<(Address, Accepted)>
-    requires bytes { (of_bytes.name ≡ B.name) × (of_bytes.parts ≡ B.parts) × (of_bytes.parts ≡ all_parts) }
-    requires calls { (of_calls.name ≡ C.name) × (of_calls.parts ≡ C.parts) × (of_calls.parts ≡ all_parts) }
+    requires bytes { (of_bytes.name ≡ L.bytes_name) × (of_bytes.parts ≡ L.bytes_parts) × (of_bytes.parts ≡ all_parts) }
+    requires calls { (of_calls.name ≡ L.calls_name) × (of_calls.parts ≡ L.calls_parts) × (of_calls.parts ≡ all_parts) }
     ensures { IfOk result (λ told. (told.0 ≡ hash_of bytes.now) × (told.1.bytes ≡ length bytes.now)) }
 {
-    let (shared, share) = Shared::<B, C>::new(alloc, Limits::full(), of_bytes, of_calls);
+    let (shared, share) = Shared::<L>::new(alloc, Limits::full(), of_bytes, of_calls);
     let tenant = lent_open_tenant(&mut *shared.lock(threads), 1 << 40)?;
     let request = UploadRequest {
         tenant,

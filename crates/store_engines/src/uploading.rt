@@ -14,11 +14,11 @@ use b3_core::Runtime;
 use std::alloc::{AllocError, Global};
 use std::io::{Read, Write};
 use std::sync::Wait;
-use std::sync::ledger::{Blank, Ledger};
+use std::sync::ledger::Blank;
 use std::thread::Threads;
 use store_command_line::UploadOptions;
 use store_core::{Address, Entry, Limits, Refusal};
-use store_ledger::Share;
+use store_ledger::{Ledgers, Share};
 use store_script::{Cause, Verdict, write_all};
 use store_shared::{Locked, PassAll, Shared, UploadFaultKind, UploadRequest, lent_open_tenant};
 
@@ -73,12 +73,12 @@ fn joined(line: Vec<u8>, second: &[u8], more: &[u8]) -> Result<Vec<u8>, AllocErr
 }
 
 // What is written of an upload that was filed, from the store that is no longer shared.
-fn uploaded_text<B: Ledger, C: Ledger>(
+fn uploaded_text<L: Ledgers>(
     alloc: Global,
     journal: bool,
     address: Address,
-    locked: Locked<B, C>,
-    share: Share<B, C>,
+    locked: Locked<L>,
+    share: Share<L>,
 ) -> Result<Vec<u8>, AllocError>
     requires whole { share.parts ≡ all_parts }
     ensures { IfOk result (λ text. IsTold journal address share locked text.items) }
@@ -103,7 +103,7 @@ fn uploaded_text<B: Ledger, C: Ledger>(
 /// It stops at the first read or write that fails, or where memory is refused; `refused U5` and `refused U1 S14` are written
 /// first, and want of memory is told also where that write fails. It writes nothing before it has read everything. The two
 /// blanks are for the store's book.
-pub fn upload<B: Ledger, C: Ledger, T: Threads + Wait + Sync + Runtime, R: Read, W: Write>(
+pub fn upload<L: Ledgers, T: Threads + Wait + Sync + Runtime, R: Read, W: Write>(
     rt: &T,
     alloc: Global,
     options: UploadOptions,
@@ -112,8 +112,8 @@ pub fn upload<B: Ledger, C: Ledger, T: Threads + Wait + Sync + Runtime, R: Read,
     reader: &mut R,
     writer: &mut W,
 ) -> Result<Verdict, Cause>
-    requires bytes { (bytes.name ≡ B.name) × (bytes.parts ≡ B.parts) × (bytes.parts ≡ all_parts) }
-    requires calls { (calls.name ≡ C.name) × (calls.parts ≡ C.parts) × (calls.parts ≡ all_parts) }
+    requires bytes { (bytes.name ≡ L.bytes_name) × (bytes.parts ≡ L.bytes_parts) × (bytes.parts ≡ all_parts) }
+    requires calls { (calls.name ≡ L.calls_name) × (calls.parts ≡ L.calls_parts) × (calls.parts ≡ all_parts) }
     ensures written { result ≡ Ok Verdict.Good → IfSome (R.remaining reader.old) (λ input.
         WroteUpload options input (W.contents writer.old) (W.contents writer.new)) }
     ensures refused { result ≡ Ok Verdict.Refused → SomeRefusal options (W.contents writer.old) (W.contents writer.new) }
@@ -122,12 +122,7 @@ pub fn upload<B: Ledger, C: Ledger, T: Threads + Wait + Sync + Runtime, R: Read,
     ensures silent { result ≡ Err Cause.CannotRead → W.contents writer.new ≡ W.contents writer.old }
 {
     let input = read_all(alloc, reader)?;
-    let (shared, share): (Shared<B, C>, Share<B, C>) = Shared::new(
-        alloc,
-        Limits::full(),
-        bytes,
-        calls,
-    );
+    let (shared, share): (Shared<L>, Share<L>) = Shared::new(alloc, Limits::full(), bytes, calls);
     let tenant = match lent_open_tenant(&mut *shared.lock(rt), LIMIT) {
         Ok(tenant) => tenant,
         Err(refusal) => return refuse(alloc, UploadFaultKind::Refused(refusal), writer),

@@ -5,11 +5,12 @@ ghost use Rattle.store_ledger.specs.Shares.{Agrees, HasRoom, IsMissing, IsWhole,
 ghost use Rattle.store_ledger.specs.declared.book.Accepted.{Accepted};
 
 use crate::holding::Holding;
+use crate::ledgers::{Ledgers, OfBytes, OfCalls};
 use crate::refusal::{BookFull, NotWhole};
 use crate::share::{ALL_PARTS, Share};
 use std::marker::Model;
 use std::sync::ledger;
-use std::sync::ledger::{Blank, Ledger};
+use std::sync::ledger::Blank;
 
 /// What was accepted: the bytes of all calls together, and how many calls there were.
 #[derive(Clone, Copy, Debug, PartialEq, Eq, Hash)]
@@ -20,30 +21,30 @@ pub struct Accepted {
 
 /// The bytes and the calls of all its shares together.
 #[derive(Drop)]
-pub struct Book<B: Ledger, C: Ledger> {
+pub struct Book<L: Ledgers> {
     accepted: Accepted,
-    byte_book: ledger::Book<B>,
-    call_book: ledger::Book<C>,
+    byte_book: ledger::Book<OfBytes<L>>,
+    call_book: ledger::Book<OfCalls<L>>,
 }
 
-impl<B: Ledger, C: Ledger> Model for Book<B, C> {
+impl<L: Ledgers> Model for Book<L> {
     ghost Value = { Accepted };
 
     ghost view = { λ b. b.accepted };
 
-    ghost invariant = { λ b. (b.byte_book.total ≡ b.accepted.bytes) × (b.call_book.total ≡ b.accepted.calls) × (B.parts ≡ all_parts) × (C.parts ≡ all_parts) };
+    ghost invariant = { λ b. (b.byte_book.total ≡ b.accepted.bytes) × (b.call_book.total ≡ b.accepted.calls) × (L.bytes_parts ≡ all_parts) × (L.calls_parts ≡ all_parts) };
 }
 
-impl<B: Ledger, C: Ledger> Book<B, C> {
+impl<L: Ledgers> Book<L> {
     /// A new book, in which nothing is recorded, and the share with all of its parts.
-    pub fn open(bytes: Blank, calls: Blank) -> (Book<B, C>, Share<B, C>)
-        requires bytes { (bytes.name ≡ B.name) × (bytes.parts ≡ B.parts) × (bytes.parts ≡ all_parts) }
-        requires calls { (calls.name ≡ C.name) × (calls.parts ≡ C.parts) × (calls.parts ≡ all_parts) }
+    pub fn open(bytes: Blank, calls: Blank) -> (Book<L>, Share<L>)
+        requires bytes { (bytes.name ≡ L.bytes_name) × (bytes.parts ≡ L.bytes_parts) × (bytes.parts ≡ all_parts) }
+        requires calls { (calls.name ≡ L.calls_name) × (calls.parts ≡ L.calls_parts) × (calls.parts ≡ all_parts) }
         ensures book { result.0 ≡ record { bytes = 0; calls = 0 } }
         ensures share { result.1 ≡ record { parts = all_parts; bytes = 0; calls = 0 } }
     {
-        let (byte_book, byte_share) = bytes.open::<B>();
-        let (call_book, call_share) = calls.open::<C>();
+        let (byte_book, byte_share) = bytes.open::<OfBytes<L>>();
+        let (call_book, call_share) = calls.open::<OfCalls<L>>();
         let book = Book {
             accepted: Accepted { bytes: 0, calls: 0 },
             byte_book,
@@ -72,7 +73,7 @@ impl<B: Ledger, C: Ledger> Book<B, C> {
     }
 
     /// Adds the bytes and one call to the book and to the share.
-    pub fn record(&mut self, share: &mut Share<B, C>, bytes: u64) -> Result<(), BookFull>
+    pub fn record(&mut self, share: &mut Share<L>, bytes: u64) -> Result<(), BookFull>
         ensures room { IsOk result ↔ HasRoom self.old bytes }
         ensures book { OnOk result (self.new ≡ accepted_after self.old bytes) }
         ensures share { OnOk result (share.new ≡ holding_after share.old bytes) }
@@ -88,7 +89,7 @@ impl<B: Ledger, C: Ledger> Book<B, C> {
     }
 
     /// The book's numbers where the share has the same, else what it lacks. Book and share stay as they are.
-    pub fn settle(&mut self, share: &mut Share<B, C>) -> Result<Accepted, NotWhole>
+    pub fn settle(&mut self, share: &mut Share<L>) -> Result<Accepted, NotWhole>
         ensures same { (self.new ≡ self.old) × (share.new ≡ share.old) }
         ensures ok { IfOk result (λ accepted. (accepted ≡ self.old) × Agrees self.old share.old) }
         ensures missing { IfErr result (IsMissing self.old share.old) }
@@ -106,7 +107,7 @@ impl<B: Ledger, C: Ledger> Book<B, C> {
     }
 
     /// The book's numbers, each of which is at least the share's. Book and share stay as they are.
-    pub fn accepted(&mut self, share: &mut Share<B, C>) -> Accepted
+    pub fn accepted(&mut self, share: &mut Share<L>) -> Accepted
         ensures same { (self.new ≡ self.old) × (share.new ≡ share.old) }
         ensures numbers { result ≡ self.old }
         ensures least { (share.old.bytes ≤ result.bytes) × (share.old.calls ≤ result.calls) }
@@ -118,7 +119,7 @@ impl<B: Ledger, C: Ledger> Book<B, C> {
     }
 
     /// Adds another share of this book to the first. What the two have recorded is in the book, so the sums fit.
-    pub fn join(&mut self, share: &mut Share<B, C>, other: Share<B, C>)
+    pub fn join(&mut self, share: &mut Share<L>, other: Share<L>)
         ensures book { self.new ≡ self.old }
         ensures share { share.new ≡ sum_of share.old other }
     {

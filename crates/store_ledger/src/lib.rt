@@ -5,17 +5,19 @@
 //! its shares, whichever threads have these: the numbers of a share are never above the book's, and those of a whole
 //! share, which has all 2^32 parts, are the book's own. `Book::settle` compares a share with its book.
 //!
-//! The two type parameters name the ledgers, one of bytes and one of calls, that a book and its shares belong to. So
-//! a share is of its book by its type. A program opens a book in a function that is generic over both, calls that
-//! function with `Brand` for each, and hands it two `Blank`s of `ALL_PARTS` parts.
+//! The type parameter, `L: Ledgers`, names the two ledgers, one of bytes and one of calls, that a book and its shares belong
+//! to. So a share is of its book by its type. A program opens a book in a function that is generic over it, calls that
+//! function with `Brand`, and hands it two `Blank`s of `ALL_PARTS` parts.
 #![tactic(auto)]
 
 mod book;
 mod holding;
+mod ledgers;
 mod refusal;
 mod share;
 
 pub use crate::book::{Accepted, Book};
 pub use crate::holding::Holding;
+pub use crate::ledgers::{Ledgers, OfBytes, OfCalls};
 pub use crate::refusal::{BookFull, NotWhole};
 pub use crate::share::{ALL_PARTS, Share};

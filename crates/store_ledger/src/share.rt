@@ -5,9 +5,9 @@ ghost use Rattle.store_ledger.specs.Shares.{all_parts, sum_of};
 ghost use Rattle.store_ledger.specs.declared.holding.Holding.{Holding};
 
 use crate::holding::Holding;
+use crate::ledgers::{Ledgers, OfBytes, OfCalls};
 use std::marker::Model;
 use std::sync::ledger;
-use std::sync::ledger::Ledger;
 
 /// All parts of a book, and so how many a `Blank` for one has.
 pub const ALL_PARTS: u64 = 1 << 32;
@@ -15,21 +15,21 @@ pub const ALL_PARTS: u64 = 1 << 32;
 /// Some parts of a book, with the bytes and the calls that were recorded with them. It may be dropped: its parts
 /// are then lost, and no share of its book is whole again.
 #[derive(Drop)]
-pub struct Share<B: Ledger, C: Ledger> {
+pub struct Share<L: Ledgers> {
     pub(crate) holding: Holding,
-    pub(crate) byte_share: ledger::Share<B>,
-    pub(crate) call_share: ledger::Share<C>,
+    pub(crate) byte_share: ledger::Share<OfBytes<L>>,
+    pub(crate) call_share: ledger::Share<OfCalls<L>>,
 }
 
-impl<B: Ledger, C: Ledger> Model for Share<B, C> {
+impl<L: Ledgers> Model for Share<L> {
     ghost Value = { Holding };
 
     ghost view = { λ s. s.holding };
 
-    ghost invariant = { λ s. (s.byte_share.parts ≡ s.holding.parts) × (s.call_share.parts ≡ s.holding.parts) × (s.byte_share.amount ≡ s.holding.bytes) × (s.call_share.amount ≡ s.holding.calls) × (0 < s.holding.parts) × (B.parts ≡ all_parts) × (C.parts ≡ all_parts) };
+    ghost invariant = { λ s. (s.byte_share.parts ≡ s.holding.parts) × (s.call_share.parts ≡ s.holding.parts) × (s.byte_share.amount ≡ s.holding.bytes) × (s.call_share.amount ≡ s.holding.calls) × (0 < s.holding.parts) × (L.bytes_parts ≡ all_parts) × (L.calls_parts ≡ all_parts) };
 }
 
-impl<B: Ledger, C: Ledger> Share<B, C> {
+impl<L: Ledgers> Share<L> {
     /// How many of its book's parts the share has.
     pub fn parts(&self) -> u64
         ensures { result ≡ self.now.parts }
@@ -52,7 +52,7 @@ impl<B: Ledger, C: Ledger> Share<B, C> {
     }
 
     /// A new share of the same book, which takes over that many parts and has recorded nothing.
-    pub fn split(&mut self, parts: u64) -> Share<B, C>
+    pub fn split(&mut self, parts: u64) -> Share<L>
         requires some { 0 < parts }
         requires some_left { parts < self.old.parts }
         ensures new { result ≡ record { parts = parts; bytes = 0; calls = 0 } }
@@ -73,7 +73,7 @@ impl<B: Ledger, C: Ledger> Share<B, C> {
 
     /// Takes in another share of the same book. Away from the book nothing bounds the two sums, so the caller has to
     /// know that they fit; `Book::join` needs no such condition.
-    pub fn join(&mut self, other: Share<B, C>)
+    pub fn join(&mut self, other: Share<L>)
         requires bytes { self.old.bytes + other.bytes < 2 ^ 64 }
         requires calls { self.old.calls + other.calls < 2 ^ 64 }
         ensures { self.new ≡ sum_of self.old other }

@@ -24,10 +24,9 @@ use b3_core::Work;
 use b3_forest::{Follow, NoteFault, Prepared};
 use std::alloc::Global;
 use std::sync::Wait;
-use std::sync::ledger::Ledger;
 use store_board::{HandOver, TakePass, Taken, Unasked, WholePass};
 use store_core::{Address, PutRefused, UploadId};
-use store_ledger::Share;
+use store_ledger::{Ledgers, Share};
 
 // The most parts that are put at one taking of the lock while workers work.
 const MOST_IN_HAND: usize = 16;
@@ -35,10 +34,10 @@ const MOST_IN_HAND: usize = 16;
 // The store and its upload, the share that rises by what is put, what was noted of the upload's bytes, the collector's
 // own fault, and the compressions that it makes.
 #[derive(Drop)]
-pub(crate) struct Collector<'a, B: Ledger, C: Ledger> {
-    pub(crate) shared: &'a Shared<B, C>,
+pub(crate) struct Collector<'a, L: Ledgers> {
+    pub(crate) shared: &'a Shared<L>,
     pub(crate) upload: UploadId,
-    pub(crate) share: Share<B, C>,
+    pub(crate) share: Share<L>,
     pub(crate) follow: Follow<'a>,
     pub(crate) fault: Option<UploadFaultKind>,
     pub(crate) work: Work,
@@ -88,12 +87,12 @@ fn note_all(
 
 // Puts parts one after another, at one taking of the lock, until one is refused. That one is handed back, and those
 // behind it are freed after the lock is given back, as the guard is dropped before what stands above it.
-fn put_all<B: Ledger, C: Ledger, R: Wait>(
+fn put_all<L: Ledgers, R: Wait>(
     rt: &R,
-    shared: &Shared<B, C>,
+    shared: &Shared<L>,
     upload: UploadId,
     parts: Vec<Prepared>,
-    share: &mut Share<B, C>,
+    share: &mut Share<L>,
     work: &mut Work,
 ) -> Result<(), PutRefused>
     ensures ok { OnOk result (share.new ≡ holding_with share.old (map (λ p. p.part) parts.items)) }
@@ -158,7 +157,7 @@ fn take_all<R: Wait>(
     unreachable!()
 }
 
-impl<'a, B: Ledger, C: Ledger> Collector<'a, B, C> {
+impl<'a, L: Ledgers> Collector<'a, L> {
     // Notes parts, and puts them.
     fn note_and_put<R: Wait>(
         &mut self,
@@ -312,7 +311,7 @@ impl<'a, B: Ledger, C: Ledger> Collector<'a, B, C> {
     pub(crate) fn address(
         self,
         workers_fault: Option<UploadFaultKind>,
-    ) -> (Share<B, C>, Result<Address, UploadFaultKind>)
+    ) -> (Share<L>, Result<Address, UploadFaultKind>)
         ensures share { result.0 ≡ self.entry.share }
         ensures address { IfOk result.1 (λ a. (self.entry.fault ≡ None) × (a ≡ hash_of self.entry.follow.bytes) × AllNoted self.entry.follow) }
         ensures workers { OnOk result.1 (workers_fault ≡ None) }

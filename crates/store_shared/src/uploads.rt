@@ -25,12 +25,11 @@ use b3_core::{Runtime, Work};
 use b3_forest::Follow;
 use std::alloc::Global;
 use std::sync::Wait;
-use std::sync::ledger::Ledger;
 use std::thread;
 use std::thread::Threads;
 use store_board::{Board, HandOver, TakePass, Unasked};
 use store_core::{Address, Refusal, Sealed, TenantId, UploadId};
-use store_ledger::Share;
+use store_ledger::{Ledgers, Share};
 
 /// What an upload is asked for: bytes for a tenant, cut into parts of so many chunks of 1024 bytes, by so many workers, and
 /// the gate that they ask after each part.
@@ -56,13 +55,13 @@ impl<'a, G: Gate + Sync> UploadRequest<'a, G> {
     /// before those of the workers, and of these that of the worker with the least number. After a fault past the beginning
     /// all workers are joined and the upload is aborted; `left` names it only where that was refused, and it is still open.
     /// The share has risen by the parts that were accepted. It may wait, and keeps its promise if it returns.
-    pub fn upload<B: Ledger, C: Ledger, R: Threads + Wait + Sync + Runtime>(
+    pub fn upload<L: Ledgers, R: Threads + Wait + Sync + Runtime>(
         &self,
         rt: &R,
         alloc: Global,
-        shared: &Shared<B, C>,
-        share: Share<B, C>,
-    ) -> (Share<B, C>, Result<Sealed, UploadFault>)
+        shared: &Shared<L>,
+        share: Share<L>,
+    ) -> (Share<L>, Result<Sealed, UploadFault>)
         ensures { IsAnswered (G.may_stop self.now.gate.now) (G.may_fault self.now.gate.now) (G.has_passed self.now.gate.now) (record { bytes = self.now.bytes.now; part_chunks = self.now.part_chunks }) self.now.workers shared.now share result.0 result.1 }
     {
         if self.has_bad_cut(shared.workers()) {
@@ -85,17 +84,17 @@ impl<'a, G: Gate + Sync> UploadRequest<'a, G> {
 }
 
 /// Uploads bytes, as `UploadRequest::upload` does with these in its fields.
-pub fn upload<B: Ledger, C: Ledger, G: Gate + Sync, R: Threads + Wait + Sync + Runtime>(
+pub fn upload<L: Ledgers, G: Gate + Sync, R: Threads + Wait + Sync + Runtime>(
     rt: &R,
     alloc: Global,
-    shared: &Shared<B, C>,
-    share: Share<B, C>,
+    shared: &Shared<L>,
+    share: Share<L>,
     gate: &G,
     tenant: TenantId,
     bytes: &[u8],
     part_chunks: u64,
     workers: u64,
-) -> (Share<B, C>, Result<Sealed, UploadFault>)
+) -> (Share<L>, Result<Sealed, UploadFault>)
     ensures { IsAnswered (G.may_stop gate.now) (G.may_fault gate.now) (G.has_passed gate.now) (record { bytes = bytes.now; part_chunks = part_chunks }) workers shared.now share result.0 result.1 }
 {
     let request = UploadRequest {
@@ -109,13 +108,13 @@ pub fn upload<B: Ledger, C: Ledger, G: Gate + Sync, R: Threads + Wait + Sync + R
 }
 
 // Uploads what is asked for, of a good cut.
-fn upload_parts<B: Ledger, C: Ledger, G: Gate + Sync, R: Threads + Wait + Sync + Runtime>(
+fn upload_parts<L: Ledgers, G: Gate + Sync, R: Threads + Wait + Sync + Runtime>(
     rt: &R,
     alloc: Global,
-    shared: &Shared<B, C>,
-    share: Share<B, C>,
+    shared: &Shared<L>,
+    share: Share<L>,
     request: &UploadRequest<'_, G>,
-) -> (Share<B, C>, Result<Sealed, UploadFault>)
+) -> (Share<L>, Result<Sealed, UploadFault>)
     requires part_chunks { (0 < request.now.part_chunks) × (request.now.part_chunks ≤ 16384) }
     requires workers { request.now.workers ≤ 16 }
     ensures passed { OnOk result.1 ((k : ℕ) → k < count_of (record { bytes = request.now.bytes.now; part_chunks = request.now.part_chunks }) → G.has_passed request.now.gate.now k) }
@@ -138,9 +137,9 @@ fn upload_parts<B: Ledger, C: Ledger, G: Gate + Sync, R: Threads + Wait + Sync +
 }
 
 // Begins an upload.
-fn begin<B: Ledger, C: Ledger, R: Wait>(
+fn begin<L: Ledgers, R: Wait>(
     rt: &R,
-    shared: &Shared<B, C>,
+    shared: &Shared<L>,
     tenant: TenantId,
     len: u64,
 ) -> Result<UploadId, UploadFaultKind>
@@ -159,9 +158,9 @@ fn begin<B: Ledger, C: Ledger, R: Wait>(
 }
 
 // Seals a complete upload under its address. What it held is the caller's to free, without the lock.
-fn seal<B: Ledger, C: Ledger, R: Wait + Runtime>(
+fn seal<L: Ledgers, R: Wait + Runtime>(
     rt: &R,
-    shared: &Shared<B, C>,
+    shared: &Shared<L>,
     upload: UploadId,
     address: Address,
 ) -> Result<Sealed, UploadFaultKind>
@@ -176,11 +175,7 @@ fn seal<B: Ledger, C: Ledger, R: Wait + Runtime>(
 }
 
 // Tries to abort an upload, and names it where it is left open. What it held is freed after the lock is given back.
-fn abort<B: Ledger, C: Ledger, R: Wait>(
-    rt: &R,
-    shared: &Shared<B, C>,
-    upload: UploadId,
-) -> Option<UploadId> {
+fn abort<L: Ledgers, R: Wait>(rt: &R, shared: &Shared<L>, upload: UploadId) -> Option<UploadId> {
     let aborted = lent_abort(&mut *shared.lock(rt), upload);
     match aborted {
         Ok(_) | Err(Refusal::NoUpload) => None,
@@ -196,14 +191,14 @@ fn workers_for(parts: u64, most: u64) -> u64
 }
 
 // Puts all parts of an upload that was begun, and answers its address.
-fn put_parts<B: Ledger, C: Ledger, G: Gate + Sync, R: Threads + Wait + Sync + Runtime>(
+fn put_parts<L: Ledgers, G: Gate + Sync, R: Threads + Wait + Sync + Runtime>(
     rt: &R,
     alloc: Global,
-    shared: &Shared<B, C>,
-    share: Share<B, C>,
+    shared: &Shared<L>,
+    share: Share<L>,
     request: &UploadRequest<'_, G>,
     upload: UploadId,
-) -> (Share<B, C>, Result<Address, UploadFaultKind>)
+) -> (Share<L>, Result<Address, UploadFaultKind>)
     requires bytes { length request.now.bytes.now ≤ most_bytes }
     requires part_chunks { (0 < request.now.part_chunks) × (request.now.part_chunks ≤ 16384) }
     requires workers { request.now.workers ≤ 16 }
@@ -251,14 +246,14 @@ fn put_parts<B: Ledger, C: Ledger, G: Gate + Sync, R: Threads + Wait + Sync + Ru
 }
 
 // Runs all workers, and the collector beside them.
-fn work_together<B: Ledger, C: Ledger, G: Gate + Sync, R: Threads + Wait + Sync>(
+fn work_together<L: Ledgers, G: Gate + Sync, R: Threads + Wait + Sync>(
     rt: &R,
     alloc: Global,
     job: &Job<'_, G>,
     workers: Vec<Worker>,
     take_pass: TakePass,
-    collector: Collector<'_, B, C>,
-) -> (Share<B, C>, Result<Address, UploadFaultKind>)
+    collector: Collector<'_, L>,
+) -> (Share<L>, Result<Address, UploadFaultKind>)
     requires some { 0 < job.now.cut.part_chunks }
     requires workers { AreWorkersOf job.now.exchange workers.items }
     requires all { vec_len workers ≡ givers_of job.now.exchange.hand_over }
@@ -270,7 +265,7 @@ fn work_together<B: Ledger, C: Ledger, G: Gate + Sync, R: Threads + Wait + Sync>
     thread::scope(
         thread::scope_env(),
         rt,
-        move |scope| -> (Share<B, C>, Result<Address, UploadFaultKind>)
+        move |scope| -> (Share<L>, Result<Address, UploadFaultKind>)
             requires { (0 < job.now.cut.part_chunks) × AreWorkersOf job.now.exchange workers.items × (vec_len workers ≡ givers_of job.now.exchange.hand_over) × (IsTakerOf job.now.exchange.hand_over take_pass × (taken_of take_pass ≡ [])) × AreNoted job.now.cut collector.follow [] }
             ensures { IsCollected (G.may_stop job.entry.now.gate.now) (G.may_fault job.entry.now.gate.now) job.entry.now.cut collector.entry.share result.0 result.1 × OnOk result.1 ((k : ℕ) → k < count_of job.entry.now.cut → G.has_passed job.entry.now.gate.now k) }
         {
@@ -282,14 +277,14 @@ fn work_together<B: Ledger, C: Ledger, G: Gate + Sync, R: Threads + Wait + Sync>
 
 // Collects while the workers work, joins them all and collects the rest, and answers the address of all bytes, or what
 // failed.
-fn gather<'s, B: Ledger, C: Ledger, G: Gate, R: Threads + Wait>(
+fn gather<'s, L: Ledgers, G: Gate, R: Threads + Wait>(
     rt: &R,
     alloc: Global,
     job: &'s Job<'s, G>,
     crew: Crew<'s, G>,
     take_pass: TakePass,
-    collector: Collector<'_, B, C>,
-) -> (Share<B, C>, Result<Address, UploadFaultKind>)
+    collector: Collector<'_, L>,
+) -> (Share<L>, Result<Address, UploadFaultKind>)
     requires some { 0 < job.now.cut.part_chunks }
     requires handles { All (IsThreadOf job.now.cut job.now.gate.now job.now.exchange) crew.handles.items }
     requires all { IfNone crew.unstarted (vec_len crew.handles ≡ givers_of job.now.exchange.hand_over) }

@@ -4,15 +4,15 @@ ghost use Rattle.std.specs.Prelude.{◌≡◌, ◌^◌};
 
 use std::marker::Brand;
 use std::process::Abort;
-use std::sync::ledger::{Blank, Ledger};
+use std::sync::ledger::Blank;
 use std::test::Fail;
-use store_ledger::{ALL_PARTS, Accepted, Book, BookFull, NotWhole};
+use store_ledger::{ALL_PARTS, Accepted, Book, BookFull, Ledgers, NotWhole};
 
-fn share_and_book<B: Ledger, C: Ledger, R: Abort>(rt: &R, bytes: Blank, calls: Blank)
-    requires bytes { (bytes.name ≡ B.name) × (bytes.parts ≡ B.parts) × (bytes.parts ≡ 2 ^ 32) }
-    requires calls { (calls.name ≡ C.name) × (calls.parts ≡ C.parts) × (calls.parts ≡ 2 ^ 32) }
+fn share_and_book<L: Ledgers, R: Abort>(rt: &R, bytes: Blank, calls: Blank)
+    requires bytes { (bytes.name ≡ L.bytes_name) × (bytes.parts ≡ L.bytes_parts) × (bytes.parts ≡ 2 ^ 32) }
+    requires calls { (calls.name ≡ L.calls_name) × (calls.parts ≡ L.calls_parts) × (calls.parts ≡ 2 ^ 32) }
 {
-    let (mut book, mut share) = Book::<B, C>::open(bytes, calls);
+    let (mut book, mut share) = Book::<L>::open(bytes, calls);
     let mut other = share.split(3);
     let split = (share.parts(), other.parts());
     let is_recorded = book.record(&mut other, 5).is_ok();
@@ -36,14 +36,14 @@ fn share_and_book<B: Ledger, C: Ledger, R: Abort>(rt: &R, bytes: Blank, calls: B
 
 #[test]
 fn a_share_settles_once_the_other_has_joined_it(rt: HostRuntime) {
-    share_and_book::<Brand, Brand, _>(&rt, Blank::new(ALL_PARTS), Blank::new(ALL_PARTS));
+    share_and_book::<Brand, _>(&rt, Blank::new(ALL_PARTS), Blank::new(ALL_PARTS));
 }
 
-fn joined_at_the_book<B: Ledger, C: Ledger, R: Abort>(rt: &R, bytes: Blank, calls: Blank)
-    requires bytes { (bytes.name ≡ B.name) × (bytes.parts ≡ B.parts) × (bytes.parts ≡ 2 ^ 32) }
-    requires calls { (calls.name ≡ C.name) × (calls.parts ≡ C.parts) × (calls.parts ≡ 2 ^ 32) }
+fn joined_at_the_book<L: Ledgers, R: Abort>(rt: &R, bytes: Blank, calls: Blank)
+    requires bytes { (bytes.name ≡ L.bytes_name) × (bytes.parts ≡ L.bytes_parts) × (bytes.parts ≡ 2 ^ 32) }
+    requires calls { (calls.name ≡ L.calls_name) × (calls.parts ≡ L.calls_parts) × (calls.parts ≡ 2 ^ 32) }
 {
-    let (mut book, mut share) = Book::<B, C>::open(bytes, calls);
+    let (mut book, mut share) = Book::<L>::open(bytes, calls);
     let mut other = share.split(1);
     let is_recorded = book.record(&mut other, u64::MAX - 7).is_ok();
     let is_filled = book.record(&mut share, 7).is_ok();
@@ -60,7 +60,7 @@ fn joined_at_the_book<B: Ledger, C: Ledger, R: Abort>(rt: &R, bytes: Blank, call
 
 #[test]
 fn a_book_joins_its_shares_up_to_its_limit(rt: HostRuntime) {
-    joined_at_the_book::<Brand, Brand, _>(&rt, Blank::new(ALL_PARTS), Blank::new(ALL_PARTS));
+    joined_at_the_book::<Brand, _>(&rt, Blank::new(ALL_PARTS), Blank::new(ALL_PARTS));
 }
 
 #[test]

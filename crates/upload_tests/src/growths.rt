@@ -14,11 +14,11 @@ use std::alloc::{AllocError, Global};
 use std::marker::Brand;
 use std::process::Abort;
 use std::sync::Wait;
-use std::sync::ledger::{Blank, Ledger};
+use std::sync::ledger::Blank;
 use std::test::Fail;
 use std::thread::Threads;
 use store_core::{Limits, Refusal, Store, TenantId, replay};
-use store_ledger::Share;
+use store_ledger::{Ledgers, Share};
 use store_shared::{ALL_PARTS, PassAll, Shared, UploadFault, UploadFaultKind, lent_open_tenant};
 
 // Whether an upload has told want of memory and left nothing.
@@ -38,7 +38,7 @@ fn has_objects(alloc: Global, store: &Store, objects: u64) -> Result<bool, Alloc
 }
 
 // Opens a tenant, and once more where that is refused memory.
-fn open_in_the_end<B: Ledger, C: Ledger, R: Wait>(rt: &R, shared: &Shared<B, C>) {
+fn open_in_the_end<L: Ledgers, R: Wait>(rt: &R, shared: &Shared<L>) {
     let mut locked = shared.lock(rt);
     if lent_open_tenant(&mut *locked, 4098).is_err() {
         let _opened = lent_open_tenant(&mut *locked, 4098);
@@ -46,14 +46,14 @@ fn open_in_the_end<B: Ledger, C: Ledger, R: Wait>(rt: &R, shared: &Shared<B, C>)
 }
 
 // Uploads once more, after an upload that has told want of memory. Whether that one is gone and this one is sealed.
-fn uploaded_again<B: Ledger, C: Ledger, R: Threads + Wait + Sync + AllocGlobal + Runtime>(
+fn uploaded_again<L: Ledgers, R: Threads + Wait + Sync + AllocGlobal + Runtime>(
     rt: &R,
-    shared: &Shared<B, C>,
-    share: Share<B, C>,
+    shared: &Shared<L>,
+    share: Share<L>,
     fault: UploadFault,
     row: &[u8],
     workers: u64,
-) -> (Share<B, C>, Result<bool, AllocError>) {
+) -> (Share<L>, Result<bool, AllocError>) {
     let alloc = rt.alloc();
     let is_gone = has_objects(alloc, shared.lock(rt).store(), 0);
     let put = share.bytes();
@@ -79,18 +79,19 @@ fn ended<R: Abort>(
     Ok(())
 }
 
-fn sealed_in_the_end<
-    B: Ledger,
-    C: Ledger,
-    R: Threads + Wait + Sync + AllocGlobal + Runtime + Abort,
->(rt: &R, bytes: Blank, calls: Blank, workers: u64) -> Result<(), AllocError>
-    requires bytes { (bytes.name ≡ B.name) × (bytes.parts ≡ B.parts) × (bytes.parts ≡ 2 ^ 32) }
-    requires calls { (calls.name ≡ C.name) × (calls.parts ≡ C.parts) × (calls.parts ≡ 2 ^ 32) }
+fn sealed_in_the_end<L: Ledgers, R: Threads + Wait + Sync + AllocGlobal + Runtime + Abort>(
+    rt: &R,
+    bytes: Blank,
+    calls: Blank,
+    workers: u64,
+) -> Result<(), AllocError>
+    requires bytes { (bytes.name ≡ L.bytes_name) × (bytes.parts ≡ L.bytes_parts) × (bytes.parts ≡ 2 ^ 32) }
+    requires calls { (calls.name ≡ L.calls_name) × (calls.parts ≡ L.calls_parts) × (calls.parts ≡ 2 ^ 32) }
 {
     let alloc = rt.alloc();
     let input = pattern(alloc, 0, 2049)?;
     let row = input.as_slice();
-    let (shared, share) = Shared::<B, C>::new(alloc, Limits::full(), bytes, calls);
+    let (shared, share) = Shared::<L>::new(alloc, Limits::full(), bytes, calls);
     open_in_the_end(rt, &shared);
     let tenant = TenantId::new(0);
     let (share, answer) = upload_row(rt, alloc, &shared, share, &PassAll, tenant, row, 1, workers);
@@ -111,7 +112,7 @@ fn is_sealed<R: Threads + Wait + Sync + AllocGlobal + Runtime + Abort>(
     workers: u64,
 ) -> Result<(), AllocError> {
     let (bytes, calls) = (Blank::new(ALL_PARTS), Blank::new(ALL_PARTS));
-    sealed_in_the_end::<Brand, Brand, R>(rt, bytes, calls, workers)
+    sealed_in_the_end::<Brand, R>(rt, bytes, calls, workers)
 }
 
 #[test]

@@ -1,10 +1,9 @@
 //! What an upload leaves, as text.
 
 use std::alloc::{AllocError, Global};
-use std::sync::ledger::Ledger;
 use std::test::Fail;
 use store_core::{Entry, Store};
-use store_ledger::{Accepted, Share};
+use store_ledger::{Accepted, Ledgers, Share};
 use store_shared::{Locked, UploadFault};
 
 // A fault, and the upload that it leaves.
@@ -50,10 +49,10 @@ fn store_text(alloc: Global, accepted: Accepted, store: &Store) -> Result<String
 }
 
 /// What the whole share of a store settles at, what the store holds, and its journal.
-pub(crate) fn left_text<B: Ledger, C: Ledger>(
+pub(crate) fn left_text<L: Ledgers>(
     alloc: Global,
-    locked: &mut Locked<B, C>,
-    share: &mut Share<B, C>,
+    locked: &mut Locked<L>,
+    share: &mut Share<L>,
 ) -> Result<String, Fail> {
     let accepted = locked.settle(share).ok().ok_or("not whole")?;
     Ok(store_text(alloc, accepted, locked.store())?)

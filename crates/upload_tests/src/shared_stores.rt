@@ -9,12 +9,12 @@ use b3_forest::{Plan, Prepared};
 use std::marker::Brand;
 use std::process::Abort;
 use std::sync::Wait;
-use std::sync::ledger::{Blank, Ledger};
+use std::sync::ledger::Blank;
 use std::test::Fail;
 use std::thread;
 use std::thread::Threads;
 use store_core::{Address, Limits, Object, Refusal, Store, TenantId, Totals, UploadId, Usage};
-use store_ledger::{Accepted, NotWhole, Share};
+use store_ledger::{Accepted, Ledgers, NotWhole, Share};
 use store_shared::{
     ALL_PARTS, Shared, lent_abort, lent_begin, lent_begin_open, lent_fix, lent_forget,
     lent_open_tenant, lent_put, lent_seal, lent_seal_as, lent_set_limit,
@@ -33,13 +33,13 @@ fn half(rt: &(impl AllocGlobal + Runtime), offset: u64) -> Result<Prepared, Fail
 }
 
 // Puts a part under the lock. The share rises by the part's length and one call, or not at all.
-fn put_one<B: Ledger, C: Ledger, R: Wait>(
+fn put_one<L: Ledgers, R: Wait>(
     rt: &R,
-    shared: &Shared<B, C>,
-    share: Share<B, C>,
+    shared: &Shared<L>,
+    share: Share<L>,
     part: Prepared,
     work: Work,
-) -> (Share<B, C>, bool)
+) -> (Share<L>, bool)
     ensures few { (result.0.bytes < share.bytes + 2 ^ 63) × (result.0.calls ≤ share.calls + 1) }
 {
     let mut share = share;
@@ -53,10 +53,7 @@ fn put_one<B: Ledger, C: Ledger, R: Wait>(
 }
 
 // Opens a tenant, and begins an upload of two chunks.
-fn begin_two_chunks<B: Ledger, C: Ledger, R: Wait>(
-    rt: &R,
-    shared: &Shared<B, C>,
-) -> Result<(), Refusal> {
+fn begin_two_chunks<L: Ledgers, R: Wait>(rt: &R, shared: &Shared<L>) -> Result<(), Refusal> {
     let mut locked = shared.lock(rt);
     let tenant = lent_open_tenant(&mut *locked, 2048)?;
     let _ = lent_begin(&mut *locked, tenant, 2048)?;
@@ -65,29 +62,30 @@ fn begin_two_chunks<B: Ledger, C: Ledger, R: Wait>(
 
 // Two threads put a half each, with a share each, the one at `first` in the first thread. The share of each is not whole, and both
 // together settle.
-fn two_halves<
-    B: Ledger + Send + Sync,
-    C: Ledger + Send + Sync,
-    R: Threads + Wait + Sync + AllocGlobal + Runtime + Abort,
->(rt: &R, bytes: Blank, calls: Blank, first: u64) -> Result<(), Fail>
-    requires bytes { (bytes.name ≡ B.name) × (bytes.parts ≡ B.parts) × (bytes.parts ≡ 2 ^ 32) }
-    requires calls { (calls.name ≡ C.name) × (calls.parts ≡ C.parts) × (calls.parts ≡ 2 ^ 32) }
+fn two_halves<L: Ledgers + Send + Sync, R: Threads + Wait + Sync + AllocGlobal + Runtime + Abort>(
+    rt: &R,
+    bytes: Blank,
+    calls: Blank,
+    first: u64,
+) -> Result<(), Fail>
+    requires bytes { (bytes.name ≡ L.bytes_name) × (bytes.parts ≡ L.bytes_parts) × (bytes.parts ≡ 2 ^ 32) }
+    requires calls { (calls.name ≡ L.calls_name) × (calls.parts ≡ L.calls_parts) × (calls.parts ≡ 2 ^ 32) }
     requires first { first ≤ 1024 }
 {
     let one = half(rt, first)?;
     let two = half(rt, 1024 - first)?;
     let work_one = Work::new(rt);
     let work_two = Work::new(rt);
-    let (shared, mut share) = Shared::<B, C>::new(rt.alloc(), Limits::full(), bytes, calls);
+    let (shared, mut share) = Shared::<L>::new(rt.alloc(), Limits::full(), bytes, calls);
     let other = share.split(1);
     let _begun = begin_two_chunks(rt, &shared);
     let both = &shared;
     let ((mut share, done_one), (other, done_two)) = thread::join(
         rt,
-        move || -> (Share<B, C>, bool)
+        move || -> (Share<L>, bool)
             ensures { (result.0.bytes < share.bytes + 2 ^ 63) × (result.0.calls ≤ share.calls + 1) }
         { put_one(rt, both, share, one, work_one) },
-        move || -> (Share<B, C>, bool)
+        move || -> (Share<L>, bool)
             ensures { (result.0.bytes < other.bytes + 2 ^ 63) × (result.0.calls ≤ other.calls + 1) }
         { put_one(rt, both, other, two, work_two) },
     );
@@ -150,10 +148,10 @@ const BOTH: Accepted = Accepted {
 
 // Of an upload that has both halves: asks for it and seals it, asks for the object and the tenant, whose limit is then changed,
 // and forgets the object. Each time the lock is taken anew.
-fn sealed_and_forgotten<B: Ledger, C: Ledger, R: Wait + Runtime + Abort>(
+fn sealed_and_forgotten<L: Ledgers, R: Wait + Runtime + Abort>(
     rt: &R,
-    shared: &Shared<B, C>,
-    share: &mut Share<B, C>,
+    shared: &Shared<L>,
+    share: &mut Share<L>,
 )
     ensures { share.new ≡ share.old }
 {
@@ -196,16 +194,16 @@ const NOTHING: Totals = Totals {
 fn two_threads_put_a_half_each(rt: HostRuntime) -> Result<(), Fail> {
     for first in [0, 1024] {
         let (bytes, calls) = (Blank::new(ALL_PARTS), Blank::new(ALL_PARTS));
-        two_halves::<Brand, Brand, _>(&rt, bytes, calls, first)?;
+        two_halves::<Brand, _>(&rt, bytes, calls, first)?;
     }
     Ok(())
 }
 
 // Puts one of two parts, and gives the upload up. Each time the lock is taken anew.
-fn give_up<B: Ledger, C: Ledger, R: Wait + Abort>(
+fn give_up<L: Ledgers, R: Wait + Abort>(
     rt: &R,
-    shared: &Shared<B, C>,
-    share: &mut Share<B, C>,
+    shared: &Shared<L>,
+    share: &mut Share<L>,
     part: Prepared,
     work: &mut Work,
 ) {
@@ -225,10 +223,10 @@ fn give_up<B: Ledger, C: Ledger, R: Wait + Abort>(
 
 // Begins upload 1, whose length is fixed later, puts both its parts, fixes its length, which alone is reserved then, and seals it.
 // Each time the lock is taken anew.
-fn fix_and_seal<B: Ledger, C: Ledger, R: Wait + Abort>(
+fn fix_and_seal<L: Ledgers, R: Wait + Abort>(
     rt: &R,
-    shared: &Shared<B, C>,
-    share: &mut Share<B, C>,
+    shared: &Shared<L>,
+    share: &mut Share<L>,
     second: Prepared,
     first: Prepared,
     work: &mut Work,
@@ -248,20 +246,20 @@ fn fix_and_seal<B: Ledger, C: Ledger, R: Wait + Abort>(
 }
 
 // A part that was put and given up counts as accepted.
-fn one_after_another<B: Ledger, C: Ledger, R: Wait + AllocGlobal + Runtime + Abort>(
+fn one_after_another<L: Ledgers, R: Wait + AllocGlobal + Runtime + Abort>(
     rt: &R,
     bytes: Blank,
     calls: Blank,
 ) -> Result<(), Fail>
-    requires bytes { (bytes.name ≡ B.name) × (bytes.parts ≡ B.parts) × (bytes.parts ≡ 2 ^ 32) }
-    requires calls { (calls.name ≡ C.name) × (calls.parts ≡ C.parts) × (calls.parts ≡ 2 ^ 32) }
+    requires bytes { (bytes.name ≡ L.bytes_name) × (bytes.parts ≡ L.bytes_parts) × (bytes.parts ≡ 2 ^ 32) }
+    requires calls { (calls.name ≡ L.calls_name) × (calls.parts ≡ L.calls_parts) × (calls.parts ≡ 2 ^ 32) }
 {
     let alone = half(rt, 1024)?;
     let plan = Plan::open(4096).ok().ok_or("no plan")?;
     let second = chunk(rt, &plan, 1024)?;
     let first = chunk(rt, &plan, 0)?;
     let mut work = Work::new(rt);
-    let (shared, mut share) = Shared::<B, C>::new(rt.alloc(), Limits::full(), bytes, calls);
+    let (shared, mut share) = Shared::<L>::new(rt.alloc(), Limits::full(), bytes, calls);
     give_up(rt, &shared, &mut share, alone, &mut work);
     fix_and_seal(rt, &shared, &mut share, second, first, &mut work);
     let all = Accepted {
@@ -275,5 +273,5 @@ fn one_after_another<B: Ledger, C: Ledger, R: Wait + AllocGlobal + Runtime + Abo
 #[test]
 fn one_upload_is_aborted_and_the_next_is_fixed(rt: HostRuntime) -> Result<(), Fail> {
     let (bytes, calls) = (Blank::new(ALL_PARTS), Blank::new(ALL_PARTS));
-    one_after_another::<Brand, Brand, _>(&rt, bytes, calls)
+    one_after_another::<Brand, _>(&rt, bytes, calls)
 }

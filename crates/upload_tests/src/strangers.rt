@@ -9,13 +9,12 @@ use b3_forest::Plan;
 use std::alloc::Global;
 use std::process::Abort;
 use std::sync::Wait;
-use std::sync::ledger::Ledger;
 use std::test::Fail;
 use std::thread;
 use std::thread::{Parker, Threads};
 use std::time::Duration;
 use store_core::{Address, TenantId, UploadId};
-use store_ledger::Share;
+use store_ledger::{Ledgers, Share};
 use store_shared::{PassAll, Shared, lent_abort, lent_begin, lent_forget, lent_put, lent_seal};
 
 /// What the stranger does.
@@ -51,11 +50,11 @@ pub(crate) enum Outcome {
 }
 
 // Puts bytes of the pattern to an upload of all 2049.
-fn put_one<B: Ledger, C: Ledger, R: Wait + Runtime>(
+fn put_one<L: Ledgers, R: Wait + Runtime>(
     rt: &R,
     alloc: Global,
-    shared: &Shared<B, C>,
-    share: &mut Share<B, C>,
+    shared: &Shared<L>,
+    share: &mut Share<L>,
     upload: UploadId,
     offset: u64,
 ) -> bool {
@@ -70,31 +69,27 @@ fn put_one<B: Ledger, C: Ledger, R: Wait + Runtime>(
     lent_put(&mut *shared.lock(rt), share, upload, part, &mut work).is_ok()
 }
 
-fn seal_one<B: Ledger, C: Ledger, R: Wait + Runtime>(
-    rt: &R,
-    shared: &Shared<B, C>,
-    upload: UploadId,
-) -> bool {
+fn seal_one<L: Ledgers, R: Wait + Runtime>(rt: &R, shared: &Shared<L>, upload: UploadId) -> bool {
     lent_seal(&mut *shared.lock(rt), upload, &mut Work::new(rt)).is_ok()
 }
 
 /// Begins upload 0, of 2049 bytes, and puts its last.
-pub(crate) fn begin_neighbour<B: Ledger, C: Ledger, R: Wait + Runtime>(
+pub(crate) fn begin_neighbour<L: Ledgers, R: Wait + Runtime>(
     rt: &R,
     alloc: Global,
-    shared: &Shared<B, C>,
-    share: &mut Share<B, C>,
+    shared: &Shared<L>,
+    share: &mut Share<L>,
 ) {
     let _begun = lent_begin(&mut *shared.lock(rt), TenantId::new(0), 2049);
     let _put = put_one(rt, alloc, shared, share, UploadId::new(0), 2048);
 }
 
 // Files all bytes by upload 2, in one part.
-fn file_all<B: Ledger, C: Ledger, R: Wait + Runtime>(
+fn file_all<L: Ledgers, R: Wait + Runtime>(
     rt: &R,
     alloc: Global,
-    shared: &Shared<B, C>,
-    share: &mut Share<B, C>,
+    shared: &Shared<L>,
+    share: &mut Share<L>,
 ) -> bool {
     let is_begun = lent_begin(&mut *shared.lock(rt), TenantId::new(0), 2049).is_ok();
     let own = UploadId::new(2);
@@ -102,11 +97,7 @@ fn file_all<B: Ledger, C: Ledger, R: Wait + Runtime>(
 }
 
 // Keeps the lock, so that no part can be put.
-fn keeps_lock<B: Ledger, C: Ledger, R: Wait>(
-    rt: &R,
-    shared: &Shared<B, C>,
-    signal: &Signal,
-) -> bool {
+fn keeps_lock<L: Ledgers, R: Wait>(rt: &R, shared: &Shared<L>, signal: &Signal) -> bool {
     let _guard = shared.lock(rt);
     let is_released = signal.is_released();
     for _ in 0..1000 {
@@ -117,9 +108,9 @@ fn keeps_lock<B: Ledger, C: Ledger, R: Wait>(
 
 // Keeps the lock until all workers wait for room: the queue is full, and so are their hands and the collector's. Then keeps it
 // longer than the workers' waits become longer.
-fn keeps_lock_full<B: Ledger, C: Ledger, R: Wait>(
+fn keeps_lock_full<L: Ledgers, R: Wait>(
     rt: &R,
-    shared: &Shared<B, C>,
+    shared: &Shared<L>,
     signal: &Signal,
     workers: u64,
 ) -> bool {
@@ -131,7 +122,7 @@ fn keeps_lock_full<B: Ledger, C: Ledger, R: Wait>(
 }
 
 // Waits until the open uploads hold so many bytes, for at most so many turns.
-fn holds<B: Ledger, C: Ledger, R: Wait>(rt: &R, shared: &Shared<B, C>, bytes: u64) -> bool {
+fn holds<L: Ledgers, R: Wait>(rt: &R, shared: &Shared<L>, bytes: u64) -> bool {
     for _ in 0..TURNS {
         if shared.lock(rt).store().totals().held_bytes == bytes {
             return true;
@@ -142,11 +133,11 @@ fn holds<B: Ledger, C: Ledger, R: Wait>(rt: &R, shared: &Shared<B, C>, bytes: u6
 }
 
 // Does it, and then lets the gate pass all parts. What is put or filed comes behind the parts that the gate does not hold.
-fn is_done<B: Ledger, C: Ledger, R: Wait + Runtime>(
+fn is_done<L: Ledgers, R: Wait + Runtime>(
     rt: &R,
     alloc: Global,
-    shared: &Shared<B, C>,
-    share: &mut Share<B, C>,
+    shared: &Shared<L>,
+    share: &mut Share<L>,
     signal: &Signal,
     deed: Deed,
     workers: u64,
@@ -174,16 +165,16 @@ fn is_done<B: Ledger, C: Ledger, R: Wait + Runtime>(
 }
 
 /// Does it beside an upload of these bytes. What is no upload is done once the gate was asked.
-pub(crate) fn meanwhile<B: Ledger, C: Ledger, R: Threads + Wait + Sync + Runtime>(
+pub(crate) fn meanwhile<L: Ledgers, R: Threads + Wait + Sync + Runtime>(
     rt: &R,
     alloc: Global,
-    shared: &Shared<B, C>,
-    share: Share<B, C>,
+    shared: &Shared<L>,
+    share: Share<L>,
     signal: &Signal,
     deed: Deed,
     row: &[u8],
     workers: u64,
-) -> (Share<B, C>, Outcome) {
+) -> (Share<L>, Outcome) {
     if deed == Deed::Nothing {
         return (share, Outcome::Done);
     }

@@ -10,12 +10,12 @@ use b3_tests::pattern;
 use std::alloc::Global;
 use std::marker::Brand;
 use std::sync::Wait;
-use std::sync::ledger::{Blank, Ledger};
+use std::sync::ledger::Blank;
 use std::test::Fail;
 use std::thread;
 use std::thread::Threads;
 use store_core::{Limits, TenantId};
-use store_ledger::{Accepted, Share};
+use store_ledger::{Accepted, Ledgers, Share};
 use store_shared::{ALL_PARTS, Gate, Locked, Shared, UploadFault, lent_open_tenant, upload};
 
 /// A store of so many tenants, each with this limit, and with limits of its own; and an upload for the last of them of so many
@@ -47,17 +47,17 @@ pub(crate) fn three_parts(workers: u64) -> Cut {
 }
 
 /// Uploads bytes, and tells whether they were new.
-pub(crate) fn upload_row<B: Ledger, C: Ledger, G: Gate + Sync, R: Threads + Wait + Sync + Runtime>(
+pub(crate) fn upload_row<L: Ledgers, G: Gate + Sync, R: Threads + Wait + Sync + Runtime>(
     rt: &R,
     alloc: Global,
-    shared: &Shared<B, C>,
-    share: Share<B, C>,
+    shared: &Shared<L>,
+    share: Share<L>,
     gate: &G,
     tenant: TenantId,
     row: &[u8],
     part_chunks: u64,
     workers: u64,
-) -> (Share<B, C>, Result<bool, UploadFault>) {
+) -> (Share<L>, Result<bool, UploadFault>) {
     let (share, answer) = upload(
         rt,
         alloc,
@@ -76,14 +76,14 @@ pub(crate) fn upload_row<B: Ledger, C: Ledger, G: Gate + Sync, R: Threads + Wait
 }
 
 // Opens so many tenants. Where one isn't opened, the upload for it is refused by S1.
-fn open_tenants<B: Ledger, C: Ledger, R: Wait>(rt: &R, shared: &Shared<B, C>, cut: Cut) {
+fn open_tenants<L: Ledgers, R: Wait>(rt: &R, shared: &Shared<L>, cut: Cut) {
     for _ in 0..cut.tenants {
         let _opened = lent_open_tenant(&mut *shared.lock(rt), cut.limit);
     }
 }
 
 // What a share has taken in.
-fn accepted_by<B: Ledger, C: Ledger>(share: &Share<B, C>) -> Accepted {
+fn accepted_by<L: Ledgers>(share: &Share<L>) -> Accepted {
     Accepted {
         bytes: share.bytes(),
         calls: share.calls(),
@@ -91,13 +91,13 @@ fn accepted_by<B: Ledger, C: Ledger>(share: &Share<B, C>) -> Accepted {
 }
 
 // What an upload was told, and what it and the stranger left in a store whose whole share settles.
-fn beside_text<B: Ledger, C: Ledger>(
+fn beside_text<L: Ledgers>(
     alloc: Global,
     answer: Result<bool, UploadFault>,
     put: Accepted,
     outcome: Outcome,
-    locked: &mut Locked<B, C>,
-    share: &mut Share<B, C>,
+    locked: &mut Locked<L>,
+    share: &mut Share<L>,
 ) -> Result<String, Fail> {
     let beside = match outcome {
         Outcome::Refused => "the stranger refused, ",
@@ -112,8 +112,7 @@ fn beside_text<B: Ledger, C: Ledger>(
 
 /// An upload with a share of one part, and what the stranger does, who has all others.
 pub(crate) fn uploaded<
-    B: Ledger + Send + Sync,
-    C: Ledger + Send + Sync,
+    L: Ledgers + Send + Sync,
     G: Gate + Sync,
     R: Threads + Wait + Sync + AllocGlobal + Runtime,
 >(
@@ -125,14 +124,14 @@ pub(crate) fn uploaded<
     deed: Deed,
     cut: Cut,
 ) -> Result<String, Fail>
-    requires bytes { (bytes.name ≡ B.name) × (bytes.parts ≡ B.parts) × (bytes.parts ≡ 2 ^ 32) }
-    requires calls { (calls.name ≡ C.name) × (calls.parts ≡ C.parts) × (calls.parts ≡ 2 ^ 32) }
+    requires bytes { (bytes.name ≡ L.bytes_name) × (bytes.parts ≡ L.bytes_parts) × (bytes.parts ≡ 2 ^ 32) }
+    requires calls { (calls.name ≡ L.calls_name) × (calls.parts ≡ L.calls_parts) × (calls.parts ≡ 2 ^ 32) }
 {
     let alloc = rt.alloc();
     let limits = Limits::new(cut.tenants, cut.entries, cut.most_workers);
     let limits = limits.ok().ok_or("no limits")?;
     let input = pattern(alloc, 0, cut.len)?;
-    let (shared, mut other) = Shared::<B, C>::new(alloc, limits, bytes, calls);
+    let (shared, mut other) = Shared::<L>::new(alloc, limits, bytes, calls);
     let one = other.split(1);
     open_tenants(rt, &shared, cut);
     if cut.has_neighbour {
@@ -143,7 +142,7 @@ pub(crate) fn uploaded<
     let (part_chunks, workers) = (cut.part_chunks, cut.workers);
     let ((one, answer), (other, outcome)) = thread::join(
         rt,
-        move || -> (Share<B, C>, Result<bool, UploadFault>) {
+        move || -> (Share<L>, Result<bool, UploadFault>) {
             upload_row(
                 rt,
                 alloc,
@@ -156,7 +155,7 @@ pub(crate) fn uploaded<
                 workers,
             )
         },
-        move || -> (Share<B, C>, Outcome) {
+        move || -> (Share<L>, Outcome) {
             meanwhile(rt, alloc, both, other, signal, deed, row, workers)
         },
     );
@@ -177,5 +176,5 @@ pub(crate) fn left_by<R: Threads + Wait + Sync + AllocGlobal + Runtime>(
 ) -> Result<String, Fail> {
     let (bytes, calls) = (Blank::new(ALL_PARTS), Blank::new(ALL_PARTS));
     let gate = Checkpoint { rule, signal };
-    uploaded::<Brand, Brand, _, R>(rt, bytes, calls, &gate, signal, deed, cut)
+    uploaded::<Brand, _, R>(rt, bytes, calls, &gate, signal, deed, cut)
 }

@@ -1,7 +1,9 @@
 use Rattle.b3store.proofs.perform.Given as goal
 
-abbrev pub ghosts-upload-B-Ledger : goal.ghosts-upload-B-Ledger
-ghosts-upload-B-Ledger g a = record { name = a.bytes.name; parts = a.bytes.parts }
-
-abbrev pub ghosts-upload-C-Ledger : goal.ghosts-upload-C-Ledger
-ghosts-upload-C-Ledger g a = record { name = a.calls.name; parts = a.calls.parts }
+abbrev pub ghosts-upload : goal.ghosts-upload
+ghosts-upload g a = record {
+  bytes_name = a.bytes.name;
+  bytes_parts = a.bytes.parts;
+  calls_name = a.calls.name;
+  calls_parts = a.calls.parts;
+}

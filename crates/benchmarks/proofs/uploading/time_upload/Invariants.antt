@@ -1,7 +1,9 @@
 use Rattle.benchmarks.proofs.uploading.time_upload.Given as goal
 
-abbrev pub ghosts-time_one-B-Ledger : goal.ghosts-time_one-B-Ledger
-ghosts-time_one-B-Ledger g a = record { name = a.bytes.name; parts = a.bytes.parts }
-
-abbrev pub ghosts-time_one-C-Ledger : goal.ghosts-time_one-C-Ledger
-ghosts-time_one-C-Ledger g a = record { name = a.calls.name; parts = a.calls.parts }
+abbrev pub ghosts-time_one : goal.ghosts-time_one
+ghosts-time_one g a = record {
+  bytes_name = a.bytes.name;
+  bytes_parts = a.bytes.parts;
+  calls_name = a.calls.name;
+  calls_parts = a.calls.parts;
+}

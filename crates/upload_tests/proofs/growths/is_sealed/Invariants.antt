@@ -1,7 +1,9 @@
 use Rattle.upload_tests.proofs.growths.is_sealed.Given as goal
 
-abbrev pub ghosts-sealed_in_the_end-B-Ledger : goal.ghosts-sealed_in_the_end-B-Ledger
-ghosts-sealed_in_the_end-B-Ledger g a = record { name = a.bytes.name; parts = a.bytes.parts }
-
-abbrev pub ghosts-sealed_in_the_end-C-Ledger : goal.ghosts-sealed_in_the_end-C-Ledger
-ghosts-sealed_in_the_end-C-Ledger g a = record { name = a.calls.name; parts = a.calls.parts }
+abbrev pub ghosts-sealed_in_the_end : goal.ghosts-sealed_in_the_end
+ghosts-sealed_in_the_end g a = record {
+  bytes_name = a.bytes.name;
+  bytes_parts = a.bytes.parts;
+  calls_name = a.calls.name;
+  calls_parts = a.calls.parts;
+}

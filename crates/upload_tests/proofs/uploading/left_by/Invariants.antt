@@ -1,7 +1,9 @@
 use Rattle.upload_tests.proofs.uploading.left_by.Given as goal
 
-abbrev pub ghosts-uploaded-B-Ledger : goal.ghosts-uploaded-B-Ledger
-ghosts-uploaded-B-Ledger g a = record { name = a.bytes.name; parts = a.bytes.parts }
-
-abbrev pub ghosts-uploaded-C-Ledger : goal.ghosts-uploaded-C-Ledger
-ghosts-uploaded-C-Ledger g a = record { name = a.calls.name; parts = a.calls.parts }
+abbrev pub ghosts-uploaded : goal.ghosts-uploaded
+ghosts-uploaded g a = record {
+  bytes_name = a.bytes.name;
+  bytes_parts = a.bytes.parts;
+  calls_name = a.calls.name;
+  calls_parts = a.calls.parts;
+}
