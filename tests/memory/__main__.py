@@ -1,13 +1,15 @@
 """python3 tests/memory PROGRAM: shows of a built program what no contract says of memory.
 
-- A seal keeps the bytes of its parts, and copies none: what it asks of memory is the same where its parts are 64 times as long.
+- A seal keeps the bytes of its parts, and copies none; nor do a seal of what is known and a forget, which hand bytes back. What each asks
+  of memory is the same where its parts are 64 times as long.
 - A fetch shares the object: eight fetches ask for less than one of its parts has. That is shown of a test program of store_tests.
-- What is forgotten, and what an aborted upload held, is given back: some thousand rounds of either take no more memory than some
-  hundred, but for the entries of the journal.
+- What is forgotten, and what an upload held that was aborted or sealed as known, is given back: some thousand rounds of each take no more
+  memory than some hundred, but for the entries of the journal.
 
 Each script's answers are compared too. The last line is `N passed, M failed`. It needs a C compiler, `cc`.
 """
 import argparse
+import functools
 import os
 import subprocess
 import sys
@@ -63,32 +65,56 @@ def resident(program, folder, lines):
         return answers.read().decode(errors="replace").splitlines(), used.ru_maxrss * 1024
 
 
-def upload(part):
-    """The lines that put an upload of so many parts of this length, and their answers."""
+@functools.lru_cache(maxsize=None)
+def address_of_pattern(length):
+    return address_of(pattern(0, length))
+
+
+def sealed(number, word, part):
+    """The lines that put an upload of so many parts of this length and seal it, and their answers."""
     length = PARTS * part
-    lines = [f"tenant {length}", f"begin 0 {length}"] + [f"put 0 {at * part} p:{part}" for at in range(PARTS)]
+    lines = [f"begin 0 {length}"] + [f"put {number} {at * part} p:{part}" for at in range(PARTS)] + [f"seal {number}"]
     held = [f"held {at * part} missing {at * part}" for at in range(1, PARTS)]
-    return lines, ["tenant 0", "upload 0", *held, f"held {length} all"]
+    return lines, [f"upload {number}", *held, f"held {length} all", f"{word} {address_of_pattern(length)} {length}"]
 
 
-def asked_by_seal(program, library, part):
-    """How many bytes a seal asks memory for whose upload has parts of this length."""
-    lines, answers = upload(part)
-    address = address_of(pattern(0, PARTS * part))
+def scripts(part):
+    """For a seal of new bytes, a seal of known ones and a forget: the script that ends with it, and its answers."""
+    lines, answers = [f"tenant {2 * PARTS * part}"], ["tenant 0"]
+    steps = [sealed(0, "new", part), sealed(1, "known", part), ([f"forget 0 {address_of_pattern(PARTS * part)}"], ["ok"])]
+    for more, told in steps:
+        lines, answers = lines + more, answers + told
+        yield lines, answers
+
+
+def asked_by_last(program, library, lines, answers):
+    """How many bytes the last line of a script asks memory for."""
     counts = []
-    for more, told in (([], []), (["seal 0"], [f"new {address} {PARTS * part}"])):
-        script = "".join(f"{line}\n" for line in lines + more).encode()
-        found, count = counted([program, "run"], library, script)
-        if found.splitlines() != answers + told:
+    for end in (len(lines) - 1, len(lines)):
+        found, count = counted([program, "run"], library, "".join(f"{line}\n" for line in lines[:end]).encode())
+        if found.splitlines() != answers[:end]:
             raise ValueError(f"it answered {found[-200:]!r}")
         counts.append(count)
     return counts[1] - counts[0]
 
 
-def a_seal_shares_bytes(options, folder):
-    """How much more a seal of long parts asks for, and how much that may be."""
+def more_for_long_parts(options, folder, step):
+    """How much more the last line of this one of the scripts asks for where parts are long, and how much that may be."""
     library = counting(folder)
-    return asked_by_seal(options.program, library, PART) - asked_by_seal(options.program, library, 1024), 1024
+    counts = [asked_by_last(options.program, library, *list(scripts(part))[step]) for part in (PART, 1024)]
+    return counts[0] - counts[1], 1024
+
+
+def a_seal_shares_bytes(options, folder):
+    return more_for_long_parts(options, folder, 0)
+
+
+def a_seal_of_what_is_known_copies_no_bytes(options, folder):
+    return more_for_long_parts(options, folder, 1)
+
+
+def a_forget_copies_no_bytes(options, folder):
+    return more_for_long_parts(options, folder, 2)
 
 
 def a_fetch_shares_bytes(options, folder):
@@ -103,27 +129,37 @@ def a_fetch_shares_bytes(options, folder):
     return counts[1] - counts[0], PART
 
 
-def growth_of_rounds(program, folder, lines_of, answers_of):
+def growth_of_rounds(program, folder, lines_of, answers_of, left=NOTHING_LEFT):
     """How much more memory many rounds take than few, and how much that may be."""
     most = []
     for rounds in (FEW_ROUNDS, MANY_ROUNDS):
-        lines, answers = [f"tenant {PART}"], ["tenant 0"]
+        lines, answers = [f"tenant {2 * PART}"], ["tenant 0"]
         for upload in range(rounds):
             lines += lines_of(upload)
             answers += answers_of(upload)
         found, bytes_seen = resident(program, folder, lines + ["stat"])
-        if found != answers + [NOTHING_LEFT]:
+        if found != answers + [left]:
             raise ValueError(f"it answered {found[-3:]!r}")
         most.append(bytes_seen)
     return most[1] - most[0], (MANY_ROUNDS - FEW_ROUNDS) * (len(lines_of(0)) * ENTRY_BYTES)
 
 
 def what_is_forgotten_is_given_back(options, folder):
-    address = address_of(pattern(0, PART))
+    address = address_of_pattern(PART)
     return growth_of_rounds(
         options.program, folder,
         lambda at: [f"begin 0 {PART}", f"put {at} 0 p:{PART}", f"seal {at}", f"forget 0 {address}"],
         lambda at: [f"upload {at}", f"held {PART} all", f"new {address} {PART}", "ok"],
+    )
+
+
+def what_is_known_is_given_back(options, folder):
+    address = address_of_pattern(PART)
+    return growth_of_rounds(
+        options.program, folder,
+        lambda at: [f"begin 0 {PART}", f"put {at} 0 p:{PART}", f"seal {at}"],
+        lambda at: [f"upload {at}", f"held {PART} all", f"{'known' if at else 'new'} {address} {PART}"],
+        f"objects 1 bytes {PART} uploads 0 held 0 parts 0",
     )
 
 
@@ -142,7 +178,10 @@ def main():
     parser.add_argument("--program-alone", action="store_true", help="leave the test program out")
     parser.add_argument("--crates", default=CRATES, metavar="FOLDER", help="where NAME/out/NAME_tests stand")
     options, passed, failed = parser.parse_args(), 0, 0
-    tests = [a_seal_shares_bytes, what_is_forgotten_is_given_back, what_is_aborted_is_given_back]
+    tests = [
+        a_seal_shares_bytes, a_seal_of_what_is_known_copies_no_bytes, a_forget_copies_no_bytes,
+        what_is_forgotten_is_given_back, what_is_known_is_given_back, what_is_aborted_is_given_back,
+    ]
     for test in tests if options.program_alone else [*tests, a_fetch_shares_bytes]:
         name = test.__name__.replace("_", " ")
         try:
