@@ -8,8 +8,8 @@ use b3_core::{Runtime, Work};
 use b3_forest::{Plan, Prepared};
 use std::marker::Brand;
 use std::process::Abort;
-use std::sync::Wait;
 use std::sync::ledger::Blank;
+use std::sync::{Arc, Wait};
 use std::test::Fail;
 use std::thread;
 use std::thread::Threads;
@@ -116,6 +116,14 @@ fn is_pattern(object: &Object) -> bool {
     count == 2048
 }
 
+// Whether an object came back, with the bytes of the pattern of 2048.
+fn is_back(gone: Option<Arc<Object>>) -> bool {
+    match gone {
+        Some(object) => is_pattern(&object),
+        None => false,
+    }
+}
+
 // Whether the store has an upload of 2048 bytes.
 fn is_planned(store: &Store, upload: UploadId) -> bool {
     let Ok(plan) = store.plan(upload) else {
@@ -168,7 +176,8 @@ fn sealed_and_forgotten<L: Ledgers, R: Wait + Runtime + Abort>(
     let widened = usage_of(2048, 0, 4096);
     assert_eq!(rt; shared.lock(rt).store().usage(tenant), Ok(widened));
     assert_eq!(rt; shared.lock(rt).accepted(share), BOTH);
-    assert!(rt; lent_forget(&mut *shared.lock(rt), tenant, address).is_ok());
+    let forgotten = lent_forget(&mut *shared.lock(rt), tenant, address);
+    assert!(rt; forgotten.is_ok_and(is_back));
     let fetched = shared.lock(rt).store().fetch(tenant, address).err();
     assert_eq!(rt; fetched, Some(Refusal::NotHeld));
     assert_eq!(rt; shared.lock(rt).store().totals(), NOTHING);
@@ -242,7 +251,8 @@ fn fix_and_seal<L: Ledgers, R: Wait + Abort>(
     assert_eq!(rt; lent_fix(&mut *shared.lock(rt), upload, 2048), Ok(()));
     let fixed = usage_of(0, 2048, 8192);
     assert_eq!(rt; shared.lock(rt).store().usage(tenant), Ok(fixed));
-    assert!(rt; lent_seal_as(&mut *shared.lock(rt), upload, address, work).is_ok());
+    let sealed = lent_seal_as(&mut *shared.lock(rt), upload, address, work);
+    assert!(rt; sealed.is_ok_and(|sealed| sealed.released.parts() == 2));
 }
 
 // A part that was put and given up counts as accepted.

@@ -69,8 +69,23 @@ fn put_one<L: Ledgers, R: Wait + Runtime>(
     lent_put(&mut *shared.lock(rt), share, upload, part, &mut work).is_ok()
 }
 
-fn seal_one<L: Ledgers, R: Wait + Runtime>(rt: &R, shared: &Shared<L>, upload: UploadId) -> bool {
-    lent_seal(&mut *shared.lock(rt), upload, &mut Work::new(rt)).is_ok()
+fn seal_one<L: Ledgers, R: Wait + Runtime>(
+    rt: &R,
+    shared: &Shared<L>,
+    upload: UploadId,
+) -> bool {
+    let sealed = lent_seal(&mut *shared.lock(rt), upload, &mut Work::new(rt));
+    sealed.is_ok()
+}
+
+// Forgets an object for tenant 0, where it is handed back.
+fn forget_one<L: Ledgers, R: Wait>(
+    rt: &R,
+    shared: &Shared<L>,
+    address: Address,
+) -> bool {
+    let forgotten = lent_forget(&mut *shared.lock(rt), TenantId::new(0), address);
+    forgotten.is_ok_and(|gone| gone.is_some())
 }
 
 /// Begins upload 0, of 2049 bytes, and puts its last.
@@ -156,10 +171,10 @@ fn is_done<L: Ledgers, R: Wait + Runtime>(
         }
         Deed::File => holds(rt, shared, 2049) && file_all(rt, alloc, shared, share),
         Deed::FileAndForget => {
-            let (tenant, address) = (TenantId::new(0), Address::new(PATTERN_2049));
+            let address = Address::new(PATTERN_2049);
             holds(rt, shared, 2049)
                 && file_all(rt, alloc, shared, share)
-                && lent_forget(&mut *shared.lock(rt), tenant, address).is_ok()
+                && forget_one(rt, shared, address)
         }
     }
 }
