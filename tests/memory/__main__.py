@@ -50,7 +50,10 @@ def counted(words, library, data=b""):
     finally:
         os.close(tells)
     with os.fdopen(told, "rb") as pipe:
-        return run.stdout.decode(errors="replace"), int(pipe.read() or b"0")
+        count = pipe.read()
+    if not count.isdigit():
+        raise ValueError(f"it told {count[:20]!r} for a count")
+    return run.stdout.decode(errors="replace"), int(count)
 
 
 def resident(program, folder, lines):

@@ -1,9 +1,10 @@
 /* Counts the bytes that the process that it is preloaded into asks memory for, and writes the sum in decimal digits, when the
-   process ends, to the file descriptor in COUNTED_TOLD. */
+   process ends by `exit` or `_exit`, to the file descriptor in COUNTED_TOLD. */
 #include <stdatomic.h>
 #include <stddef.h>
 #include <stdio.h>
 #include <stdlib.h>
+#include <sys/syscall.h>
 #include <unistd.h>
 
 extern void *__libc_malloc(size_t);
@@ -13,14 +14,27 @@ extern void *__libc_memalign(size_t, size_t);
 
 static atomic_ulong counted;
 
-__attribute__((destructor)) static void tell(void) {
+static int is_told(void) {
     const char *descriptor = getenv("COUNTED_TOLD");
     char digits[32];
     int length = snprintf(digits, sizeof digits, "%lu", atomic_load(&counted));
-    if (descriptor == NULL || write(atoi(descriptor), digits, length) != length) {
-        _exit(99);
+    return descriptor != NULL && write(atoi(descriptor), digits, length) == length;
+}
+
+static _Noreturn void end(int status) {
+    for (;;) {
+        syscall(SYS_exit_group, status);
     }
 }
+
+__attribute__((destructor)) static void tell(void) {
+    if (!is_told()) {
+        end(99);
+    }
+}
+
+/* No destructor runs where a process ends by this. */
+_Noreturn void _exit(int status) { end(is_told() ? status : 99); }
 
 void *malloc(size_t size) { return atomic_fetch_add(&counted, size), __libc_malloc(size); }
 
