@@ -69,21 +69,13 @@ fn put_one<L: Ledgers, R: Wait + Runtime>(
     lent_put(&mut *shared.lock(rt), share, upload, part, &mut work).is_ok()
 }
 
-fn seal_one<L: Ledgers, R: Wait + Runtime>(
-    rt: &R,
-    shared: &Shared<L>,
-    upload: UploadId,
-) -> bool {
+fn seal_one<L: Ledgers, R: Wait + Runtime>(rt: &R, shared: &Shared<L>, upload: UploadId) -> bool {
     let sealed = lent_seal(&mut *shared.lock(rt), upload, &mut Work::new(rt));
     sealed.is_ok()
 }
 
 // Forgets an object for tenant 0, where it is handed back.
-fn forget_one<L: Ledgers, R: Wait>(
-    rt: &R,
-    shared: &Shared<L>,
-    address: Address,
-) -> bool {
+fn forget_one<L: Ledgers, R: Wait>(rt: &R, shared: &Shared<L>, address: Address) -> bool {
     let forgotten = lent_forget(&mut *shared.lock(rt), TenantId::new(0), address);
     forgotten.is_ok_and(|gone| gone.is_some())
 }
