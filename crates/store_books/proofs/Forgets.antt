@@ -1,5 +1,5 @@
 -- Books without what parts and objects are.
-use Rattle.std.proofs.Common.{◌≡◌, ◌∙◌, ◌+◌, ◌-◌, ℕ, Bool, true, false, List, [], ◌∷◌, ◌++◌, Option, Some, None, refl, ap, ap₂, sym, map, inl, inr}
+use Rattle.std.proofs.Common.{◌≡◌, ◌∙◌, ◌+◌, ◌-◌, ℕ, List, [], ◌∷◌, Option, Some, None, refl, ap, ap₂, sym, map, inl, inr}
 use Rattle.std.specs.Prelude.{◌==◌, ◌&&◌, ◌||◌, if◌then◌else◌, is_some, max, nat_lt, not, option_map, sum_by, unwrap_or}
 use Rattle.std.specs.BTreeMap.{insert_entry}
 use Rattle.std.specs.Map.{lookup, remove_entry, set_value, values_of}
@@ -19,13 +19,12 @@ use Rattle.store_upload.specs.declared.refusal.FixFault.{FixFault}
 use Rattle.store_upload.specs.declared.refusal.AddFault.TheVariants.{Overlap, PastLast}
 use Rattle.store_upload.specs.declared.refusal.FinishFault.TheVariants.{Incomplete, NotFixed}
 use Rattle.store_upload.specs.declared.refusal.FixFault.TheVariants as fix
-use Rattle.store_upload.specs.Uploads.{Upload, UploadPlan, ends_elsewhere, finish_refusal, first_gap, fix_refusal, is_ragged, last_end, length_of, most_bytes, new_upload, overlap_at, overlaps, place_refusal, with_more}
-use Rattle.store_books.specs.Books.{Begun, Books, Filed, addressed, free_of, in_use, is_absent, is_held_by, is_number, limit_of, most_limit, object_among, object_at, reserved_by, reserved_of, upload_at, use_by, use_of}
+use Rattle.store_upload.specs.Uploads.{Upload, finish_refusal, first_gap, fix_refusal, is_ragged, last_end, length_of, most_bytes, new_upload, overlap_at, overlaps, place_refusal, with_more}
+use Rattle.store_books.specs.Books.{Begun, Books, Filed, addressed, in_use, is_absent, is_held_by, is_number, limit_of, most_limit, object_among, object_at, reserved_by, reserved_of, upload_at, use_by, use_of}
 use Rattle.store_books.specs.Commands.{add_refused, finish_refused, fix_refused, full_refusal, join_refusal, with_begun, with_end, with_holder, with_holders, with_known, with_left, with_new, with_part, without_holder}
 use Rattle.store_books.specs.Forgetting.{Forgets, SeesCommands, SeesRefusals, bare, bare_begun, bare_object, bare_upload, label_of}
-use Rattle.store_books.specs.Replay.{Bare, as_it_is, label_address, label_len}
-use Rattle.store_books.proofs.AddressedObjects.{all_addressed, readdressed}
-use Rattle.store_books.proofs.Lists.{removed_seen, seen, set_seen}
+use Rattle.store_books.specs.Bare.{Bare, as_it_is, label_address, label_len}
+use Rattle.store_books.proofs.Lists.{removed_seen, seen, set_seen, sum_values_seen}
 
 pub inserted_seen : {X Y : Type 0} (f : X → Y) (es : List (ℕ × X)) (k : ℕ) (v : X) → seen f (insert_entry nat_cmp es k v) ≡ insert_entry nat_cmp (seen f es) k (f v)
 inserted_seen f [] k v = refl
@@ -36,10 +35,6 @@ inserted_seen f (e ∷ es) k v = elim (cases_lt k e.0) [
     | inr apart ↦ rw (le-ltb k e.0 more, ne_eqb k e.0 apart) (ap (λ xs. (e.0, f e.1) ∷ xs) (inserted_seen f es k v))
   ]
 ]
-
-sum_values_seen : {K X Y : Type 0} (f : X → Y) (g : Y → ℕ) (h : X → ℕ) → ((x : X) → g (f x) ≡ h x) → (es : List (K × X)) → sum_by g (values_of (seen f es)) ≡ sum_by h (values_of es)
-sum_values_seen f g h same [] = refl
-sum_values_seen f g h same (e ∷ es) = sum_by-cons g (f e.1) (values_of (seen f es)) ∙ ap₂ (λ (m n : ℕ). m + n) (same e.1) (sum_values_seen f g h same es) ∙ sym (sum_by-cons h e.1 (values_of es))
 
 sum_list_seen : {X Y : Type 0} (f : X → Y) (g : Y → ℕ) (h : X → ℕ) → ((x : X) → g (f x) ≡ h x) → (xs : List X) → sum_by g (map f xs) ≡ sum_by h xs
 sum_list_seen f g h same [] = refl

@@ -11,5 +11,4 @@ pub mod Sums
 pub mod Commands
 pub mod NewTenant
 pub mod Objects
-pub mod Replays
 pub mod Forgets

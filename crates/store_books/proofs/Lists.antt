@@ -1,5 +1,5 @@
 -- Lists of entries whose values are seen another way, and what holds of each.
-use Rattle.std.proofs.Common.{◌≡◌, ◌∙◌, ◌+◌, ℕ, Bool, true, false, List, [], ◌∷◌, ◌++◌, Some, refl, ap, sym, map, cond, subst}
+use Rattle.std.proofs.Common.{◌≡◌, ◌∙◌, ◌+◌, ℕ, Bool, true, false, List, [], ◌∷◌, ◌++◌, Some, refl, ap, ap₂, sym, map, cond, subst}
 use Rattle.std.specs.Prelude.{Option, sum_by, unwrap_or}
 use Rattle.std.specs.List.{AllByRecursion}
 use Rattle.std.specs.Map.{lookup, remove_entry, set_value, values_of}
@@ -34,6 +34,10 @@ set_seen f test (e ∷ es) w = set_step f (test e.0) e w es (set_value test es w
 pub sum_seen : {X Y : Type 0} (g : Y → ℕ) (f : X → Y) (xs : List X) → sum_by g (map f xs) ≡ sum_by (λ x. g (f x)) xs
 sum_seen g f [] = refl
 sum_seen g f (x ∷ xs) = sum_by-cons g (f x) (map f xs) ∙ ap (λ n. g (f x) + n) (sum_seen g f xs) ∙ sym (sum_by-cons (λ y. g (f y)) x xs)
+
+pub sum_values_seen : {K X Y : Type 0} (f : X → Y) (g : Y → ℕ) (h : X → ℕ) → ((x : X) → g (f x) ≡ h x) → (es : List (K × X)) → sum_by g (values_of (seen f es)) ≡ sum_by h (values_of es)
+sum_values_seen f g h same [] = refl
+sum_values_seen f g h same (e ∷ es) = sum_by-cons g (f e.1) (values_of (seen f es)) ∙ ap₂ (λ (m n : ℕ). m + n) (same e.1) (sum_values_seen f g h same es) ∙ sym (sum_by-cons h e.1 (values_of es))
 
 -- ---- what holds of each
 

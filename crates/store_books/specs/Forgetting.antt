@@ -1,10 +1,9 @@
 -- Books without what parts and objects are: of parts their lengths are left, of objects their addresses and their lengths.
-use Rattle.std.specs.Prelude.{◌≡◌, ℕ, List, Option, map}
+use Rattle.std.specs.Prelude.{◌≡◌, ℕ, List, map}
 use Rattle.store_books.specs.declared.content.ObjectLabel.{ObjectLabel}
-use Rattle.store_books.specs.declared.refusal.Refusal.{Refusal}
 use Rattle.store_books.specs.Books.{Begun, Books, Filed}
 use Rattle.store_books.specs.Commands.{abort_refusal, begin_refusal, end_refusal, file_refusal, forget_refusal, limit_refusal, put_refusal, ready_refusal, tenant_refusal, with_begun, with_filed, with_fixed, with_forgotten, with_joined, with_limit, with_put, with_tenant, without_upload}
-use Rattle.store_books.specs.Replay.{Bare, as_it_is, label_address, label_len}
+use Rattle.store_books.specs.Bare.{Bare, as_it_is, label_address, label_len}
 use Rattle.store_upload.specs.Uploads.{Upload, UploadPlan}
 
 module _ {P : Type 0} (len : P → ℕ) where

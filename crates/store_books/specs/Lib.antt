@@ -5,5 +5,5 @@ pub mod Refusals
 pub mod Totals
 pub mod Catalog
 pub mod Kept
-pub mod Replay
+pub mod Bare
 pub mod Forgetting

@@ -2,6 +2,7 @@
 
 ghost use Rattle.std.specs.Prelude.{◌≡◌, ◌+◌, ◌<◌, ◌∷◌, ◌++◌, [], false, ℕ, List, None, Some, IfNone, IfOk, IfSome, IsSome, OnErr, OnOk, length, nat_le, true, if◌then◌else◌};
 ghost use Rattle.std.specs.BTreeMap.{WritesThrough, get};
+ghost use Rattle.std.specs.Map.{values_of};
 ghost use Rattle.std.specs.Option.{option_map};
 ghost use Rattle.std.specs.Ordering.{nat_cmp};
 ghost use Rattle.store_books.specs.Books.{Filed as Item, is_held_by, most_entries, object_among};
@@ -15,6 +16,7 @@ use crate::filed::FiledObject;
 use crate::index::AddressIndex;
 use crate::known::Known;
 use std::alloc::{AllocError, Global};
+use std::collections::btree_map::Values;
 use std::collections::{BTreeMap, BTreeSet};
 use std::marker::Model;
 
@@ -58,6 +60,13 @@ impl<O: Content, I: AddressIndex> Catalog<O, I> {
         ensures { result ≡ length self.now.objects }
     {
         self.filed.len() as u64
+    }
+
+    /// The objects, in filing order.
+    pub(crate) fn iter(&self) -> Values<'_, u64, FiledObject<O>>
+        ensures { values_of result ≡ self.now.objects }
+    {
+        self.filed.values()
     }
 
     // The object of the address.

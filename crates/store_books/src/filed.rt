@@ -10,9 +10,9 @@ use crate::holders;
 use std::alloc::{AllocError, Global};
 use std::marker::Model;
 
-// An object, and the numbers of the tenants that hold it, in rising order.
+/// A filed object, and the numbers of the tenants that hold it, in rising order.
 #[derive(Drop)]
-pub(crate) struct FiledObject<O: Content> {
+pub struct FiledObject<O: Content> {
     content: O,
     holders: Vec<u64>,
 }
@@ -40,7 +40,7 @@ impl<O: Content> FiledObject<O> {
     }
 
     /// The object.
-    pub(crate) fn content(&self) -> &O
+    pub fn content(&self) -> &O
         ensures { result.now ≡ self.now.1.content }
     {
         &self.content
@@ -55,21 +55,21 @@ impl<O: Content> FiledObject<O> {
     }
 
     /// The object's address.
-    pub(crate) fn address(&self) -> Address
+    pub fn address(&self) -> Address
         ensures { result ≡ O.address self.now.1.content }
     {
         self.content.address()
     }
 
     /// The object's length in bytes.
-    pub(crate) fn length(&self) -> u64
+    pub fn length(&self) -> u64
         ensures { result ≡ O.size self.now.1.content }
     {
         self.content.length()
     }
 
-    /// The numbers of its holders.
-    pub(crate) fn holders(&self) -> &[u64]
+    /// The numbers of the tenants that hold it, in rising order.
+    pub fn holders(&self) -> &[u64]
         ensures { result.now ≡ self.now.1.holders }
     {
         self.holders.as_slice()

@@ -1,14 +1,18 @@
 //! Questions.
 
-ghost use Rattle.std.specs.Prelude.{◌≡◌, IfErr, IfOk, IfSome};
+ghost use Rattle.std.specs.Prelude.{◌≡◌, IfOk, slice_get};
+ghost use Rattle.std.specs.Map.{values_of};
 ghost use Rattle.store_books.specs.Questions.{listed, usage_in};
 
 use crate::address::Address;
+use crate::begun::BegunUpload;
 use crate::books::{Books, Usage};
 use crate::content::Content;
+use crate::filed::FiledObject;
 use crate::index::AddressIndex;
 use crate::refusal::Refusal;
 use std::alloc::{AllocError, Global};
+use std::collections::btree_map::{Iter, Values};
 use store_upload::HeldParts;
 
 impl<H: HeldParts, O: Content, I: AddressIndex> Books<H, O, I> {
@@ -25,6 +29,27 @@ impl<H: HeldParts, O: Content, I: AddressIndex> Books<H, O, I> {
             reserved: found.reserved,
             limit: found.limit,
         })
+    }
+
+    /// A tenant's limit in bytes; none where there is no such tenant.
+    pub fn limit(&self, tenant: u64) -> Option<u64>
+        ensures { result ≡ slice_get self.now.limits tenant }
+    {
+        self.tenants.get(tenant as usize).map(|found| found.limit)
+    }
+
+    /// The objects, in filing order.
+    pub fn objects(&self) -> Values<'_, u64, FiledObject<O>>
+        ensures { values_of result ≡ self.now.objects }
+    {
+        self.catalog.iter()
+    }
+
+    /// The open uploads with their numbers, by number.
+    pub fn uploads(&self) -> Iter<'_, u64, BegunUpload<H>>
+        ensures { result ≡ self.now.uploads }
+    {
+        self.uploads.iter()
     }
 
     /// Addresses and lengths of the objects that a tenant holds, in filing order.
