@@ -108,7 +108,7 @@ whole_of end ps now es view is all =
 
 -- ---- an upload that takes a part
 
-same_plan_is : (p q : UploadPlan) → same_plan p q ≡ true → p ≡ q
+pub same_plan_is : (p q : UploadPlan) → same_plan p q ≡ true → p ≡ q
 same_plan_is p q same =
     elim (bool_cases (p.bound == q.bound)) [
       | inr other ↦ let bad : same_plan p q ≡ false = rw other refl in cc

@@ -49,6 +49,13 @@ impl Forest {
         }
     }
 
+    /// The forest of an open upload.
+    pub fn of(upload: Open<HashedParts>) -> Forest
+        ensures { result ≡ upload }
+    {
+        Forest { open: upload }
+    }
+
     /// The plan of the upload, which never changes.
     pub fn plan(&self) -> Plan
         ensures value { result ≡ self.now.plan }
@@ -197,9 +204,19 @@ impl Forest {
     {
         match self.open.finish_fault() {
             Some(fault) => Err(fault),
-            None => Ok(self.open.parts().top(work)),
+            None => Ok(top_of(&self.open, work)),
         }
     }
+}
+
+/// The top of the tree over the whole content of a complete upload. It makes two compressions for each piece after the first.
+pub fn top_of(upload: &Open<HashedParts>, work: &mut Work) -> Top
+    requires { finish_refusal length upload.now ≡ None }
+    ensures top { result ≡ tree_top (content_of upload.now.parts) 0 hash_mode }
+    ensures len { length (content_of upload.now.parts) ≡ length_of upload.now }
+    ensures count { work.new ≡ counted work.old (finish_work upload.now.parts) }
+{
+    upload.parts().top(work)
 }
 
 /// How many parts and bytes are held, and the upload's length.

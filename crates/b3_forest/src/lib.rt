@@ -33,7 +33,7 @@ mod shared_bytes;
 mod subtrees;
 
 pub use follow::Follow;
-pub use forest::Forest;
+pub use forest::{Forest, top_of};
 pub use gap::Gap;
 pub use hashed_parts::HashedParts;
 pub use laws::forest_laws;

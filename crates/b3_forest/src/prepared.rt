@@ -138,7 +138,7 @@ impl Prepared {
     }
 
     /// The part's bytes, which fit its plan.
-    pub(crate) fn fitting(&self) -> &[u8]
+    pub fn fitting(&self) -> &[u8]
         ensures bytes { result.now ≡ self.now.part.bytes }
         ensures fits { Fits self.now.plan self.now.part.offset (length self.now.part.bytes) }
         ensures most { self.now.plan.bound ≤ most_bytes }

@@ -25,6 +25,11 @@ pub passed : {X : Type 0} (b : Bool) (x : X) (rest : Option X) → (if b then So
 passed true x rest h = absurd (not_some x (sym h))
 passed false x rest h = (refl, h)
 
+-- nor is what passed both of two
+pub both : {X : Type 0} (o rest : Option X) → option_or o rest ≡ None → (o ≡ None) × (rest ≡ None)
+both None rest h = (refl, h)
+both (Some x) rest h = absurd (not_some x (sym h))
+
 -- and neither of two
 pub neither : {X Y : Type 0} (f : X → Y) (o : Option X) (rest : Option Y) → option_or (option_map f o) rest ≡ None → (o ≡ None) × (rest ≡ None)
 neither f None rest h = (refl, h)

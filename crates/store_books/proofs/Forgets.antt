@@ -1,5 +1,5 @@
 -- Books without what parts and objects are.
-use Rattle.std.proofs.Common.{◌≡◌, ◌∙◌, ◌+◌, ◌-◌, ℕ, List, [], ◌∷◌, Option, Some, None, refl, ap, ap₂, sym, map, inl, inr}
+use Rattle.std.proofs.Common.{◌≡◌, ◌∙◌, ◌+◌, ◌-◌, ℕ, List, [], ◌∷◌, Option, Some, None, refl, ap, ap₂, sym, map, inl, inr, length}
 use Rattle.std.specs.Prelude.{◌==◌, ◌&&◌, ◌||◌, if◌then◌else◌, is_some, max, nat_lt, not, option_map, sum_by, unwrap_or}
 use Rattle.std.specs.BTreeMap.{insert_entry}
 use Rattle.std.specs.Map.{lookup, remove_entry, set_value, values_of}
@@ -7,7 +7,7 @@ use Rattle.std.specs.Option.{option_map_or, option_or}
 use Rattle.std.specs.Ordering.{nat_cmp}
 use Rattle.std.specs.Str.{bytes_eq}
 use Rattle.std.proofs.lemmas.Bool.{cases_Bool, cases_eq, cases_lt, eq-eqb, le-ltb, lt-ltb, ne_eqb}
-use Rattle.std.proofs.lemmas.List.{map-append}
+use Rattle.std.proofs.lemmas.List.{length-map, map-append}
 use Rattle.std.proofs.lemmas.List.Sums.{sum_by-cons}
 use Rattle.std.proofs.lemmas.Map.Made.{lookup-map_values}
 use Rattle.store_books.specs.declared.content.ObjectLabel.{ObjectLabel}
@@ -19,8 +19,8 @@ use Rattle.store_upload.specs.declared.refusal.FixFault.{FixFault}
 use Rattle.store_upload.specs.declared.refusal.AddFault.TheVariants.{Overlap, PastLast}
 use Rattle.store_upload.specs.declared.refusal.FinishFault.TheVariants.{Incomplete, NotFixed}
 use Rattle.store_upload.specs.declared.refusal.FixFault.TheVariants as fix
-use Rattle.store_upload.specs.Uploads.{Upload, finish_refusal, first_gap, fix_refusal, is_ragged, last_end, length_of, most_bytes, new_upload, overlap_at, overlaps, place_refusal, with_more}
-use Rattle.store_books.specs.Books.{Begun, Books, Filed, addressed, in_use, is_absent, is_held_by, is_number, limit_of, most_limit, object_among, object_at, reserved_by, reserved_of, upload_at, use_by, use_of}
+use Rattle.store_upload.specs.Uploads.{Upload, finish_refusal, first_gap, fix_refusal, held_bytes, is_ragged, last_end, length_of, most_bytes, new_upload, overlap_at, overlaps, place_refusal, with_more}
+use Rattle.store_books.specs.Books.{Begun, Books, Filed, addressed, in_use, is_absent, is_held_by, is_number, limit_of, most_limit, object_among, object_at, reserved_by, reserved_of, totals_of, upload_at, use_by, use_of}
 use Rattle.store_books.specs.Commands.{add_refused, finish_refused, fix_refused, full_refusal, join_refusal, with_begun, with_end, with_holder, with_holders, with_known, with_left, with_new, with_part, without_holder}
 use Rattle.store_books.specs.Forgetting.{Forgets, SeesCommands, SeesRefusals, bare, bare_begun, bare_object, bare_upload, label_of}
 use Rattle.store_books.specs.Bare.{Bare, as_it_is, label_address, label_len}
@@ -137,10 +137,10 @@ module _ {P O : Type 0} (len : P → ℕ) (size : O → ℕ) (address : O → Li
   in_use_same : (b : Books P O) (t : ℕ) → in_use label_len (bare len size address b) t ≡ in_use size b t
   in_use_same b t = ap₂ (λ (x y : ℕ). x + y) (used_same b t) (reserved_same b t)
 
-  upload_same : (b : Books P O) (number : ℕ) → upload_at (bare len size address b) number ≡ option_map (bare_begun len) (upload_at b number)
+  pub upload_same : (b : Books P O) (number : ℕ) → upload_at (bare len size address b) number ≡ option_map (bare_begun len) (upload_at b number)
   upload_same b number = lookup-map_values (bare_begun len) (is_number number) b.uploads
 
-  object_same : (b : Books P O) (at : List ℕ) → object_at label_address (bare len size address b) at ≡ option_map (bare_object size address) (object_at address b at)
+  pub object_same : (b : Books P O) (at : List ℕ) → object_at label_address (bare len size address b) at ≡ option_map (bare_object size address) (object_at address b at)
   object_same b at = among_seen size address b.objects at
 
   abbrev limit_by : Books P O → ℕ → ℕ → ℕ → Option Refusal
@@ -158,13 +158,13 @@ module _ {P O : Type 0} (len : P → ℕ) (size : O → ℕ) (address : O → Li
   join_same b u None = refl
   join_same b u (Some o) = ap (join_by b u o) (in_use_same b u.tenant)
 
-  held_same : (b : Books P O) (t : ℕ) (f : Option (Filed O)) → option_map_or (λ (o : Filed ObjectLabel). if is_held_by t o then full_refusal b else Some NotHeld) (option_map (bare_object size address) f) (Some NotHeld)
-      ≡ option_map_or (λ (o : Filed O). if is_held_by t o then full_refusal b else Some NotHeld) f (Some NotHeld)
+  held_same : (b : Books P O) (t : ℕ) (f : Option (Filed O)) → option_map_or (λ (o : Filed ObjectLabel). if is_held_by t o then None else Some NotHeld) (option_map (bare_object size address) f) (Some NotHeld)
+      ≡ option_map_or (λ (o : Filed O). if is_held_by t o then None else Some NotHeld) f (Some NotHeld)
   held_same b t None = refl
   held_same b t (Some o) = refl
 
   abbrev held_by : Books P O → ℕ → Option Refusal → Option Refusal
-  held_by b t rest = if is_absent b t then Some NoTenant else rest
+  held_by b t rest = option_or (if is_absent b t then Some NoTenant else rest) (full_refusal b)
 
   sees_refusals : (b : Books P O) → SeesRefusals len size address b
   sees_refusals b = record {
@@ -196,7 +196,7 @@ module _ {P O : Type 0} (len : P → ℕ) (size : O → ℕ) (address : O → Li
         let h : Begun P → Option Refusal = λ u. full_refusal b in
         ap (λ (o : Option (Begun ℕ)). option_map_or g o (Some NoUpload)) (upload_same b number) ∙ on_seen (bare_begun len) g h (λ u. refl) (upload_at b number);
     forget = λ t at.
-        ap (held_by b t) (ap (λ (f : Option (Filed ObjectLabel)). option_map_or (λ (o : Filed ObjectLabel). if is_held_by t o then full_refusal b else Some NotHeld) f (Some NotHeld)) (object_same b at) ∙ held_same b t (object_at address b at));
+        ap (held_by b t) (ap (λ (f : Option (Filed ObjectLabel)). option_map_or (λ (o : Filed ObjectLabel). if is_held_by t o then None else Some NotHeld) f (Some NotHeld)) (object_same b at) ∙ held_same b t (object_at address b at));
   }
 
   -- ---- what commands leave
@@ -253,5 +253,19 @@ module _ {P O : Type 0} (len : P → ℕ) (size : O → ℕ) (address : O → Li
     forget = λ t at. left_same b t at (object_at address b at) ∙ ap (with_left label_address (bare len size address b) t at) (sym (object_same b at));
   }
 
+  -- ---- totals
+
+  held_bytes_same : (ps : List (ℕ × P)) → held_bytes as_it_is (spans len ps) ≡ held_bytes len ps
+  held_bytes_same ps = sum_values_seen len as_it_is len (λ p. refl) ps
+
+  sees_totals : (b : Books P O) → totals_of as_it_is label_len (bare len size address b) ≡ totals_of len size b
+  sees_totals b = λ i. record {
+    objects = length-map {B = Filed ObjectLabel} b.objects (bare_object size address) i;
+    object_bytes = sum_list_seen (bare_object size address) (λ (o : Filed ObjectLabel). label_len o.content) (λ (o : Filed O). size o.content) (λ o. refl) b.objects i;
+    uploads = length-map {B = ℕ × Begun ℕ} b.uploads (λ (e : ℕ × Begun P). (e.0, bare_begun len e.1)) i;
+    held_bytes = sum_values_seen (bare_begun len) (λ (u : Begun ℕ). held_bytes as_it_is u.upload.parts) (λ (u : Begun P). held_bytes len u.upload.parts) (λ u. held_bytes_same u.upload.parts) b.uploads i;
+    parts = sum_values_seen (bare_begun len) (λ (u : Begun ℕ). length u.upload.parts) (λ (u : Begun P). length u.upload.parts) (λ u. length-map {B = ℕ × ℕ} u.upload.parts (λ (p : ℕ × P). (p.0, len p.1))) b.uploads i;
+  }
+
   pub forgets : Forgets len size address
-  forgets = record { refusals = sees_refusals; commands = sees_commands }
+  forgets = record { refusals = sees_refusals; commands = sees_commands; totals = sees_totals }

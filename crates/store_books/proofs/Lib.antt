@@ -12,3 +12,4 @@ pub mod Commands
 pub mod NewTenant
 pub mod Objects
 pub mod Forgets
+pub mod Staying

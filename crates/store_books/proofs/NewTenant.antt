@@ -35,7 +35,7 @@ nothing_used size n (o ∷ os) h =
     sum_by-cons (use_by size n) o os ∙ ap₂ (λ (x y : ℕ). x + y) (ap (λ (t : Bool). cond t (size o.content) 0) (not_among n o.holders h.0.tenants)) (nothing_used size n os h.1)
 
 module _ {P O : Type 0} (len : P → ℕ) (size : O → ℕ) (address : O → List ℕ) where
-  all_tenants : (b : Books P O) (limit : ℕ) → tenant_refusal b limit ≡ None → AreSound len size address b → AreSound len size address (with_tenant b limit)
+  pub all_tenants : (b : Books P O) (limit : ℕ) → tenant_refusal b limit ≡ None → AreSound len size address b → AreSound len size address (with_tenant b limit)
   all_tenants b limit free old =
       let full = passed (nat_le b.tenants (length b.limits)) TenantsFull _ free in
       let large = passed (nat_lt most_limit limit) LimitTooLarge _ full.1 in

@@ -182,11 +182,11 @@ module _ {P O : Type 0} (address : O → List ℕ) where
   abbrev pub with_forgotten : Books P O → ℕ → List ℕ → Books P O
   with_forgotten b tenant at = with_left b tenant at (object_at address b at)
 
-  -- what speaks against a call on the object of the address that the tenant holds
-  abbrev pub on_held : Books P O → ℕ → List ℕ → (Filed O → Option Refusal) → Option Refusal
-  on_held b tenant at rest =
+  -- what speaks against a question on the object of the address that the tenant holds
+  abbrev pub holding_refusal : Books P O → ℕ → List ℕ → Option Refusal
+  holding_refusal b tenant at =
       if is_absent b tenant then Some NoTenant
-      else option_map_or (λ o. if is_held_by tenant o then rest o else Some NotHeld) (object_at address b at) (Some NotHeld)
+      else option_map_or (λ o. if is_held_by tenant o then None else Some NotHeld) (object_at address b at) (Some NotHeld)
 
   abbrev pub forget_refusal : Books P O → ℕ → List ℕ → Option Refusal
-  forget_refusal b tenant at = on_held b tenant at (λ o. full_refusal b)
+  forget_refusal b tenant at = option_or (holding_refusal b tenant at) (full_refusal b)

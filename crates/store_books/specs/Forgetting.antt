@@ -1,7 +1,7 @@
 -- Books without what parts and objects are: of parts their lengths are left, of objects their addresses and their lengths.
 use Rattle.std.specs.Prelude.{◌≡◌, ℕ, List, map}
 use Rattle.store_books.specs.declared.content.ObjectLabel.{ObjectLabel}
-use Rattle.store_books.specs.Books.{Begun, Books, Filed}
+use Rattle.store_books.specs.Books.{Begun, Books, Filed, totals_of}
 use Rattle.store_books.specs.Commands.{abort_refusal, begin_refusal, end_refusal, file_refusal, forget_refusal, limit_refusal, put_refusal, ready_refusal, tenant_refusal, with_begun, with_filed, with_fixed, with_forgotten, with_joined, with_limit, with_put, with_tenant, without_upload}
 use Rattle.store_books.specs.Bare.{Bare, as_it_is, label_address, label_len}
 use Rattle.store_upload.specs.Uploads.{Upload, UploadPlan}
@@ -57,7 +57,8 @@ module _ {P O : Type 0} (len : P → ℕ) (size : O → ℕ) (address : O → Li
     pub abort : (number : ℕ) → bare (without_upload b number) ≡ without_upload (bare b) number
     pub forget : (tenant : ℕ) (at : List ℕ) → bare (with_forgotten address b tenant at) ≡ with_forgotten label_address (bare b) tenant at
 
-  -- what is refused, and what is left, is seen without parts and objects
+  -- what is refused, what is left, and the totals, are seen without parts and objects
   pub record Forgets : Type 0 where
     pub refusals : (b : Books P O) → SeesRefusals b
     pub commands : (b : Books P O) → SeesCommands b
+    pub totals : (b : Books P O) → totals_of as_it_is label_len (bare b) ≡ totals_of len size b

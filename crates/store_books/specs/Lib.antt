@@ -7,3 +7,4 @@ pub mod Catalog
 pub mod Kept
 pub mod Bare
 pub mod Forgetting
+pub mod Staying

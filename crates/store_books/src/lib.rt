@@ -33,7 +33,7 @@ pub use books::{Books, Usage};
 pub use content::{Content, ObjectLabel};
 pub use filed::FiledObject;
 pub use index::AddressIndex;
-pub use laws::forgetting_laws;
+pub use laws::{forgetting_laws, sound_laws};
 pub use limits::{BadLimits, Limits, MOST_ENTRIES, MOST_LIMIT, MOST_TENANTS};
 pub use refusal::Refusal;
 pub use tenant_id::TenantId;

@@ -2,7 +2,7 @@
 
 ghost use Rattle.std.specs.Prelude.{◌≡◌, IfNone, IfOk, IfSome, IsSome, None, OnErr, OnOk, Some, length, nat_le, if◌then◌else◌};
 ghost use Rattle.store_books.specs.Books.{Filed, object_at, upload_at};
-ghost use Rattle.store_books.specs.Commands.{file_refusal, finish_refused as finish_refused_of, forget_refusal, ready_refusal, with_filed, with_forgotten, with_joined};
+ghost use Rattle.store_books.specs.Commands.{file_refusal, finish_refused as finish_refused_of, forget_refusal, holding_refusal, ready_refusal, with_filed, with_forgotten, with_joined};
 ghost use Rattle.store_upload.specs.Uploads.{length_of};
 
 use crate::address::Address;
@@ -122,16 +122,26 @@ impl<H: HeldParts, O: Content, I: AddressIndex> Books<H, O, I> {
         Ok(upload)
     }
 
-    /// Why the tenant would not be taken from the holders of the object. S1, S12, S13.
-    pub fn forget_refusal(&self, tenant: u64, address: Address) -> Option<Refusal>
-        ensures { result ≡ forget_refusal O.address self.now tenant address }
+    /// Why a question on the object would not be answered to the tenant. S1, S12.
+    pub fn holding_refusal(&self, tenant: u64, address: Address) -> Option<Refusal>
+        ensures { result ≡ holding_refusal O.address self.now tenant address }
     {
         if tenant >= self.tenants.len() as u64 {
             return Some(Refusal::NoTenant);
         }
         match self.catalog.known(address, tenant) {
-            Some(known) if known.is_holder => self.full_refusal(),
+            Some(known) if known.is_holder => None,
             _ => Some(Refusal::NotHeld),
+        }
+    }
+
+    /// Why the tenant would not be taken from the holders of the object. S1, S12, S13.
+    pub fn forget_refusal(&self, tenant: u64, address: Address) -> Option<Refusal>
+        ensures { result ≡ forget_refusal O.address self.now tenant address }
+    {
+        match self.holding_refusal(tenant, address) {
+            Some(refusal) => Some(refusal),
+            None => self.full_refusal(),
         }
     }
 

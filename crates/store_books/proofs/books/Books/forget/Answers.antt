@@ -1,12 +1,12 @@
-use Rattle.std.proofs.Common.{◌≡◌, ◌∙◌, ◌+◌, ◌-◌, ℕ, Some, arith, Bool, ap, ap₂, length, refl, subst, sym}
+use Rattle.std.proofs.Common.{◌≡◌, ◌∙◌, ◌+◌, ◌-◌, ℕ, None, Some, arith, Bool, ap, ap₂, length, refl, subst, sym}
 use Rattle.std.specs.Prelude.{nat_le}
 use Rattle.std.proofs.lemmas.Bool.{leb-false}
 use Rattle.store_books.specs.declared.refusal.Refusal.TheVariants.{NoTenant}
 use Rattle.store_books.specs.Books.{Books, is_absent, is_held_by}
 use Rattle.store_books.specs.Catalog.{Catalogued}
-use Rattle.store_books.specs.Commands.{forget_refusal, full_refusal, with_left}
+use Rattle.store_books.specs.Commands.{forget_refusal, full_refusal, holding_refusal, with_left}
 use Rattle.store_books.specs.Kept.{HasRoom, books_of, changed_sums}
-use Rattle.store_books.proofs.Commands.{falls, none, passed, room}
+use Rattle.store_books.proofs.Commands.{both, falls, none, passed, room}
 use Rattle.store_books.proofs.Objects.{is_held, leaves, where_so}
 use Rattle.store_books.proofs.Sums.{kept_after, kept_as, room_for}
 use Rattle.store_books.proofs.books.Books.forget.Goals as goal
@@ -23,10 +23,11 @@ change_sums-requires g c =
     let k = c.in-Some.ensures.found in
     let o = k.object in
     let known = k.found in
-    let all = passed (is_absent b t) NoTenant _ (ap (λ (x : Books g.row.H-Part.Denot g.row.O.Denot). forget_refusal address x t at) c.self.view_is ∙ c.requires) in
+    let free = both (holding_refusal address b t at) (full_refusal b) (ap (λ (x : Books g.row.H-Part.Denot g.row.O.Denot). forget_refusal address x t at) c.self.view_is ∙ c.requires) in
+    let all = passed (is_absent b t) NoTenant _ free.0 in
     let there = leb-false (length b.limits) t all.0 in
-    let held = is_held (is_held_by t o) (full_refusal b) (rw known at all.1) in
-    let left = leaves len size address b t at o known c.self.invariant.sound (room b held.1) there held.0 in
+    let held = is_held (is_held_by t o) None (rw known at all.1) in
+    let left = leaves len size address b t at o known c.self.invariant.sound (room b free.1) there held.0 in
     let next = with_left address b t at (Some o) in
     let has = room_for len size address t (falls (size o.content)) none b next old.tenants.items old.catalog.filings old.object_bytes old.held old.parts left.moves refl c.self.invariant in
     subst (λ (n : ℕ). HasRoom old.tenants.items t (falls n) none) (sym k.size) has
@@ -43,10 +44,11 @@ overflow_sub-self g c =
     let k = c.in-Some.ensures.found in
     let o = k.object in
     let known = k.found in
-    let all = passed (is_absent b t) NoTenant _ (ap (λ (x : Books g.row.H-Part.Denot g.row.O.Denot). forget_refusal address x t at) c.self.view_is ∙ c.requires) in
+    let free = both (holding_refusal address b t at) (full_refusal b) (ap (λ (x : Books g.row.H-Part.Denot g.row.O.Denot). forget_refusal address x t at) c.self.view_is ∙ c.requires) in
+    let all = passed (is_absent b t) NoTenant _ free.0 in
     let there = leb-false (length b.limits) t all.0 in
-    let held = is_held (is_held_by t o) (full_refusal b) (rw known at all.1) in
-    let left = leaves len size address b t at o known c.self.invariant.sound (room b held.1) there held.0 in
+    let held = is_held (is_held_by t o) None (rw known at all.1) in
+    let left = leaves len size address b t at o known c.self.invariant.sound (room b free.1) there held.0 in
     let next = with_left address b t at (Some o) in
     let bytes : c.gone.result ≡ where_so (nat_le (length o.holders) 1) (size o.content) = c.gone.ensures ∙ ap₂ (λ (x : Bool) (y : ℕ). where_so x y) k.is_alone k.size in
     omega (arith, bytes, left.bytes, c.self.invariant.object_bytes_is)
@@ -63,10 +65,11 @@ invariant_of-self g c =
     let k = c.in-Some.ensures.found in
     let o = k.object in
     let known = k.found in
-    let all = passed (is_absent b t) NoTenant _ (ap (λ (x : Books g.row.H-Part.Denot g.row.O.Denot). forget_refusal address x t at) c.self.view_is ∙ c.requires) in
+    let free = both (holding_refusal address b t at) (full_refusal b) (ap (λ (x : Books g.row.H-Part.Denot g.row.O.Denot). forget_refusal address x t at) c.self.view_is ∙ c.requires) in
+    let all = passed (is_absent b t) NoTenant _ free.0 in
     let there = leb-false (length b.limits) t all.0 in
-    let held = is_held (is_held_by t o) (full_refusal b) (rw known at all.1) in
-    let left = leaves len size address b t at o known c.self.invariant.sound (room b held.1) there held.0 in
+    let held = is_held (is_held_by t o) None (rw known at all.1) in
+    let left = leaves len size address b t at o known c.self.invariant.sound (room b free.1) there held.0 in
     let next = with_left address b t at (Some o) in
     let bytes : c.gone.result ≡ where_so (nat_le (length o.holders) 1) (size o.content) = c.gone.ensures ∙ ap₂ (λ (x : Bool) (y : ℕ). where_so x y) k.is_alone k.size in
     let new = c.drop_holder-gone.ensures.left o known in
