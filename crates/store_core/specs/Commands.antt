@@ -1,21 +1,23 @@
--- The commands and questions of the model: each is a function of the store, with its refusals in order.
-use Rattle.std.specs.Prelude.{◌≡◌, ◌+◌, ◌-◌, ◌*◌, ◌==◌, ◌&&◌, ℕ, Bool, true, false, not, is_some, List, [], ◌∷◌, ◌++◌, Option, Some, None, Result, Ok, Err, length, if◌then◌else◌, nat_lt, nat_le, map, filter, slice_set}
-use Rattle.std.specs.Map.{remove_entry, set_value, values_of}
-use Rattle.std.specs.Option.{option_map_or}
+-- Commands on the store, and questions. A command is refused as the books refuse it, or is accepted: it answers, leaves the books that it
+-- leaves there, and has an entry in the journal. A refused command and a question change nothing.
+use Rattle.std.specs.Prelude.{◌≡◌, ◌+◌, ◌-◌, ◌*◌, ◌==◌, ℕ, Bool, true, false, List, [], ◌∷◌, ◌++◌, Option, Some, None, Result, Ok, Err, length, if◌then◌else◌, nat_le}
+use Rattle.std.specs.Option.{option_map_or, option_or}
 use Rattle.std.specs.Str.{bytes_eq}
 use Rattle.b3_core.specs.Modes.{hash_of}
 use Rattle.b3_forest.specs.Parts.{PlannedPart}
-use Rattle.store_upload.specs.Uploads.{Upload, UploadPlan, closed_plan, ends_elsewhere, first_missing, fixed_at, held_bytes, length_of, most_bytes, new_upload, open_plan, reached, same_plan}
-use Rattle.b3_forest.specs.Uploads.{overlap_at, past_last, pieces_held, put_work, with_more}
+use Rattle.b3_forest.specs.Uploads.{content_of, pieces_held, put_work}
+use Rattle.store_books.specs.declared.books.Usage.{Usage}
+use Rattle.store_books.specs.declared.refusal.Refusal.{Refusal}
+use Rattle.store_books.specs.declared.refusal.Refusal.TheVariants.{NoMemory, NoTenant, NoUpload, WrongAddress, WrongPlan}
+use Rattle.store_books.specs.Books.{is_absent, object_at, upload_at}
+use Rattle.store_books.specs.Commands.{abort_refusal, begin_refusal, end_refusal, file_refusal, forget_refusal, holding_refusal, limit_refusal, put_refusal, ready_refusal, tenant_refusal, with_begun, with_filed, with_fixed, with_forgotten, with_joined, with_limit, with_put, with_tenant, without_upload}
+use Rattle.store_books.specs.Questions as books
+use Rattle.store_core.specs.declared.refusal.PutRefused.{PutRefused}
+use Rattle.store_core.specs.declared.store.Held.{Held}
+use Rattle.store_core.specs.Model.{ModelObject, ModelStore, ModelUpload, Shown, content}
 use Rattle.store_journal.specs.declared.entry.Entry.{Entry}
 use Rattle.store_journal.specs.declared.entry.Entry.TheVariants as entry
-use Rattle.store_core.specs.declared.store.Held.{Held}
-use Rattle.store_core.specs.declared.refusal.PutRefused.{PutRefused}
-use Rattle.store_core.specs.declared.store.Usage.{Usage}
-use Rattle.store_core.specs.declared.refusal.Refusal.{Refusal}
-use Rattle.store_core.specs.declared.refusal.Refusal.TheVariants.{BelowUse, Incomplete, JournalFull, LimitTooLarge, NoMemory, NoTenant, NoUpload, NotFixed, NotHeld, OverQuota, Overlap, PastLast, TenantsFull, TooLong, WrongAddress, WrongPlan}
-use Rattle.store_core.specs.Model.{ModelObject, ModelStore, ModelUpload, Shown, addressed, content, free_of, in_use, is_held_by, limit_of, object_at, reserved_of, upload_at, use_of}
-use Rattle.store_journal.specs.Replay.{is_number, most_limit, with_holder, without_holder}
+use Rattle.store_upload.specs.Uploads.{Upload, UploadPlan, closed_plan, first_missing, held_bytes, new_upload, open_plan, same_plan}
 
 -- ---- answers
 
@@ -26,13 +28,18 @@ pub record Acceptance (M : Type 0) : Type 0 where
   pub entry : Entry
 
 -- what an acceptance leaves, and the journal with its entry
-abbrev pub after : {M : Type 0} → Shown → Acceptance M → Shown
-after old a = record { state = a.state; journal = old.journal ++ a.entry ∷ [] }
+abbrev pub advanced : {M : Type 0} → Shown → Acceptance M → Shown
+advanced old a = record { state = a.state; journal = old.journal ++ a.entry ∷ [] }
+
+-- what is refused where there is a refusal, and else answered so
+abbrev pub unless : {A : Type 0} → Option Refusal → A → Result A Refusal
+unless None answer = Ok answer
+unless (Some refusal) answer = Err refusal
 
 -- A call's answer, seen so, and what it leaves are the model's; or memory was refused, where the model accepts. A refusal
 -- leaves store and journal as they were.
 abbrev pub StepsAs : {R M : Type 0} → (R → M) → Result (Acceptance M) Refusal → Shown → Result R Refusal → Shown → Type 0
-StepsAs seen (Ok a) old (Ok reply) new = (seen reply ≡ a.reply) × (new ≡ after old a)
+StepsAs seen (Ok a) old (Ok reply) new = (seen reply ≡ a.reply) × (new ≡ advanced old a)
 StepsAs seen (Ok a) old (Err refusal) new = (refusal ≡ NoMemory) × (new ≡ old)
 StepsAs seen (Err first) old (Err refusal) new = (refusal ≡ first) × (new ≡ old)
 StepsAs seen (Err first) old (Ok reply) new = ⊥
@@ -58,68 +65,21 @@ Tells seen (Ok told) (Err refusal) = refusal ≡ NoMemory
 Tells seen (Err first) (Err refusal) = refusal ≡ first
 Tells seen (Err first) (Ok reply) = ⊥
 
--- ---- refusals
-
--- a refusal where the test holds
-abbrev pub refuse_if : {A : Type 0} → Bool → Refusal → Result A Refusal → Result A Refusal
-refuse_if test refusal rest = if test then Err refusal else rest
-
--- a refusal that carries an offset, where there is one
-abbrev pub refuse_at : {A : Type 0} → (ℕ → Refusal) → Option ℕ → Result A Refusal → Result A Refusal
-refuse_at refusal (Some offset) rest = Err (refusal offset)
-refuse_at refusal None rest = rest
-
--- S1
-abbrev pub is_absent : ModelStore → ℕ → Bool
-is_absent s tenant = nat_le (length s.limits) tenant
-
--- S13
-abbrev pub is_full : ModelStore → Bool
-is_full s = nat_le s.most_entries s.accepted
-
--- S7, and else what follows of the open upload
-abbrev pub on_upload : {A : Type 0} → ModelStore → ℕ → (ModelUpload → Result A Refusal) → Result A Refusal
-on_upload s number rest = option_map_or rest (upload_at s number) (Err NoUpload)
-
--- what follows of an upload that isn't refused
-abbrev pub then_on : {A : Type 0} → Result ModelUpload Refusal → (ModelUpload → Result A Refusal) → Result A Refusal
-then_on (Ok u) rest = rest u
-then_on (Err refusal) rest = Err refusal
-
--- S12, and else what follows of the object that the tenant holds
-abbrev pub on_held : {A : Type 0} → ModelStore → ℕ → List ℕ → (ModelObject → Result A Refusal) → Result A Refusal
-on_held s tenant address rest = option_map_or (λ o. refuse_if (not (is_held_by tenant o)) NotHeld (rest o)) (object_at s address) (Err NotHeld)
-
 -- ---- tenants
 
-abbrev pub opened : ModelStore → ℕ → Acceptance ℕ
-opened s limit = record {
-  reply = length s.limits;
-  state = record s { limits = s.limits ++ limit ∷ []; accepted = s.accepted + 1 };
-  entry = entry.Tenant (length s.limits) limit;
-}
-
 abbrev pub open_tenant_in : ModelStore → ℕ → Result (Acceptance ℕ) Refusal
-open_tenant_in s limit =
-    refuse_if (nat_le s.most_tenants (length s.limits)) TenantsFull
-    (refuse_if (nat_lt most_limit limit) LimitTooLarge
-    (refuse_if (is_full s) JournalFull
-    (Ok (opened s limit))))
-
-abbrev pub limited : ModelStore → ℕ → ℕ → Acceptance (Unit {0})
-limited s tenant limit = record {
-  reply = tt;
-  state = record s { limits = slice_set s.limits tenant limit; accepted = s.accepted + 1 };
-  entry = entry.Limit tenant limit;
-}
+open_tenant_in s limit = unless (tenant_refusal s limit) (record {
+  reply = length s.limits;
+  state = with_tenant s limit;
+  entry = entry.Tenant (length s.limits) limit;
+})
 
 abbrev pub set_limit_in : ModelStore → ℕ → ℕ → Result (Acceptance (Unit {0})) Refusal
-set_limit_in s tenant limit =
-    refuse_if (is_absent s tenant) NoTenant
-    (refuse_if (nat_lt most_limit limit) LimitTooLarge
-    (refuse_if (nat_lt limit (in_use s tenant)) (BelowUse (in_use s tenant))
-    (refuse_if (is_full s) JournalFull
-    (Ok (limited s tenant limit)))))
+set_limit_in s tenant limit = unless (limit_refusal length s tenant limit) (record {
+  reply = tt;
+  state = with_limit s tenant limit;
+  entry = entry.Limit tenant limit;
+})
 
 -- ---- uploads
 
@@ -127,26 +87,13 @@ set_limit_in s tenant limit =
 abbrev pub begin_entry : ℕ → ℕ → UploadPlan → Entry
 begin_entry number tenant plan = if plan.is_open then entry.Open number tenant plan.bound else entry.Begin number tenant plan.bound
 
--- the reply is the upload's number and its plan
-abbrev pub begun : ModelStore → ℕ → UploadPlan → Acceptance (ℕ × UploadPlan)
-begun s tenant plan = record {
-  reply = (s.begun, plan);
-  state = record s {
-    begun = s.begun + 1;
-    uploads = s.uploads ++ (s.begun, record { tenant = tenant; upload = new_upload plan }) ∷ [];
-    accepted = s.accepted + 1;
-  };
-  entry = begin_entry s.begun tenant plan;
-}
-
--- an upload of that plan is begun: its bound is reserved
+-- an upload of that plan is begun: the reply is its number and its plan
 abbrev pub begin_plan_in : ModelStore → ℕ → UploadPlan → Result (Acceptance (ℕ × UploadPlan)) Refusal
-begin_plan_in s tenant plan =
-    refuse_if (is_absent s tenant) NoTenant
-    (refuse_if (nat_lt most_bytes plan.bound) TooLong
-    (refuse_if (nat_lt (limit_of s tenant) (in_use s tenant + plan.bound)) (OverQuota (free_of s tenant))
-    (refuse_if (is_full s) JournalFull
-    (Ok (begun s tenant plan)))))
+begin_plan_in s tenant plan = unless (begin_refusal length s tenant plan.bound) (record {
+  reply = (s.begun, plan);
+  state = with_begun s tenant plan;
+  entry = begin_entry s.begun tenant plan;
+})
 
 abbrev pub begin_in : ModelStore → ℕ → ℕ → Result (Acceptance (ℕ × UploadPlan)) Refusal
 begin_in s tenant len = begin_plan_in s tenant (closed_plan len)
@@ -154,186 +101,129 @@ begin_in s tenant len = begin_plan_in s tenant (closed_plan len)
 abbrev pub begin_open_in : ModelStore → ℕ → ℕ → Result (Acceptance (ℕ × UploadPlan)) Refusal
 begin_open_in s tenant at_most = begin_plan_in s tenant (open_plan at_most)
 
--- how many bytes are held, and the least offset that is not held
-abbrev pub held_of : Upload (List ℕ) → Held
-held_of upload = record { held = held_bytes length upload.parts; missing = first_missing length upload }
+-- the open upload of the number, and none of its bytes where there is none
+abbrev pub opened : ModelStore → ℕ → Upload (List ℕ)
+opened s number = option_map_or (λ u. u.upload) (upload_at s number) (new_upload (closed_plan 0))
 
-abbrev pub was_put : ModelStore → ℕ → PlannedPart → ModelUpload → Acceptance Held
-was_put s number part u = record {
-  reply = held_of (with_more u.upload part.part);
-  state = record s {
-    uploads = set_value (is_number number) s.uploads (record u { upload = with_more u.upload part.part });
-    accepted = s.accepted + 1;
-  };
-  entry = entry.Put number part.part.offset (length part.part.bytes);
-}
+-- how many bytes the open upload of the number holds, and its least offset that it doesn't hold
+abbrev pub held_in : ModelStore → ℕ → Held
+held_in s number = record { held = held_bytes length (opened s number).parts; missing = first_missing length (opened s number) }
 
--- the upload, where it is open, has the part's plan, holds none of the part's offsets, and may have the part's end
-abbrev pub allowed_in : ModelStore → ℕ → PlannedPart → Result ModelUpload Refusal
-allowed_in s number part = on_upload s number (λ u.
-    refuse_if (not (same_plan part.plan u.upload.plan)) WrongPlan
-    (refuse_at Overlap (overlap_at part.part u.upload.parts)
-    (refuse_at PastLast (past_last u.upload part.part)
-    (Ok u))))
+-- of a part: the upload is not open, has another plan than the part, or does not take it
+abbrev pub part_refused : ModelStore → ℕ → PlannedPart → Option Refusal
+part_refused s number p = option_map_or
+    (λ u. if same_plan p.plan u.upload.plan then put_refusal length s number p.part.offset (length p.part.bytes) else Some WrongPlan)
+    (upload_at s number) (Some NoUpload)
 
 abbrev pub put_in : ModelStore → ℕ → PlannedPart → Result (Acceptance Held) Refusal
-put_in s number part = then_on (allowed_in s number part) (λ u. refuse_if (is_full s) JournalFull (Ok (was_put s number part u)))
+put_in s number p = unless (part_refused s number p) (record {
+  reply = held_in (with_put length s number p.part.offset p.part.bytes) number;
+  state = with_put length s number p.part.offset p.part.bytes;
+  entry = entry.Put number p.part.offset (length p.part.bytes);
+})
 
 -- the upload's end is fixed, and so what it reserves
-abbrev pub was_fixed : ModelStore → ℕ → ℕ → ModelUpload → Acceptance (Unit {0})
-was_fixed s number len u = record {
-  reply = tt;
-  state = record s {
-    uploads = set_value (is_number number) s.uploads (record u { upload = fixed_at u.upload len });
-    accepted = s.accepted + 1;
-  };
-  entry = entry.Fix number len;
-}
-
--- the upload, where it is open, and may end there
-abbrev pub fixable_in : ModelStore → ℕ → ℕ → Result ModelUpload Refusal
-fixable_in s number len = on_upload s number (λ u.
-    refuse_if (nat_lt u.upload.plan.bound len) TooLong
-    (refuse_if (ends_elsewhere length u.upload len) (PastLast (reached length u.upload))
-    (Ok u)))
-
 abbrev pub fix_in : ModelStore → ℕ → ℕ → Result (Acceptance (Unit {0})) Refusal
-fix_in s number len = then_on (fixable_in s number len) (λ u. refuse_if (is_full s) JournalFull (Ok (was_fixed s number len u)))
-
-abbrev pub without_upload : ModelStore → ℕ → List (ℕ × ModelUpload)
-without_upload s number = remove_entry (is_number number) s.uploads
+fix_in s number len = unless (end_refusal length s number len) (record {
+  reply = tt;
+  state = with_fixed s number len;
+  entry = entry.Fix number len;
+})
 
 -- the upload goes, and what it held is handed back
-abbrev pub aborted : ModelStore → ℕ → ModelUpload → Acceptance (Upload (List ℕ))
-aborted s number u = record {
-  reply = u.upload;
-  state = record s { uploads = without_upload s number; accepted = s.accepted + 1 };
-  entry = entry.Abort number;
-}
-
 abbrev pub abort_in : ModelStore → ℕ → Result (Acceptance (Upload (List ℕ))) Refusal
-abort_in s number = on_upload s number (λ u. refuse_if (is_full s) JournalFull (Ok (aborted s number u)))
+abort_in s number = unless (abort_refusal s number) (record {
+  reply = opened s number;
+  state = without_upload s number;
+  entry = entry.Abort number;
+})
 
 -- ---- objects
 
--- the objects with these holders of the address's object, without it where there are none; the others keep their order
-abbrev pub with_holders : List ModelObject → List ℕ → ModelObject → List ℕ → List ModelObject
-with_holders objects address object [] = values_of (remove_entry (bytes_eq address) (addressed objects))
-with_holders objects address object (h ∷ holders) = values_of (set_value (bytes_eq address) (addressed objects) (record object { holders = h ∷ holders }))
+-- the content of the open upload of the number, and its address
+abbrev pub content_in : ModelStore → ℕ → List ℕ
+content_in s number = content_of (opened s number).parts
 
--- what a seal answers: whether no object was filed under the address before, the object's bytes, and what the upload held
+abbrev pub address_in : ModelStore → ℕ → List ℕ
+address_in s number = hash_of (content_in s number)
+
+-- what a seal answers: its content's address, whether no object was filed under it before, the object's bytes, and what the upload held
 pub record ModelSealed : Type 0 where
   pub address : List ℕ
   pub new : Bool
   pub bytes : List ℕ
   pub released : Upload (List ℕ)
 
--- the upload, where it is open, has its end and is complete
-abbrev pub ready_in : ModelStore → ℕ → Result ModelUpload Refusal
-ready_in s number = on_upload s number (λ u.
-    refuse_if (not (is_some u.upload.end)) NotFixed
-    (refuse_at Incomplete (first_missing length u.upload)
-    (Ok u)))
-
--- the content is filed last, and the upload goes
-abbrev pub filed : ModelStore → ℕ → ModelUpload → Acceptance ModelSealed
-filed s number u = record {
-  reply = record { address = hash_of (content u); new = true; bytes = content u; released = u.upload };
-  state = record s {
-    uploads = without_upload s number;
-    objects = s.objects ++ record { bytes = content u; holders = u.tenant ∷ [] } ∷ [];
-    accepted = s.accepted + 1;
-  };
-  entry = entry.Seal number (hash_of (content u)) true;
+-- a complete upload goes: where nothing is filed under its content's address that is filed last, and else its tenant joins the holders
+abbrev pub sealed_by : ModelStore → ℕ → Option ModelObject → Acceptance ModelSealed
+sealed_by s number None = record {
+  reply = record { address = address_in s number; new = true; bytes = content_in s number; released = opened s number };
+  state = with_filed s number (content_in s number);
+  entry = entry.Seal number (address_in s number) true;
+}
+sealed_by s number (Some object) = record {
+  reply = record { address = address_in s number; new = false; bytes = object.content; released = opened s number };
+  state = with_joined hash_of s number (address_in s number);
+  entry = entry.Seal number (address_in s number) false;
 }
 
--- the upload's tenant joins the holders of the filed object, and the upload goes
-abbrev pub joined : ModelStore → ℕ → ModelUpload → ModelObject → Acceptance ModelSealed
-joined s number u object = record {
-  reply = record { address = hash_of (content u); new = false; bytes = object.bytes; released = u.upload };
-  state = record s {
-    uploads = without_upload s number;
-    objects = with_holders s.objects (hash_of (content u)) object (with_holder u.tenant object.holders);
-    accepted = s.accepted + 1;
-  };
-  entry = entry.Seal number (hash_of (content u)) false;
-}
+abbrev pub filed_in : ModelStore → ℕ → Result (Acceptance ModelSealed) Refusal
+filed_in s number = unless (file_refusal length hash_of s number (address_in s number)) (sealed_by s number (object_at hash_of s (address_in s number)))
 
--- the filed object is not held by the tenant yet, and has more bytes than the upload's length and what is free
-abbrev pub is_over : ModelStore → ModelUpload → ModelObject → Bool
-is_over s u object = not (is_held_by u.tenant object) && nat_lt (length_of u.upload + free_of s u.tenant) (length object.bytes)
-
--- a complete upload, sealed where this is filed under its content's address
-abbrev pub file_at : ModelStore → ℕ → ModelUpload → Option ModelObject → Result (Acceptance ModelSealed) Refusal
-file_at s number u None = refuse_if (is_full s) JournalFull (Ok (filed s number u))
-file_at s number u (Some object) =
-    refuse_if (is_over s u object) (OverQuota (free_of s u.tenant))
-    (refuse_if (is_full s) JournalFull
-    (Ok (joined s number u object)))
-
-abbrev pub file_in : ModelStore → ℕ → ModelUpload → Result (Acceptance ModelSealed) Refusal
-file_in s number u = file_at s number u (object_at s (hash_of (content u)))
+-- what was refused before, and else what follows
+abbrev pub and_then : {A : Type 0} → Option Refusal → Result A Refusal → Result A Refusal
+and_then None rest = rest
+and_then (Some refusal) rest = Err refusal
 
 abbrev pub seal_in : ModelStore → ℕ → Result (Acceptance ModelSealed) Refusal
-seal_in s number = then_on (ready_in s number) (file_in s number)
+seal_in s number = and_then (ready_refusal length s number) (filed_in s number)
+
+-- the content has another address than the one handed in
+abbrev pub address_refused : ModelStore → ℕ → List ℕ → Option Refusal
+address_refused s number address = if bytes_eq (address_in s number) address then None else Some (WrongAddress (address_in s number))
 
 abbrev pub seal_as_in : ModelStore → ℕ → List ℕ → Result (Acceptance ModelSealed) Refusal
-seal_as_in s number address = then_on (ready_in s number) (λ u.
-    refuse_if (not (bytes_eq (hash_of (content u)) address)) (WrongAddress (hash_of (content u)))
-    (file_in s number u))
+seal_as_in s number address = and_then (ready_refusal length s number) (and_then (address_refused s number address) (filed_in s number))
 
--- what is gone where these are an object's holders from here on: its bytes where there are none, and else nothing
-abbrev pub gone_of : ModelObject → List ℕ → Option (List ℕ)
-gone_of object [] = Some object.bytes
-gone_of object (h ∷ holders) = None
-
--- the reply is the bytes of what is gone
-abbrev pub forgotten : ModelStore → ℕ → List ℕ → ModelObject → Acceptance (Option (List ℕ))
-forgotten s tenant address object = record {
-  reply = gone_of object (without_holder tenant object.holders);
-  state = record s { objects = with_holders s.objects address object (without_holder tenant object.holders); accepted = s.accepted + 1 };
-  entry = entry.Forget tenant address;
-}
+-- what is gone with its last holder: its bytes
+abbrev pub gone_in : ModelStore → List ℕ → Option (List ℕ)
+gone_in s address = option_map_or (λ o. if nat_le (length o.holders) 1 then Some o.content else None) (object_at hash_of s address) None
 
 abbrev pub forget_in : ModelStore → ℕ → List ℕ → Result (Acceptance (Option (List ℕ))) Refusal
-forget_in s tenant address =
-    refuse_if (is_absent s tenant) NoTenant
-    (on_held s tenant address (λ o. refuse_if (is_full s) JournalFull (Ok (forgotten s tenant address o))))
+forget_in s tenant address = unless (forget_refusal hash_of s tenant address) (record {
+  reply = gone_in s address;
+  state = with_forgotten hash_of s tenant address;
+  entry = entry.Forget tenant address;
+})
 
 -- ---- questions
 
-abbrev pub usage_in : ModelStore → ℕ → Result Usage Refusal
-usage_in s tenant = refuse_if (is_absent s tenant) NoTenant (Ok (record { used = use_of s tenant; reserved = reserved_of s tenant; limit = limit_of s tenant }))
-
 -- the plan of an open upload, which never changes
 abbrev pub plan_in : ModelStore → ℕ → Result UploadPlan Refusal
-plan_in s number = on_upload s number (λ u. Ok u.upload.plan)
+plan_in s number = option_map_or (λ u. Ok u.upload.plan) (upload_at s number) (Err NoUpload)
 
 -- the bytes of the object
 abbrev pub fetch_in : ModelStore → ℕ → List ℕ → Result (List ℕ) Refusal
-fetch_in s tenant address = refuse_if (is_absent s tenant) NoTenant (on_held s tenant address (λ o. Ok o.bytes))
+fetch_in s tenant address = unless (holding_refusal hash_of s tenant address) (option_map_or (λ o. o.content) (object_at hash_of s address) [])
 
 -- addresses and lengths of those objects that the tenant holds, in their order
-abbrev pub listed : ℕ → List ModelObject → List (List ℕ × ℕ)
-listed tenant objects = map (λ o. (hash_of o.bytes, length o.bytes)) (filter (is_held_by tenant) objects)
-
 abbrev pub list_in : ModelStore → ℕ → Result (List (List ℕ × ℕ)) Refusal
-list_in s tenant = refuse_if (is_absent s tenant) NoTenant (Ok (listed tenant s.objects))
+list_in s tenant = if is_absent s tenant then Err NoTenant else Ok (books.listed length hash_of tenant s.objects)
 
 -- ---- compressions
 
 -- of a part that is put: two for each merge in its upload
 abbrev pub put_work_in : ModelStore → ℕ → PlannedPart → ℕ
-put_work_in s number part = option_map_or (λ u. put_work u.upload.parts part.part) (upload_at s number) 0
+put_work_in s number p = put_work (opened s number).parts p.part
 
 -- of a seal of m pieces: one for the root, and two for each piece after the first
 abbrev pub seal_work : ℕ → ℕ
 seal_work m = if m == 0 then 1 else 2 * (m - 1) + 1
 
 -- of a seal: none where the upload isn't open and complete
-abbrev pub seal_work_of : Result ModelUpload Refusal → ℕ
-seal_work_of (Ok u) = seal_work (pieces_held u.upload.parts)
-seal_work_of (Err refusal) = 0
+abbrev pub seal_work_of : Option Refusal → ℕ → ℕ
+seal_work_of None pieces = seal_work pieces
+seal_work_of (Some refusal) pieces = 0
 
 abbrev pub seal_work_in : ModelStore → ℕ → ℕ
-seal_work_in s number = seal_work_of (ready_in s number)
+seal_work_in s number = seal_work_of (ready_refusal length s number) (pieces_held (opened s number).parts)

@@ -1,7 +1,5 @@
 pub mod Model
-pub mod Refusals
-pub mod Catalog
 pub mod Commands
-pub mod Sound
-pub mod Lawful
+pub mod Carried
+pub mod Seen
 pub mod Runs

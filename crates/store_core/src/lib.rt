@@ -1,33 +1,31 @@
 //! A store of objects under their BLAKE3 hashes, with tenants' quotas, uploads in parts, and a journal.
 //!
 //! - `Limits` says how many tenants, journal entries and workers there may be. `Store::new` makes an empty store.
-//! - Commands are the methods of `Store` on `&mut self`, questions those on `&self`. Contracts see a store as lists
-//!   (`specs/Model.antt`) and each command as a function of them (`specs/Commands.antt`), with its refusals in order.
-//!   What holds of each store, whichever commands led to it, stands in `specs/Sound.antt`.
+//! - Commands are the methods of `Store` on `&mut self`, questions those on `&self`. A store is the books of `store_books` over parts and
+//!   objects with bytes, and a journal. Each command is refused by the books' first refusal, or leaves their books and adds an entry
+//!   (`specs/Commands.antt`); what holds of each store, whichever commands led to it, stands in `specs/Carried.antt`.
 //! - `Object` is what a seal files: contracts see it as its bytes. It stands under their hash.
-//! - The journal's names, entries, text and replay come from `store_journal`, and can be named from here too.
+//! - `run_laws` states that along every list of commands and questions that law goes on.
+//! - Names, limits and refusals come from `store_books`, the journal's entries, text and replay from `store_journal`, and can be named
+//!   from here too.
 #![tactic(auto)]
 
-mod catalog;
-mod contents;
-mod filed;
-mod holders;
-mod journal;
-mod known;
-mod limits;
+mod address_map;
+mod laws;
 mod object;
-mod open_upload;
 mod refusal;
 mod store;
-mod tenant;
 
-pub use limits::{BadLimits, Limits};
+pub use laws::run_laws;
 pub use object::Object;
-pub use refusal::{PutRefused, Refusal};
-pub use store::{Held, Sealed, Store, Usage};
+pub use refusal::PutRefused;
+pub use store::{Held, Sealed, Store};
+pub use store_books::{
+    Address, BadLimits, Limits, MOST_ENTRIES, MOST_LIMIT, MOST_TENANTS, Refusal, TenantId, Totals,
+    UploadId, Usage,
+};
 pub use store_journal::{
-    AcceptedPuts, Address, BadText, Entry, FiledObject, HeldPart, IllegalEntry, LeftUpload,
-    ReadError, ReplayError, Replayed, TenantId, Totals, UploadId, cut_at, entry_laws, entry_lines,
-    journal_laws, number, read_entry, read_journal, replay, two_numbers, write_entry,
-    write_journal,
+    AcceptedPuts, BadText, Entry, IllegalEntry, JournalWriter, LeftObject, LeftUpload, ReadError,
+    ReplayError, Replayed, Version, cut_at, entry_laws, entry_lines, journal_laws, number,
+    read_entry, read_journal, replay, two_numbers, write_entry, write_journal,
 };

@@ -1,13 +1,16 @@
 //! Objects.
 
-ghost use Rattle.std.specs.Prelude.{◌≡◌, length, map};
+ghost use Rattle.std.specs.Prelude.{◌≡◌, IfOk, length, map};
+ghost use Rattle.std.specs.Arc.{arc_value};
 ghost use Rattle.b3_core.specs.Modes.{hash_of};
 ghost use Rattle.b3_forest.specs.Uploads.{content_of, part_of};
 ghost use Rattle.store_core.specs.Model.{AreJoined};
 
 use b3_forest::Segment;
+use std::alloc::AllocError;
 use std::marker::Model;
-use store_journal::Address;
+use std::sync::Arc;
+use store_books::{Address, Content};
 
 /// Bytes that were filed under their address. Contracts see an object as its bytes.
 #[derive(Drop)]
@@ -65,5 +68,58 @@ impl Object {
         ensures joined { AreJoined 0 (map part_of result.now) }
     {
         self.segments.as_slice()
+    }
+}
+
+// An object that the store shares with those that fetched it.
+#[derive(Drop)]
+pub(crate) struct SharedObject {
+    object: Arc<Object>,
+}
+
+impl Model for SharedObject {
+    ghost use Rattle.std.specs.Prelude.{ℕ, List};
+    ghost use Rattle.std.specs.Arc.{arc_value};
+
+    ghost Value = { List ℕ };
+
+    ghost view = { λ s. arc_value s.object };
+}
+
+impl SharedObject {
+    /// An object that others may hold too.
+    pub(crate) fn new(object: Arc<Object>) -> SharedObject
+        ensures { result ≡ arc_value object }
+    {
+        SharedObject { object }
+    }
+
+    /// One more handle to the object.
+    pub(crate) fn share(&self) -> Result<Arc<Object>, AllocError>
+        ensures { IfOk result (λ object. arc_value object ≡ self.now) }
+    {
+        Arc::try_clone(&self.object)
+    }
+
+    /// The object.
+    pub(crate) fn into_object(self) -> Arc<Object>
+        ensures { arc_value result ≡ self }
+    {
+        let SharedObject { object } = self;
+        object
+    }
+}
+
+impl Content for SharedObject {
+    ghost size = { λ bytes. length bytes };
+
+    ghost address = { λ bytes. hash_of bytes };
+
+    fn length(&self) -> u64 {
+        self.object.len()
+    }
+
+    fn address(&self) -> Address {
+        self.object.address()
     }
 }

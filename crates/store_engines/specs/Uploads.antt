@@ -1,13 +1,16 @@
 -- What `upload` writes.
-use Rattle.std.specs.Prelude.{◌≡◌, ℕ, Bool, true, false, List, ◌++◌, Option, Ok, [], codes, length}
+use Rattle.std.specs.Prelude.{◌≡◌, ℕ, Bool, true, false, List, ◌++◌, Option, Some, Ok, [], codes, length}
 use Rattle.std.specs.Io.KnownBytes.{Appends}
 use Rattle.b3_check.specs.Lines.{written_line}
 use Rattle.b3_core.specs.Modes.{hash_of}
+use Rattle.store_books.specs.Bare.{Bare, label_address}
+use Rattle.store_books.specs.Books.{Filed, object_at}
+use Rattle.store_books.specs.declared.content.ObjectLabel.{ObjectLabel}
 use Rattle.store_journal.specs.Journal.{journal_text}
 use Rattle.store_journal.specs.declared.version.Version.TheVariants.{Two}
-use Rattle.store_core.specs.Model.{Shown}
-use Rattle.store_core.specs.declared.refusal.Refusal.TheVariants as refusals
-use Rattle.store_journal.specs.Replay.{Kept, accepted_of, replay_of}
+use Rattle.store_core.specs.Model.{ModelObject, ModelStore, Shown}
+use Rattle.store_books.specs.declared.refusal.Refusal.TheVariants as refusals
+use Rattle.store_journal.specs.Replay.{accepted_of, replay_of}
 use Rattle.store_journal.specs.declared.entry.Entry.{Entry}
 use Rattle.store_ledger.specs.declared.holding.Holding.{Holding}
 use Rattle.store_shared.specs.Cuts.{IsBadCut, cut_of}
@@ -28,18 +31,30 @@ abbrev pub uploaded_text : Bool → List ℕ → ℕ → ℕ → List Entry → 
 uploaded_text journal address bytes calls entries =
     written_line (record { digest = address; name = codes "-" }) ++ (accepted_text bytes calls ++ (codes "\n" ++ journal_part journal entries))
 
--- What is written of a store whose upload was filed: its journal is legal, and what it accepted is what the share says.
+-- books that have an object of so many bytes under the address
+abbrev pub HasObject : Bare → List ℕ → ℕ → Type 0
+HasObject books address n = (o : Filed ObjectLabel) × (object_at label_address books address ≡ Some o) × (o.content.len ≡ n)
+
+-- an object of so many bytes is filed under the address
+abbrev pub IsFiled : ModelStore → List ℕ → ℕ → Type 0
+IsFiled s address n = (o : ModelObject) × (object_at hash_of s address ≡ Some o) × (length o.content ≡ n)
+
+-- What is written of a store whose upload was filed: its journal is legal and leaves an object under the address, and what it accepted is
+-- what the share says.
 pub record IsTold (journal : Bool) (address : List ℕ) (share : Holding) (shown : Shown) (text : List ℕ) : Type 0 where
-  pub kept : Kept
-  pub legal : replay_of shown.journal ≡ Ok kept
+  pub left : Bare
+  pub legal : replay_of shown.journal ≡ Ok left
+  pub filed : HasObject left address share.bytes
   pub bytes : (accepted_of shown.journal).bytes ≡ share.bytes
   pub calls : (accepted_of shown.journal).calls ≡ share.calls
   pub text_is : text ≡ uploaded_text journal address share.bytes share.calls shown.journal
 
--- a legal journal, whose put entries are as many as the cut's parts and have as many bytes as the input
+-- a legal journal, which leaves an object of the input's length under its hash, and whose put entries are as many as the cut's parts and
+-- have as many bytes as the input
 pub record IsJournal (part_chunks : ℕ) (input : List ℕ) (entries : List Entry) : Type 0 where
-  pub kept : Kept
-  pub legal : replay_of entries ≡ Ok kept
+  pub left : Bare
+  pub legal : replay_of entries ≡ Ok left
+  pub filed : HasObject left (hash_of input) (length input)
   pub bytes : (accepted_of entries).bytes ≡ length input
   pub calls : (accepted_of entries).calls ≡ length (cut_of input part_chunks)
 

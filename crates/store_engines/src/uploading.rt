@@ -4,7 +4,8 @@ ghost use Rattle.std.specs.Prelude.{◌≡◌, ◌≢◌, ◌++◌, codes, false
 ghost use Rattle.std.specs.Io.KnownBytes.{Appends, IsAtEnd};
 ghost use Rattle.store_ledger.specs.Shares.{all_parts};
 ghost use Rattle.store_shared.specs.Cuts.{IsBadCut};
-ghost use Rattle.store_engines.specs.Uploads.{IsTold, SomeRefusal, WroteRefusal, WroteUpload, is_memory, journal_part};
+ghost use Rattle.store_shared.specs.Gates.{IsOwnFault};
+ghost use Rattle.store_engines.specs.Uploads.{IsFiled, IsTold, SomeRefusal, WroteRefusal, WroteUpload, is_memory, journal_part};
 
 use crate::auditing::accepted_line;
 use crate::journals::text_of;
@@ -17,7 +18,7 @@ use std::sync::Wait;
 use std::sync::ledger::Blank;
 use std::thread::Threads;
 use store_command_line::UploadOptions;
-use store_core::{Address, Entry, Limits, Refusal};
+use store_core::{Address, Entry, Limits, Refusal, TenantId};
 use store_ledger::{Ledgers, Share};
 use store_script::{Cause, Verdict, write_all};
 use store_shared::{Locked, PassAll, Shared, UploadFaultKind, UploadRequest, lent_open_tenant};
@@ -72,6 +73,23 @@ fn joined(line: Vec<u8>, second: &[u8], more: &[u8]) -> Result<Vec<u8>, AllocErr
     Ok(text)
 }
 
+// That the tenant holds an object of so many bytes under the address: U1 with the store's refusal, U6 where it has another length.
+fn held<L: Ledgers>(
+    locked: &Locked<L>,
+    tenant: TenantId,
+    address: Address,
+    len: u64,
+) -> Result<(), UploadFaultKind>
+    ensures filed { OnOk result (IsFiled locked.now.state address len) }
+    ensures own { IfErr result IsOwnFault }
+{
+    match locked.store().fetch(tenant, address) {
+        Ok(object) if object.len() == len => Ok(()),
+        Ok(_object) => Err(UploadFaultKind::StrangePart),
+        Err(refusal) => Err(UploadFaultKind::Refused(refusal)),
+    }
+}
+
 // What is written of an upload that was filed, from the store that is no longer shared.
 fn uploaded_text<L: Ledgers>(
     alloc: Global,
@@ -81,6 +99,7 @@ fn uploaded_text<L: Ledgers>(
     share: Share<L>,
 ) -> Result<Vec<u8>, AllocError>
     requires whole { share.parts ≡ all_parts }
+    requires filed { IsFiled locked.state address share.bytes }
     ensures { IfOk result (λ text. IsTold journal address share locked text.items) }
 {
     let mut locked = locked;
@@ -94,7 +113,7 @@ fn uploaded_text<L: Ledgers>(
     joined(line, accepted.as_bytes(), entries.as_slice())
 }
 
-/// Uploads all its input into a store of one tenant.
+/// Uploads all its input into a store of one tenant, and asks the store for it in the end.
 ///
 /// So many workers as the options say take parts of so many chunks. Then it writes the input's check line, what was accepted,
 /// and the journal's text where it is asked for. A failed upload is told as `refused` and its name: U1 with the store's
@@ -137,13 +156,11 @@ pub fn upload<L: Ledgers, T: Threads + Wait + Sync + Runtime, R: Read, W: Write>
     let (share, uploaded) = request.upload(rt, alloc, &shared, share);
     match uploaded {
         Ok(sealed) => {
-            let text = uploaded_text(
-                alloc,
-                options.journal,
-                sealed.address,
-                shared.close(),
-                share,
-            )?;
+            let locked = shared.close();
+            if let Err(kind) = held(&locked, tenant, sealed.address, input.len() as u64) {
+                return refuse(alloc, kind, writer);
+            }
+            let text = uploaded_text(alloc, options.journal, sealed.address, locked, share)?;
             write_all(writer, text.as_slice())?;
             Ok(Verdict::Good)
         }

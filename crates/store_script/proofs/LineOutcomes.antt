@@ -5,7 +5,7 @@ use Rattle.b3_forest.specs.Parts.{PlannedPart, planned}
 use Rattle.store_upload.specs.Uploads.{UploadPlan, part_refusal}
 use Rattle.store_upload.specs.declared.refusal.PartFault.{PartFault}
 use Rattle.store_upload.specs.declared.refusal.PartFault.TheVariants as faults
-use Rattle.store_core.specs.declared.refusal.Refusal.{Refusal}
+use Rattle.store_books.specs.declared.refusal.Refusal.{Refusal}
 use Rattle.store_core.specs.Commands.{plan_in}
 use Rattle.store_core.specs.Model.{Shown}
 use Rattle.store_core.specs.Runs.{Command, Reply, Step, plan, put, the_plan, told}

@@ -5,7 +5,7 @@ use Rattle.std.specs.Fmt.{digits}
 use Rattle.hex.proofs.OnLiterals.{hex_on_literals}
 use Rattle.store_upload.specs.declared.refusal.PartFault.TheVariants as faults
 use Rattle.store_upload.specs.Uploads.{closed_plan}
-use Rattle.store_core.specs.declared.refusal.Refusal.TheVariants as refusals
+use Rattle.store_books.specs.declared.refusal.Refusal.TheVariants as refusals
 use Rattle.store_journal.specs.Journal.{lines_of}
 use Rattle.store_core.specs.Runs.{begin, begin_open, fix, now_held, now_sealed, open_tenant, opened_tenant, seal_as, set_limit, the_bytes, the_list, totals}
 use Rattle.store_script.specs.Grammar.{ScriptCommand, address_in, asks, asks_of_kind, bytes_of_kind, command_at, cut_line_at, pattern_of, puts}

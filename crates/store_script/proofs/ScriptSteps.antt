@@ -10,19 +10,21 @@ use Rattle.std.proofs.lemmas.List.Concat.{flat_map-append}
 use Rattle.b3_forest.specs.Parts.{PlannedPart, planned}
 use Rattle.store_upload.specs.Uploads.{UploadPlan, part_refusal}
 use Rattle.store_upload.specs.declared.refusal.PartFault.{PartFault}
-use Rattle.store_core.specs.declared.refusal.Refusal.{Refusal}
+use Rattle.store_books.specs.declared.refusal.Refusal.{Refusal}
+use Rattle.store_books.specs.declared.limits.Limits.{Limits}
+use Rattle.store_books.specs.Books.{empty_books, most_entries, most_tenants, most_workers}
 use Rattle.store_core.specs.Commands.{plan_in}
-use Rattle.store_core.specs.declared.limits.Limits.{Limits}
 use Rattle.store_journal.specs.Journal.{lines_of, onto_first}
-use Rattle.store_core.specs.Lawful.{start}
-use Rattle.store_core.specs.Model.{Shown}
+use Rattle.store_core.specs.Model.{Shown, start}
 use Rattle.store_core.specs.Runs.{Command, Run, Step, plan}
 use Rattle.store_script.specs.Grammar.{ScriptCommand, asks, command_at, puts}
-use Rattle.store_script.specs.Script.{AllPlay, Answered, AreAnswered, Does, IsScriptBegun, Makes, Plays, Puts, PutsBy, Ran, RanOut, RanSome, Takes, Turn, bad, commands_of, ended_as, ending_of, failed_write, first_cause, ran_all, ran_some, replies_of, skipped, took, turn_ending, turn_text, unmade, verdict_ending, widest, worse}
+use Rattle.store_script.specs.Script.{AllPlay, Answered, AreAnswered, Does, IsScriptBegun, Makes, Plays, Puts, PutsBy, Ran, RanOut, RanSome, Takes, Turn, bad, commands_of, ended_as, ending_of, failed_write, first_cause, ran_all, ran_some, replies_of, skipped, took, turn_ending, turn_text, unmade, verdict_ending, widest_start, worse}
 use Rattle.store_script.specs.declared.outcome.Ending.{Ending}
 use Rattle.store_script.specs.declared.outcome.Ending.TheVariants as endings
 use Rattle.store_script.specs.declared.outcome.Cause.{Cause}
 use Rattle.store_script.specs.declared.outcome.Cause.TheVariants as causes
+use Rattle.store_core.proofs.Carried.{empty_carried}
+use Rattle.store_core.proofs.Runs.{runs_carry}
 use Rattle.store_script.proofs.LineOutcomes.{LineTurn}
 
 -- ---- a line more
@@ -158,7 +160,7 @@ pub record IsUnder (now was is : Option (List ℕ)) (store : Shown) (ending : En
   pub front : List (List ℕ)
   pub lines : lines_of input ≡ front ++ lines_of rest
   pub turns : List Turn
-  pub plays : AllPlay widest front turns store
+  pub plays : AllPlay widest_start front turns store
   pub wrote : Appends was is (flat_map turn_text turns)
   pub ending_is : ending ≡ ending_of turns
 
@@ -172,7 +174,7 @@ appends_more (Some p) None c xs ys h k = absurd h
 appends_more (Some p) (Some q) None xs ys h k = absurd k
 appends_more (Some p) (Some q) (Some r) xs ys h k = k ∙ ap (λ w. w ++ ys) h ∙ append_assoc p xs ys
 
-pub begun : (old was : Option (List ℕ)) (store : Shown) → store ≡ widest → IfSome old (IsUnder old was was store endings.Good)
+pub begun : (old was : Option (List ℕ)) (store : Shown) → store ≡ widest_start → IfSome old (IsUnder old was was store endings.Good)
 begun None was store is = tt
 begun (Some input) was store is = record {
   rest = input;
@@ -185,12 +187,13 @@ begun (Some input) was store is = record {
   ending_is = refl;
 }
 
-are_answered : (front : List (List ℕ)) (turns : List Turn) (store : Shown) (ending : Ending) → AllPlay widest front turns store → ending ≡ ending_of turns → AreAnswered front (flat_map turn_text turns) ending
+are_answered : (front : List (List ℕ)) (turns : List Turn) (store : Shown) (ending : Ending) → AllPlay widest_start front turns store → ending ≡ ending_of turns → AreAnswered front (flat_map turn_text turns) ending
 are_answered front turns store ending plays is = record {
   turns = turns;
   end = store;
   plays = plays;
-  run = runs widest store front turns plays;
+  run = runs widest_start store front turns plays;
+  law = (runs_carry widest_start store (commands_of turns) (replies_of turns) (empty_carried most_tenants most_entries most_workers (omega arith) (omega arith)) (runs widest_start store front turns plays)).0;
   text_is = refl;
   ending_is = is;
 }
@@ -298,15 +301,15 @@ turned (Some input) now then was is after store next ending said buf text h byte
       front = h.front ++ line ∷ [];
       lines = h.lines ∙ ap (λ ls. h.front ++ ls) (lines_next h.rest some2) ∙ sym (append_assoc h.front (line ∷ []) (lines_of (drop_through 10 h.rest)));
       turns = h.turns ++ answer.turn ∷ [];
-      plays = more_play widest store next h.front h.turns line answer.turn h.plays plays2;
+      plays = more_play widest_start store next h.front h.turns line answer.turn h.plays plays2;
       wrote = subst (λ (t : List ℕ). Appends was after t) (ap (λ t. flat_map turn_text h.turns ++ t) answer.text_is ∙ sym (text_more h.turns answer.turn)) (appends_more was is after (flat_map turn_text h.turns) text h.wrote wrote);
       ending_is = ap (λ e. worse e said) h.ending_is ∙ ap (worse (ending_of h.turns)) answer.ending_is ∙ sym (ending_more h.turns answer.turn);
     }
 
 -- ---- the empty store
 
-pub starts_widest : (l : Limits) → l.tenants ≡ 2 ^ 16 → l.entries ≡ 2 ^ 32 → l.workers ≡ 16 → start l ≡ widest
+pub starts_widest : (l : Limits) → l.tenants ≡ 2 ^ 16 → l.entries ≡ 2 ^ 32 → l.workers ≡ 16 → start l ≡ widest_start
 starts_widest l tenants entries workers = λ j. record {
-  state = record { most_tenants = tenants j; most_entries = entries j; most_workers = workers j; limits = []; begun = 0; uploads = []; objects = []; accepted = 0 };
+  state = empty_books (tenants j) (entries j) (workers j);
   journal = [];
 }

@@ -1,6 +1,6 @@
 -- What the code's own types stand for.
 use Rattle.std.specs.Arc.{arc_value}
-use Rattle.store_core.specs.Lawful.{sealed_seen}
+use Rattle.store_core.specs.Seen.{sealed_seen}
 use Rattle.store_core.specs.Model.{Shown}
 use Rattle.store_core.specs.Runs.{Command, Reply, abort, begin, begin_open, begun_upload, done, fetch, fix, forget, journal, list, now_held, now_sealed, open_tenant, opened_tenant, seal, seal_as, set_limit, the_bytes, the_journal, the_list, the_totals, the_usage, totals, usage}
 use Rattle.store_script.specs.declared.command.Command.{Command as CodeCommand}

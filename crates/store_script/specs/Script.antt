@@ -6,11 +6,12 @@ use Rattle.b3_forest.specs.Parts.{PlannedPart, planned}
 use Rattle.store_upload.specs.Uploads.{UploadPlan, part_refusal}
 use Rattle.store_upload.specs.declared.refusal.PartFault.{PartFault}
 use Rattle.store_upload.specs.declared.refusal.PartFault.TheVariants as faults
-use Rattle.store_core.specs.declared.refusal.Refusal.{Refusal}
-use Rattle.store_core.specs.declared.refusal.Refusal.TheVariants as refusals
+use Rattle.store_books.specs.declared.refusal.Refusal.{Refusal}
+use Rattle.store_books.specs.declared.refusal.Refusal.TheVariants as refusals
+use Rattle.store_core.specs.Carried.{IsCarried}
 use Rattle.store_core.specs.Commands.{plan_in}
 use Rattle.store_journal.specs.Journal.{lines_of}
-use Rattle.store_journal.specs.Replay.{most_entries, most_tenants}
+use Rattle.store_books.specs.Books.{empty_books, most_entries, most_tenants, most_workers}
 use Rattle.store_core.specs.Model.{Shown}
 use Rattle.store_core.specs.Runs.{Command, Reply, Run, Step, plan, put}
 use Rattle.store_script.specs.Grammar.{ScriptCommand, asks, command_at, puts}
@@ -145,19 +146,17 @@ verdict_ending verdicts.Good = endings.Good
 verdict_ending verdicts.Refused = endings.Refused
 
 -- an empty store with the widest limits
-abbrev pub widest : Shown
-widest = record {
-  state = record { most_tenants = most_tenants; most_entries = most_entries; most_workers = 16; limits = []; begun = 0; uploads = []; objects = []; accepted = 0 };
-  journal = [];
-}
+abbrev pub widest_start : Shown
+widest_start = record { state = empty_books most_tenants most_entries most_workers; journal = [] }
 
 -- Lines were answered in order, from the empty store: what they came to, and the text of their answers. The steps among them
--- are a run of the store.
+-- are a run of the store, and the law of a store holds behind it.
 pub record AreAnswered (lines : List (List ℕ)) (output : List ℕ) (ending : Ending) : Type 0 where
   pub turns : List Turn
   pub end : Shown
-  pub plays : AllPlay widest lines turns end
-  pub run : Run widest (commands_of turns) (replies_of turns) end
+  pub plays : AllPlay widest_start lines turns end
+  pub run : Run widest_start (commands_of turns) (replies_of turns) end
+  pub law : IsCarried end
   pub text_is : output ≡ flat_map turn_text turns
   pub ending_is : ending ≡ ending_of turns
 

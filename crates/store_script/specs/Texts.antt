@@ -6,16 +6,16 @@ use Rattle.store_upload.specs.declared.refusal.PartFault.{PartFault}
 use Rattle.store_upload.specs.declared.refusal.PartFault.TheVariants as faults
 use Rattle.hex.specs.Hex.{encode_lower}
 use Rattle.store_journal.specs.declared.entry.Entry.{Entry}
-use Rattle.store_core.specs.declared.refusal.Refusal.{Refusal}
-use Rattle.store_core.specs.declared.refusal.Refusal.TheVariants as refusals
-use Rattle.store_journal.specs.declared.replayed.Totals.{Totals}
-use Rattle.store_core.specs.declared.store.Usage.{Usage}
+use Rattle.store_books.specs.declared.refusal.Refusal.{Refusal}
+use Rattle.store_books.specs.declared.refusal.Refusal.TheVariants as refusals
+use Rattle.store_books.specs.declared.totals.Totals.{Totals}
+use Rattle.store_books.specs.declared.books.Usage.{Usage}
 use Rattle.store_core.specs.Commands.{ModelSealed}
-use Rattle.store_core.specs.Refusals.{refusal_text}
+use Rattle.store_books.specs.Refusals.{refusal_text}
 use Rattle.store_upload.specs.Texts.{part_fault_text}
 use Rattle.store_journal.specs.Entries.{filing_word}
 use Rattle.store_journal.specs.Journal.{entry_lines}
-use Rattle.store_journal.specs.Totals.{totals_text}
+use Rattle.store_books.specs.Totals.{totals_text}
 use Rattle.store_core.specs.Runs.{Reply, begun_upload, done, now_held, now_sealed, opened_tenant, the_bytes, the_journal, the_list, the_plan, the_totals, the_usage}
 
 -- ---- replies: each line with its line feed

@@ -3,7 +3,7 @@
 ghost use Rattle.std.specs.Prelude.{◌≡◌, ◌<◌, IfErr, IfOk, IfSome, OnOk, Err, Ok, false, length, true};
 ghost use Rattle.std.specs.Io.BufRead.{DropsThrough, strip_last, take_through};
 ghost use Rattle.std.specs.Io.KnownBytes.{Appends, IsAtEnd};
-ghost use Rattle.store_script.specs.Script.{Ran, RanOut, RanSome, ended_as, first_cause, verdict_ending, widest, worse};
+ghost use Rattle.store_script.specs.Script.{Ran, RanOut, RanSome, ended_as, first_cause, verdict_ending, widest_start, worse};
 ghost use Rattle.store_script.specs.declared.outcome.Ending.TheVariants as endings;
 
 use crate::answer::answer_line;
@@ -48,7 +48,7 @@ fn answer_lines<R: BufRead, W: Write>(
     writer: &mut W,
     work: &mut Work,
 ) -> Result<Verdict, Cause>
-    requires { store.old ≡ widest }
+    requires { store.old ≡ widest_start }
     ensures written { IfOk result (λ verdict. IfSome (R.Read.remaining reader.old) (λ input. Ran input (W.contents writer.old) (W.contents writer.new) (verdict_ending verdict))) }
     ensures end { OnOk result (IfSome (R.Read.remaining reader.old) (λ _. IsAtEnd (R.Read.remaining reader.new))) }
     ensures read { result ≡ Err Cause.CannotRead → IfSome (R.Read.remaining reader.old) (λ input. RanSome input (W.contents writer.old) (W.contents writer.new)) }

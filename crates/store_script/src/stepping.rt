@@ -78,6 +78,8 @@ pub(crate) fn put(
 ) -> Result<Reply, Refusal>
     ensures { Step store.old (put upload part) (reply_seen (reply_of store.new) result) store.new }
 {
+    // For the proof alone: a part that was prepared fits its plan.
+    let _fitting = part.fitting();
     let held = store
         .put(upload, part, work)
         .map_err(|refused| refused.refusal)?;

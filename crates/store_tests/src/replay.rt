@@ -2,7 +2,7 @@
 
 use std::alloc::{AllocError, Global};
 use std::test::Fail;
-use store_journal::{FiledObject, LeftUpload, Replayed, read_journal, replay};
+use store_journal::{LeftObject, LeftUpload, Replayed, TenantId, read_journal, replay};
 
 // Has every kind of entry but a forget entry; leaves an upload of a closed plan, one without an end, and one whose end is below
 // its bound.
@@ -28,35 +28,37 @@ fix 5 1025
 
 const LEFT: &str = "limit 5
 limit 9000
-object 0000000000000000000000000000000000000000000000000000000000000000 5 of [TenantId { number: 0 }, TenantId { number: 1 }]
-upload 2 of 1 bound 2049 end Some(2049) parts [HeldPart { offset: 0, len: 1024 }, HeldPart { offset: 2048, len: 1 }]
-upload 4 of 1 bound 2048 end None parts []
-upload 5 of 1 bound 2049 end Some(1025) parts []
+object 0000000000000000000000000000000000000000000000000000000000000000 5 of [0, 1]
+upload 2 of 1 bound 2049 end Some(2049) parts {0: 1024, 2048: 1}
+upload 4 of 1 bound 2048 end None parts {}
+upload 5 of 1 bound 2049 end Some(1025) parts {}
 objects 1 bytes 5 uploads 3 held 1025 parts 2, accepted 1035 4
 ";
 
-fn object_text(alloc: Global, object: &FiledObject) -> Result<String, AllocError> {
+fn object_text(alloc: Global, object: &LeftObject) -> Result<String, AllocError> {
     let (address, len, holders) = (object.address(), object.length(), object.holders());
     format!(in alloc; "object {address} {len} of {holders:?}\n")
 }
 
-fn upload_text(alloc: Global, left: &LeftUpload) -> Result<String, AllocError> {
-    let (upload, tenant, bound, end) = (left.upload(), left.tenant(), left.bound(), left.end());
-    let parts = left.parts();
+fn upload_text(alloc: Global, upload: u64, left: &LeftUpload) -> Result<String, AllocError> {
+    let (tenant, open) = (left.tenant(), left.upload());
+    let (bound, end, parts) = (open.plan().bound(), open.end(), open.parts());
     format!(in alloc; "upload {upload} of {tenant} bound {bound} end {end:?} parts {parts:?}\n")
 }
 
 // All that is left.
 fn left_text(alloc: Global, replayed: &Replayed) -> Result<String, AllocError> {
     let mut text = String::new(alloc);
-    for limit in replayed.limits() {
-        text.push_str(format!(in alloc; "limit {limit}\n")?.as_str())?;
+    for tenant in 0..replayed.tenants() {
+        if let Some(limit) = replayed.limit(TenantId::new(tenant)) {
+            text.push_str(format!(in alloc; "limit {limit}\n")?.as_str())?;
+        }
     }
     for object in replayed.objects() {
         text.push_str(object_text(alloc, object)?.as_str())?;
     }
-    for upload in replayed.uploads() {
-        text.push_str(upload_text(alloc, upload)?.as_str())?;
+    for (upload, left) in replayed.uploads() {
+        text.push_str(upload_text(alloc, *upload, left)?.as_str())?;
     }
     let (totals, accepted) = (replayed.totals(), replayed.accepted());
     let (bytes, calls) = (accepted.bytes, accepted.calls);

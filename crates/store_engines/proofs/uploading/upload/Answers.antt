@@ -21,6 +21,6 @@ returns-in-Ok-uploaded-clause-written g c = λ _.
     let address : c.in-Ok-uploaded.sealed.address ≡ hash_of input = search rules in
     let bytes : share.bytes ≡ length input = search rules in
     let calls : share.calls ≡ length (cut_of input o.part_chunks) = search rules in
-    let is : IsTold o.journal c.in-Ok-uploaded.sealed.address share c.close.result text = search rules in
+    let is : IsTold o.journal c.in-Ok-uploaded.sealed.address share c.close-locked.result text = search rules in
     let appends : Appends (g.W.Write.contents c.args.writer.now) (g.W.Write.contents c.write_all.new.writer) text = search rules in
-    wrote o (g.R.Read.remaining c.args.reader.now) input text c.in-Ok-uploaded.sealed.address share c.close.result _ _ known address bytes calls is appends
+    wrote o (g.R.Read.remaining c.args.reader.now) input text c.in-Ok-uploaded.sealed.address share c.close-locked.result _ _ known address bytes calls is appends

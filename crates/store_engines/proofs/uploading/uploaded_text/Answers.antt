@@ -1,10 +1,10 @@
 use Rattle.std.proofs.Common.{rules, ◌≡◌, ◌∙◌, ap, sym, subst, codes}
 use Rattle.std.proofs.lemmas.Result.{IfOk-weaker}
 use Rattle.b3_check.specs.Lines.{written_line}
-use Rattle.store_core.specs.Sound.{IsCarried, kept_of}
+use Rattle.store_core.specs.Carried.{IsCarried, told_of}
 use Rattle.store_engines.specs.Audits.{accepted_text}
 use Rattle.store_engines.specs.Uploads.{journal_part}
-use Rattle.store_engines.proofs.UploadTexts.{in_a_row}
+use Rattle.store_engines.proofs.UploadTexts.{has_object, in_a_row}
 use Rattle.store_engines.proofs.uploading.uploaded_text.Goals as goal
 
 pub returns : goal.returns
@@ -18,8 +18,9 @@ returns g c =
     let entries : c.journal.result.now ≡ shown.journal = c.journal.ensures.entries ∙ ap (λ s. s.journal) store in
     let journal : c.as_slice.result.now ≡ journal_part c.args.journal shown.journal = search rules in
     IfOk-weaker c.joined.result _ _ (λ text is. record {
-      kept = kept_of shown.state;
+      left = told_of shown.state;
       legal = carried.replayed;
+      filed = has_object shown.state c.args.address share.bytes c.requires.filed;
       bytes = sym c.in-Ok.ensures.ok.1.0;
       calls = sym c.in-Ok.ensures.ok.1.1;
       text_is = is ∙ in_a_row _ _ _ _ _ _ line told journal;
