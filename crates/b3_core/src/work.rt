@@ -28,7 +28,11 @@ impl<R: sealed::Sealed> Runtime for R {}
 /// what compresses takes a count, and only the runtime makes one. So a call that is handed no runtime makes no other
 /// compression. One that is handed the runtime may make a count of its own: what it compresses under that is told
 /// only where its own clauses tell it.
+///
+/// It is one word, laid out as C lays it out, so that a program in another language hands in a count of its own where it
+/// calls the crate `b3_c`. No Rattle code gets a count by that.
 #[derive(Debug, Drop)]
+#[repr(C)]
 pub struct Work {
     count: u64,
 }
@@ -37,6 +41,8 @@ impl Model for Work {
     ghost Value = { ℕ };
 
     ghost view = { λ w. w.count };
+
+    ghost inverse = { λ n. record { count = n } };
 }
 
 impl Work {

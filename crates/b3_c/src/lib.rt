@@ -1,0 +1,17 @@
+//! BLAKE3 for programs in C, and in each language that calls C: what `include/b3.h` declares.
+//!
+//! Each call is one of `b3_core`, and states its contract again. Nothing is required of a caller but that a pointer and a length
+//! are memory, and that what is written overlaps nothing else: each other mistake is answered by a number (`answers`), and then
+//! what the caller handed in is as it was. A slice is a pointer and then a length; the count of compressions is a `uint64_t`
+//! of the caller's own.
+//!
+//! - `whole` hashes bytes that are at hand: `b3_hash`, `b3_keyed_hash`, `b3_derive_key`, `b3_extended`.
+//! - `nodes` hashes a tree node by node, for streams and for threads of the caller's own: `b3_subtree`, `b3_parent`, `b3_root`.
+#![tactic(auto)]
+
+mod answers;
+mod nodes;
+mod whole;
+
+pub use nodes::{b3_parent, b3_root, b3_subtree};
+pub use whole::{b3_derive_key, b3_extended, b3_hash, b3_keyed_hash};
