@@ -1,0 +1,40 @@
+// A b3sum in Go that reads each file whole: the proved library libb3 by cgo.
+//
+//	CGO_CFLAGS=-I/usr/local/include CGO_LDFLAGS=-L/usr/local/lib go run sum.go FILE ..
+package main
+
+// #cgo LDFLAGS: -lb3
+// #include <b3.h>
+import "C"
+
+import (
+	"fmt"
+	"os"
+)
+
+// hash gives the hash of bytes, and the compressions that it took.
+func hash(bytes []byte) ([C.B3_HASH_LEN]byte, uint64) {
+	var out [C.B3_HASH_LEN]byte
+	var compressions C.uint64_t
+	first := bytes
+	if len(bytes) == 0 {
+		first = make([]byte, 1) // no pointer may be null
+	}
+	C.b3_hash((*C.uint8_t)(&first[0]), C.size_t(len(bytes)), (*C.uint8_t)(&out[0]), C.size_t(len(out)), &compressions)
+	return out, uint64(compressions)
+}
+
+func main() {
+	status := 0
+	for _, name := range os.Args[1:] {
+		bytes, err := os.ReadFile(name)
+		if err != nil {
+			fmt.Fprintln(os.Stderr, err)
+			status = 1
+			continue
+		}
+		sum, _ := hash(bytes)
+		fmt.Printf("%x  %s\n", sum, name)
+	}
+	os.Exit(status)
+}
