@@ -1,0 +1,242 @@
+/* Calls each function of include/b3.h as C does. Standard input has a line for each length of an input of the bytes 0, 1, .., 250, 0, ..:
+ * the length, and 131 bytes of the extended output in the modes hash, keyed_hash and derive_key, in hexadecimal digits. The arguments are
+ * the key, of 32 characters, and the context. Inputs and outputs end where memory ends, so that a byte too far is a fault.
+ * The last line is `N passed, M failed`. */
+#include "b3.h"
+#include <pthread.h>
+#include <stdio.h>
+#include <stdlib.h>
+#include <string.h>
+#include <sys/mman.h>
+#include <unistd.h>
+
+enum { MOST = 102400, TOLD = 131, THREADS = 2, ROUNDS = 200 };
+
+static const uint8_t *key, *context;
+static size_t context_len;
+static uint8_t *input_end, *output_end;
+static long passed, failed;
+
+static void shows(int holds, const char *what, size_t len) {
+    if (holds) {
+        passed++;
+    } else {
+        failed++;
+        printf("FAILED %s of %zu\n", what, len);
+    }
+}
+
+/* Where so many bytes end and nothing can be read or written behind them. */
+static uint8_t *end_of_memory(size_t bytes) {
+    size_t page = (size_t)sysconf(_SC_PAGESIZE), room = (bytes + page - 1) / page * page;
+    uint8_t *start = mmap(NULL, room + page, PROT_READ | PROT_WRITE, MAP_PRIVATE | MAP_ANONYMOUS, -1, 0);
+    if (start == MAP_FAILED || mprotect(start + room, page, PROT_NONE) != 0) {
+        perror("calls");
+        exit(1);
+    }
+    return start + room;
+}
+
+static uint8_t *input_of(size_t len) {
+    uint8_t *input = input_end - len;
+    for (size_t i = 0; i < len; i++)
+        input[i] = (uint8_t)(i % 251);
+    return input;
+}
+
+static uint64_t chunks_of(size_t len) { return len <= B3_CHUNK_LEN ? 1 : (len + B3_CHUNK_LEN - 1) / B3_CHUNK_LEN; }
+
+/* The compressions of a hash: one for each block, and one for each parent. */
+static uint64_t work_of(size_t len) { return (len <= 64 ? 1 : (len + 63) / 64) + chunks_of(len) - 1; }
+
+static size_t left_of(size_t len) {
+    size_t left = B3_CHUNK_LEN;
+    while (2 * left < len)
+        left *= 2;
+    return left;
+}
+
+/* The chaining value of a tree, chunk by chunk. */
+static b3_value value_of(const uint8_t *k, size_t k_len, const uint8_t *bytes, size_t len, uint64_t number, uint64_t *count) {
+    b3_value value;
+    if (len <= B3_CHUNK_LEN) {
+        b3_subtree(k, k_len, bytes, len, number, &value, count);
+        return value;
+    }
+    size_t left = left_of(len);
+    b3_value first = value_of(k, k_len, bytes, left, number, count);
+    b3_value second = value_of(k, k_len, bytes + left, len - left, number + left / B3_CHUNK_LEN, count);
+    b3_parent(k, k_len, first, second, &value, count);
+    return value;
+}
+
+static void whole_calls(const uint8_t *input, size_t len, uint8_t told[3][TOLD]) {
+    uint64_t count = 5;
+    uint8_t *out = output_end - B3_HASH_LEN;
+    shows(b3_hash(input, len, out, 32, &count) == B3_DONE && memcmp(out, told[0], 32) == 0 && count == 5 + work_of(len), "b3_hash", len);
+    count = 0;
+    shows(b3_keyed_hash(key, 32, input, len, out, 32, &count) == B3_DONE && memcmp(out, told[1], 32) == 0 && count == work_of(len),
+          "b3_keyed_hash", len);
+    count = 0;
+    shows(b3_derive_key(context, context_len, input, len, out, 32, &count) == B3_DONE && memcmp(out, told[2], 32) == 0 &&
+              count == work_of(context_len) + work_of(len),
+          "b3_derive_key", len);
+}
+
+static void extended_calls(const uint8_t *input, size_t len, uint8_t told[3][TOLD]) {
+    const uint8_t *keys[3] = {key, key, context};
+    size_t key_lens[3] = {0, 32, context_len};
+    for (uint32_t mode = 0; mode < 3; mode++) {
+        int same = 1;
+        for (size_t at = 0; at <= TOLD; at += 13)
+            for (size_t more = 0; at + more <= TOLD; more += 37) {
+                uint64_t count = 0, touched = more == 0 ? 0 : (at + more - 1) / 64 - at / 64 + 1;
+                uint8_t *out = output_end - more;
+                same &= b3_extended(mode, keys[mode], key_lens[mode], input, len, at, out, more, &count) == B3_DONE &&
+                        memcmp(out, told[mode] + at, more) == 0 &&
+                        count == (mode == 2 ? work_of(context_len) : 0) + work_of(len) - 1 + touched;
+            }
+        shows(same, "b3_extended", len);
+    }
+}
+
+static void node_calls(const uint8_t *input, size_t len, uint8_t told[3][TOLD]) {
+    for (int keyed = 0; keyed < 2; keyed++) {
+        size_t k_len = keyed ? 32 : 0, left = left_of(len);
+        uint64_t count = 0, once = 0;
+        b3_value first = value_of(key, k_len, input, left, 0, &count), at_once;
+        b3_value second = value_of(key, k_len, input + left, len - left, left / B3_CHUNK_LEN, &count);
+        uint8_t *out = output_end - B3_HASH_LEN;
+        shows(b3_root(key, k_len, first, second, out, 32, &count) == B3_DONE && memcmp(out, told[keyed], 32) == 0 && count == work_of(len),
+              "b3_root", len);
+        shows(b3_subtree(key, k_len, input + left, len - left, left / B3_CHUNK_LEN, &at_once, &once) == B3_DONE &&
+                  memcmp(&at_once, &second, sizeof second) == 0 && once == work_of(len - left),
+              "b3_subtree", len);
+    }
+}
+
+/* Whether a call answers so, and leaves output and count as they were. */
+#define REFUSED(wanted, call)                                                                                                              \
+    do {                                                                                                                                   \
+        uint64_t count = 7;                                                                                                                \
+        b3_value value = mark;                                                                                                             \
+        memset(out, 0xa5, sizeof out);                                                                                                     \
+        int kept = (call) == (wanted) && count == 7 && memcmp(&value, &mark, sizeof mark) == 0;                                            \
+        for (size_t i = 0; i < sizeof out; i++)                                                                                            \
+            kept &= out[i] == 0xa5;                                                                                                        \
+        shows(kept, #call, 0);                                                                                                             \
+    } while (0)
+
+static void refusals(void) {
+    const b3_value mark = {{1, 2, 3, 4, 5, 6, 7, 8}};
+    const uint8_t *input = input_of(4096);
+    uint8_t out[65];
+    size_t lens[] = {0, 1, 31, 33, 64};
+    for (size_t i = 0; i < sizeof lens / sizeof *lens; i++) {
+        REFUSED(B3_BAD_OUTPUT, b3_hash(input, 3, out, lens[i], &count));
+        REFUSED(B3_BAD_OUTPUT, b3_keyed_hash(key, 32, input, 3, out, lens[i], &count));
+        REFUSED(B3_BAD_KEY, b3_keyed_hash(key, lens[i], input, 3, out, lens[i], &count));
+        REFUSED(B3_BAD_OUTPUT, b3_derive_key(context, context_len, input, 3, out, lens[i], &count));
+        REFUSED(B3_BAD_OUTPUT, b3_root(key, 32, mark, mark, out, lens[i], &count));
+        REFUSED(B3_BAD_KEY, b3_extended(B3_KEYED_HASH, key, lens[i], input, 3, 0, out, 32, &count));
+        if (lens[i] > 0) {
+            REFUSED(B3_BAD_KEY, b3_extended(B3_HASH, key, lens[i], input, 3, 0, out, 32, &count));
+            REFUSED(B3_BAD_KEY, b3_subtree(key, lens[i], input, 1024, 0, &value, &count));
+            REFUSED(B3_BAD_KEY, b3_parent(key, lens[i], mark, mark, &value, &count));
+            REFUSED(B3_BAD_KEY, b3_root(key, lens[i], mark, mark, out, 31, &count));
+        }
+    }
+    REFUSED(B3_BAD_KEY, b3_extended(3, key, 32, input, 3, 0, out, 32, &count));
+    REFUSED(B3_BAD_KEY, b3_extended(UINT32_MAX, key, 0, input, 3, 0, out, 32, &count));
+    REFUSED(B3_BAD_POSITION, b3_extended(B3_HASH, key, 0, input, 3, UINT64_MAX - 31, out, 32, &count));
+    REFUSED(B3_BAD_POSITION, b3_extended(3, key, 0, input, 3, UINT64_MAX, out, 1, &count));
+    REFUSED(B3_BAD_SUBTREE, b3_subtree(key, 0, input, 0, 1, &value, &count));
+    REFUSED(B3_BAD_SUBTREE, b3_subtree(key, 0, input, 2048, 1, &value, &count));
+    REFUSED(B3_BAD_SUBTREE, b3_subtree(key, 32, input, 2049, 2, &value, &count));
+    REFUSED(B3_BAD_SUBTREE, b3_subtree(key, 0, input, 1024, (uint64_t)1 << 54, &value, &count));
+    REFUSED(B3_BAD_SUBTREE, b3_subtree(key, 0, input, 1024, ((uint64_t)1 << 54) - 1, &value, &count));
+    REFUSED(B3_BAD_SUBTREE, b3_subtree(key, 0, input, 1, UINT64_MAX, &value, &count));
+}
+
+/* The last places that are accepted. */
+static void borders(void) {
+    const uint8_t *input = input_of(1024);
+    uint64_t count = UINT64_MAX - 1;
+    uint8_t out[32];
+    b3_value value;
+    shows(b3_extended(B3_HASH, key, 0, input, 3, UINT64_MAX - 32, out, 32, &count) == B3_DONE && count == UINT64_MAX, "the output's end", 3);
+    shows(b3_extended(B3_HASH, key, 0, input, 3, UINT64_MAX, out, 0, &count) == B3_DONE, "nothing at the output's end", 3);
+    shows(b3_subtree(key, 0, input, 1023, ((uint64_t)1 << 54) - 1, &value, &count) == B3_DONE, "the last chunk of all", 1023);
+}
+
+/* What a thread hashes, and whether it was always the same. */
+struct task {
+    const uint8_t *input, *told;
+    int mode, same;
+};
+
+static void *hash_often(void *of) {
+    struct task *task = of;
+    task->same = 1;
+    for (int i = 0; i < ROUNDS; i++) {
+        uint8_t out[32];
+        uint64_t count = 0;
+        if (task->mode)
+            b3_keyed_hash(key, 32, task->input, MOST, out, 32, &count);
+        else
+            b3_hash(task->input, MOST, out, 32, &count);
+        task->same &= memcmp(out, task->told, 32) == 0 && count == work_of(MOST);
+    }
+    return NULL;
+}
+
+static void threads(uint8_t told[3][TOLD]) {
+    const uint8_t *input = input_of(MOST);
+    pthread_t thread[THREADS];
+    struct task tasks[THREADS];
+    for (int i = 0; i < THREADS; i++) {
+        tasks[i] = (struct task){input, told[i % 2], i % 2, 0};
+        if (pthread_create(&thread[i], NULL, hash_often, &tasks[i]) != 0)
+            exit(1);
+    }
+    for (int i = 0; i < THREADS; i++) {
+        pthread_join(thread[i], NULL);
+        shows(tasks[i].same, "a thread's hash", MOST);
+    }
+}
+
+static void read_digits(uint8_t *to) {
+    for (int i = 0; i < TOLD; i++) {
+        unsigned byte;
+        if (scanf("%2x", &byte) != 1)
+            exit(1);
+        to[i] = (uint8_t)byte;
+    }
+}
+
+int main(int argc, char **argv) {
+    if (argc != 3 || strlen(argv[1]) != B3_KEY_LEN)
+        return 2;
+    key = (const uint8_t *)argv[1];
+    context = (const uint8_t *)argv[2];
+    context_len = strlen(argv[2]);
+    input_end = end_of_memory(MOST);
+    output_end = end_of_memory(TOLD);
+    size_t len;
+    static uint8_t told[3][TOLD];
+    while (scanf("%zu", &len) == 1 && len <= MOST) {
+        for (int mode = 0; mode < 3; mode++)
+            read_digits(told[mode]);
+        const uint8_t *input = input_of(len);
+        whole_calls(input, len, told);
+        extended_calls(input, len, told);
+        if (len > B3_CHUNK_LEN)
+            node_calls(input, len, told);
+        if (len == MOST)
+            threads(told);
+    }
+    refusals();
+    borders();
+    printf("%ld passed, %ld failed\n", passed, failed);
+    return failed != 0;
+}
