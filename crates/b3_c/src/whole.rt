@@ -11,7 +11,11 @@ ghost use Rattle.b3_c.specs.Modes.{is_mode, mode_of, mode_work};
 use crate::answers::{BAD_KEY, BAD_OUTPUT, BAD_POSITION, DONE};
 use b3_core::{Mode, OutputReader, Top, Work, hash_wide};
 
-const HASH_LEN: usize = 32;
+/// The bytes of a hash.
+pub(crate) const HASH_LEN: usize = 32;
+
+/// The bytes of a key of the mode `keyed_hash`.
+pub(crate) const KEY_LEN: usize = 32;
 
 // The numbers of the modes.
 const HASH: u32 = 0;
@@ -44,7 +48,7 @@ pub extern "C" fn b3_keyed_hash(key: &[u8], bytes: &[u8], out: &mut [u8], work: 
     ensures count { result ≡ 0 → work.new ≡ counted work.old (hash_work (length bytes.now)) }
     ensures refused { result ≢ 0 → (out.new ≡ out.old) × (work.new ≡ work.old) }
 {
-    let Some(key) = key.as_array::<32>() else {
+    let Some(key) = key.as_array::<KEY_LEN>() else {
         return BAD_KEY;
     };
     if out.len() != HASH_LEN {
@@ -115,7 +119,7 @@ fn mode_of(number: u32, key: &[u8], work: &mut Work) -> Option<Mode>
     ensures count { MatchOption result (work.new ≡ work.old)
         (λ _. work.new ≡ counted work.old (mode_work number (length key.now))) }
 {
-    match (number, key.as_array::<32>()) {
+    match (number, key.as_array::<KEY_LEN>()) {
         (HASH, _) if key.is_empty() => Some(Mode::hash()),
         (KEYED_HASH, Some(key)) => Some(Mode::keyed(key)),
         (DERIVE_KEY, _) => Some(Mode::derive(key, work)),
