@@ -40,6 +40,15 @@ IsNext p subtrees s x =
 abbrev pub Holds : Hashing → List ℕ → Type 0
 Holds h x = (before : List ℕ) × (x ≡ before ++ h.tail) × AreSubtrees h.mode h.subtrees before × (length before ≡ h.whole) × (length h.tail < 1024)
 
+-- a whole subtree of 2^k chunks can stand behind what the hasher was given
+abbrev pub Fits : ℕ → Hashing → Type 0
+Fits k h = (h.tail ≡ []) × AreFrom k h.subtrees
+
+-- it does: behind the bytes x that the hasher was given stand mine, 2^k whole chunks, of which t is the node
+abbrev pub IsBehind : Hashing → ℕ → Inputs → List ℕ → List ℕ → Type 0
+IsBehind h k t x mine =
+    Holds h x × Fits k h × (length mine ≡ 1024 * 2 ^ k) × (t ≡ tree_top mine (h.whole / 1024) h.mode) × (length x + length mine < 2 ^ 64)
+
 -- how many bytes a hasher was given, counted below 2 ^ 64
 abbrev pub count_of : Hashing → ℕ
 count_of h = (h.whole + length h.tail) % 2 ^ 64

@@ -1,7 +1,7 @@
 //! The hash of bytes that come in pieces.
 
-ghost use Rattle.std.specs.Prelude.{◌≡◌, ℕ, ◌+◌, ◌-◌, ◌*◌, ◌/◌, ◌^◌, ◌<◌, ◌≤◌, ◌++◌, List, [], ◌∷◌, Some, length, reverse};
-ghost use Rattle.b3_core.specs.Hashers.{Hashing, Subtrees, AreFrom, AreSubtrees, IsLeft, IsNext, Holds, Makes, count_of, joined, kept_work};
+ghost use Rattle.std.specs.Prelude.{◌≡◌, ℕ, ◌+◌, ◌-◌, ◌*◌, ◌/◌, ◌^◌, ◌<◌, ◌≤◌, ◌↔◌, ◌++◌, List, [], ◌∷◌, Some, length, reverse, true};
+ghost use Rattle.b3_core.specs.Hashers.{Hashing, Subtrees, AreFrom, AreSubtrees, Fits, IsBehind, IsLeft, IsNext, Holds, Makes, count_of, joined, kept_work};
 ghost use Rattle.b3_core.specs.Modes.{digest_of};
 ghost use Rattle.b3_core.specs.Texts.{hasher_text};
 ghost use Rattle.b3_core.specs.Tree.{Inputs, tree_top};
@@ -123,12 +123,47 @@ impl Hasher {
         rest
     }
 
-    // The number of the chunk behind the subtrees.
-    fn number(&self) -> u64
+    /// The mode in which it hashes.
+    pub fn mode(&self) -> Mode
+        ensures { result ≡ self.now.mode }
+    {
+        self.mode
+    }
+
+    /// The number of the chunk behind the whole ones that were given.
+    pub fn number(&self) -> u64
         ensures value { result ≡ self.now.whole / 1024 }
         ensures below { result < 2 ^ 54 }
     {
         self.whole / CHUNK_LEN as u64
+    }
+
+    /// Whether a whole subtree of 2^level chunks can stand next: no chunk was begun, and the last node that is kept is one of
+    /// no fewer chunks.
+    pub fn fits(&self, level: u32) -> bool
+        ensures { result ≡ true ↔ Fits level self.now }
+    {
+        if !self.tail.is_empty() {
+            return false;
+        }
+        match self.subtrees.as_slice().last() {
+            Some(last) => level <= last.level,
+            None => true,
+        }
+    }
+
+    /// Puts a whole subtree of 2^level chunks behind those that were given, as `update` with its bytes does. `top` is its
+    /// node, whose first chunk has the number that `number` tells. Its own compressions are counted where it was made.
+    pub fn append(&mut self, top: &Top, level: u32, work: &mut Work)
+        requires { level < 54 }
+        ensures mode { self.new.mode ≡ self.old.mode }
+        ensures bytes { (x mine : List ℕ) → IsBehind self.old level top.now x mine → Holds self.new (x ++ mine) }
+        ensures fits { (x mine : List ℕ) → IsBehind self.old level top.now x mine → Fits level self.new }
+        ensures count { (x mine : List ℕ) → IsBehind self.old level top.now x mine
+            → Makes (kept_work ((level, top.now) ∷ self.old.subtrees)) (kept_work self.new.subtrees) work.old work.new }
+        ensures never_falls { NeverFalls work.old work.new }
+    {
+        self.put(Subtree { level, top: *top }, work);
     }
 
     // The level of the greatest subtree of no more chunks that is not above the last one.
@@ -151,6 +186,7 @@ impl Hasher {
         ensures tail { self.new.tail ≡ self.old.tail }
         ensures whole { self.old.whole + 1024 * 2 ^ next.0 < 2 ^ 64 → self.new.whole ≡ self.old.whole + 1024 * 2 ^ next.0 }
         ensures nodes { (x : List ℕ) → IsNext self.old.mode self.old.subtrees next x → length x < 2 ^ 64 → AreSubtrees self.old.mode self.new.subtrees x }
+        ensures from { (x : List ℕ) → IsNext self.old.mode self.old.subtrees next x → length x < 2 ^ 64 → AreFrom next.0 self.new.subtrees }
         ensures count { (x : List ℕ) → IsNext self.old.mode self.old.subtrees next x → length x < 2 ^ 64
             → Makes (kept_work (next ∷ self.old.subtrees)) (kept_work self.new.subtrees) work.old work.new }
         ensures never_falls { NeverFalls work.old work.new }
@@ -226,6 +262,7 @@ impl fmt::Debug for Hasher {
 fn push(mode: &Mode, subtrees: &mut ArrayVec<Subtree, LEVELS>, next: Subtree, work: &mut Work)
     ensures nodes { (x : List ℕ) → IsNext mode.now (reverse subtrees.old.items) next x → length x < 2 ^ 64
         → AreSubtrees mode.now (reverse subtrees.new.items) x }
+    ensures from { (x : List ℕ) → IsNext mode.now (reverse subtrees.old.items) next x → length x < 2 ^ 64 → AreFrom next.0 (reverse subtrees.new.items) }
     ensures count { (x : List ℕ) → IsNext mode.now (reverse subtrees.old.items) next x → length x < 2 ^ 64
         → Makes (kept_work (next ∷ reverse subtrees.old.items)) (kept_work (reverse subtrees.new.items)) work.old work.new }
     ensures never_falls { NeverFalls work.old work.new }

@@ -60,6 +60,13 @@ impl Work {
         self.count
     }
 
+    /// Takes over the compressions that another count has, as that of a thread, which is spent.
+    pub fn absorb(&mut self, other: Work)
+        ensures { self.new ≡ counted self.old other }
+    {
+        self.add(other.count);
+    }
+
     /// Counts that many more compressions.
     pub(crate) fn add(&mut self, more: u64)
         ensures { self.new ≡ counted self.old more }

@@ -1,10 +1,16 @@
-use Rattle.std.proofs.Common.{◌≡◌, ◌<◌, ℕ, ◌∷◌, List, length, reverse, arith, rules}
+use Rattle.std.proofs.Common.{◌≡◌, ◌<◌, ◌≤◌, ℕ, ◌∷◌, List, length, reverse, arith, rules}
 use Rattle.std.proofs.lemmas.List.{reverse-append}
 use Rattle.b3_core.specs.Hashers.{AreAbove, IsNext}
 use Rattle.b3_core.specs.Tree.{Inputs}
 use Rattle.b3_core.proofs.Hashings.{above_next, has_room, merge_step, none_above, put_last}
 use Rattle.b3_core.proofs.hasher.push.Goals as goal
 use Rattle.b3_core.proofs.hasher.push.Goals.{in-Some+then-last-next, in_default}
+
+-- a level that rises stays above the first one
+higher : (c : goal.After-pop-last) → c.args.next.0 ≤ c.saturating_add-level.result
+higher c =
+    let from : c.args.next.0 ≤ c.next.inside.level = rw (← c.next.view_is) at c.loop-last.invariant.rises in
+    omega (arith, from, c.saturating_add-level.ensures)
 
 pub loop-last-preserved : goal.loop-last-preserved
 loop-last-preserved c = record {
@@ -16,6 +22,7 @@ loop-last-preserved c = record {
       let now = rw (← c.next.view_is) at inv in
       merge_step c.args.mode.now (reverse c.loop-last.subtrees.items) (reverse c.pop-last.new.self.items) last next x c.saturating_add-level.result c.parent-top.result _ _ _ _
       taken c.if-last-next.false c.saturating_add-level.ensures c.parent-top.ensures.node c.parent-top.ensures.count few now.0 now.1;
+  rises = higher c;
   never_falls = omega (arith, c.loop-last.invariant.never_falls, c.parent-top.ensures.count);
 }
 
@@ -42,3 +49,8 @@ pub returns-clause-count : goal.returns-clause-count
 returns-clause-count c x is few =
     let inv = c.loop-last.invariant.keeps x is few in
     rw (pushed c (has_room c.args.mode.now c.loop-last.subtrees.items c.loop-last.next x (stands c x inv.0) inv.0 few)) inv.1
+
+pub returns-clause-from : goal.returns-clause-from
+returns-clause-from c x is few =
+    let inv = c.loop-last.invariant.keeps x is few in
+    rw (pushed c (has_room c.args.mode.now c.loop-last.subtrees.items c.loop-last.next x (stands c x inv.0) inv.0 few)) c.loop-last.invariant.rises

@@ -1,0 +1,5 @@
+pub mod Carrying
+pub mod Consuming
+pub mod Fitting
+pub mod Lining
+pub mod Standing

@@ -1,0 +1,13 @@
+use Rattle.std.proofs.Common.{◌≤◌, ◌^◌, arith}
+use Rattle.std.proofs.Math.Pow.{pow_mono}
+use Rattle.std.proofs.lemmas.Nat.{pow_pos}
+use Rattle.b3_parallel.proofs.sizes.bytes_of.Goals as goal
+
+fits : (c : goal.Start) → 2 ^ c.args.level ≤ 2 ^ 52
+fits c = pow_mono {i = c.args.level} {j = 52} (omega (arith, c.requires))
+
+pub returns-clause-value : goal.returns-clause-value
+returns-clause-value c = omega (arith, fits c)
+
+pub returns-clause-above : goal.returns-clause-above
+returns-clause-above c = omega (arith, fits c, pow_pos c.args.level)

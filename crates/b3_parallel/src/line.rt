@@ -1,0 +1,146 @@
+//! A hasher, and behind what it was given a line of blocks that threads are hashing.
+
+ghost use Rattle.std.specs.Prelude.{◌≡◌, ℕ, ◌+◌, ◌*◌, ◌/◌, ◌^◌, ◌<◌, ◌≤◌, ◌++◌, List, [], ◌∷◌, IfSome, length};
+ghost use Rattle.b3_core.specs.Tree.{Keying};
+ghost use Rattle.b3_parallel.specs.Blocks.{IsHashed};
+ghost use Rattle.b3_parallel.specs.Lines.{Carries, Thread};
+
+use crate::blocks::{Block, Handle, hash_block, start};
+use crate::sizes::{BlockPlan, bytes_of, chunks_of};
+use b3_core::{Hasher, Runtime, Work};
+use std::alloc::Global;
+use std::collections::VecDeque;
+use std::thread::Threads;
+
+// Waits for the first thread, puts its block behind what the hasher was given, and answers the block's bytes.
+fn settle<T: Threads>(
+    rt: &T,
+    hasher: &mut Hasher,
+    handle: Handle,
+    level: u32,
+    work: &mut Work,
+) -> Vec<u8>
+    requires { level < 53 }
+    ensures { (p : Keying) (hs : List Thread) (x : List ℕ) (n : ℕ) → length x < 2 ^ 64 → Carries p level hasher.old (handle ∷ hs) x n work.old
+        → Carries p level hasher.new hs x n work.new }
+{
+    let block = handle.join(rt);
+    work.absorb(block.work);
+    hasher.append(&block.top, level, work);
+    block.bytes
+}
+
+/// Waits for all threads.
+pub(crate) fn settle_all<T: Threads>(
+    rt: &T,
+    hasher: &mut Hasher,
+    line: &mut VecDeque<Handle>,
+    level: u32,
+    work: &mut Work,
+)
+    requires { level < 53 }
+    ensures empty { line.new.items ≡ [] }
+    ensures carries { (p : Keying) (x : List ℕ) (n : ℕ) → length x < 2 ^ 64 → Carries p level hasher.old line.old.items x n work.old
+        → Carries p level hasher.new [] x n work.new }
+{
+    while let Some(handle) = line.pop_front() {
+        let _bytes = settle(rt, hasher, handle, level, work);
+    }
+}
+
+// Waits for all threads, and puts a block behind theirs that this one has hashed.
+fn put_hashed<T: Threads>(
+    rt: &T,
+    hasher: &mut Hasher,
+    line: &mut VecDeque<Handle>,
+    block: Block,
+    level: u32,
+    work: &mut Work,
+)
+    requires { level < 53 }
+    ensures { (p : Keying) (x mine : List ℕ) (n : ℕ) → Carries p level hasher.old line.old.items x n work.old → length mine ≡ 1024 * 2 ^ level
+        → IsHashed p mine (length x / 1024) block.top block.work → length x + length mine < 2 ^ 64 → Carries p level hasher.new line.new.items (x ++ mine) n work.new }
+{
+    settle_all(rt, hasher, line, level, work);
+    work.absorb(block.work);
+    hasher.append(&block.top, level, work);
+}
+
+/// Puts a block of 2^level chunks at the end of the line, with so many blocks before it, and answers whether a thread hashes it. Where
+/// none can be started, this one has.
+pub(crate) fn put<T: Threads + Runtime>(
+    rt: &T,
+    hasher: &mut Hasher,
+    line: &mut VecDeque<Handle>,
+    bytes: Vec<u8>,
+    place: u64,
+    level: u32,
+    work: &mut Work,
+) -> bool
+    requires level { level < 53 }
+    requires len { length bytes.items ≡ 1024 * 2 ^ level }
+    requires place { (place + 1) * 2 ^ level ≤ 2 ^ 53 }
+    ensures { (p : Keying) (x : List ℕ) (n : ℕ) → Carries p level hasher.old line.old.items x n work.old → length x ≡ 1024 * (place * 2 ^ level)
+        → Carries p level hasher.new line.new.items (x ++ bytes.items) n work.new }
+{
+    let mode = hasher.mode();
+    let number = place * chunks_of(level);
+    if line.reserve(1).is_err() {
+        let block = hash_block(mode, bytes, number, Work::new(rt));
+        put_hashed(rt, hasher, line, block, level, work);
+        return false;
+    }
+    match start(rt, mode, bytes, number, Work::new(rt)) {
+        Ok(handle) => {
+            line.push_back_reserved(handle);
+            true
+        }
+        Err(block) => {
+            put_hashed(rt, hasher, line, block, level, work);
+            false
+        }
+    }
+}
+
+// Waits for the first thread, if there is one.
+fn settle_first<T: Threads>(
+    rt: &T,
+    hasher: &mut Hasher,
+    line: &mut VecDeque<Handle>,
+    level: u32,
+    work: &mut Work,
+) -> Option<Vec<u8>>
+    requires { level < 53 }
+    ensures { (p : Keying) (x : List ℕ) (n : ℕ) → length x < 2 ^ 64 → Carries p level hasher.old line.old.items x n work.old
+        → Carries p level hasher.new line.new.items x n work.new }
+{
+    match line.pop_front() {
+        Some(handle) => Some(settle(rt, hasher, handle, level, work)),
+        None => None,
+    }
+}
+
+/// A place for the next block: the first one's, where so many threads are at work, and else new memory, if
+/// it is not refused.
+pub(crate) fn next_place<T: Threads>(
+    rt: &T,
+    alloc: Global,
+    hasher: &mut Hasher,
+    line: &mut VecDeque<Handle>,
+    plan: BlockPlan,
+    work: &mut Work,
+) -> Option<Vec<u8>>
+    requires { plan.level < 53 }
+    ensures len { IfSome result (λ bytes. length bytes.items ≡ 1024 * 2 ^ plan.level) }
+    ensures carries { (p : Keying) (x : List ℕ) (n : ℕ) → length x < 2 ^ 64 → Carries p plan.level hasher.old line.old.items x n work.old
+        → Carries p plan.level hasher.new line.new.items x n work.new }
+{
+    let len = bytes_of(plan.level);
+    if line.len() < plan.most {
+        return vec![in alloc; 0u8; len].ok();
+    }
+    match settle_first(rt, hasher, line, plan.level, work) {
+        Some(bytes) if bytes.len() == len => Some(bytes),
+        _ => None,
+    }
+}

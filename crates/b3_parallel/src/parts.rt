@@ -1,0 +1,83 @@
+//! Some bytes in parts, each of which a thread hashes.
+
+ghost use Rattle.std.specs.Prelude.{◌≡◌, ℕ, ◌+◌, ◌*◌, ◌/◌, ◌%◌, ◌^◌, ◌<◌, ◌++◌, IfOk, List, length};
+ghost use Rattle.b3_core.specs.Hashers.{Makes, Holds, kept_work};
+ghost use Rattle.b3_core.specs.Tree.{IsSubtree};
+ghost use Rattle.b3_core.specs.Work.{NeverFalls};
+ghost use Rattle.b3_parallel.specs.Blocks.{IsHashed};
+ghost use Rattle.b3_parallel.specs.Parts.{ArePartsOf, StandBehind};
+
+use crate::sizes::bytes_of;
+use b3_core::{CHUNK_LEN, Hasher, Mode, Runtime, Top, Work};
+use std::alloc::{AllocError, Global};
+use std::thread;
+use std::thread::Threads;
+
+/// What a thread made of a part: its node, and the compressions.
+#[derive(Drop)]
+pub(crate) struct Part {
+    pub(crate) top: Top,
+    pub(crate) work: Work,
+}
+
+// The part with these bytes, 2^level chunks, which begin at `start` within those whose first chunk has the given number.
+fn part_of<T: Runtime>(
+    rt: &T,
+    mode: &Mode,
+    bytes: &[u8],
+    number: u64,
+    start: usize,
+    level: u32,
+) -> Part
+    requires len { length bytes.now ≡ 1024 * 2 ^ level }
+    requires start { start % (1024 * 2 ^ level) ≡ 0 }
+    requires subtree { IsSubtree (1024 * 2 ^ level) number }
+    requires number { number < 2 ^ 54 }
+    ensures { IsHashed mode.now bytes.now (number + start / 1024) result.top result.work }
+{
+    let mut work = Work::new(rt);
+    let number = number + (start / CHUNK_LEN) as u64;
+    let top = Top::of_subtree(mode, bytes, number, &mut work);
+    Part { top, work }
+}
+
+/// Hashes bytes in parts of 2^level chunks, each by a thread of its own where one can be made. The first chunk has the given
+/// number.
+pub(crate) fn parts_of<T: Threads + Sync + Runtime>(
+    rt: &T,
+    alloc: Global,
+    mode: &Mode,
+    bytes: &[u8],
+    level: u32,
+    number: u64,
+) -> Result<Vec<Part>, AllocError>
+    requires level { level < 53 }
+    requires whole { length bytes.now % (1024 * 2 ^ level) ≡ 0 }
+    requires subtree { IsSubtree (1024 * 2 ^ level) number }
+    requires number { number < 2 ^ 54 }
+    ensures { IfOk result (λ parts. ArePartsOf mode.now bytes.now level number parts.items) }
+{
+    thread::map_chunks(
+        rt,
+        alloc,
+        bytes,
+        bytes_of(level),
+        &|start, chunk| { part_of(rt, mode, chunk, number, start, level) },
+    )
+}
+
+/// Puts parts of 2^level chunks behind what a hasher was given.
+pub(crate) fn append_all(hasher: &mut Hasher, parts: Vec<Part>, level: u32, work: &mut Work)
+    requires { level < 53 }
+    ensures mode { hasher.new.mode ≡ hasher.old.mode }
+    ensures bytes { (x bytes : List ℕ) → StandBehind hasher.old level parts.items x bytes → Holds hasher.new (x ++ bytes) }
+    ensures count { (x bytes : List ℕ) → StandBehind hasher.old level parts.items x bytes
+        → Makes (kept_work hasher.old.subtrees) (kept_work hasher.new.subtrees) work.old work.new }
+    ensures never_falls { NeverFalls work.old work.new }
+{
+    let mut rest = parts.into_iter();
+    while let Some(part) = rest.next() {
+        work.absorb(part.work);
+        hasher.append(&part.top, level, work);
+    }
+}

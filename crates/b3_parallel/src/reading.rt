@@ -1,0 +1,224 @@
+//! The hash of all that a reader has left, by several threads.
+
+ghost use Rattle.std.specs.Prelude.{◌≡◌, ◌≢◌, ℕ, ◌+◌, ◌-◌, ◌*◌, ◌^◌, ◌<◌, ◌≤◌, ◌++◌, List, [], IfErr, IfOk, None, OnOk, length, take, true, false, vec_len};
+ghost use Rattle.std.specs.Io.KnownBytes.{Consumes, IsAtEnd, Keeps};
+ghost use Rattle.b3_core.specs.Hashers.{count_of};
+ghost use Rattle.b3_core.specs.Tree.{Keying, tree_top};
+ghost use Rattle.b3_core.specs.Work.{counted, hash_work};
+ghost use Rattle.b3_parallel.specs.Blocks.{HasRead, IsGiven};
+ghost use Rattle.b3_parallel.specs.Lines.{Carries, last_of};
+
+use crate::blocks::Handle;
+use crate::line::{next_place, put, settle_all};
+use crate::sizes::{
+    BLOCK_LEVEL, BlockPlan, MOST_BLOCKS, block_limit, bytes_of, piece_len, thread_count,
+};
+use b3_core::{Hasher, Mode, Runtime, Top, Work};
+use std::alloc::Global;
+use std::collections::VecDeque;
+use std::io;
+use std::io::{Error, ErrorKind, Read};
+use std::thread::Threads;
+
+// Reads until the block is full or nothing is left.
+fn fill<R: Read>(reader: &mut R, block: &mut [u8]) -> io::Result<usize>
+    ensures len { length block.new ≡ length block.old }
+    ensures count { IfOk result (λ n. n ≤ length block.old) }
+    ensures bytes { IfOk result (λ n. Consumes (R.remaining reader.old) (R.remaining reader.new) (take n block.new)) }
+    ensures end { IfOk result (λ n. n < length block.old → IsAtEnd (R.remaining reader.new)) }
+{
+    let mut filled = 0;
+    for _ in 0..u64::MAX {
+        if filled >= block.len() {
+            return Ok(filled);
+        }
+        match reader.read(&mut block[filled..]) {
+            Ok(0) => return Ok(filled),
+            Ok(count) => filled += count,
+            Err(error) if error.kind() == ErrorKind::Interrupted => {}
+            Err(error) => return Err(error),
+        }
+    }
+    Err(Error::from(ErrorKind::Interrupted))
+}
+
+// The same of all of a block.
+fn fill_block<R: Read>(reader: &mut R, block: &mut Vec<u8>) -> io::Result<usize>
+    ensures len { length block.new.items ≡ vec_len block.old }
+    ensures count { IfOk result (λ n. n ≤ vec_len block.old) }
+    ensures bytes { IfOk result (λ n. Consumes (R.remaining reader.old) (R.remaining reader.new) (take n block.new.items)) }
+    ensures end { IfOk result (λ n. n < vec_len block.old → IsAtEnd (R.remaining reader.new)) }
+{
+    fill(reader, block.as_mut_slice())
+}
+
+// Reads once, at most so many bytes.
+fn read_piece<R: Read>(reader: &mut R, piece: &mut [u8], most: u64) -> io::Result<usize>
+    requires { (0 < most) × (0 < length piece.old) }
+    ensures len { length piece.new ≡ length piece.old }
+    ensures count { IfOk result (λ n. (n ≤ most) × (n ≤ length piece.old)) }
+    ensures bytes { IfOk result (λ n. Consumes (R.remaining reader.old) (R.remaining reader.new) (take n piece.new)) }
+    ensures end { IfOk result (λ n. n ≡ 0 → IsAtEnd (R.remaining reader.new)) }
+    ensures kept { IfErr result (λ _. Keeps (R.remaining reader.old) (R.remaining reader.new)) }
+{
+    let len = most.min(piece.len() as u64) as usize;
+    reader.read(&mut piece[..len])
+}
+
+// Gives a hasher what is read, a piece at a time, until it was given so many bytes or nothing is left, and answers whether
+// nothing is.
+fn hash_until<R: Read>(
+    hasher: &mut Hasher,
+    reader: &mut R,
+    piece: &mut [u8],
+    until: u64,
+    work: &mut Work,
+) -> io::Result<bool>
+    requires { 0 < length piece.old }
+    ensures mode { hasher.new.mode ≡ hasher.old.mode }
+    ensures len { length piece.new ≡ length piece.old }
+    ensures given { (x : List ℕ) (n : ℕ) → IsGiven hasher.old x n work.old → length x ≤ until
+        → OnOk result (HasRead until hasher.new x n work.new (R.remaining reader.old) (R.remaining reader.new)) }
+    ensures full { IfOk result (λ ended. ended ≡ false → until ≤ count_of hasher.new) }
+    ensures end { IfOk result (λ ended. ended ≡ true → IsAtEnd (R.remaining reader.new)) }
+{
+    for _ in 0..u64::MAX {
+        let given = hasher.count();
+        if given >= until {
+            return Ok(false);
+        }
+        match read_piece(reader, piece, until - given) {
+            Ok(0) => return Ok(true),
+            Ok(count) => hasher.update(&piece[..count], work),
+            Err(error) if error.kind() == ErrorKind::Interrupted => {}
+            Err(error) => return Err(error),
+        }
+    }
+    Err(Error::from(ErrorKind::Interrupted))
+}
+
+/// The node of the tree over all bytes that the reader has left, and the count of its compressions.
+///
+/// This thread reads, and hashes the first 2 MiB. Behind them each block of 2 MiB is hashed by a thread that is started for it, while
+/// this one reads the next; their nodes are put together in the order of the blocks. Where a thread or memory for a block is refused, this
+/// one hashes the rest. No thread is left at work, behind a read that failed neither. Shorter inputs start no thread.
+///
+/// `threads` says how many hash at once, up to 10 (more find no block to hash): with 1 it is this one alone, and with `None` as
+/// many as the processor has.
+///
+/// The error is that of the first read that fails, or `OutOfMemory` where 64 KiB are refused, or `FileTooLarge`
+/// of 2^64-1 bytes and more.
+pub fn hash_all<T: Threads + Runtime, R: Read>(
+    rt: &T,
+    alloc: Global,
+    mode: &Mode,
+    reader: &mut R,
+    threads: Option<u32>,
+    work: &mut Work,
+) -> io::Result<Top>
+    ensures node { IfOk result (λ top. (input : List ℕ) × (top ≡ tree_top input 0 mode.now) × Consumes (R.remaining reader.old) (R.remaining reader.new) input
+        × (work.new ≡ counted work.old (hash_work (length input) - 1))) }
+    ensures end { OnOk result (IsAtEnd (R.remaining reader.new)) }
+{
+    hash_in_blocks(rt, alloc, mode, reader, threads, BLOCK_LEVEL, work)
+}
+
+// The same in blocks of 2^level chunks.
+pub(crate) fn hash_in_blocks<T: Threads + Runtime, R: Read>(
+    rt: &T,
+    alloc: Global,
+    mode: &Mode,
+    reader: &mut R,
+    threads: Option<u32>,
+    level: u32,
+    work: &mut Work,
+) -> io::Result<Top>
+    requires { level < 40 }
+    ensures node { IfOk result (λ top. (input : List ℕ) × (top ≡ tree_top input 0 mode.now) × Consumes (R.remaining reader.old) (R.remaining reader.new) input
+        × (work.new ≡ counted work.old (hash_work (length input) - 1))) }
+    ensures end { OnOk result (IsAtEnd (R.remaining reader.new)) }
+{
+    let mut piece = vec![in alloc; 0u8; piece_len()]?;
+    let mut hasher = Hasher::new(mode);
+    let first = bytes_of(level) as u64;
+    if hash_until(&mut hasher, reader, &mut piece, first, work)? {
+        return Ok(hasher.top(work));
+    }
+    if hash_in_line(rt, alloc, &mut hasher, reader, threads, level, work)? {
+        return Ok(hasher.top(work));
+    }
+    if hash_until(&mut hasher, reader, &mut piece, u64::MAX, work)? {
+        return Ok(hasher.top(work));
+    }
+    Err(Error::from(ErrorKind::FileTooLarge))
+}
+
+// Gives a hasher that was given 2^level chunks what is read behind them, in a line of blocks, until nothing is left, and answers whether
+// nothing is. It stops before where there is one thread alone, or a thread or memory is refused.
+fn hash_in_line<T: Threads + Runtime, R: Read>(
+    rt: &T,
+    alloc: Global,
+    hasher: &mut Hasher,
+    reader: &mut R,
+    threads: Option<u32>,
+    level: u32,
+    work: &mut Work,
+) -> io::Result<bool>
+    requires { level < 40 }
+    ensures given { (x : List ℕ) (n : ℕ) → IsGiven hasher.old x n work.old → length x ≡ 1024 * 2 ^ level
+        → OnOk result ((hasher.new.mode ≡ hasher.old.mode) × HasRead (2 ^ 64 - 1) hasher.new x n work.new (R.remaining reader.old) (R.remaining reader.new)) }
+    ensures end { IfOk result (λ ended. ended ≡ true → IsAtEnd (R.remaining reader.new)) }
+{
+    let threads = thread_count(rt, threads);
+    if threads < 2 {
+        return Ok(false);
+    }
+    let plan = BlockPlan {
+        level,
+        most: threads.min(MOST_BLOCKS),
+    };
+    let mut line: VecDeque<Handle> = VecDeque::new(alloc);
+    let last = read_in_line(rt, alloc, hasher, &mut line, reader, plan, work);
+    // Where reading has failed, there may be some threads.
+    settle_all(rt, hasher, &mut line, level, work);
+    match last? {
+        Some(bytes) => {
+            hasher.update(&bytes, work);
+            Ok(true)
+        }
+        None => Ok(false),
+    }
+}
+
+// Reads blocks behind the first one, and puts each at the end of a line. The answer is the last bytes, fewer than a block, or
+// none where the reader may have more.
+fn read_in_line<T: Threads + Runtime, R: Read>(
+    rt: &T,
+    alloc: Global,
+    hasher: &mut Hasher,
+    line: &mut VecDeque<Handle>,
+    reader: &mut R,
+    plan: BlockPlan,
+    work: &mut Work,
+) -> io::Result<Option<Vec<u8>>>
+    requires { plan.level < 40 }
+    ensures carries { (x : List ℕ) (n : ℕ) → Carries hasher.old.mode plan.level hasher.old line.old.items x n work.old → length x ≡ 1024 * 2 ^ plan.level
+        → IfOk result (λ last. (y : List ℕ) × Carries hasher.old.mode plan.level hasher.new line.new.items (x ++ y) n work.new
+        × Consumes (R.remaining reader.old) (R.remaining reader.new) (y ++ last_of last) × (length (x ++ y) + length (last_of last) < 2 ^ 64)) }
+    ensures end { IfOk result (λ last. last ≢ None → IsAtEnd (R.remaining reader.new)) }
+{
+    for place in 1..block_limit(plan.level) {
+        let Some(mut block) = next_place(rt, alloc, hasher, line, plan, work) else {
+            return Ok(None);
+        };
+        let count = fill_block(reader, &mut block)?;
+        if count < block.len() {
+            block.truncate(count);
+            return Ok(Some(block));
+        }
+        if !put(rt, hasher, line, block, place, plan.level, work) {
+            return Ok(None);
+        }
+    }
+    Ok(None)
+}

@@ -1,0 +1,90 @@
+//! A hasher's next bytes, by several threads.
+
+ghost use Rattle.std.specs.Prelude.{◌≡◌, ℕ, ◌+◌, ◌*◌, ◌/◌, ◌^◌, ◌<◌, ◌++◌, IfSome, List, length};
+ghost use Rattle.b3_core.specs.Hashers.{Fits, Holds, Makes, kept_work};
+ghost use Rattle.b3_core.specs.Tree.{IsSubtree};
+ghost use Rattle.b3_core.specs.Work.{NeverFalls};
+
+use crate::parts::{append_all, parts_of};
+use crate::sizes::{bytes_of, thread_count};
+use b3_core::{CHUNK_LEN, Hasher, Runtime, Work, is_subtree};
+use std::alloc::Global;
+use std::thread::Threads;
+
+// The fewest chunks for which a thread is started.
+const LEAST: usize = 64;
+
+// The level of the parts into which so many chunks are cut for so many threads, or none where one thread is to hash them all.
+fn level_of(chunks: usize, threads: usize) -> Option<u32>
+    ensures { IfSome result (λ level. level < 53) }
+{
+    let share = chunks / threads.max(1);
+    if threads < 2 || share < LEAST {
+        return None;
+    }
+    Some(share.ilog2().min(52))
+}
+
+/// Gives `bytes` behind those that a hasher was given, as `Hasher::update` does and with the same count. Where a subtree can stand
+/// next, they are cut into whole subtrees of one size, at least as many as there are threads and less than twice as many, and each is
+/// hashed by a thread of its own, or by this one where none can be started; this one hashes what is left behind them. Bytes that are too few
+/// for a thread each 64 chunks start none, and where memory is refused this thread hashes all.
+///
+/// `threads` says how many hash, up to 16; with `None` they are as many as the processor has.
+pub fn update<T: Threads + Sync + Runtime>(
+    rt: &T,
+    alloc: Global,
+    hasher: &mut Hasher,
+    bytes: &[u8],
+    threads: Option<u32>,
+    work: &mut Work,
+)
+    ensures mode { hasher.new.mode ≡ hasher.old.mode }
+    ensures bytes { (x : List ℕ) → Holds hasher.old x → length x + length bytes.now < 2 ^ 64 → Holds hasher.new (x ++ bytes.now) }
+    ensures count { (x : List ℕ) → Holds hasher.old x → length x + length bytes.now < 2 ^ 64
+        → Makes (kept_work hasher.old.subtrees) (kept_work hasher.new.subtrees) work.old work.new }
+    ensures never_falls { NeverFalls work.old work.new }
+{
+    let chunks = bytes.len() / CHUNK_LEN;
+    if chunks < 2 * LEAST {
+        hasher.update(bytes, work);
+        return;
+    }
+    match level_of(chunks, thread_count(rt, threads)) {
+        Some(level) if hasher.fits(level) && is_subtree(bytes_of(level), hasher.number()) => {
+            update_in_parts(rt, alloc, hasher, bytes, level, work);
+        }
+        _ => hasher.update(bytes, work),
+    }
+}
+
+// The same, in parts of 2^level chunks.
+fn update_in_parts<T: Threads + Sync + Runtime>(
+    rt: &T,
+    alloc: Global,
+    hasher: &mut Hasher,
+    bytes: &[u8],
+    level: u32,
+    work: &mut Work,
+)
+    requires level { level < 53 }
+    requires fits { Fits level hasher.old }
+    requires subtree { IsSubtree (1024 * 2 ^ level) (hasher.old.whole / 1024) }
+    ensures mode { hasher.new.mode ≡ hasher.old.mode }
+    ensures bytes { (x : List ℕ) → Holds hasher.old x → length x + length bytes.now < 2 ^ 64 → Holds hasher.new (x ++ bytes.now) }
+    ensures count { (x : List ℕ) → Holds hasher.old x → length x + length bytes.now < 2 ^ 64
+        → Makes (kept_work hasher.old.subtrees) (kept_work hasher.new.subtrees) work.old work.new }
+    ensures never_falls { NeverFalls work.old work.new }
+{
+    let size = bytes_of(level);
+    let mode = hasher.mode();
+    let number = hasher.number();
+    let (front, rest) = bytes.split_at(bytes.len() - bytes.len() % size);
+    match parts_of(rt, alloc, &mode, front, level, number) {
+        Ok(parts) => {
+            append_all(hasher, parts, level, work);
+            hasher.update(rest, work);
+        }
+        Err(_) => hasher.update(bytes, work),
+    }
+}
