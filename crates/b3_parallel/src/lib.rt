@@ -13,6 +13,8 @@ mod line;
 mod parts;
 mod reading;
 mod sizes;
+#[cfg(test)]
+mod tests;
 mod updating;
 
 pub use reading::hash_all;
