@@ -72,8 +72,11 @@ def main():
             runs["make, v3"] = lambda: inner(ours.format("v3"), "make", str(MIB // 16))
             runs["hash_wide, v3"] = lambda: inner(ours.format("v3"), "hash_wide", str(MIB))
             runs["AVX2"] = lambda: inner(official.format("avx2"), str(MIB))
+        runs["sum, one thread"] = lambda: whole(path, "target/b3store", "sum", "--threads", "1")
+        runs["b3sum, one thread"] = lambda: whole(path, "b3sum", "--num-threads", "1")
         runs["sum"] = lambda: whole(path, "target/b3store", "sum")
-        runs["b3sum"] = lambda: whole(path, "b3sum", "--num-threads", "1")
+        runs["b3sum"] = lambda: whole(path, "b3sum")
+        runs["cat"] = lambda: whole(path, "cat")
         micros = {name: [] for name in runs}
         for _ in range(TURNS):
             for name, run in runs.items():
@@ -81,7 +84,7 @@ def main():
         memory = peak_memory(path, "target/b3store", "sum")
     size = MIB << 20
     for name, turns in micros.items():
-        print(f"{name:14} {size / min(turns) / 1000:6.2f} GB/s, median {size / statistics.median(turns) / 1000:.2f}")
+        print(f"{name:17} {size / min(turns) / 1000:6.2f} GB/s, median {size / statistics.median(turns) / 1000:.2f}")
     for name, other, goal in [
         ("hash", "portable", 1.1),
         ("hash_wide, v2", "SSE4.1", 0.65),
@@ -91,8 +94,16 @@ def main():
     ]:
         if name in micros:
             print(f"{name} / {other}: {ratios(micros[name], micros[other])}  (goal {goal})")
-    print(f"sum / b3sum --num-threads 1: {ratios(micros['sum'], micros['b3sum'])}  (whole processes; b3sum takes what the processor has)")
-    print(f"memory of sum / input: {memory / size:.2f}  (goal at most 2.1)")
+    print("whole processes, which read standard input; b3sum takes what the processor has, and cat reads alone:")
+    for name, other, goal in [
+        ("sum, one thread", "b3sum, one thread", None),
+        ("sum", "b3sum", 1.0),
+        ("sum", "sum, one thread", 1.0),
+        ("sum", "cat", None),
+    ]:
+        wanted = f"  (goal {goal})" if goal else ""
+        print(f"{name} / {other}: {ratios(micros[name], micros[other])}{wanted}")
+    print(f"memory of sum: {memory / 2**20:.1f} MiB  (goal at most 32)")
     lengths(
         [
             {f"hash_wide, {level}": (ours.format(level), "hash_length"), form: (official.format(form.lower().replace(".", "")),)}

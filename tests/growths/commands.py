@@ -10,6 +10,9 @@ from store import Refused, Store
 
 OBJECT = pattern(0, 2049)
 ADDRESS = address_of(OBJECT)
+LONG = pattern(0, 9 << 20)
+LONG_ADDRESS = "8516f8a0ae9a7a21cdd69df13aaa9b2a22a499848fb3185cea4cae496ce4d91a"
+"""What `b3sum` tells of it: an input of several blocks, which the second reading takes minutes to hash."""
 FILES = {"object": OBJECT, "abc": b"abc"}
 FROB = b"error: unexpected argument '--frob' found\n"
 HELP = b"A content-addressed store: objects under their BLAKE3 hash\n\nUsage: "
@@ -109,6 +112,7 @@ def cases(program):
     script = Answer(status, "".join(f"{answer}\n" for answer in answers).encode(), b"")
     yield Case([program, "sum"], OBJECT, good(f"{ADDRESS}  -\n"), wrote_nothing)
     yield Case([program, "sum", "--length", "100"], OBJECT, good(output_of(OBJECT, 100).hex() + "\n"), wrote_nothing)
+    yield Case([program, "sum", "--threads", "3"], LONG, good(f"{LONG_ADDRESS}  -\n"), wrote_nothing)
     yield Case([program, "sum", "--length", "+4"], OBJECT, usage(SIGNED), wrote_nothing)
     yield Case([program, "sum", "--frob"], OBJECT, usage(FROB), wrote_nothing)
     yield Case([program, "--help"], OBJECT, usage(HELP), wrote_nothing)

@@ -24,4 +24,5 @@ def line_of(chance):
 def case(chance):
     data = b"\n".join(line_of(chance) for _ in range(chance.randrange(8))) + chance.choice((b"", b"\n", b"\n\n"))
     told, status = check_answer(data, DIGESTS)
-    return ["check"], data, told, status
+    threads = ["--threads", str(chance.choice((1, 2, 3, 16)))] if chance.random() < 0.3 else []
+    return ["check", *threads], data, told, status

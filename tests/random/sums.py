@@ -22,10 +22,16 @@ def mode_of(chance):
     return [b"--context=" + context], derived(context)
 
 
+def threads_of(chance):
+    """The words that say by how many threads, which change nothing that is written."""
+    return ["--threads", str(chance.choice((1, 2, 3, 16)))] if chance.random() < 0.3 else []
+
+
 def case(chance):
     end = 65536 if chance.random() < 0.04 else chance.choice(ENDS)
     data = pattern(chance.randrange(251), max(0, end + chance.choice((-1, 0, 1, chance.randrange(1024)))))
     words, mode = mode_of(chance)
+    words += threads_of(chance)
     if chance.random() < 0.5:
         length = chance.choice(LENGTHS)
         return ["sum", *words, "--length", str(length)], data, output_of(data, length, mode).hex().encode() + b"\n", 0

@@ -8,6 +8,7 @@ use std::io;
 use std::io::{BufReader, ErrorKind};
 use std::marker::Brand;
 use std::process::ExitCode;
+use std::rt::Files;
 use std::sync::Wait;
 use std::sync::ledger::Blank;
 use std::thread::Threads;
@@ -51,7 +52,7 @@ fn status_of(verdict: Verdict) -> u8 {
     }
 }
 
-fn perform<T: Threads + Wait + Sync + Runtime>(
+fn perform<T: Threads + Wait + Sync + Runtime + Files + AllocGlobal>(
     rt: &HostRuntime,
     threads: &T,
     options: &Options<'_>,
@@ -64,7 +65,7 @@ fn perform<T: Threads + Wait + Sync + Runtime>(
     match options {
         Options::Sum(options) => {
             let mut work = Work::new(rt);
-            sum(alloc, options, &mut reader, &mut writer, &mut work)?;
+            sum(threads, alloc, options, &mut reader, &mut writer, &mut work)?;
             Ok(GOOD)
         }
         Options::Run => {
@@ -83,8 +84,8 @@ fn perform<T: Threads + Wait + Sync + Runtime>(
             &mut reader,
             &mut writer,
         )?)),
-        Options::Check => {
-            let mut names = SystemFiles::new(rt);
+        Options::Check(options) => {
+            let mut names = SystemFiles::new(threads, options.threads);
             Ok(status_of(check(alloc, &mut names, &mut reader, &mut writer)?))
         }
         Options::Audit => Ok(status_of(audit(alloc, &mut reader, &mut writer)?)),

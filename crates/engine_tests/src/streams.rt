@@ -74,6 +74,7 @@ const PLAIN: SumOptions<'static> = SumOptions {
     name: "-",
     mode: SumMode::Hash,
     length: None,
+    threads: None,
 };
 
 const ONE_WORKER: UploadOptions = UploadOptions {
@@ -102,7 +103,7 @@ fn ended<R: Threads + Wait + Sync + AllocGlobal + Runtime>(
             };
             run(alloc, &mut lines, writer, &mut work)
         }
-        Engine::Sum => match sum(alloc, &PLAIN, reader, writer, &mut work) {
+        Engine::Sum => match sum(rt, alloc, &PLAIN, reader, writer, &mut work) {
             Ok(()) => Ok(Verdict::Good),
             Err(cause) => Err(cause),
         },

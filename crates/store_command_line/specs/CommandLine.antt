@@ -16,11 +16,11 @@ number_rule id most = record (value_rule id) { parser = Some (vp.Signed (pos 1) 
 abbrev pub flag_rule : Text → Rule
 flag_rule id = record (new_rule id) { long = Some id; action = Some SetTrue }
 
--- `sum [--name NAME] [--key HEX64] [--context TEXT] [--length N]`
+-- `sum [--name NAME] [--key HEX64] [--context TEXT] [--length N] [--threads T]`
 abbrev pub sum_line : App
 sum_line =
-    with_rule (with_rule (with_rule (with_rule (new_app (codes "sum")) (value_rule (codes "name"))) (value_rule (codes "key")))
-    (value_rule (codes "context"))) (number_rule (codes "length") 65536)
+    with_rule (with_rule (with_rule (with_rule (with_rule (new_app (codes "sum")) (value_rule (codes "name"))) (value_rule (codes "key")))
+    (value_rule (codes "context"))) (number_rule (codes "length") 65536)) (number_rule (codes "threads") 16)
 
 -- `run`
 abbrev pub run_line : App
@@ -32,9 +32,9 @@ upload_line =
     with_rule (with_rule (with_rule (new_app (codes "upload")) (number_rule (codes "workers") 16)) (number_rule (codes "part-chunks") 16384))
     (flag_rule (codes "journal"))
 
--- `check`
+-- `check [--threads T]`
 abbrev pub check_line : App
-check_line = new_app (codes "check")
+check_line = with_rule (new_app (codes "check")) (number_rule (codes "threads") 16)
 
 -- `audit`
 abbrev pub audit_line : App

@@ -15,9 +15,9 @@ AreWithin o = IsWithin 16 o.workers × IsWithin 16384 o.part_chunks
 
 -- the name is one that a check line may have, and the numbers are within their ranges
 abbrev pub InRange : Options → Type 0
-InRange (Sum o) = IsName o.name.now × IfSome o.length (IsWithin 65536)
+InRange (Sum o) = IsName o.name.now × IfSome o.length (IsWithin 65536) × IfSome o.threads (IsWithin 16)
 InRange Run = Unit {0}
 InRange (Upload o) = AreWithin o
-InRange Check = Unit {0}
+InRange (Check o) = IfSome o.threads (IsWithin 16)
 InRange Audit = Unit {0}
 InRange Migrate = Unit {0}

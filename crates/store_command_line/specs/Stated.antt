@@ -3,6 +3,7 @@ use Rattle.std.specs.Prelude.{◌≡◌, ℕ, Bool, true, false, Option, Some, N
 use Rattle.std.specs.Str.Parse.{IsNumeral, digits_value}
 use Rattle.clap.specs.Words.{Row, Text, first_of, one_of}
 use Rattle.hex.specs.Hex.{decode_sized}
+use Rattle.store_command_line.specs.declared.said.CheckOptions.{CheckOptions}
 use Rattle.store_command_line.specs.declared.said.Fault.{Fault}
 use Rattle.store_command_line.specs.declared.said.Fault.TheVariants.{NoMemory}
 use Rattle.store_command_line.specs.declared.said.Options.{Options}
@@ -48,18 +49,22 @@ pub record SaysSum (o : SumOptions) (rows : List Row) : Type 0 where
   pub name : SaysName o.name.now (first_of (codes "name") rows)
   pub mode : SaysMode o.mode (first_of (codes "key") rows) (first_of (codes "context") rows)
   pub length : Spells (first_of (codes "length") rows) o.length
+  pub threads : Spells (first_of (codes "threads") rows) o.threads
 
 pub record SaysUpload (o : UploadOptions) (rows : List Row) : Type 0 where
   pub workers : SpellsOr 4 (first_of (codes "workers") rows) o.workers
   pub part_chunks : SpellsOr 64 (first_of (codes "part-chunks") rows) o.part_chunks
   pub journal : SaysFlag (one_of (codes "journal") rows) o.journal
 
+pub record SaysCheck (o : CheckOptions) (rows : List Row) : Type 0 where
+  pub threads : Spells (first_of (codes "threads") rows) o.threads
+
 -- the subcommand that was entered, and its rows, say these options
 abbrev pub Says : Options → Option (Text × List Row) → Type 0
 Says (Sum o) found = (rows : List Row) × (found ≡ Some (codes "sum", rows)) × SaysSum o rows
 Says Run found = (rows : List Row) × (found ≡ Some (codes "run", rows))
 Says (Upload o) found = (rows : List Row) × (found ≡ Some (codes "upload", rows)) × SaysUpload o rows
-Says Check found = (rows : List Row) × (found ≡ Some (codes "check", rows))
+Says (Check o) found = (rows : List Row) × (found ≡ Some (codes "check", rows)) × SaysCheck o rows
 Says Audit found = (rows : List Row) × (found ≡ Some (codes "audit", rows))
 Says Migrate found = (rows : List Row) × (found ≡ Some (codes "migrate", rows))
 

@@ -1,9 +1,9 @@
 //! The command line, as clap is told it: one builder for each subcommand.
 
-ghost use Rattle.std.specs.Prelude.{◌≡◌, IfOk, false};
+ghost use Rattle.std.specs.Prelude.{◌≡◌, IfOk, codes, false};
 ghost use Rattle.clap.specs.Words.{app_of, rule_of};
 ghost use Rattle.clap.specs.declared.builder.command.Command.TheViews.{out-Command as fields_of};
-ghost use Rattle.store_command_line.specs.CommandLine.{value_rule, flag_rule, sum_line, run_line, upload_line, check_line, audit_line, migrate_line, storing_line, command_line};
+ghost use Rattle.store_command_line.specs.CommandLine.{value_rule, flag_rule, sum_line, run_line, upload_line, check_line, audit_line, migrate_line, storing_line, command_line, number_rule};
 
 use clap::{Arg, ArgAction, Command, value_parser};
 use std::alloc::{AllocError, Global};
@@ -17,6 +17,15 @@ fn value_argument<'a>(alloc: Global, id: &'a str, value_name: &'a str, help: &'a
         .long(id)
         .value_name(value_name)
         .help(help)
+}
+
+// The option of what hashes by several threads.
+fn threads_argument<'a>(alloc: Global) -> Arg<'a>
+    ensures rule { rule_of result ≡ number_rule (codes "threads") 16 }
+    ensures local { result.global ≡ false }
+{
+    let help = "Hash by at most this many threads (1 to 16, by default one for each processor)";
+    value_argument(alloc, "threads", "T", help).value_parser(value_parser!(u32).range(1..17))
 }
 
 // An argument is made where it is taken, so that none is in hand where an earlier one is refused memory.
@@ -36,7 +45,8 @@ fn sum_command<'a>(alloc: Global) -> Result<Command<'a>, AllocError>
         .arg(value_argument(alloc, "context", "TEXT", context))?
         .arg(value_argument(alloc, "length", "N", length).value_parser(value_parser!(u32).range(
             1..65537,
-        )))
+        )))?
+        .arg(threads_argument(alloc))
 }
 
 fn run_command<'a>(alloc: Global) -> Command<'a>
@@ -84,13 +94,14 @@ fn check_codes() -> &'static str {
     "Faults of a line, of which the first is told:\n  C1  a tagged line\n  C2  too short\n  C3  no hexadecimal digit\n  C4  not two spaces\n  C5  no name\n  C6  a wrong escape\n  C7  a byte 0 in the name"
 }
 
-fn check_command<'a>(alloc: Global) -> Command<'a>
-    ensures shape { app_of result ≡ check_line }
-    ensures local { (fields_of result).has_globals ≡ false }
+fn check_command<'a>(alloc: Global) -> Result<Command<'a>, AllocError>
+    ensures shape { IfOk result (λ c. app_of c ≡ check_line) }
+    ensures local { IfOk result (λ c. (fields_of c).has_globals ≡ false) }
 {
     Command::new(alloc, "check")
         .about("Read check lines, and report of each whether the file of its name has its hash")
         .after_help(check_codes())
+        .arg(threads_argument(alloc))
 }
 
 // What stands at the end of the help of subcommands that read a journal.
@@ -135,8 +146,10 @@ pub(crate) fn program<'a>(alloc: Global) -> Result<Command<'a>, AllocError>
     ensures shape { IfOk result (λ c. app_of c ≡ command_line) }
     ensures local { IfOk result (λ c. (fields_of c).has_globals ≡ false) }
 {
-    storing_program(alloc)?
-        .subcommand(check_command(alloc))?
+    let program = storing_program(alloc)?;
+    let check = check_command(alloc)?;
+    program
+        .subcommand(check)?
         .subcommand(audit_command(alloc))?
         .subcommand(migrate_command(alloc))
 }

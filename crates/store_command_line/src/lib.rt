@@ -5,10 +5,10 @@
 //!
 //! | Subcommand | Options |
 //! |---|---|
-//! | `sum` | `--name NAME`, `--key HEX64` or `--context TEXT`, `--length N` with N from 1 to 65536 |
+//! | `sum` | `--name NAME`, `--key HEX64` or `--context TEXT`, `--length N` with N from 1 to 65536, `--threads T` with T from 1 to 16 |
 //! | `run` | |
 //! | `upload` | `--workers W` from 1 to 16, else 4; `--part-chunks P` from 1 to 16384, else 64; `--journal` |
-//! | `check` | |
+//! | `check` | `--threads T` with T from 1 to 16 |
 //! | `audit` | |
 //! | `migrate` | |
 //!
@@ -23,5 +23,5 @@ mod command;
 mod said;
 mod words;
 
-pub use said::{Fault, Options, SumMode, SumOptions, UploadOptions};
+pub use said::{CheckOptions, Fault, Options, SumMode, SumOptions, UploadOptions};
 pub use words::options;

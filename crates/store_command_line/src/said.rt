@@ -25,6 +25,8 @@ pub struct SumOptions<'a> {
     pub mode: SumMode<'a>,
     /// How many bytes of the extended output are asked for, in place of the check line.
     pub length: Option<u32>,
+    /// By how many threads the input is hashed, at most; `None` for as many as there are processors.
+    pub threads: Option<u32>,
 }
 
 /// The options of `upload`.
@@ -38,6 +40,13 @@ pub struct UploadOptions {
     pub journal: bool,
 }
 
+/// The options of `check`.
+#[derive(Clone, Copy, Debug)]
+pub struct CheckOptions {
+    /// By how many threads a file is hashed, at most; `None` for as many as there are processors.
+    pub threads: Option<u32>,
+}
+
 /// A subcommand with its options.
 #[derive(Clone, Copy, Debug)]
 pub enum Options<'a> {
@@ -48,7 +57,7 @@ pub enum Options<'a> {
     /// `upload`.
     Upload(UploadOptions),
     /// `check`.
-    Check,
+    Check(CheckOptions),
     /// `audit`.
     Audit,
     /// `migrate`.

@@ -6,7 +6,8 @@ ghost use Rattle.clap.specs.Words.{found_of, first_of, one_of, rows_of, subcomma
 ghost use Rattle.b3_check.specs.Names.{IsName};
 ghost use Rattle.store_command_line.specs.CommandLine.{IsTaken, command_line};
 ghost use Rattle.store_command_line.specs.Ranges.{AreWithin, InRange, IsWithin};
-ghost use Rattle.store_command_line.specs.Stated.{IsNotUsage, IsNumber, Says, SaysFlag, SaysMode, SaysName, SaysSum, SaysUpload, Spells, SpellsOr};
+ghost use Rattle.store_command_line.specs.Stated.{IsNotUsage, IsNumber, Says, SaysCheck, SaysFlag, SaysMode, SaysName, SaysSum, SaysUpload, Spells, SpellsOr};
+ghost use Rattle.store_command_line.specs.declared.said.CheckOptions.{CheckOptions as SaidCheck};
 ghost use Rattle.store_command_line.specs.declared.said.Fault.TheVariants.{NoMemory, Usage};
 ghost use Rattle.store_command_line.specs.declared.said.Options.{Options as Said};
 ghost use Rattle.store_command_line.specs.declared.said.SumMode.{SumMode as SaidMode};
@@ -14,7 +15,7 @@ ghost use Rattle.store_command_line.specs.declared.said.SumOptions.{SumOptions a
 ghost use Rattle.store_command_line.specs.declared.said.UploadOptions.{UploadOptions as SaidUpload};
 
 use crate::command::program;
-use crate::said::{Fault, Options, SumMode, SumOptions, UploadOptions};
+use crate::said::{CheckOptions, Fault, Options, SumMode, SumOptions, UploadOptions};
 use clap::error::ErrorKind;
 use clap::{ArgMatches, Error};
 use hex::FromHex;
@@ -157,14 +158,29 @@ fn sum_name<'a>(alloc: Global, found: &ArgMatches<'a>) -> Result<&'a str, Fault>
 fn sum_options<'a>(alloc: Global, found: &ArgMatches<'a>) -> Result<SumOptions<'a>, Fault>
     ensures says { IfOk result (λ o. SaysSum o (rows_of (found_of found.now))) }
     ensures named { IfOk result (λ o. IsName o.name.now) }
-    ensures range { IfOk result (λ o. IfSome o.length (IsWithin 65536)) }
+    ensures range { IfOk result (λ o. IfSome o.length (IsWithin 65536) × IfSome o.threads (IsWithin 16)) }
     ensures only { (o : SaidSum) → SaysSum o (rows_of (found_of found.now)) → IsName o.name.now → IfSome o.length (IsWithin 65536)
-        → IsNotUsage result }
+        → IfSome o.threads (IsWithin 16) → IsNotUsage result }
 {
     let name = sum_name(alloc, found)?;
     let mode = sum_mode(alloc, found)?;
     let length = number_within(alloc, found, "sum", "length", 65536)?;
-    Ok(SumOptions { name, mode, length })
+    let threads = number_within(alloc, found, "sum", "threads", 16)?;
+    Ok(SumOptions {
+        name,
+        mode,
+        length,
+        threads,
+    })
+}
+
+fn check_options(alloc: Global, found: &ArgMatches<'_>) -> Result<CheckOptions, Fault>
+    ensures says { IfOk result (λ o. SaysCheck o (rows_of (found_of found.now))) }
+    ensures range { IfOk result (λ o. IfSome o.threads (IsWithin 16)) }
+    ensures only { (o : SaidCheck) → SaysCheck o (rows_of (found_of found.now)) → IfSome o.threads (IsWithin 16) → IsNotUsage result }
+{
+    let threads = number_within(alloc, found, "check", "threads", 16)?;
+    Ok(CheckOptions { threads })
 }
 
 // A number from 1 to `most` of an option of `upload`, or another where none is given.
@@ -230,7 +246,7 @@ pub fn options<'a, S: AsStr>(alloc: Global, words: &'a [S]) -> Result<Options<'a
         Some(("sum", found)) => Ok(Options::Sum(sum_options(alloc, found)?)),
         Some(("run", _)) => Ok(Options::Run),
         Some(("upload", found)) => Ok(Options::Upload(upload_options(alloc, found)?)),
-        Some(("check", _)) => Ok(Options::Check),
+        Some(("check", found)) => Ok(Options::Check(check_options(alloc, found)?)),
         Some(("audit", _)) => Ok(Options::Audit),
         Some(("migrate", _)) => Ok(Options::Migrate),
         _ => Err(told(help_text(alloc))),

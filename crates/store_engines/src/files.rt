@@ -2,34 +2,38 @@
 
 ghost use Rattle.std.specs.Prelude.{◌≡◌};
 
-use crate::streams::hash_all;
 use b3_check::{NameFault, Names};
 use b3_core::{Mode, Runtime, Work};
+use b3_parallel::hash_all;
 use std::fs::File;
 use std::io::ErrorKind;
 use std::rt::Files;
-use store_script::Cause;
+use std::thread::Threads;
 
 /// The files of the system. A name is a path, `-` too.
 #[derive(Drop)]
 pub struct SystemFiles<'a, R> {
     rt: &'a R,
+    threads: Option<u32>,
     work: Work,
 }
 
 impl<'a, R: Files + AllocGlobal + Runtime> SystemFiles<'a, R> {
-    /// The files that `rt` reaches, nothing being hashed yet.
-    pub fn new(rt: &'a R) -> SystemFiles<'a, R>
-        ensures { result.work ≡ 0 }
+    /// The files that `rt` reaches, nothing being hashed yet. A file is hashed by at most so many threads, and with `None` by as
+    /// many as there are processors.
+    pub fn new(rt: &'a R, threads: Option<u32>) -> SystemFiles<'a, R>
+        ensures work { result.work ≡ 0 }
+        ensures threads { result.threads ≡ threads }
     {
         SystemFiles {
             rt,
+            threads,
             work: Work::new(rt),
         }
     }
 }
 
-impl<R: Files + AllocGlobal> Names for SystemFiles<'_, R> {
+impl<R: Files + AllocGlobal + Threads + Runtime> Names for SystemFiles<'_, R> {
     ghost use Rattle.store_engines.specs.Checks.{IsAnswerOfFiles};
 
     ghost gives = { λ old name answer new. IsAnswerOfFiles name answer };
@@ -50,9 +54,17 @@ impl<R: Files + AllocGlobal> Names for SystemFiles<'_, R> {
                 };
             }
         };
-        match hash_all(self.rt.alloc(), &Mode::hash(), &mut file, &mut self.work) {
+        let mode = Mode::hash();
+        match hash_all(
+            self.rt,
+            self.rt.alloc(),
+            &mode,
+            &mut file,
+            self.threads,
+            &mut self.work,
+        ) {
             Ok(top) => Ok(Some(top.root32(&mut self.work))),
-            Err(Cause::OutOfMemory) => Err(NameFault::NoMemory),
+            Err(error) if error.kind() == ErrorKind::OutOfMemory => Err(NameFault::NoMemory),
             Err(_) => Err(NameFault::Unreadable),
         }
     }

@@ -9,11 +9,13 @@ ghost use Rattle.b3_core.specs.ExtendedOutput.{output_of};
 ghost use Rattle.b3_core.specs.Tree.{tree_top};
 ghost use Rattle.store_engines.specs.Sums.{mode_of, sum_text};
 
-use crate::streams::hash_all;
+use crate::streams::read_cause;
 use b3_check::Line;
-use b3_core::{Mode, OutputReader, Top, Work};
+use b3_core::{Mode, OutputReader, Runtime, Top, Work};
+use b3_parallel::hash_all;
 use std::alloc::{AllocError, Global};
 use std::io::{Read, Write};
+use std::thread::Threads;
 use store_command_line::{SumMode, SumOptions};
 use store_script::{Cause, write_all};
 
@@ -80,11 +82,13 @@ fn text_of(
 /// Without a length that is the check line with the options' name; with a length it is the digits of so many bytes of the
 /// extended output, and a line feed.
 ///
-/// The input is hashed as it is read, in memory that doesn't grow with it.
+/// The input is hashed as it is read, by as many threads as the options say, in memory that doesn't grow with it. No thread is left
+/// at work.
 ///
 /// It stops at the first read or write that fails, or where memory is refused. It writes nothing before it has
 /// read everything.
-pub fn sum<R: Read, W: Write>(
+pub fn sum<T: Threads + Runtime, R: Read, W: Write>(
+    rt: &T,
     alloc: Global,
     options: &SumOptions<'_>,
     reader: &mut R,
@@ -98,7 +102,10 @@ pub fn sum<R: Read, W: Write>(
     ensures silent { IfErr result (λ cause. cause ≢ Cause.CannotWrite → W.contents writer.new ≡ W.contents writer.old) }
 {
     let mode = mode_of(options.mode, work);
-    let root = hash_all(alloc, &mode, reader, work)?;
+    let root = match hash_all(rt, alloc, &mode, reader, options.threads, work) {
+        Ok(root) => root,
+        Err(error) => return Err(read_cause(&error)),
+    };
     let text = text_of(alloc, options, root, work)?;
     write_all(writer, &text)
 }

@@ -12,7 +12,8 @@ returns-clause-shape c =
     let named = c.in_ok-arg.ensures.shape c.value_argument.ensures.local ∙ ap₂ with_rule start c.value_argument.ensures.rule in
     let keyed = c.in_ok-arg-2.ensures.shape c.value_argument-2.ensures.local ∙ ap₂ with_rule named c.value_argument-2.ensures.rule in
     let derived = c.in_ok-arg-3.ensures.shape c.value_argument-3.ensures.local ∙ ap₂ with_rule keyed c.value_argument-3.ensures.rule in
-    IfOk-weaker c.arg-4.result _ _ (λ m h. h.shape (search rules) ∙ ap₂ with_rule derived length) c.arg-4.ensures
+    let cut = c.in_ok-arg-4.ensures.shape (search rules) ∙ ap₂ with_rule derived length in
+    IfOk-weaker c.arg-5.result _ _ (λ m h. h.shape c.threads_argument.ensures.local ∙ ap₂ with_rule cut c.threads_argument.ensures.rule) c.arg-5.ensures
 
 pub returns-clause-local : goal.returns-clause-local
 returns-clause-local c =
@@ -22,4 +23,5 @@ returns-clause-local c =
     let named = c.in_ok-arg.ensures.globals ∙ ap₂ or start c.value_argument.ensures.local in
     let keyed = c.in_ok-arg-2.ensures.globals ∙ ap₂ or named c.value_argument-2.ensures.local in
     let derived = c.in_ok-arg-3.ensures.globals ∙ ap₂ or keyed c.value_argument-3.ensures.local in
-    IfOk-weaker c.arg-4.result _ _ (λ m h. h.globals ∙ ap₂ or derived length) c.arg-4.ensures
+    let cut = c.in_ok-arg-4.ensures.globals ∙ ap₂ or derived length in
+    IfOk-weaker c.arg-5.result _ _ (λ m h. h.globals ∙ ap₂ or cut c.threads_argument.ensures.local) c.arg-5.ensures

@@ -12,15 +12,6 @@ returns-in-Some-run-default-clause-says g c =
       entered_as _ (map g.S.AsStr.text c.args.words.now) c.in-Ok.matches is.field-0-0.now (codes "run") rows shape (c.in-Ok.ensures.matches (ap is_simple shape)).1 is.ensures.name is.ensures.rows is.is-run,
     )
 
-pub returns-in-Some-check-default-clause-says : goal.returns-in-Some-check-default-clause-says
-returns-in-Some-check-default-clause-says g c =
-    let shape = c.in_ok-program.ensures.shape in
-    let is = c.in-Some-check-default in
-    let rows = rows_of (found_of is.field-0-1.now) in (
-      rows,
-      entered_as _ (map g.S.AsStr.text c.args.words.now) c.in-Ok.matches is.field-0-0.now (codes "check") rows shape (c.in-Ok.ensures.matches (ap is_simple shape)).1 is.ensures.name is.ensures.rows is.is-check,
-    )
-
 pub returns-in-Some-audit-default-clause-says : goal.returns-in-Some-audit-default-clause-says
 returns-in-Some-audit-default-clause-says g c =
     let shape = c.in_ok-program.ensures.shape in
