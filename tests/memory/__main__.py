@@ -3,6 +3,7 @@
 - A seal keeps the bytes of its parts, and copies none; nor do a seal of what is known and a forget, which hand bytes back. What each asks
   of memory is the same where its parts are 64 times as long.
 - A fetch shares the object: eight fetches ask for less than one of its parts has. That is shown of a test program of store_tests.
+- A fetch of an object 64 times as long asks for no more, and of a line that is too long for a command no more is kept than of the longest.
 - What is forgotten, and what an upload held that was aborted or sealed as known, is given back: some thousand rounds of each take no more
   memory than some hundred, but for the entries of the journal.
 
@@ -27,6 +28,8 @@ CRATES = os.path.join(os.path.dirname(os.path.dirname(HERE)), "crates")
 PARTS = 16
 FEW_ROUNDS, MANY_ROUNDS = 200, 4000
 PART = 65536
+MOST_LINE = 33554481
+"""The most bytes of a command's line with its line feed."""
 ENTRY_BYTES = 256
 """The most that an entry of the journal may take, which grows by doubling."""
 NOTHING_LEFT = "objects 0 bytes 0 uploads 0 held 0 parts 0"
@@ -132,6 +135,30 @@ def a_fetch_shares_bytes(options, folder):
     return counts[1] - counts[0], PART
 
 
+def a_fetch_asks_for_no_digits(options, folder):
+    library = counting(folder)
+    counts = []
+    for part in (PART, 1024):
+        length = PARTS * part
+        lines, answers = sealed(0, "new", part)
+        lines = [f"tenant {length}", *lines, f"fetch 0 {address_of_pattern(length)}"]
+        answers = ["tenant 0", *answers, f"object {length} {pattern(0, length).hex()}"]
+        counts.append(asked_by_last(options.program, library, lines, answers))
+    return counts[0] - counts[1], 1024
+
+
+def a_line_that_is_too_long_is_not_kept(options, folder):
+    """How much more a line of four times the longest asks for, and how much that may be."""
+    library = counting(folder)
+    counts = []
+    for length in (4 * MOST_LINE, MOST_LINE + 1):
+        found, count = counted([options.program, "run"], library, b"put 0 0 x:" + bytes(length) + b"\ntenant 5\n")
+        if found != "bad\ntenant 0\n":
+            raise ValueError(f"it answered {found[:200]!r}")
+        counts.append(count)
+    return counts[0] - counts[1], 0
+
+
 def growth_of_rounds(program, folder, lines_of, answers_of, left=NOTHING_LEFT):
     """How much more memory many rounds take than few, and how much that may be."""
     most = []
@@ -182,7 +209,8 @@ def main():
     parser.add_argument("--crates", default=CRATES, metavar="FOLDER", help="where NAME/out/NAME_tests stand")
     options, passed, failed = parser.parse_args(), 0, 0
     tests = [
-        a_seal_shares_bytes, a_seal_of_what_is_known_copies_no_bytes, a_forget_copies_no_bytes,
+        a_seal_shares_bytes, a_seal_of_what_is_known_copies_no_bytes, a_forget_copies_no_bytes, a_fetch_asks_for_no_digits,
+        a_line_that_is_too_long_is_not_kept,
         what_is_forgotten_is_given_back, what_is_known_is_given_back, what_is_aborted_is_given_back,
     ]
     for test in tests if options.program_alone else [*tests, a_fetch_shares_bytes]:
