@@ -49,6 +49,8 @@ def put_values(line):
     number, offset = int(found[1]), int(found[2])
     if number >= 1 << 64 or offset >= 1 << 64:
         return None
+    if found[4] is None and len(found[3]) > 33554432:
+        return None
     if found[4] is None:
         return number, offset, bytes.fromhex(found[3])
     if int(found[4]) > 33554432:

@@ -7,7 +7,8 @@ use Rattle.bstr.specs.Text as cut
 use Rattle.bstr.specs.Text.{line_len, lines_from, no_cr, without_terminator}
 use Rattle.b3_check.specs.declared.file.NumberedLine.{NumberedLine}
 use Rattle.b3_check.specs.Lines.{marked_at, without_returns}
-use Rattle.b3_check.specs.Files.{Numbered, counted, file_at, lines_of, numbered_from, read_of, with_byte}
+use Rattle.edge.specs.Lines.{lines_of, with_byte}
+use Rattle.b3_check.specs.Files.{Numbered, with_line, file_at, numbered_from, read_of}
 use Rattle.b3_check.proofs.Returns.{without_returns-push}
 
 -- ---- one line and the lines behind it
@@ -150,12 +151,12 @@ counted_front number text others true = refl
 counted_front number text others false = refl
 
 pub reads_more : (number : ℕ) (read lines' : List NumberedLine) (text : List ℕ) (lines : List (List ℕ)) (total : List NumberedLine)
-    → lines' ≡ read ++ map read_of (counted number text [])
+    → lines' ≡ read ++ map read_of (with_line number text [])
     → read ++ map read_of (numbered_from number (text ∷ lines)) ≡ total → lines' ++ map read_of (numbered_from (number + 1) lines) ≡ total
 unfolding numbered_from
 reads_more number read lines' text lines total is so_far =
     ap (λ (ls : List NumberedLine). ls ++ map read_of (numbered_from (number + 1) lines)) is
-    ∙ append_assoc read (map read_of (counted number text [])) (map read_of (numbered_from (number + 1) lines))
+    ∙ append_assoc read (map read_of (with_line number text [])) (map read_of (numbered_from (number + 1) lines))
     ∙ ap (λ (ls : List NumberedLine). read ++ ls) (sym (counted_front number text (numbered_from (number + 1) lines) (length (without_returns text) == 0))) ∙ so_far
 
 pub reads_all : (number : ℕ) (read total : List NumberedLine) → read ++ map read_of (numbered_from number []) ≡ total → read ≡ total

@@ -13,7 +13,7 @@ use Rattle.b3_check.specs.declared.fault.Fault.TheVariants.{BadHex, BadSpaces, E
 use Rattle.b3_check.specs.declared.fault.ReadError.{ReadError}
 use Rattle.b3_check.specs.declared.line.Line.{Line}
 use Rattle.b3_check.specs.Names.{IsName, backslash, carriage_return, escaped, has_nul, mark_of, name_fault, needs_escapes}
-use Rattle.b3_check.specs.Lines.{◌>>=◌, Gives, IsEscaped, IsLawful, IsLine, IsPlain, Spells, bytes_at, digest_at, has_two_spaces, line_at, marked_at, name_without_nul, rest_at, tag, text_of, without_returns, before_returns}
+use Rattle.b3_check.specs.Lines.{◌>>=◌, Gives, IsEscaped, IsLawful, IsLine, IsPlain, Spells, name_bytes_at, digest_at, has_two_spaces, line_at, marked_at, name_without_nul, rest_at, tag, text_of, without_returns, before_returns}
 use Rattle.b3_check.proofs.Escapes.{StandsFor-escaped, StandsFor-from_unescaped, escaped-plain, unescaped-from_StandsFor}
 use Rattle.b3_check.proofs.Rests.{Reaches, at_bytes, bytes_some, digest_at-decoded, spaced}
 
@@ -43,7 +43,7 @@ record Found (is_escaped : Bool) (rest : List ℕ) (line : Line) : Type 0 where
   reached : Reaches rest
   spaces : has_two_spaces rest ≡ true
   more : length rest ≢ 66
-  bytes : bytes_at is_escaped (drop 66 rest) ≡ Ok line.name
+  bytes : name_bytes_at is_escaped (drop 66 rest) ≡ Ok line.name
   no_nul : has_nul line.name ≡ false
   digest : digest_at (take 64 rest) ≡ line.digest
 
@@ -61,7 +61,7 @@ found e rest line h =
     let three = guard (not (list_all is_hex_digit (take 64 rest))) BadHex _ line two.1 in
     let four = guard (not (has_two_spaces rest)) BadSpaces _ line three.1 in
     let five = guard (length rest == 66) EmptyName _ line four.1 in
-    let six = bind_ok (bytes_at e (drop 66 rest)) _ line five.1 in
+    let six = bind_ok (name_bytes_at e (drop 66 rest)) _ line five.1 in
     let seven = bind_ok (name_without_nul six.0) _ line six.2 in
     let named = name_ok six.0 seven.0 seven.1 in
     let name : six.0 ≡ line.name = named.1 ∙ name_is (record { digest = digest_at (take 64 rest); name = seven.0 }) line seven.2 in
@@ -160,7 +160,7 @@ name_is_none name h =
     let some = h.0 in
     rw (ne_eqb (length name) 0 (λ z. absurd (omega arith)), h.1) refl
 
-spelled_rest : (e : Bool) (digits digest text name : List ℕ) → Spells digits digest → bytes_at e text ≡ Ok name → IsName name
+spelled_rest : (e : Bool) (digits digest text name : List ℕ) → Spells digits digest → name_bytes_at e text ≡ Ok name → IsName name
     → rest_at e (digits ++ (32 ∷ 32 ∷ text)) ≡ Ok (record { digest = digest; name = name })
 spelled_rest e digits digest text name s bytes named =
     let rest = digits ++ (32 ∷ 32 ∷ text) in
@@ -180,7 +180,7 @@ spelled_rest e digits digest text name s bytes named =
       digits = rw front (list_all-from_AllPass is_hex_digit digits all);
     } in
     let value : digest_at digits ≡ digest = digest_at-decoded digits digest s.value in
-    at_bytes e rest name reached spaces (ap (bytes_at e) behind ∙ bytes) ∙ rw (name_is_none name named, front, value) refl
+    at_bytes e rest name reached spaces (ap (name_bytes_at e) behind ∙ bytes) ∙ rw (name_is_none name named, front, value) refl
 
 only_marked : (text digest name : List ℕ) → (IsPlain text digest name ⊎ IsEscaped text digest name) → IsName name → marked_at text ≡ Ok (record { digest = digest; name = name })
 only_marked text digest name (inl p) named =

@@ -15,7 +15,7 @@ use Rattle.b3_check.specs.declared.fault.ReadError.{ReadError}
 use Rattle.b3_check.specs.declared.fault.ReadError.TheVariants as errors
 use Rattle.b3_check.specs.declared.line.Line.{Line}
 use Rattle.b3_check.specs.Names.{after_escape, escape_value, has_nul, in_front, name_fault, unescaped_from, backslash}
-use Rattle.b3_check.specs.Lines.{◌>>=◌, Fails, bytes_at, digest_at, has_two_spaces, name_without_nul, rest_at, tag}
+use Rattle.b3_check.specs.Lines.{◌>>=◌, Fails, name_bytes_at, digest_at, has_two_spaces, name_without_nul, rest_at, tag}
 
 abbrev read : Line → Result Line Fault
 read line = Ok line
@@ -56,7 +56,7 @@ spaced rest first second = and_from (slice_index rest 64 == 32) (slice_index res
 abbrev pub named_at : List ℕ → Result (List ℕ) Fault → Result Line Fault
 named_at rest bytes = bytes >>= λ b. name_without_nul b >>= λ name. Ok (record { digest = digest_at (take 64 rest); name = name })
 
-pub at_name : (e : Bool) (rest : List ℕ) → Reaches rest → has_two_spaces rest ≡ true → rest_at e rest ≡ cond (length rest == 66) (fails EmptyName) (named_at rest (bytes_at e (drop 66 rest)))
+pub at_name : (e : Bool) (rest : List ℕ) → Reaches rest → has_two_spaces rest ≡ true → rest_at e rest ≡ cond (length rest == 66) (fails EmptyName) (named_at rest (name_bytes_at e (drop 66 rest)))
 unfolding rest_at
 at_name e rest h spaces = rw (h.untagged, le-ltb (length rest) 66 h.long, h.digits, spaces) refl
 
@@ -95,17 +95,17 @@ some_byte (b ∷ units) bytes lt e = here (b == backslash) e
 ok_same : (x y : List ℕ) → ◌≡◌ {A = Result (List ℕ) Fault} (Ok x) (Ok y) → x ≡ y
 ok_same x y e = cc
 
-pub bytes_some : (e : Bool) (text bytes : List ℕ) → bytes_at e text ≡ Ok bytes → 0 < length text → 0 < length bytes
+pub bytes_some : (e : Bool) (text bytes : List ℕ) → name_bytes_at e text ≡ Ok bytes → 0 < length text → 0 < length bytes
 bytes_some true text bytes is lt = some_byte text bytes lt is
 bytes_some false text bytes is lt = subst (λ (w : List ℕ). 0 < length w) (ok_same text bytes is) lt
 
-no_bytes : (e : Bool) → bytes_at e [] ≡ Ok []
+no_bytes : (e : Bool) → name_bytes_at e [] ≡ Ok []
 unfolding unescaped_from
 no_bytes true = refl
 no_bytes false = refl
 
-pub bytes_none : (e : Bool) (text bytes : List ℕ) → bytes_at e text ≡ Ok bytes → length text ≡ 0 → bytes ≡ []
-bytes_none e text bytes is none = ok_same bytes [] (sym is ∙ ap (bytes_at e) (nil_from_length text none) ∙ no_bytes e)
+pub bytes_none : (e : Bool) (text bytes : List ℕ) → name_bytes_at e text ≡ Ok bytes → length text ≡ 0 → bytes ≡ []
+bytes_none e text bytes is none = ok_same bytes [] (sym is ∙ ap (name_bytes_at e) (nil_from_length text none) ∙ no_bytes e)
 
 -- ---- the answer behind the spaces
 
@@ -118,28 +118,28 @@ nul_answer : (rest bytes : List ℕ) (t : Bool) → (cond t (Err NulInName) (Ok 
 nul_answer rest bytes true = refl
 nul_answer rest bytes false = refl
 
-pub at_bytes : (e : Bool) (rest bytes : List ℕ) → Reaches rest → has_two_spaces rest ≡ true → bytes_at e (drop 66 rest) ≡ Ok bytes → rest_at e rest ≡ answer_at rest bytes (name_fault bytes)
+pub at_bytes : (e : Bool) (rest bytes : List ℕ) → Reaches rest → has_two_spaces rest ≡ true → name_bytes_at e (drop 66 rest) ≡ Ok bytes → rest_at e rest ≡ answer_at rest bytes (name_fault bytes)
 at_bytes e rest bytes h spaces is =
     elim (cases_eq (length rest) 66) [
       | inl just ↦
           let none : bytes ≡ [] = bytes_none e (drop 66 rest) bytes is (omega (arith, length-drop 66 rest)) in
-          at_name e rest h spaces ∙ ap (λ t. cond t (fails EmptyName) (named_at rest (bytes_at e (drop 66 rest)))) (eq-eqb (length rest) 66 just) ∙ sym (ap (λ (w : List ℕ). answer_at rest w (name_fault w)) none)
+          at_name e rest h spaces ∙ ap (λ t. cond t (fails EmptyName) (named_at rest (name_bytes_at e (drop 66 rest)))) (eq-eqb (length rest) 66 just) ∙ sym (ap (λ (w : List ℕ). answer_at rest w (name_fault w)) none)
       | inr more ↦
           let long = h.long in
           let some : 0 < length bytes = bytes_some e (drop 66 rest) bytes is (omega (arith, length-drop 66 rest)) in
-          at_name e rest h spaces ∙ ap (λ t. cond t (fails EmptyName) (named_at rest (bytes_at e (drop 66 rest)))) (ne_eqb (length rest) 66 more)
+          at_name e rest h spaces ∙ ap (λ t. cond t (fails EmptyName) (named_at rest (name_bytes_at e (drop 66 rest)))) (ne_eqb (length rest) 66 more)
           ∙ ap (named_at rest) is ∙ nul_answer rest bytes (has_nul bytes) ∙ ap (λ t. answer_at rest bytes (cond t (Some EmptyName) (cond (has_nul bytes) (Some NulInName) None))) (sym (ne_eqb (length bytes) 0 (λ z. absurd (omega arith))))
     ]
 
 ok_err : (x : List ℕ) (fault : Fault) → ◌≡◌ {A = Result (List ℕ) Fault} (Ok x) (Err fault) → ⊥
 ok_err x fault e = cc
 
-pub at_error : (e : Bool) (rest : List ℕ) (error : ReadError) → Reaches rest → has_two_spaces rest ≡ true → Fails error (bytes_at e (drop 66 rest)) → Fails error (rest_at e rest)
+pub at_error : (e : Bool) (rest : List ℕ) (error : ReadError) → Reaches rest → has_two_spaces rest ≡ true → Fails error (name_bytes_at e (drop 66 rest)) → Fails error (rest_at e rest)
 at_error e rest errors.NoMemory h spaces is = tt
 at_error e rest (errors.Fault fault) h spaces is =
     elim (cases_eq (length rest) 66) [
-      | inl just ↦ absurd (ok_err [] fault (sym (ap (bytes_at e) (nil_from_length (drop 66 rest) (omega (arith, length-drop 66 rest))) ∙ no_bytes e) ∙ is))
-      | inr more ↦ at_name e rest h spaces ∙ ap (λ t. cond t (fails EmptyName) (named_at rest (bytes_at e (drop 66 rest)))) (ne_eqb (length rest) 66 more) ∙ ap (named_at rest) is
+      | inl just ↦ absurd (ok_err [] fault (sym (ap (name_bytes_at e) (nil_from_length (drop 66 rest) (omega (arith, length-drop 66 rest))) ∙ no_bytes e) ∙ is))
+      | inr more ↦ at_name e rest h spaces ∙ ap (λ t. cond t (fails EmptyName) (named_at rest (name_bytes_at e (drop 66 rest)))) (ne_eqb (length rest) 66 more) ∙ ap (named_at rest) is
     ]
 
 -- ---- digits

@@ -9,7 +9,8 @@ use Rattle.b3_check.specs.declared.line.Line.{Line}
 use Rattle.b3_check.specs.declared.file.NumberedLine.{NumberedLine}
 use Rattle.b3_check.specs.Names.{backslash, unescaped_from}
 use Rattle.b3_check.specs.Lines.{digest_at, line_at, rest_at, without_returns, written_line}
-use Rattle.b3_check.specs.Files.{lines_of, numbered_from, file_at}
+use Rattle.edge.specs.Lines.{lines_of}
+use Rattle.b3_check.specs.Files.{numbered_from, file_at}
 use Rattle.b3_check.specs.Reports.{report_text, verdict_text}
 use Rattle.b3_check.specs.declared.report.Verdict.TheVariants as verdicts
 

@@ -13,7 +13,8 @@ use Rattle.b3_check.specs.declared.line.Line.{Line}
 use Rattle.b3_check.specs.Laws.{IsFeedless}
 use Rattle.b3_check.specs.Names.{escaped, mark_of, needs_escapes}
 use Rattle.b3_check.specs.Lines.{IsLawful, text_of, without_returns, written_line, written_lines}
-use Rattle.b3_check.specs.Files.{Numbered, all_good, counted, file_at, lines_of, numbered_from, read_of}
+use Rattle.edge.specs.Lines.{lines_of}
+use Rattle.b3_check.specs.Files.{Numbered, all_good, with_line, file_at, numbered_from, read_of}
 use Rattle.b3_check.proofs.Grammar.{IsLine-text_of, line_at-from_IsLine, without_returns-text_of}
 
 -- ---- no line feed stands in a line as it is written
@@ -74,7 +75,7 @@ lines_of-written line rest h = ap lines_of (append_assoc (text_of line) (10 ∷ 
 abbrev good : ℕ → Line → NumberedLine
 good number line = record { number = number; line = Ok line }
 
-counted_good : (number : ℕ) (line : Line) (others : List Numbered) → IsLawful line → map read_of (counted number (text_of line) others) ≡ good number line ∷ map read_of others
+counted_good : (number : ℕ) (line : Line) (others : List Numbered) → IsLawful line → map read_of (with_line number (text_of line) others) ≡ good number line ∷ map read_of others
 counted_good number line others h =
     let kept = without_returns-text_of line h.named in
     let some : 0 < length (text_of line) = omega (arith, length-append (mark_of line.name) (encode_lower line.digest ++ (32 ∷ 32 ∷ escaped line.name)), length-append (encode_lower line.digest) (32 ∷ 32 ∷ escaped line.name)) in

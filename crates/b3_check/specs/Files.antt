@@ -2,21 +2,8 @@
 use Rattle.std.specs.Prelude.{◌==◌, ◌+◌, ℕ, List, [], ◌∷◌, length, map, Ok, if◌then◌else◌}
 use Rattle.b3_check.specs.declared.file.NumberedLine.{NumberedLine}
 use Rattle.b3_check.specs.declared.line.Line.{Line}
-use Rattle.b3_check.specs.Names.{line_feed}
+use Rattle.edge.specs.Lines.{lines_of}
 use Rattle.b3_check.specs.Lines.{line_at, without_returns}
-
--- a byte in front of the first line
-abbrev pub onto_first : ℕ → List (List ℕ) → List (List ℕ)
-onto_first b [] = (b ∷ []) ∷ []
-onto_first b (line ∷ lines) = (b ∷ line) ∷ lines
-
-abbrev pub with_byte : ℕ → List (List ℕ) → List (List ℕ)
-with_byte b lines = if b == line_feed then [] ∷ lines else onto_first b lines
-
--- the lines that line feeds end, and a last one without where it isn't empty
-unfoldable pub lines_of : List ℕ → List (List ℕ)
-lines_of [] = []
-lines_of (b ∷ bytes) = with_byte b (lines_of bytes)
 
 -- a line and its number
 pub record Numbered : Type 0 where
@@ -24,15 +11,15 @@ pub record Numbered : Type 0 where
   pub text : List ℕ
 
 -- a line in front of others, unless it holds nothing but carriage returns
-abbrev pub counted : ℕ → List ℕ → List Numbered → List Numbered
-counted number text others =
+abbrev pub with_line : ℕ → List ℕ → List Numbered → List Numbered
+with_line number text others =
     if length (without_returns text) == 0 then others
     else record { number = number; text = text } ∷ others
 
 -- the lines numbered from a number on, without those that hold nothing but carriage returns
 unfoldable pub numbered_from : ℕ → List (List ℕ) → List Numbered
 numbered_from number [] = []
-numbered_from number (text ∷ lines) = counted number text (numbered_from (number + 1) lines)
+numbered_from number (text ∷ lines) = with_line number text (numbered_from (number + 1) lines)
 
 -- the lines of a file, numbered from 1, without those that hold nothing but carriage returns
 abbrev pub lines_of_file : List ℕ → List Numbered

@@ -3,9 +3,10 @@ use Rattle.std.specs.Prelude.{◌≡◌, ◌≢◌, ◌<◌, ℕ, List, [], ◌�
 use Rattle.std.specs.List.{AllByRecursion}
 use Rattle.b3_check.specs.declared.fault.Fault.{Fault}
 use Rattle.b3_check.specs.declared.line.Line.{Line}
-use Rattle.b3_check.specs.Files.{all_good, file_at, lines_of}
+use Rattle.edge.specs.Lines.{line_feed, lines_of}
+use Rattle.b3_check.specs.Files.{all_good, file_at}
 use Rattle.b3_check.specs.Lines.{IsLawful, IsLine, line_at, text_of, without_returns, written_lines}
-use Rattle.b3_check.specs.Names.{carriage_return, line_feed}
+use Rattle.b3_check.specs.Names.{carriage_return}
 
 -- ---- lines
 

@@ -8,7 +8,8 @@ use Rattle.b3_check.specs.declared.fault.Fault.TheVariants.{BadHex, BadSpaces, E
 use Rattle.b3_check.specs.declared.fault.ReadError.{ReadError}
 use Rattle.b3_check.specs.declared.fault.ReadError.TheVariants as errors
 use Rattle.b3_check.specs.declared.line.Line.{Line}
-use Rattle.b3_check.specs.Names.{backslash, carriage_return, line_feed, IsName, StandsFor, escaped, has_nul, mark_of, unescaped}
+use Rattle.edge.specs.Lines.{line_feed}
+use Rattle.b3_check.specs.Names.{backslash, carriage_return, IsName, StandsFor, escaped, has_nul, mark_of, unescaped}
 
 -- ---- the grammar
 
@@ -57,9 +58,9 @@ abbrev pub name_without_nul : List ℕ → Result (List ℕ) Fault
 name_without_nul name = if has_nul name then Err NulInName else Ok name
 
 -- the bytes for a name: in an escaped line what the units stand for, in another as they stand
-abbrev pub bytes_at : Bool → List ℕ → Result (List ℕ) Fault
-bytes_at true text = unescaped text
-bytes_at false text = Ok text
+abbrev pub name_bytes_at : Bool → List ℕ → Result (List ℕ) Fault
+name_bytes_at true text = unescaped text
+name_bytes_at false text = Ok text
 
 -- the digest that digits spell
 abbrev pub digest_at : List ℕ → List ℕ
@@ -81,7 +82,7 @@ rest_at is_escaped rest =
     else if not (list_all is_hex_digit (take 64 rest)) then Err BadHex
     else if not (has_two_spaces rest) then Err BadSpaces
     else if length rest == 66 then Err EmptyName
-    else bytes_at is_escaped (drop 66 rest) >>= λ bytes. name_without_nul bytes >>= λ name. Ok (record { digest = digest_at (take 64 rest); name = name })
+    else name_bytes_at is_escaped (drop 66 rest) >>= λ bytes. name_without_nul bytes >>= λ name. Ok (record { digest = digest_at (take 64 rest); name = name })
 
 -- a line begins with a backslash where its name is escaped
 abbrev pub marked_at : List ℕ → Result Line Fault

@@ -1,6 +1,7 @@
 -- The names of check lines, and how they are written.
 use Rattle.std.specs.Prelude.{◌≡◌, ◌≢◌, ◌<◌, ◌==◌, ◌||◌, ◌⊎◌, ℕ, Bool, true, false, List, [], ◌∷◌, Option, Some, None, Result, Ok, Err, length, if◌then◌else◌}
 use Rattle.std.specs.List.{list_any, flat_map}
+use Rattle.edge.specs.Lines.{line_feed}
 use Rattle.b3_check.specs.declared.fault.Fault.{Fault}
 use Rattle.b3_check.specs.declared.fault.Fault.TheVariants.{BadEscape, EmptyName, NulInName}
 
@@ -8,9 +9,6 @@ use Rattle.b3_check.specs.declared.fault.Fault.TheVariants.{BadEscape, EmptyName
 
 abbrev pub backslash : ℕ
 backslash = 92
-
-abbrev pub line_feed : ℕ
-line_feed = 10
 
 abbrev pub carriage_return : ℕ
 carriage_return = 13

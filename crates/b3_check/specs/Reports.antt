@@ -12,7 +12,8 @@ use Rattle.b3_check.specs.declared.report.Counts.{Counts}
 use Rattle.b3_check.specs.declared.report.Verdict.{Verdict}
 use Rattle.b3_check.specs.declared.report.Verdict.TheVariants as verdicts
 use Rattle.b3_check.specs.Faults.{code_of}
-use Rattle.b3_check.specs.Names.{escaped, line_feed, mark_of}
+use Rattle.edge.specs.Lines.{line_feed}
+use Rattle.b3_check.specs.Names.{escaped, mark_of}
 
 -- ---- verdicts
 
@@ -107,8 +108,8 @@ abbrev pub named_text : List ℕ → List ℕ → List ℕ
 named_text word name = mark_of name ++ (word ++ (escaped name ++ line_feed ∷ []))
 
 -- the line of a fault
-abbrev pub fault_text : ℕ → Fault → List ℕ
-fault_text line fault = codes "fault " ++ (decimal line ++ (32 ∷ (code_of fault ++ line_feed ∷ [])))
+abbrev pub fault_line : ℕ → Fault → List ℕ
+fault_line line fault = codes "fault " ++ (decimal line ++ (32 ∷ (code_of fault ++ line_feed ∷ [])))
 
 -- the line of a verdict
 abbrev pub verdict_text : Verdict → List ℕ
@@ -116,7 +117,7 @@ verdict_text (verdicts.Good name) = named_text (codes "good ") name
 verdict_text (verdicts.Bad name) = named_text (codes "bad ") name
 verdict_text (verdicts.Missing name) = named_text (codes "missing ") name
 verdict_text (verdicts.Unreadable name) = named_text (codes "unreadable ") name
-verdict_text (verdicts.Fault line fault) = fault_text line fault
+verdict_text (verdicts.Fault line fault) = fault_line line fault
 
 -- a word and a count
 abbrev pub count_text : List ℕ → ℕ → List ℕ

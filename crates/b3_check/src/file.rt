@@ -1,7 +1,7 @@
 //! Check files.
 
 ghost use Rattle.std.specs.Prelude.{◌≡◌, ◌++◌, [], IfOk, OnOk, map};
-ghost use Rattle.b3_check.specs.Files.{counted, file_at, read_of};
+ghost use Rattle.b3_check.specs.Files.{with_line, file_at, read_of};
 
 use crate::fault::{Fault, ReadError};
 use crate::line::Line;
@@ -35,7 +35,7 @@ impl Model for CheckFile {
 
 impl CheckFile {
     /// Reads a file's lines. A line feed ends a line, and the last one may lack it. A line that holds nothing but
-    /// carriage returns is left out, and counted.
+    /// carriage returns is left out, and with_line.
     pub fn read(alloc: Global, bytes: &[u8]) -> Result<CheckFile, AllocError>
         ensures { IfOk result (λ file. file ≡ file_at bytes.now) }
     {
@@ -63,7 +63,7 @@ fn push_line(
     number: u64,
     text: &[u8],
 ) -> Result<(), AllocError>
-    ensures { OnOk result (lines.new.items ≡ lines.old.items ++ map read_of (counted number text.now [])) }
+    ensures { OnOk result (lines.new.items ≡ lines.old.items ++ map read_of (with_line number text.now [])) }
 {
     if without_returns(text).is_empty() {
         return Ok(());

@@ -1,7 +1,7 @@
 //! Reading one line.
 
 ghost use Rattle.std.specs.Prelude.{◌≡◌, ◌≤◌, ℕ, List, length, IfOk};
-ghost use Rattle.b3_check.specs.Lines.{Gives, IsLine, bytes_at, has_two_spaces, line_at, marked_at, rest_at, without_returns};
+ghost use Rattle.b3_check.specs.Lines.{Gives, IsLine, name_bytes_at, has_two_spaces, line_at, marked_at, rest_at, without_returns};
 ghost use Rattle.b3_check.specs.Names.{escape_value, unescaped};
 
 use crate::fault::{Fault, ReadError};
@@ -82,7 +82,7 @@ fn has_two_spaces(rest: &[u8]) -> bool
 
 // The bytes for a name: in an escaped line what the units stand for, in another as they stand.
 fn name_bytes(alloc: Global, is_escaped: bool, text: &[u8]) -> Result<Vec<u8>, ReadError>
-    ensures { Gives (λ bytes. bytes.items) result (bytes_at is_escaped text.now) }
+    ensures { Gives (λ bytes. bytes.items) result (name_bytes_at is_escaped text.now) }
 {
     if is_escaped {
         unescape(alloc, text)

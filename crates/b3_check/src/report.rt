@@ -4,7 +4,7 @@ ghost use Rattle.std.specs.Prelude.{◌≡◌, ◌↔◌, OnErr, OnOk, IsTrue};
 ghost use Rattle.std.specs.Io.KnownBytes.{Appends};
 ghost use Rattle.std.specs.List.{flat_map};
 ghost use Rattle.b3_check.specs.Output.{IsCutOff};
-ghost use Rattle.b3_check.specs.Reports.{counts_of, counts_text, fault_text, report_text, verdict_text};
+ghost use Rattle.b3_check.specs.Reports.{counts_of, counts_text, fault_line, report_text, verdict_text};
 
 use crate::fault::Fault;
 use crate::name::Name;
@@ -145,8 +145,8 @@ fn write_verdict<W: Write>(verdict: &Verdict, writer: &mut W) -> io::Result<()>
 
 // The line of a fault.
 fn write_fault<W: Write>(line: u64, fault: Fault, writer: &mut W) -> io::Result<()>
-    ensures written { OnOk result (Appends (W.contents writer.old) (W.contents writer.new) (fault_text line fault)) }
-    ensures failed { OnErr result (IsCutOff (W.contents writer.old) (W.contents writer.new) (fault_text line fault)) }
+    ensures written { OnOk result (Appends (W.contents writer.old) (W.contents writer.new) (fault_line line fault)) }
+    ensures failed { OnErr result (IsCutOff (W.contents writer.old) (W.contents writer.new) (fault_line line fault)) }
 {
     let mut number = Buffer::new();
     let number = number.format(line).as_bytes();

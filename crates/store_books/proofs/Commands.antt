@@ -10,7 +10,7 @@ use Rattle.std.proofs.lemmas.Map.{keys-set_value}
 use Rattle.std.proofs.lemmas.Map.Entries.{sum_by-remove_entry, sum_by-set_value}
 use Rattle.store_books.specs.declared.refusal.Refusal.TheVariants.{JournalFull, NoTenant, TooLong}
 use Rattle.store_books.specs.declared.tenant.Change.{Change}
-use Rattle.store_books.specs.Books.{AreSound, Begun, Books, IsAmong, IsRisingFrom, held_bytes_of, in_use, is_absent, is_full, is_number, limit_of, parts_of, reserved_by, reserved_of, upload_at}
+use Rattle.store_books.specs.Books.{AreSound, Begun, Books, IsBegunUpload, IsRisingFrom, held_bytes_of, in_use, is_absent, is_full, is_number, limit_of, parts_of, reserved_by, reserved_of, upload_at}
 use Rattle.store_books.specs.Commands.{add_refused, begin_refusal, fix_refused, full_refusal, with_begun, with_upload, without_upload}
 use Rattle.store_upload.specs.Uploads.{Fits, IsUpload, UploadPlan, first_end, fix_refusal, fixed_at, held_bytes, length_of, most_bytes, new_upload, place_refusal, with_more}
 use Rattle.store_upload.proofs.Ends.{fixed_within, fixes, grown, nothing_held}
@@ -124,7 +124,7 @@ module _ {P O : Type 0} (len : P → ℕ) (size : O → ℕ) (address : O → Li
       let own = reserved_mine u in
       let held = more (λ (v : Begun P). held_bytes len v.upload.parts) b.uploads b.begun u in
       let parts = more (λ (v : Begun P). length v.upload.parts) b.uploads b.begun u in
-      let among : IsAmong len (length b.limits) (b.begun + 1) (b.begun, u) = record {
+      let among : IsBegunUpload len (length b.limits) (b.begun + 1) (b.begun, u) = record {
         number = omega arith;
         tenant = leb-false (length b.limits) tenant there.0;
         upload = nothing_held len plan [] (ltb-false most_bytes plan.bound short.0) refl;
@@ -145,10 +145,10 @@ module _ {P O : Type 0} (len : P → ℕ) (size : O → ℕ) (address : O → Li
           others_reserve = λ q apart. let other = reserved_others q u apart in let sum = more (reserved_by q) b.uploads b.begun u in omega (arith, other, sum);
           fits = omega (arith, mine, own, bound, within);
           begun = omega arith;
-          uploads = all_push (IsAmong len (length b.limits) (b.begun + 1)) b.uploads (b.begun, u)
-              (all_weaker (IsAmong len (length b.limits) b.begun) (IsAmong len (length b.limits) (b.begun + 1)) b.uploads (λ e is. record { number = omega (arith, is.number); tenant = is.tenant; upload = is.upload }) sound.uploads) among;
+          uploads = all_push (IsBegunUpload len (length b.limits) (b.begun + 1)) b.uploads (b.begun, u)
+              (all_weaker (IsBegunUpload len (length b.limits) b.begun) (IsBegunUpload len (length b.limits) (b.begun + 1)) b.uploads (λ e is. record { number = omega (arith, is.number); tenant = is.tenant; upload = is.upload }) sound.uploads) among;
           sorted = subst (IsRisingFrom 0) (sym (keys_push b.uploads (b.begun, u)))
-              (rising_push 0 b.begun (keys_of b.uploads) (omega arith) (all_keys b.begun b.uploads (all_weaker (IsAmong len (length b.limits) b.begun) (λ e. e.0 < b.begun) b.uploads (λ e is. is.number) sound.uploads)) sound.sorted);
+              (rising_push 0 b.begun (keys_of b.uploads) (omega arith) (all_keys b.begun b.uploads (all_weaker (IsBegunUpload len (length b.limits) b.begun) (λ e. e.0 < b.begun) b.uploads (λ e is. is.number) sound.uploads)) sound.sorted);
           objects = sound.objects;
           apart = sound.apart;
           stored = omega (arith, held);
@@ -167,7 +167,7 @@ module _ {P O : Type 0} (len : P → ℕ) (size : O → ℕ) (address : O → Li
 
   pub found_among : (b : Books P O) (number : ℕ) (u : Begun P) → upload_at b number ≡ Some u → AreSound len size address b → (u.tenant < length b.limits) × IsUpload len u.upload
   found_among b number u found sound =
-      all_found (IsAmong len (length b.limits) b.begun) (λ v. (v.tenant < length b.limits) × IsUpload len v.upload) (is_number number) b.uploads u (λ k x is. (is.tenant, is.upload)) found sound.uploads
+      all_found (IsBegunUpload len (length b.limits) b.begun) (λ v. (v.tenant < length b.limits) × IsUpload len v.upload) (is_number number) b.uploads u (λ k x is. (is.tenant, is.upload)) found sound.uploads
 
   reserved_within : (b : Books P O) (number : ℕ) (u : Begun P) → upload_at b number ≡ Some u → length_of u.upload ≤ reserved_of b u.tenant
   reserved_within b number u found = let sum = less (reserved_by u.tenant) number b.uploads u found in let own = reserved_mine u in omega (arith, sum, own)
@@ -203,7 +203,7 @@ module _ {P O : Type 0} (len : P → ℕ) (size : O → ℕ) (address : O → Li
               omega (arith, before, after, sum);
           fits = omega (arith, within, reserved, own, now, no_longer);
           begun = omega arith;
-          uploads = all_set (IsAmong len (length b.limits) b.begun) (is_number number) b.uploads u w (λ k is. record { number = is.number; tenant = omega (arith, tenant, there); upload = lawful }) found sound.uploads;
+          uploads = all_set (IsBegunUpload len (length b.limits) b.begun) (is_number number) b.uploads u w (λ k is. record { number = is.number; tenant = omega (arith, tenant, there); upload = lawful }) found sound.uploads;
           sorted = subst (IsRisingFrom 0) (sym (keys-set_value (is_number number) b.uploads w)) sound.sorted;
           objects = sound.objects;
           apart = sound.apart;
@@ -272,7 +272,7 @@ module _ {P O : Type 0} (len : P → ℕ) (size : O → ℕ) (address : O → Li
           others_reserve = λ q apart. let other = reserved_others q u apart in let sum = less (reserved_by q) number b.uploads u found in omega (arith, other, sum);
           fits = omega (arith, within, reserved, own);
           begun = omega arith;
-          uploads = all_removed (IsAmong len (length b.limits) b.begun) (is_number number) b.uploads sound.uploads;
+          uploads = all_removed (IsBegunUpload len (length b.limits) b.begun) (is_number number) b.uploads sound.uploads;
           sorted = rising_removed (is_number number) 0 b.uploads sound.sorted;
           objects = sound.objects;
           apart = sound.apart;

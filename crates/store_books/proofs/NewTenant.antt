@@ -10,7 +10,7 @@ use Rattle.std.proofs.lemmas.List.{map-append}
 use Rattle.std.proofs.lemmas.List.Sums.{sum_by-cons}
 use Rattle.store_books.specs.declared.refusal.Refusal.TheVariants.{LimitTooLarge, TenantsFull}
 use Rattle.store_books.specs.declared.tenant.Tenant.{Tenant}
-use Rattle.store_books.specs.Books.{AreSound, Begun, Books, Filed, IsAmong, IsFiledAmong, most_limit, reserved_by, reserved_of, use_by, use_of}
+use Rattle.store_books.specs.Books.{AreSound, Begun, Books, Filed, IsBegunUpload, IsFiledAmong, most_limit, reserved_by, reserved_of, use_by, use_of}
 use Rattle.store_books.specs.Commands.{tenant_refusal, with_tenant}
 use Rattle.store_books.specs.Kept.{AreKept, IsSummed, limits_of, no_tenant, tenant_at}
 use Rattle.store_upload.specs.Uploads.{length_of}
@@ -18,7 +18,7 @@ use Rattle.store_books.proofs.Commands.{passed, room}
 use Rattle.store_books.proofs.Lists.{all_weaker}
 use Rattle.store_books.proofs.Sums.{count_is}
 
-nothing_reserved : {P : Type 0} (len : P → ℕ) (n b : ℕ) (us : List (ℕ × Begun P)) → AllByRecursion (IsAmong len n b) us → sum_by (reserved_by n) (values_of us) ≡ 0
+nothing_reserved : {P : Type 0} (len : P → ℕ) (n b : ℕ) (us : List (ℕ × Begun P)) → AllByRecursion (IsBegunUpload len n b) us → sum_by (reserved_by n) (values_of us) ≡ 0
 nothing_reserved len n b [] h = refl
 nothing_reserved len n b (e ∷ us) h =
     let low = h.0.tenant in
@@ -51,7 +51,7 @@ module _ {P O : Type 0} (len : P → ℕ) (size : O → ℕ) (address : O → Li
         tenants = omega (arith, count, few);
         accepted = omega (arith, room);
         begun = omega (arith, old.begun);
-        uploads = all_weaker (IsAmong len n b.begun) (IsAmong len (length (b.limits ++ limit ∷ [])) b.begun) b.uploads (λ e is. record { number = is.number; tenant = omega (arith, is.tenant, count); upload = is.upload }) old.uploads;
+        uploads = all_weaker (IsBegunUpload len n b.begun) (IsBegunUpload len (length (b.limits ++ limit ∷ [])) b.begun) b.uploads (λ e is. record { number = is.number; tenant = omega (arith, is.tenant, count); upload = is.upload }) old.uploads;
         sorted = old.sorted;
         objects = all_weaker (IsFiledAmong n) (IsFiledAmong (length (b.limits ++ limit ∷ []))) b.objects (λ o is. record { tenants = all_weaker (λ h. h < n) (λ h. h < length (b.limits ++ limit ∷ [])) o.holders (λ h low. omega (arith, low, count)) is.tenants; rising = is.rising }) old.objects;
         apart = old.apart;

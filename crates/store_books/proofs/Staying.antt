@@ -1,20 +1,19 @@
 -- What is true of books stays true behind each command.
-use Rattle.std.proofs.Common.{◌≡◌, ◌∙◌, ◌+◌, ◌<◌, ◌≤◌, ℕ, List, Option, Some, None, refl, ap, sym, arith, length, get_or, set, subst, inl, inr}
-use Rattle.std.specs.Prelude.{if◌then◌else◌, nat_le, nat_lt, option_map, slice_set}
+use Rattle.std.proofs.Common.{◌≡◌, ◌∙◌, ◌<◌, ◌≤◌, ℕ, List, Option, Some, None, refl, ap, sym, arith, length, get_or, subst, inl, inr}
+use Rattle.std.specs.Prelude.{if◌then◌else◌, nat_lt, option_map, slice_set}
 use Rattle.std.specs.List.{AllByRecursion}
 use Rattle.std.specs.Option.{option_map_or, option_or}
 use Rattle.std.proofs.lemmas.Bool.{cases_eq, leb-false, ltb-false}
 use Rattle.std.proofs.lemmas.List.{get_or-set_other, get_or-set_same, length-set}
-use Rattle.store_books.specs.declared.refusal.Refusal.{Refusal}
 use Rattle.store_books.specs.declared.refusal.Refusal.TheVariants.{LimitTooLarge, NoTenant, NoUpload, NotHeld}
-use Rattle.store_books.specs.Books.{AreSound, Begun, Books, Filed, IsAmong, IsFiledAmong, in_use, is_absent, is_held_by, limit_of, most_limit, object_at, upload_at}
-use Rattle.store_books.specs.Commands.{abort_refusal, add_refused, begin_refusal, end_refusal, file_refusal, finish_refused, fix_refused, forget_refusal, full_refusal, holding_refusal, is_over, join_refusal, limit_refusal, put_refusal, ready_refusal, with_begun, with_filed, with_fixed, with_forgotten, with_joined, with_known, with_left, with_limit, with_new, with_part, with_put, with_end, without_upload}
+use Rattle.store_books.specs.Books.{AreSound, Begun, Books, Filed, IsBegunUpload, IsFiledAmong, in_use, is_absent, is_held_by, most_limit, object_at, upload_at}
+use Rattle.store_books.specs.Commands.{add_refused, begin_refusal, finish_refused, fix_refused, full_refusal, holding_refusal, is_over, join_refusal, limit_refusal, with_begun, with_known, with_left, with_limit, with_new, with_part, with_end, without_upload}
 use Rattle.store_books.specs.Staying.{StaySound}
 use Rattle.store_upload.specs.Uploads.{Fits, UploadPlan, finish_refusal, fix_refusal, length_of, place_refusal}
 use Rattle.store_upload.proofs.Places.{not_some}
-use Rattle.store_books.proofs.Commands.{begins, both, ends, falls, goes, none, none_mapped, passed, puts, rises, room}
+use Rattle.store_books.proofs.Commands.{begins, both, ends, goes, none, none_mapped, passed, puts, rises, room}
 use Rattle.store_books.proofs.NewTenant.{all_tenants}
-use Rattle.store_books.proofs.Objects.{files, is_held, joins, leaves, more_by}
+use Rattle.store_books.proofs.Objects.{files, is_held, joins, leaves}
 use Rattle.store_books.proofs.Sums.{sound_after}
 
 module _ {P O : Type 0} (len : P → ℕ) (size : O → ℕ) (address : O → List ℕ) where
@@ -34,7 +33,7 @@ module _ {P O : Type 0} (len : P → ℕ) (size : O → ℕ) (address : O → Li
         tenants = omega (arith, count, old.tenants);
         accepted = omega (arith, room);
         begun = omega (arith, old.begun);
-        uploads = subst (λ (n : ℕ). AllByRecursion (IsAmong len n b.begun) b.uploads) (sym count) old.uploads;
+        uploads = subst (λ (n : ℕ). AllByRecursion (IsBegunUpload len n b.begun) b.uploads) (sym count) old.uploads;
         sorted = old.sorted;
         objects = subst (λ (n : ℕ). AllByRecursion (IsFiledAmong n) b.objects) (sym count) old.objects;
         apart = old.apart;

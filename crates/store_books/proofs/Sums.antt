@@ -9,7 +9,7 @@ use Rattle.std.proofs.lemmas.List.{get_or-set_other, get_or-set_same, length-map
 use Rattle.store_books.specs.declared.limits.Limits.{Limits}
 use Rattle.store_books.specs.declared.tenant.Change.{Change}
 use Rattle.store_books.specs.declared.tenant.Tenant.{Tenant}
-use Rattle.store_books.specs.Books.{AreDistinct, AreSound, Begun, Books, Filed, IsAmong, IsFiledAmong, IsRisingFrom, addresses, held_bytes_of, in_use, limit_of, most_limit, object_bytes_of, parts_of, reserved_of, use_of}
+use Rattle.store_books.specs.Books.{AreDistinct, AreSound, Begun, Books, Filed, IsBegunUpload, IsFiledAmong, IsRisingFrom, addresses, held_bytes_of, in_use, limit_of, most_limit, object_bytes_of, parts_of, reserved_of, use_of}
 use Rattle.store_books.specs.Kept.{AreKept, HasRoom, IsSummed, books_of, changed, changed_sums, limits_of, no_tenant, tenant_at, with_sums}
 
 -- ---- tenants
@@ -43,7 +43,7 @@ module _ {P O : Type 0} (len : P → ℕ) (size : O → ℕ) (address : O → Li
     pub others_reserve : (q : ℕ) → (t ≡ q → ⊥) → reserved_of c q ≡ reserved_of b q
     pub fits : in_use size c t ≤ limit_of b t
     pub begun : c.begun ≤ b.begun + 1
-    pub uploads : AllByRecursion (IsAmong len (length b.limits) c.begun) c.uploads
+    pub uploads : AllByRecursion (IsBegunUpload len (length b.limits) c.begun) c.uploads
     pub sorted : IsRisingFrom 0 (keys_of c.uploads)
     pub objects : AllByRecursion (IsFiledAmong (length b.limits)) c.objects
     pub apart : AreDistinct (addresses address c.objects)
@@ -59,7 +59,7 @@ module _ {P O : Type 0} (len : P → ℕ) (size : O → ℕ) (address : O → Li
         tenants = omega (arith, count, m.tenants, old.tenants);
         accepted = omega (arith, m.accepted, m.room, m.entries);
         begun = omega (arith, m.begun, m.accepted, old.begun);
-        uploads = subst (λ (ns : List ℕ). AllByRecursion (IsAmong len (length ns) c.begun) c.uploads) (sym m.limits) m.uploads;
+        uploads = subst (λ (ns : List ℕ). AllByRecursion (IsBegunUpload len (length ns) c.begun) c.uploads) (sym m.limits) m.uploads;
         sorted = m.sorted;
         objects = subst (λ (ns : List ℕ). AllByRecursion (IsFiledAmong (length ns)) c.objects) (sym m.limits) m.objects;
         apart = m.apart;

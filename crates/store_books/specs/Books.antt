@@ -136,7 +136,7 @@ module _ {P O : Type 0} (address : O → List ℕ) where
 -- ---- what is true of books
 
 -- an open upload among n tenants and b uploads begun
-pub record IsAmong {P : Type 0} (len : P → ℕ) (n b : ℕ) (e : ℕ × Begun P) : Type 0 where
+pub record IsBegunUpload {P : Type 0} (len : P → ℕ) (n b : ℕ) (e : ℕ × Begun P) : Type 0 where
   pub number : e.0 < b
   pub tenant : e.1.tenant < n
   pub upload : IsUpload len e.1.upload
@@ -162,7 +162,7 @@ pub record AreSound {P O : Type 0} (len : P → ℕ) (size : O → ℕ) (address
   pub tenants : length b.limits ≤ b.tenants
   pub accepted : b.accepted ≤ b.entries
   pub begun : b.begun ≤ b.accepted
-  pub uploads : AllByRecursion (IsAmong len (length b.limits) b.begun) b.uploads
+  pub uploads : AllByRecursion (IsBegunUpload len (length b.limits) b.begun) b.uploads
   -- each number stands once, in order
   pub sorted : IsRisingFrom 0 (keys_of b.uploads)
   pub objects : AllByRecursion (IsFiledAmong (length b.limits)) b.objects

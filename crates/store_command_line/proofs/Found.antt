@@ -3,7 +3,7 @@ use Rattle.std.proofs.Common.{◌≡◌, ◌∙◌, ℕ, Bool, true, false, List
 use Rattle.std.specs.Prelude.{option_map, IfSome}
 use Rattle.store_command_line.specs.CommandLine.{IsTaken, command_line}
 use Rattle.store_command_line.specs.Ranges.{IsWithin}
-use Rattle.store_command_line.specs.Stated.{SaysFlag, Spells, SpellsOr}
+use Rattle.store_command_line.specs.Stated.{SaysFlag, SaysNumber, SpellsOr}
 use Rattle.clap.specs.Words.{App, HasKind, Row, Text, fault_of, is_simple_and_free, kind_of, subcommand_name_of, subcommand_of, subcommand_rows_of}
 use Rattle.clap.specs.declared.error.Error.{Error}
 use Rattle.clap.specs.declared.error.kind.ErrorKind.TheVariants as kinds
@@ -45,6 +45,6 @@ memory a words e shape fails is = go (subst (λ ks. HasKind ks e) (ap (λ (b : A
     go (inr h) = absurd h
 
 -- what follows of the number that is spelled, where one is given
-pub spelled_or : (most other n : ℕ) (o : Option Text) (P : Type 0) → SpellsOr other o n → IsWithin most n → ((m : Option ℕ) → Spells o m → IfSome m (IsWithin most) → P) → P
+pub spelled_or : (most other n : ℕ) (o : Option Text) (P : Type 0) → SpellsOr other o n → IsWithin most n → ((m : Option ℕ) → SaysNumber o m → IfSome m (IsWithin most) → P) → P
 spelled_or most other n None P spells within f = f None tt tt
 spelled_or most other n (Some t) P spells within f = f (Some n) spells within

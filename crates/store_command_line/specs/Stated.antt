@@ -18,11 +18,11 @@ abbrev pub IsNumber : Text → ℕ → Type 0
 IsNumber t n = IsNumeral 10 t × (digits_value 10 t ≡ n)
 
 -- the number that an argument's text spells, where the argument is given
-abbrev pub Spells : Option Text → Option ℕ → Type 0
-Spells None None = Unit {0}
-Spells (Some t) (Some n) = IsNumber t n
-Spells None (Some n) = ⊥
-Spells (Some t) None = ⊥
+abbrev pub SaysNumber : Option Text → Option ℕ → Type 0
+SaysNumber None None = Unit {0}
+SaysNumber (Some t) (Some n) = IsNumber t n
+SaysNumber None (Some n) = ⊥
+SaysNumber (Some t) None = ⊥
 
 -- the number that an argument's text spells, or another where the argument is not given
 abbrev pub SpellsOr : ℕ → Option Text → ℕ → Type 0
@@ -48,8 +48,8 @@ SaysName name (Some t) = name ≡ t
 pub record SaysSum (o : SumOptions) (rows : List Row) : Type 0 where
   pub name : SaysName o.name.now (first_of (codes "name") rows)
   pub mode : SaysMode o.mode (first_of (codes "key") rows) (first_of (codes "context") rows)
-  pub length : Spells (first_of (codes "length") rows) o.length
-  pub threads : Spells (first_of (codes "threads") rows) o.threads
+  pub length : SaysNumber (first_of (codes "length") rows) o.length
+  pub threads : SaysNumber (first_of (codes "threads") rows) o.threads
 
 pub record SaysUpload (o : UploadOptions) (rows : List Row) : Type 0 where
   pub workers : SpellsOr 4 (first_of (codes "workers") rows) o.workers
@@ -57,7 +57,7 @@ pub record SaysUpload (o : UploadOptions) (rows : List Row) : Type 0 where
   pub journal : SaysFlag (one_of (codes "journal") rows) o.journal
 
 pub record SaysCheck (o : CheckOptions) (rows : List Row) : Type 0 where
-  pub threads : Spells (first_of (codes "threads") rows) o.threads
+  pub threads : SaysNumber (first_of (codes "threads") rows) o.threads
 
 -- the subcommand that was entered, and its rows, say these options
 abbrev pub Says : Options → Option (Text × List Row) → Type 0

@@ -6,7 +6,7 @@ ghost use Rattle.clap.specs.Words.{found_of, first_of, one_of, rows_of, subcomma
 ghost use Rattle.b3_check.specs.Names.{IsName};
 ghost use Rattle.store_command_line.specs.CommandLine.{IsTaken, command_line};
 ghost use Rattle.store_command_line.specs.Ranges.{AreWithin, InRange, IsWithin};
-ghost use Rattle.store_command_line.specs.Stated.{IsNotUsage, IsNumber, Says, SaysCheck, SaysFlag, SaysMode, SaysName, SaysSum, SaysUpload, Spells, SpellsOr};
+ghost use Rattle.store_command_line.specs.Stated.{IsNotUsage, IsNumber, Says, SaysCheck, SaysFlag, SaysMode, SaysName, SaysSum, SaysUpload, SaysNumber, SpellsOr};
 ghost use Rattle.store_command_line.specs.declared.said.CheckOptions.{CheckOptions as SaidCheck};
 ghost use Rattle.store_command_line.specs.declared.said.Fault.TheVariants.{NoMemory, Usage};
 ghost use Rattle.store_command_line.specs.declared.said.Options.{Options as Said};
@@ -92,9 +92,9 @@ fn number_within(
     id: &str,
     most: u32,
 ) -> Result<Option<u32>, Fault>
-    ensures spells { IfOk result (λ n. Spells (first_of id.now (rows_of (found_of found.now))) n) }
+    ensures spells { IfOk result (λ n. SaysNumber (first_of id.now (rows_of (found_of found.now))) n) }
     ensures range { IfOk result (λ n. IfSome n (IsWithin most)) }
-    ensures only { (n : Option ℕ) → Spells (first_of id.now (rows_of (found_of found.now))) n → IfSome n (IsWithin most)
+    ensures only { (n : Option ℕ) → SaysNumber (first_of id.now (rows_of (found_of found.now))) n → IfSome n (IsWithin most)
         → IsNotUsage result }
 {
     let Some(text) = text_of(found, id) else {

@@ -20,10 +20,10 @@ use Rattle.store_shared.specs.Cuts.{cut_of}
 use Rattle.store_shared.specs.declared.fault.UploadFaultKind.{UploadFaultKind}
 use Rattle.store_shared.specs.declared.fault.UploadFaultKind.TheVariants.{BadCut, Stopped}
 use Rattle.store_engines.specs.Uploads.{HasObject, IsFiled, IsTold, MayFail, SomeRefusal, WroteRefusal, WroteUpload, is_memory, uploaded_text}
-use Rattle.store_script.specs.declared.outcome.Cause.{Cause}
-use Rattle.store_script.specs.declared.outcome.Cause.TheVariants.{OutOfMemory}
-use Rattle.store_script.specs.declared.outcome.Verdict.{Verdict}
-use Rattle.store_script.specs.declared.outcome.Verdict.TheVariants.{Refused}
+use Rattle.edge.specs.declared.outcome.Cause.{Cause}
+use Rattle.edge.specs.declared.outcome.Cause.TheVariants.{OutOfMemory}
+use Rattle.edge.specs.declared.outcome.Verdict.{Verdict}
+use Rattle.edge.specs.declared.outcome.Verdict.TheVariants.{Refused}
 use Rattle.store_command_line.specs.declared.said.UploadOptions.{UploadOptions}
 
 -- a refusal that was told, and is not want of memory, is some refusal

@@ -7,10 +7,10 @@ use Rattle.b3_check.specs.declared.report.Verdict.{Verdict as LineVerdict}
 use Rattle.b3_check.specs.Files.{file_at}
 use Rattle.b3_check.specs.Reports.{Answer, IsCutShort, IsReport, counts_of, report_text}
 use Rattle.b3_core.specs.Modes.{digest_of, hash_mode}
-use Rattle.store_script.specs.declared.outcome.Cause.{Cause}
-use Rattle.store_script.specs.declared.outcome.Cause.TheVariants.{CannotRead, CannotWrite, OutOfMemory}
-use Rattle.store_script.specs.declared.outcome.Verdict.{Verdict}
-use Rattle.store_script.specs.declared.outcome.Verdict.TheVariants.{Good}
+use Rattle.edge.specs.declared.outcome.Cause.{Cause}
+use Rattle.edge.specs.declared.outcome.Cause.TheVariants.{CannotRead, CannotWrite, OutOfMemory}
+use Rattle.edge.specs.declared.outcome.Verdict.{Verdict}
+use Rattle.edge.specs.declared.outcome.Verdict.TheVariants.{Good}
 
 -- all counts but the first are 0
 abbrev pub IsAllGood : Counts → Type 0

@@ -7,9 +7,9 @@ ghost use Rattle.store_engines.specs.Checks.{IsAllGood, IsChecked, IsStopped};
 
 use crate::streams::read_all;
 use b3_check::{CheckFile, Counts, Names, Report, verify};
+use edge::{Cause, Verdict, write_all};
 use std::alloc::{AllocError, Global};
 use std::io::{Read, Write};
-use store_script::{Cause, Verdict, write_all};
 
 // The text of a report. A vector takes every write that memory is had for.
 fn text_of(alloc: Global, report: &Report) -> Result<Vec<u8>, AllocError>

@@ -28,9 +28,10 @@ mod uploading;
 
 pub use auditing::audit;
 pub use checking::check;
+pub use edge::{Cause, Verdict};
 pub use files::SystemFiles;
 pub use migrating::migrate;
 pub use store_ledger::ALL_PARTS;
-pub use store_script::{Cause, Verdict, run};
+pub use store_script::run;
 pub use summing::sum;
 pub use uploading::upload;

@@ -3,9 +3,9 @@
 ghost use Rattle.std.specs.Prelude.{◌≡◌, ◌≢◌, IfSome, OnOk, IfOk, IfErr};
 ghost use Rattle.std.specs.Io.KnownBytes.{IsAtEnd};
 
+use edge::Cause;
 use std::alloc::Global;
 use std::io::{Error, ErrorKind, Read};
-use store_script::Cause;
 
 /// Why a read failed.
 pub(crate) fn read_cause(error: &Error) -> Cause

@@ -13,11 +13,11 @@ use crate::streams::read_cause;
 use b3_check::Line;
 use b3_core::{Mode, OutputReader, Runtime, Top, Work};
 use b3_parallel::hash_all;
+use edge::{Cause, write_all};
 use std::alloc::{AllocError, Global};
 use std::io::{Read, Write};
 use std::thread::Threads;
 use store_command_line::{SumMode, SumOptions};
-use store_script::{Cause, write_all};
 
 // The mode that the options say.
 fn mode_of(mode: SumMode<'_>, work: &mut Work) -> Mode

@@ -12,6 +12,7 @@ use crate::journals::text_of;
 use crate::streams::read_all;
 use crate::summing::line_of;
 use b3_core::Runtime;
+use edge::{Cause, Verdict, write_all};
 use std::alloc::{AllocError, Global};
 use std::io::{Read, Write};
 use std::sync::Wait;
@@ -20,7 +21,6 @@ use std::thread::Threads;
 use store_command_line::UploadOptions;
 use store_core::{Address, Entry, Limits, Refusal, TenantId};
 use store_ledger::{Ledgers, Share};
-use store_script::{Cause, Verdict, write_all};
 use store_shared::{Locked, PassAll, Shared, UploadFaultKind, UploadRequest, lent_open_tenant};
 
 // The tenant's limit, in bytes.

@@ -17,8 +17,8 @@ abbrev pub sum_of : Holding → Holding → Holding
 sum_of g h = record { parts = g.parts + h.parts; bytes = g.bytes + h.bytes; calls = g.calls + h.calls }
 
 -- one more call with that many bytes leaves both numbers of the book below 2^64
-abbrev pub HasRoom : Accepted → ℕ → Type 0
-HasRoom a bytes = (a.bytes + bytes < 2 ^ 64) × (a.calls + 1 < 2 ^ 64)
+abbrev pub BookHasRoom : Accepted → ℕ → Type 0
+BookHasRoom a bytes = (a.bytes + bytes < 2 ^ 64) × (a.calls + 1 < 2 ^ 64)
 
 -- the parts of a book
 abbrev pub all_parts : ℕ

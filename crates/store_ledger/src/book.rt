@@ -1,7 +1,7 @@
 //! Books, and what was accepted.
 
 ghost use Rattle.std.specs.Prelude.{◌≡◌, ◌↔◌, IsSome, IfSome, ◌+◌, ◌≤◌, IfOk, IfErr, IsOk, OnOk, OnErr, Ok};
-ghost use Rattle.store_ledger.specs.Shares.{Agrees, HasRoom, IsMissing, IsWhole, accepted_after, all_parts, holding_after, sum_of};
+ghost use Rattle.store_ledger.specs.Shares.{Agrees, BookHasRoom, IsMissing, IsWhole, accepted_after, all_parts, holding_after, sum_of};
 ghost use Rattle.store_ledger.specs.declared.book.Accepted.{Accepted};
 
 use crate::holding::Holding;
@@ -74,7 +74,7 @@ impl<L: Ledgers> Book<L> {
 
     /// Adds the bytes and one call to the book and to the share.
     pub fn record(&mut self, share: &mut Share<L>, bytes: u64) -> Result<(), BookFull>
-        ensures room { IsOk result ↔ HasRoom self.old bytes }
+        ensures room { IsOk result ↔ BookHasRoom self.old bytes }
         ensures book { OnOk result (self.new ≡ accepted_after self.old bytes) }
         ensures share { OnOk result (share.new ≡ holding_after share.old bytes) }
         ensures full { OnErr result ((self.new ≡ self.old) × (share.new ≡ share.old)) }
@@ -139,7 +139,7 @@ impl<L: Ledgers> Book<L> {
 impl Accepted {
     /// The numbers after one more call with that many bytes, unless one of them would be above 2^64-1.
     pub(crate) fn after(self, bytes: u64) -> Option<Accepted>
-        ensures room { IsSome result ↔ HasRoom self bytes }
+        ensures room { IsSome result ↔ BookHasRoom self bytes }
         ensures numbers { IfSome result (λ accepted. accepted ≡ accepted_after self bytes) }
     {
         Some(Accepted {

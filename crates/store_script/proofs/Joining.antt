@@ -1,21 +1,12 @@
 -- Digits of bytes and of segments.
-use Rattle.std.proofs.Common.{◌≡◌, ◌<◌, ◌/◌, ◌%◌, ℕ, List, [], ◌∷◌, ◌++◌, refl, ap, length, append_assoc, map, arith, codes}
+use Rattle.std.proofs.Common.{◌≡◌, ◌<◌, ℕ, List, [], ◌∷◌, ◌++◌, refl, length, map, arith, codes}
 use Rattle.std.specs.Arc.{arc_value}
-use Rattle.std.specs.Prelude.{slice_index}
 use Rattle.b3_forest.specs.declared.segment.Segment.{Segment}
 use Rattle.b3_forest.specs.Uploads.{content_of, part_of}
+use Rattle.edge.proofs.Encoding.{digits_append}
+use Rattle.store_script.specs.Digits.{digits_of}
 use Rattle.store_script.specs.Texts.{digits_text}
 use Rattle.hex.specs.Hex.{encode_lower, encode_with, lower_digits}
-
--- ---- digits of segments
-
-digits_append : (table a b : List ℕ) → encode_with table (a ++ b) ≡ encode_with table a ++ encode_with table b
-unfolding encode_with
-digits_append table [] b = refl
-digits_append table (x ∷ a) b = ap (λ ys. slice_index table (x / 16) ∷ slice_index table (x % 16) ∷ ys) (digits_append table a b)
-
-abbrev pub digits_of : List Segment → List ℕ
-digits_of segments = encode_lower (content_of (map part_of segments))
 
 abbrev pub segment_digits : Segment → List ℕ
 segment_digits s = encode_lower (arc_value s.bytes).items
@@ -35,6 +26,3 @@ no_bytes (b ∷ bytes) none = absurd (omega (arith, none))
 pub some_bytes : (bytes : List ℕ) → 0 < length bytes → digits_text bytes ≡ encode_lower bytes
 some_bytes [] some = absurd (omega (arith, some))
 some_bytes (b ∷ bytes) some = refl
-
-pub in_pieces : (len digits : List ℕ) → ((codes "object " ++ (len ++ codes " ")) ++ digits) ++ codes "\n" ≡ codes "object " ++ (len ++ (codes " " ++ (digits ++ codes "\n")))
-in_pieces len digits = simp append_assoc

@@ -4,3 +4,4 @@ pub mod Patterns
 pub mod Read
 pub mod Rows
 pub mod LineOutcomes
+pub mod Lengths

@@ -1,6 +1,8 @@
 -- What a line comes to.
-use Rattle.std.proofs.Common.{◌≡◌, ◌<◌, ℕ, List, [], ◌∷◌, Some, None, Ok, Err, Result, refl, ap, sym, subst, arith, length}
-use Rattle.std.specs.Prelude.{Option, IfOk, unwrap_or, codes}
+use Rattle.std.proofs.Common.{◌≡◌, ◌∙◌, ◌+◌, ◌-◌, ◌<◌, ◌≤◌, ℕ, List, [], ◌∷◌, Some, None, Ok, Err, Result, refl, ap, sym, subst, arith, cond, length, take}
+use Rattle.std.specs.Prelude.{◌&&◌, ◌==◌, Bool, Option, IfOk, unwrap_or, codes, false, nat_lt, slice_index, true}
+use Rattle.std.specs.Io.BufRead.{strip_last}
+use Rattle.std.proofs.lemmas.List.{length-take, take_all}
 use Rattle.b3_forest.specs.Parts.{PlannedPart, planned}
 use Rattle.store_upload.specs.Uploads.{UploadPlan, part_refusal}
 use Rattle.store_upload.specs.declared.refusal.PartFault.{PartFault}
@@ -10,11 +12,13 @@ use Rattle.store_core.specs.Commands.{plan_in}
 use Rattle.store_core.specs.Model.{Shown}
 use Rattle.store_core.specs.Runs.{Command, Reply, Step, plan, put, the_plan, told}
 use Rattle.store_script.specs.Grammar.{ScriptCommand, asks, command_at, puts}
-use Rattle.store_script.specs.Script.{Answered, Does, Makes, Plays, PutsBy, Turn, bad, fault_ending, reply_ending, skipped, took, unmade}
-use Rattle.store_script.specs.Texts.{answer_text, fault_text, refused_text}
+use Rattle.store_script.specs.Lines.{AnswersRead}
+use Rattle.store_script.proofs.Lengths.{long_is_none}
+use Rattle.store_script.specs.Script.{Answered, Does, MakesPart, Plays, PutsBy, Turn, bad, fault_ending, reply_ending, skipped, took, unmade}
+use Rattle.store_script.specs.Texts.{answer_text, unmade_text, refused_text}
 use Rattle.store_script.specs.declared.answer.Answer.{Answer}
-use Rattle.store_script.specs.declared.outcome.Ending.{Ending}
-use Rattle.store_script.specs.declared.outcome.Ending.TheVariants as endings
+use Rattle.store_script.specs.declared.ending.Ending.{Ending}
+use Rattle.store_script.specs.declared.ending.Ending.TheVariants as endings
 
 -- ---- an answer
 
@@ -23,26 +27,26 @@ abbrev pub Says : Result Reply Refusal → List ℕ → Ending → Type 0
 Says reply text ending = (text ≡ answer_text reply) × (ending ≡ reply_ending reply)
 
 abbrev pub SaysFault : PartFault → List ℕ → Ending → Type 0
-SaysFault fault text ending = (text ≡ refused_text (fault_text fault)) × (ending ≡ fault_ending fault)
+SaysFault fault text ending = (text ≡ refused_text (unmade_text fault)) × (ending ≡ fault_ending fault)
 
 abbrev pub SaysBad : List ℕ → Ending → Type 0
 SaysBad text ending = (text ≡ codes "bad\n") × (ending ≡ endings.Refused)
 
-answered : {E : Type 0} (r : Result Answer E) (Said : List ℕ → Ending → Type 0) (Is : Turn → Type 0) → ((text : List ℕ) (ending : Ending) → Said text ending → Answered Is text ending) → IfOk r (λ a. Said a.text.items a.ending) → IfOk r (λ a. Answered Is a.text.items a.ending)
-answered (Ok a) Said Is f h = f a.text.items a.ending h
+answered : {E : Type 0} (r : Result Answer E) (Said : List ℕ → Ending → Type 0) (Is : Turn → Type 0) → ((text : List ℕ) (ending : Ending) → Said text ending → Answered Is text ending) → IfOk r (λ a. Said a.text a.ending) → IfOk r (λ a. Answered Is a.text a.ending)
+answered (Ok a) Said Is f h = f a.text a.ending h
 answered (Err e) Said Is f h = h
 
 -- an answer to a step, to a part that isn't made, and to a line that is no command
-pub by_reply : {E : Type 0} (r : Result Answer E) (reply : Result Reply Refusal) (Is : Turn → Type 0) → ((text : List ℕ) (ending : Ending) → Says reply text ending → Answered Is text ending) → IfOk r (λ a. Says reply a.text.items a.ending) → IfOk r (λ a. Answered Is a.text.items a.ending)
+pub by_reply : {E : Type 0} (r : Result Answer E) (reply : Result Reply Refusal) (Is : Turn → Type 0) → ((text : List ℕ) (ending : Ending) → Says reply text ending → Answered Is text ending) → IfOk r (λ a. Says reply a.text a.ending) → IfOk r (λ a. Answered Is a.text a.ending)
 by_reply r reply Is f h = answered r (Says reply) Is f h
 
-pub by_fault : {E : Type 0} (r : Result Answer E) (fault : PartFault) (Is : Turn → Type 0) → ((text : List ℕ) (ending : Ending) → SaysFault fault text ending → Answered Is text ending) → IfOk r (λ a. SaysFault fault a.text.items a.ending) → IfOk r (λ a. Answered Is a.text.items a.ending)
+pub by_fault : {E : Type 0} (r : Result Answer E) (fault : PartFault) (Is : Turn → Type 0) → ((text : List ℕ) (ending : Ending) → SaysFault fault text ending → Answered Is text ending) → IfOk r (λ a. SaysFault fault a.text a.ending) → IfOk r (λ a. Answered Is a.text a.ending)
 by_fault r fault Is f h = answered r (SaysFault fault) Is f h
 
-pub by_bad : {E : Type 0} (r : Result Answer E) (Is : Turn → Type 0) → ((text : List ℕ) (ending : Ending) → SaysBad text ending → Answered Is text ending) → IfOk r (λ a. SaysBad a.text.items a.ending) → IfOk r (λ a. Answered Is a.text.items a.ending)
+pub by_bad : {E : Type 0} (r : Result Answer E) (Is : Turn → Type 0) → ((text : List ℕ) (ending : Ending) → SaysBad text ending → Answered Is text ending) → IfOk r (λ a. SaysBad a.text a.ending) → IfOk r (λ a. Answered Is a.text a.ending)
 by_bad r Is f h = answered r SaysBad Is f h
 
-pub by_part : {E : Type 0} (r : Result Answer E) (Made Is : Turn → Type 0) → ((text : List ℕ) (ending : Ending) → Answered Made text ending → Answered Is text ending) → IfOk r (λ a. Answered Made a.text.items a.ending) → IfOk r (λ a. Answered Is a.text.items a.ending)
+pub by_part : {E : Type 0} (r : Result Answer E) (Made Is : Turn → Type 0) → ((text : List ℕ) (ending : Ending) → Answered Made text ending → Answered Is text ending) → IfOk r (λ a. Answered Made a.text a.ending) → IfOk r (λ a. Answered Is a.text a.ending)
 by_part r Made Is f h = answered r (Answered Made) Is f h
 
 -- ---- a part
@@ -63,7 +67,7 @@ no_plan old upload offset bytes refusal text ending is says = record {
   ending_is = says.1;
 }
 
-fault_is : (old : Shown) (upload : ℕ) (part : PlannedPart) (refused : Option PartFault) (fault : PartFault) → fault ≡ unwrap_or refused faults.NoMemory → Makes old upload part refused (unmade fault) old
+fault_is : (old : Shown) (upload : ℕ) (part : PlannedPart) (refused : Option PartFault) (fault : PartFault) → fault ≡ unwrap_or refused faults.NoMemory → MakesPart old upload part refused (unmade fault) old
 fault_is old upload part (Some first) fault is = (ap unmade is, refl)
 fault_is old upload part None fault is = (is, refl)
 
@@ -83,7 +87,7 @@ pub made : (old new : Shown) (upload offset : ℕ) (made_for : UploadPlan) (byte
 made old new upload offset made_for bytes part reply text ending is fits part_is step says = record {
   turn = took (put upload (planned made_for offset bytes)) reply;
   is = by_plan old new upload offset bytes (took (put upload (planned made_for offset bytes)) reply) (Ok made_for) is
-      (subst (λ (o : Option PartFault). Makes old upload (planned made_for offset bytes) o (took (put upload (planned made_for offset bytes)) reply) new) (sym fits)
+      (subst (λ (o : Option PartFault). MakesPart old upload (planned made_for offset bytes) o (took (put upload (planned made_for offset bytes)) reply) new) (sym fits)
       (refl, subst (λ (p : PlannedPart). Step old (put upload p) reply new) part_is step));
   text_is = says.0;
   ending_is = says.1;
@@ -119,4 +123,34 @@ put_asked old new line text ending upload offset bytes some is h = record {
   is = plays old new line h.turn (Some (puts upload offset bytes)) some is h.is;
   text_is = h.text_is;
   ending_is = h.ending_is;
+}
+
+-- ---- a line that was read
+
+strip_shorter : (xs : List ℕ) → length xs ≤ length (strip_last 10 xs) + 1
+strip_shorter xs = go (nat_lt 0 (length xs) && slice_index xs (length xs - 1) == 10)
+  where
+    go : (t : Bool) → length xs ≤ length (cond t (take (length xs - 1) xs) xs) + 1
+    go true = omega (arith, length-take (length xs - 1) xs)
+    go false = omega arith
+
+-- a longer line is no command
+pub long_line : {E : Type 0} (r : Result Answer E) (old : Shown) (count : ℕ) (kept : List ℕ) → 33554481 < count → IfOk r (λ a. SaysBad a.text a.ending)
+    → IfOk r (λ a. AnswersRead old old count kept a.text a.ending)
+long_line (Err e) old count kept long says = tt
+long_line (Ok a) old count kept long says = record {
+  answers = λ whole read.
+      let line = strip_last 10 whole in
+      let most : 33554480 < length line = omega (arith, long, read.0, strip_shorter whole) in
+      no_command old line a.text a.ending (omega (arith, most)) (sym (long_is_none line most)) says;
+}
+
+-- any other is kept whole
+pub short_line : {E : Type 0} (r : Result Answer E) (old new : Shown) (count : ℕ) (kept line : List ℕ) → count ≤ 33554481 → line ≡ strip_last 10 kept → IfOk r (λ a. Answered (LineTurn old line new) a.text a.ending)
+    → IfOk r (λ a. AnswersRead old new count kept a.text a.ending)
+short_line (Err e) old new count kept line short is h = tt
+short_line (Ok a) old new count kept line short is h = record {
+  answers = λ whole read.
+      let all : kept ≡ whole = read.1 ∙ take_all 33554481 whole (omega (arith, short, read.0)) in
+      subst (λ (l : List ℕ). Answered (LineTurn old l new) a.text a.ending) (is ∙ ap (strip_last 10) all) h;
 }

@@ -1,5 +1,5 @@
 -- A line is read exactly where it is spelled so.
-use Rattle.std.proofs.Common.{◌≡◌, ◌∙◌, ◌<◌, ◌≤◌, ◌^◌, ℕ, Bool, true, List, ◌∷◌, ◌++◌, Some, None, Ok, Err, Result, refl, ap, sym, subst, arith, cond, codes, inl, inr, nat_le}
+use Rattle.std.proofs.Common.{◌≡◌, ◌∙◌, ◌<◌, ◌≤◌, ◌^◌, ℕ, Bool, true, List, ◌∷◌, ◌++◌, Some, None, Ok, Err, Result, refl, ap, sym, subst, arith, cond, codes, inl, inr, length, nat_le}
 use Rattle.std.specs.Prelude.{Option, option_map}
 use Rattle.std.specs.Fmt.{decimal}
 use Rattle.std.specs.Str.{bytes_eq}
@@ -7,11 +7,12 @@ use Rattle.std.proofs.lemmas.Bool.{leb-true, le-leb}
 use Rattle.std.proofs.lemmas.Slice.Eq.{bytes_eq-Decides}
 use Rattle.hex.specs.Hex.{decode_of, decode_sized}
 use Rattle.hex.specs.declared.error.FromHexError.{FromHexError}
-use Rattle.store_journal.specs.Entries.{cut_at, number_at, space, three_fields, two_fields, two_numbers_at}
+use Rattle.edge.specs.Fields.{cut_at, number_at, space, three_fields, two_fields, two_numbers_at}
 use Rattle.store_core.specs.Runs.{Command, abort, begin, begin_open, fetch, fix, forget, journal, list, open_tenant, plan, put, seal, seal_as, set_limit, totals, usage}
-use Rattle.store_journal.proofs.Fields.{bind_is, bind_some, chosen, cut_again, cut_found, decimal_spaceless, none_some, number_again, some_is, two_again, two_found}
-use Rattle.store_journal.proofs.Numbers.{read_back}
-use Rattle.store_script.specs.Grammar.{ScriptCommand, abort_at, address_in, asks, asks_of_kind, begin_at, begin_open_at, bytes_at, bytes_of_kind, colon, command_at, cut_line_at, decoded, fetch_at, fix_at, forget_at, held_at, list_at, most_pattern, open_tenant_at, pattern_at, pattern_of, puts, puts_at, seal_as_at, seal_at, set_limit_at, usage_at, word_at}
+use Rattle.edge.proofs.FieldTexts.{cut_again, cut_found, decimal_spaceless, number_again, two_again, two_found}
+use Rattle.edge.proofs.Steps.{bind_is, bind_some, chosen, none_some, some_is}
+use Rattle.edge.proofs.Numbers.{read_back}
+use Rattle.store_script.specs.Grammar.{ScriptCommand, abort_command, address_of_digits, asks, asks_of_kind, begin_command, begin_open_command, part_bytes_at, bytes_of_kind, colon, command_at, cut_line_at, decoded, digits_at, fetch_command, fix_command, forget_command, held_at, list_command, most_digits, most_pattern, open_tenant_command, pattern_at, pattern_of, puts, puts_at, seal_as_command, seal_command, set_limit_command, usage_command, word_command}
 use Rattle.store_script.specs.Spelling.{IsAsked, IsPart, IsSpelled}
 
 -- ---- fields
@@ -20,12 +21,12 @@ decoded_found : (r : Result (List ℕ) FromHexError) (bytes : List ℕ) → deco
 decoded_found (Ok x) bytes h = ap (λ (b : List ℕ). let ok : Result (List ℕ) FromHexError = Ok b in ok) (some_is _ _ h)
 decoded_found (Err fault) bytes h = absurd (none_some bytes h)
 
-address_found : (digits address : List ℕ) → address_in digits ≡ Some address → decode_sized digits 32 ≡ Ok address
-unfolding address_in
+address_found : (digits address : List ℕ) → address_of_digits digits ≡ Some address → decode_sized digits 32 ≡ Ok address
+unfolding address_of_digits
 address_found digits address h = decoded_found (decode_sized digits 32) address h
 
-address_again : (digits address : List ℕ) → decode_sized digits 32 ≡ Ok address → address_in digits ≡ Some address
-unfolding address_in
+address_again : (digits address : List ℕ) → decode_sized digits 32 ≡ Ok address → address_of_digits digits ≡ Some address
+unfolding address_of_digits
 address_again digits address h = ap decoded h
 
 -- a number and an address
@@ -36,7 +37,7 @@ held_found : (fields : List ℕ) (x : ℕ × List ℕ) → held_at fields ≡ So
 held_found fields x h =
     let cut = bind_some (cut_at space fields) _ x h in
     let number = bind_some (number_at cut.0.0) _ x cut.2 in
-    let address = bind_some (address_in cut.0.1) _ x number.2 in
+    let address = bind_some (address_of_digits cut.0.1) _ x number.2 in
     let is : (number.0, address.0) ≡ x = some_is _ _ address.2 in
     let read = read_back cut.0.0 number.0 number.1 in
     let text : fields ≡ two_fields (decimal number.0) cut.0.1 = sym (cut_found space fields cut.0 cut.1) ∙ ap (λ (w : List ℕ). w ++ space ∷ cut.0.1) (sym read.0) in
@@ -45,7 +46,7 @@ held_found fields x h =
 held_again : (number : ℕ) (digits address : List ℕ) → number < 2 ^ 64 → decode_sized digits 32 ≡ Ok address → held_at (two_fields (decimal number) digits) ≡ Some (number, address)
 held_again number digits address lt read =
     bind_is (cut_at space (two_fields (decimal number) digits)) _ (decimal number, digits) (cut_again space (decimal number) digits (decimal_spaceless number lt))
-    ∙ bind_is (number_at (decimal number)) _ number (number_again number lt) ∙ bind_is (address_in digits) _ address (address_again digits address read)
+    ∙ bind_is (number_at (decimal number)) _ number (number_again number lt) ∙ bind_is (address_of_digits digits) _ address (address_again digits address read)
 
 -- ---- commands of one number, of two, and of a number and an address
 
@@ -82,40 +83,40 @@ by_kind kind word fields this other command f g h =
       | inr p ↦ g p.1
     ]
 
-tenant_found : (fields : List ℕ) (command : Command) → open_tenant_at fields ≡ Some command → IsBy (codes "tenant") fields command
+tenant_found : (fields : List ℕ) (command : Command) → open_tenant_command fields ≡ Some command → IsBy (codes "tenant") fields command
 tenant_found fields command h = one_found (codes "tenant ") fields open_tenant command (λ n k. k) (bind_some (number_at fields) _ command h)
 
-seal_found : (fields : List ℕ) (command : Command) → seal_at fields ≡ Some command → IsBy (codes "seal") fields command
+seal_found : (fields : List ℕ) (command : Command) → seal_command fields ≡ Some command → IsBy (codes "seal") fields command
 seal_found fields command h = one_found (codes "seal ") fields seal command (λ n k. k) (bind_some (number_at fields) _ command h)
 
-abort_found : (fields : List ℕ) (command : Command) → abort_at fields ≡ Some command → IsBy (codes "abort") fields command
+abort_found : (fields : List ℕ) (command : Command) → abort_command fields ≡ Some command → IsBy (codes "abort") fields command
 abort_found fields command h = one_found (codes "abort ") fields abort command (λ n k. k) (bind_some (number_at fields) _ command h)
 
-usage_found : (fields : List ℕ) (command : Command) → usage_at fields ≡ Some command → IsBy (codes "usage") fields command
+usage_found : (fields : List ℕ) (command : Command) → usage_command fields ≡ Some command → IsBy (codes "usage") fields command
 usage_found fields command h = one_found (codes "usage ") fields usage command (λ n k. k) (bind_some (number_at fields) _ command h)
 
-list_found : (fields : List ℕ) (command : Command) → list_at fields ≡ Some command → IsBy (codes "list") fields command
+list_found : (fields : List ℕ) (command : Command) → list_command fields ≡ Some command → IsBy (codes "list") fields command
 list_found fields command h = one_found (codes "list ") fields list command (λ n k. k) (bind_some (number_at fields) _ command h)
 
-limit_found : (fields : List ℕ) (command : Command) → set_limit_at fields ≡ Some command → IsBy (codes "limit") fields command
+limit_found : (fields : List ℕ) (command : Command) → set_limit_command fields ≡ Some command → IsBy (codes "limit") fields command
 limit_found fields command h = two_numbers_found (codes "limit ") fields set_limit command (λ a b k. k) (bind_some (two_numbers_at fields) _ command h)
 
-begin_found : (fields : List ℕ) (command : Command) → begin_at fields ≡ Some command → IsBy (codes "begin") fields command
+begin_found : (fields : List ℕ) (command : Command) → begin_command fields ≡ Some command → IsBy (codes "begin") fields command
 begin_found fields command h = two_numbers_found (codes "begin ") fields begin command (λ a b k. k) (bind_some (two_numbers_at fields) _ command h)
 
-open_found : (fields : List ℕ) (command : Command) → begin_open_at fields ≡ Some command → IsBy (codes "open") fields command
+open_found : (fields : List ℕ) (command : Command) → begin_open_command fields ≡ Some command → IsBy (codes "open") fields command
 open_found fields command h = two_numbers_found (codes "open ") fields begin_open command (λ a b k. k) (bind_some (two_numbers_at fields) _ command h)
 
-fix_found : (fields : List ℕ) (command : Command) → fix_at fields ≡ Some command → IsBy (codes "fix") fields command
+fix_found : (fields : List ℕ) (command : Command) → fix_command fields ≡ Some command → IsBy (codes "fix") fields command
 fix_found fields command h = two_numbers_found (codes "fix ") fields fix command (λ a b k. k) (bind_some (two_numbers_at fields) _ command h)
 
-sealas_found : (fields : List ℕ) (command : Command) → seal_as_at fields ≡ Some command → IsBy (codes "sealas") fields command
+sealas_found : (fields : List ℕ) (command : Command) → seal_as_command fields ≡ Some command → IsBy (codes "sealas") fields command
 sealas_found fields command h = held_command_found (codes "sealas ") fields seal_as command (λ n a k. k) (bind_some (held_at fields) _ command h)
 
-forget_found : (fields : List ℕ) (command : Command) → forget_at fields ≡ Some command → IsBy (codes "forget") fields command
+forget_found : (fields : List ℕ) (command : Command) → forget_command fields ≡ Some command → IsBy (codes "forget") fields command
 forget_found fields command h = held_command_found (codes "forget ") fields forget command (λ n a k. k) (bind_some (held_at fields) _ command h)
 
-fetch_found : (fields : List ℕ) (command : Command) → fetch_at fields ≡ Some command → IsBy (codes "fetch") fields command
+fetch_found : (fields : List ℕ) (command : Command) → fetch_command fields ≡ Some command → IsBy (codes "fetch") fields command
 fetch_found fields command h = held_command_found (codes "fetch ") fields fetch command (λ n a k. k) (bind_some (held_at fields) _ command h)
 
 asks_found : (kind fields : List ℕ) (command : Command) → asks_of_kind kind fields ≡ Some command → IsBy kind fields command
@@ -135,7 +136,7 @@ asks_found kind fields command =
     (by_kind kind (codes "list") fields _ _ command (list_found fields command)
     (λ h. absurd (none_some command h)))))))))))))
 
-word_found : (word : List ℕ) (command : Command) → word_at word ≡ Some command → IsAsked word command
+word_found : (word : List ℕ) (command : Command) → word_command word ≡ Some command → IsAsked word command
 word_found word command h =
     elim (chosen (bytes_eq word (codes "stat")) (Some totals) _ (Some command) h) [
       | inl p ↦ subst (IsAsked word) (some_is _ _ p.1) ((bytes_eq-Decides word (codes "stat")).0 p.0)
@@ -160,8 +161,12 @@ pattern_found offset (Some len) bytes h =
 abbrev IsPartBy : ℕ → List ℕ → List ℕ → List ℕ → Type 0
 IsPartBy offset kind digits bytes = IsPart offset (kind ++ colon ∷ digits) bytes
 
-digits_found : (offset : ℕ) (digits bytes : List ℕ) → decoded (decode_of digits) ≡ Some bytes → IsPartBy offset (codes "x") digits bytes
-digits_found offset digits bytes h = inl (digits, refl, decoded_found (decode_of digits) bytes h)
+digits_found : (offset : ℕ) (digits bytes : List ℕ) → digits_at digits ≡ Some bytes → IsPartBy offset (codes "x") digits bytes
+digits_found offset digits bytes h =
+    elim (chosen (nat_le (length digits) most_digits) (decoded (decode_of digits)) None (Some bytes) h) [
+      | inl p ↦ inl (digits, refl, leb-true (length digits) most_digits p.0, decoded_found (decode_of digits) bytes p.1)
+      | inr p ↦ absurd (none_some bytes p.1)
+    ]
 
 patterned : (offset : ℕ) (digits bytes : List ℕ) → pattern_at offset (number_at digits) ≡ Some bytes → IsPartBy offset (codes "p") digits bytes
 patterned offset digits bytes h =
@@ -172,7 +177,7 @@ patterned offset digits bytes h =
 kind_found : (offset : ℕ) (kind digits bytes : List ℕ) → bytes_of_kind offset kind digits ≡ Some bytes → IsPartBy offset kind digits bytes
 unfolding bytes_of_kind
 kind_found offset kind digits bytes h =
-    elim (chosen (bytes_eq kind (codes "x")) (decoded (decode_of digits)) _ (Some bytes) h) [
+    elim (chosen (bytes_eq kind (codes "x")) (digits_at digits) _ (Some bytes) h) [
       | inl p ↦ subst (λ (w : List ℕ). IsPartBy offset w digits bytes) (sym ((bytes_eq-Decides kind (codes "x")).0 p.0)) (digits_found offset digits bytes p.1)
       | inr q ↦
           elim (chosen (bytes_eq kind (codes "p")) (pattern_at offset (number_at digits)) None (Some bytes) q.1) [
@@ -181,7 +186,7 @@ kind_found offset kind digits bytes h =
           ]
     ]
 
-bytes_found : (offset : ℕ) (field bytes : List ℕ) → bytes_at offset field ≡ Some bytes → IsPart offset field bytes
+bytes_found : (offset : ℕ) (field bytes : List ℕ) → part_bytes_at offset field ≡ Some bytes → IsPart offset field bytes
 bytes_found offset field bytes h =
     let cut = bind_some (cut_at colon field) _ bytes h in
     subst (λ (w : List ℕ). IsPart offset w bytes) (cut_found colon field cut.0 cut.1) (kind_found offset cut.0.0 cut.0.1 bytes cut.2)
@@ -195,7 +200,7 @@ puts_found fields command h =
     let upload = bind_some (number_at cut.0.0) _ command cut.2 in
     let others = bind_some (cut_at space cut.0.1) _ command upload.2 in
     let offset = bind_some (number_at others.0.0) _ command others.2 in
-    let bytes = bind_some (bytes_at offset.0 others.0.1) _ command offset.2 in
+    let bytes = bind_some (part_bytes_at offset.0 others.0.1) _ command offset.2 in
     let u = read_back cut.0.0 upload.0 upload.1 in
     let o = read_back others.0.0 offset.0 offset.1 in
     let text = puts_text cut.0.0 others.0.0 (decimal upload.0) (decimal offset.0) others.0.1 cut.0.1 fields (cut_found space fields cut.0 cut.1) (cut_found space cut.0.1 others.0 others.1) u.0 o.0 in
@@ -209,7 +214,7 @@ asked (Some c) line command f h = subst (IsSpelled line) (some_is _ _ h) (f c re
 
 line_found : (line : List ℕ) (cut : Option (List ℕ × List ℕ)) (command : ScriptCommand) → cut_at space line ≡ cut → cut_line_at line cut ≡ Some command → IsSpelled line command
 unfolding cut_line_at
-line_found line None command is h = asked (word_at line) line command (word_found line) h
+line_found line None command is h = asked (word_command line) line command (word_found line) h
 line_found line (Some cut) command is h =
     let whole = cut_found space line cut is in
     subst (λ (w : List ℕ). IsSpelled w command) whole (elim (chosen (bytes_eq cut.0 (codes "put")) (puts_at cut.1) _ (Some command) h) [
@@ -222,20 +227,22 @@ found line command h = line_found line (cut_at space line) command refl h
 
 -- ---- what is spelled so is read
 
-bytes_again : (offset : ℕ) (field bytes : List ℕ) → IsPart offset field bytes → bytes_at offset field ≡ Some bytes
+bytes_again : (offset : ℕ) (field bytes : List ℕ) → IsPart offset field bytes → part_bytes_at offset field ≡ Some bytes
 unfolding bytes_of_kind
-bytes_again offset field bytes (inl h) = ap (bytes_at offset) h.1 ∙ ap decoded h.2
+bytes_again offset field bytes (inl h) =
+    let test : nat_le (length h.0) most_digits ≡ true = le-leb (length h.0) most_digits h.2 in
+    ap (part_bytes_at offset) h.1 ∙ ap (λ (t : Bool). cond t (decoded (decode_of h.0)) None) test ∙ ap decoded h.3
 bytes_again offset field bytes (inr h) =
     let small : h.0 < 2 ^ 64 = omega (arith, h.2) in
     let test : nat_le h.0 most_pattern ≡ true = le-leb h.0 most_pattern h.2 in
-    ap (bytes_at offset) h.1 ∙ ap (pattern_at offset) (number_again h.0 small) ∙ ap (λ (t : Bool). cond t (Some (pattern_of offset h.0)) None) test ∙ ap (λ (b : List ℕ). Some b) (sym h.3)
+    ap (part_bytes_at offset) h.1 ∙ ap (pattern_at offset) (number_again h.0 small) ∙ ap (λ (t : Bool). cond t (Some (pattern_of offset h.0)) None) test ∙ ap (λ (b : List ℕ). Some b) (sym h.3)
 
 puts_again : (upload offset : ℕ) (field bytes : List ℕ) → upload < 2 ^ 64 → offset < 2 ^ 64 → IsPart offset field bytes → puts_at (three_fields (decimal upload) (decimal offset) field) ≡ Some (puts upload offset bytes)
 puts_again upload offset field bytes u o part =
     bind_is (cut_at space (three_fields (decimal upload) (decimal offset) field)) _ (decimal upload, two_fields (decimal offset) field) (cut_again space (decimal upload) (two_fields (decimal offset) field) (decimal_spaceless upload u))
     ∙ bind_is (number_at (decimal upload)) _ upload (number_again upload u)
     ∙ bind_is (cut_at space (two_fields (decimal offset) field)) _ (decimal offset, field) (cut_again space (decimal offset) field (decimal_spaceless offset o))
-    ∙ bind_is (number_at (decimal offset)) _ offset (number_again offset o) ∙ bind_is (bytes_at offset field) _ bytes (bytes_again offset field bytes part)
+    ∙ bind_is (number_at (decimal offset)) _ offset (number_again offset o) ∙ bind_is (part_bytes_at offset field) _ bytes (bytes_again offset field bytes part)
 
 asked_again : (line : List ℕ) (command : Command) → IsAsked line command → command_at line ≡ Some (asks command)
 unfolding cut_line_at asks_of_kind

@@ -6,15 +6,15 @@ use Rattle.hex.proofs.OnLiterals.{hex_on_literals}
 use Rattle.store_upload.specs.declared.refusal.PartFault.TheVariants as faults
 use Rattle.store_upload.specs.Uploads.{closed_plan}
 use Rattle.store_books.specs.declared.refusal.Refusal.TheVariants as refusals
-use Rattle.store_journal.specs.Journal.{lines_of}
+use Rattle.edge.specs.Lines.{lines_of}
 use Rattle.store_core.specs.Runs.{begin, begin_open, fix, now_held, now_sealed, open_tenant, opened_tenant, seal_as, set_limit, the_bytes, the_list, totals}
-use Rattle.store_script.specs.Grammar.{ScriptCommand, address_in, asks, asks_of_kind, bytes_of_kind, command_at, cut_line_at, pattern_of, puts}
+use Rattle.store_script.specs.Grammar.{ScriptCommand, address_of_digits, asks, asks_of_kind, bytes_of_kind, command_at, cut_line_at, pattern_of, puts}
 use Rattle.store_script.specs.Script.{bad, ending_of, skipped, took, turn_text, unmade}
 use Rattle.store_script.specs.Texts.{answer_text}
-use Rattle.store_script.specs.declared.outcome.Ending.TheVariants as endings
+use Rattle.store_script.specs.declared.ending.Ending.TheVariants as endings
 
 unfoldable on_literals : ⊤
-unfolding hex_on_literals digits lines_of address_in asks_of_kind bytes_of_kind cut_line_at pattern_of
+unfolding hex_on_literals digits lines_of address_of_digits asks_of_kind bytes_of_kind cut_line_at pattern_of
 on_literals = tt
 
 -- ---- lines

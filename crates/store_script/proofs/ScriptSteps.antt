@@ -1,10 +1,9 @@
 -- How far a script has come.
-use Rattle.std.proofs.Common.{◌≡◌, ◌∙◌, ◌<◌, ◌-◌, ◌^◌, ℕ, Bool, true, false, List, [], ◌∷◌, ◌++◌, Some, None, Ok, Err, Result, refl, ap, sym, subst, arith, length, cond, take, append_assoc, suc}
-use Rattle.std.specs.Prelude.{◌≢◌, Option, ◌==◌, IfOk, IfSome, OnOk, slice_index}
+use Rattle.std.proofs.Common.{◌≡◌, ◌∙◌, ◌<◌, ◌-◌, ◌^◌, ℕ, Bool, true, false, List, [], ◌∷◌, ◌++◌, Some, None, Ok, Err, Result, refl, ap, sym, subst, arith, length, cond, append_assoc, ◌⊎◌, inl, inr}
+use Rattle.std.specs.Prelude.{◌≢◌, Option, ◌==◌, IfOk, IfSome, OnOk}
 use Rattle.std.specs.List.{flat_map}
 use Rattle.std.specs.Io.BufRead.{DropsThrough, drop_through, strip_last, take_through}
 use Rattle.std.specs.Io.KnownBytes.{Appends, IsAtEnd}
-use Rattle.std.proofs.lemmas.Bool.{lt-ltb}
 use Rattle.std.proofs.lemmas.List.{append-nil}
 use Rattle.std.proofs.lemmas.List.Concat.{flat_map-append}
 use Rattle.b3_forest.specs.Parts.{PlannedPart, planned}
@@ -14,18 +13,20 @@ use Rattle.store_books.specs.declared.refusal.Refusal.{Refusal}
 use Rattle.store_books.specs.declared.limits.Limits.{Limits}
 use Rattle.store_books.specs.Books.{empty_books, most_entries, most_tenants, most_workers}
 use Rattle.store_core.specs.Commands.{plan_in}
-use Rattle.store_journal.specs.Journal.{lines_of, onto_first}
+use Rattle.edge.specs.Lines.{lines_of}
+use Rattle.edge.proofs.FirstLines.{lines_next, none_left, nothing_is}
+use Rattle.edge.proofs.Joining.{appends_more, appends_none}
 use Rattle.store_core.specs.Model.{Shown, start}
 use Rattle.store_core.specs.Runs.{Command, Run, Step, plan}
 use Rattle.store_script.specs.Grammar.{ScriptCommand, asks, command_at, puts}
-use Rattle.store_script.specs.Script.{AllPlay, Answered, AreAnswered, Does, IsScriptBegun, Makes, Plays, Puts, PutsBy, Ran, RanOut, RanSome, Takes, Turn, bad, commands_of, ended_as, ending_of, failed_write, first_cause, ran_all, ran_some, replies_of, skipped, took, turn_ending, turn_text, unmade, verdict_ending, widest_start, worse}
-use Rattle.store_script.specs.declared.outcome.Ending.{Ending}
-use Rattle.store_script.specs.declared.outcome.Ending.TheVariants as endings
-use Rattle.store_script.specs.declared.outcome.Cause.{Cause}
-use Rattle.store_script.specs.declared.outcome.Cause.TheVariants as causes
+use Rattle.store_script.specs.Lines.{AnswersRead, IsReadLine}
+use Rattle.store_script.specs.Script.{AllPlay, AreAnswered, Does, IsScriptBegun, MakesPart, Plays, Puts, PutsBy, Ran, RanOut, RanSome, Takes, Turn, bad, commands_of, ended_as, ending_of, failed_write, first_cause, ran_all, ran_some, replies_of, skipped, took, turn_ending, turn_text, unmade, verdict_ending, widest_start, worse}
+use Rattle.store_script.specs.declared.ending.Ending.{Ending}
+use Rattle.store_script.specs.declared.ending.Ending.TheVariants as endings
+use Rattle.edge.specs.declared.outcome.Cause.{Cause}
+use Rattle.edge.specs.declared.outcome.Cause.TheVariants as causes
 use Rattle.store_core.proofs.Carried.{empty_carried}
 use Rattle.store_core.proofs.Runs.{runs_carry}
-use Rattle.store_script.proofs.LineOutcomes.{LineTurn}
 
 -- ---- a line more
 
@@ -77,7 +78,7 @@ came_puts old new upload part bad h = absurd h
 came_puts old new upload part (unmade fault) h = h.1
 came_puts old new upload part (took asked reply) h = subst (λ (c : Command). Step old c reply new) (sym h.0) h.1
 
-came_makes : (old new : Shown) (upload : ℕ) (part : PlannedPart) (refused : Option PartFault) (turn : Turn) → Makes old upload part refused turn new → Came old turn new
+came_makes : (old new : Shown) (upload : ℕ) (part : PlannedPart) (refused : Option PartFault) (turn : Turn) → MakesPart old upload part refused turn new → Came old turn new
 came_makes old new upload part (Some fault) turn h = subst (λ (t : Turn). Came old t new) (sym h.0) h.1
 came_makes old new upload part None turn h = came_puts old new upload part turn h
 
@@ -106,51 +107,6 @@ runs old new [] (turn ∷ turns) h = absurd h
 runs old new (line ∷ lines) [] h = absurd h
 runs old new (line ∷ lines) (turn ∷ turns) h = run_on old h.0 new turn turns (came old h.0 line turn h.1) (runs h.0 new lines turns h.2)
 
--- ---- the lines of what is left
-
-strip_more : (b t : ℕ) (ts : List ℕ) → strip_last 10 (b ∷ t ∷ ts) ≡ b ∷ strip_last 10 (t ∷ ts)
-strip_more b t ts =
-    let one : suc (suc (length ts)) - 1 ≡ suc (length ts) = omega arith in
-    let two : suc (length ts) - 1 ≡ length ts = omega arith in
-    rw (one, two, lt-ltb 0 (suc (suc (length ts))) (omega arith), lt-ltb 0 (suc (length ts)) (omega arith)) (go (slice_index (t ∷ ts) (length ts) == 10))
-  where
-    go : (x : Bool) → cond x (b ∷ take (length ts) (t ∷ ts)) (b ∷ t ∷ ts) ≡ b ∷ cond x (take (length ts) (t ∷ ts)) (t ∷ ts)
-    go true = refl
-    go false = refl
-
-onto : (b : ℕ) (l : List ℕ) (ls ms : List (List ℕ)) → ms ≡ l ∷ ls → onto_first b ms ≡ (b ∷ l) ∷ ls
-onto b l ls ms e = rw e refl
-
-first_is : (b c : ℕ) (cs : List ℕ) → strip_last 10 (b ∷ take_through 10 (c ∷ cs)) ≡ b ∷ strip_last 10 (take_through 10 (c ∷ cs))
-first_is b c cs = go (c == 10)
-  where
-    go : (t : Bool) → strip_last 10 (b ∷ cond t (c ∷ []) (c ∷ take_through 10 cs)) ≡ b ∷ strip_last 10 (cond t (c ∷ []) (c ∷ take_through 10 cs))
-    go true = strip_more b c []
-    go false = strip_more b c (take_through 10 cs)
-
--- the first line, and the lines of what follows it
-lines_step : (b : ℕ) (bs : List ℕ) → lines_of (b ∷ bs) ≡ strip_last 10 (take_through 10 (b ∷ bs)) ∷ lines_of (drop_through 10 (b ∷ bs))
-unfolding lines_of
-lines_step b [] = go (b == 10) refl
-  where
-    go : (t : Bool) → (b == 10) ≡ t → cond t ([] ∷ []) ((b ∷ []) ∷ []) ≡ strip_last 10 (cond t (b ∷ []) (b ∷ [])) ∷ lines_of (cond t [] [])
-    go true e = rw e refl
-    go false e = rw e refl
-lines_step b (c ∷ cs) = go (b == 10) refl (lines_step c cs)
-  where
-    go : (t : Bool) → (b == 10) ≡ t → lines_of (c ∷ cs) ≡ strip_last 10 (take_through 10 (c ∷ cs)) ∷ lines_of (drop_through 10 (c ∷ cs))
-        → cond t ([] ∷ lines_of (c ∷ cs)) (onto_first b (lines_of (c ∷ cs))) ≡ strip_last 10 (cond t (b ∷ []) (b ∷ take_through 10 (c ∷ cs))) ∷ lines_of (cond t (c ∷ cs) (drop_through 10 (c ∷ cs)))
-    go true e h = rw e refl
-    go false e h = onto b _ _ _ h ∙ ap (λ l. l ∷ lines_of (drop_through 10 (c ∷ cs))) (sym (first_is b c cs))
-
-lines_next : (rest : List ℕ) → 0 < length (take_through 10 rest) → lines_of rest ≡ strip_last 10 (take_through 10 rest) ∷ lines_of (drop_through 10 rest)
-lines_next [] some = absurd (omega (arith, some))
-lines_next (b ∷ bs) some = lines_step b bs
-
-none_left : lines_of [] ≡ []
-unfolding lines_of
-none_left = refl
-
 -- ---- a run under way
 
 -- the lines before the rest were answered: what they came to, what was written, and the ending so far
@@ -163,16 +119,6 @@ pub record IsUnder (now was is : Option (List ℕ)) (store : Shown) (ending : En
   pub plays : AllPlay widest_start front turns store
   pub wrote : Appends was is (flat_map turn_text turns)
   pub ending_is : ending ≡ ending_of turns
-
-appends_none : (was : Option (List ℕ)) → Appends was was []
-appends_none None = tt
-appends_none (Some xs) = sym (append-nil xs)
-
-appends_more : (a b c : Option (List ℕ)) (xs ys : List ℕ) → Appends a b xs → Appends b c ys → Appends a c (xs ++ ys)
-appends_more None b c xs ys h k = tt
-appends_more (Some p) None c xs ys h k = absurd h
-appends_more (Some p) (Some q) None xs ys h k = absurd k
-appends_more (Some p) (Some q) (Some r) xs ys h k = k ∙ ap (λ w. w ++ ys) h ∙ append_assoc p xs ys
 
 pub begun : (old was : Option (List ℕ)) (store : Shown) → store ≡ widest_start → IfSome old (IsUnder old was was store endings.Good)
 begun None was store is = tt
@@ -209,6 +155,14 @@ at_end (Some input) now was is store ending h e =
       wrote = h.wrote;
     }
 
+-- at the end the reader stays there
+pub ended_reader : (old now then was is : Option (List ℕ)) (store : Shown) (ending : Ending) → IfSome old (IsUnder now was is store ending) → IsAtEnd now → DropsThrough now then 10 → IfSome old (λ _. IsAtEnd then)
+ended_reader None now then was is store ending h none drops = tt
+ended_reader (Some input) now then was is store ending h none drops =
+    let rest : then ≡ Some (drop_through 10 h.rest) = subst (λ (o : Option (List ℕ)). DropsThrough o then 10) h.left drops in
+    let nothing : h.rest ≡ [] = subst IsAtEnd h.left none in
+    subst IsAtEnd (sym rest) (ap (drop_through 10) nothing)
+
 -- ---- a run that ends
 
 -- answered to its end: its verdict, or want of memory in an answer
@@ -234,7 +188,7 @@ if_ended endings.Refused Holds h = h
 if_ended endings.OutOfMemory Holds h = tt
 
 -- stopped behind a beginning of its lines
-script_begun : (now was is : Option (List ℕ)) (store : Shown) (ending : Ending) (input : List ℕ) (h : IsUnder now was is store ending input) → IsScriptBegun input (flat_map turn_text h.turns) ending
+abbrev script_begun : (now was is : Option (List ℕ)) (store : Shown) (ending : Ending) (input : List ℕ) (h : IsUnder now was is store ending input) → IsScriptBegun input (flat_map turn_text h.turns) ending
 script_begun now was is store ending input h = record {
   front = h.front;
   back = lines_of h.rest;
@@ -256,9 +210,39 @@ at_stop (Some input) now was is store ending memory h = record {
   wrote = h.wrote;
 }
 
-pub at_refusal : (old now left was is : Option (List ℕ)) (store : Shown) (ending : Ending) → IfSome old (IsUnder now was is store ending) → IfSome old (λ input. RanOut input left was is)
-at_refusal None now left was is store ending h = tt
-at_refusal (Some input) now left was is store ending h = ran_some (flat_map turn_text h.turns) ending (script_begun now was is store ending input h) h.wrote
+some_left : (input : List ℕ) → 0 < length input → lines_of input ≢ []
+some_left input some = λ none. let nothing = ap length (nothing_is input none) in absurd (omega (arith, nothing, some))
+
+-- a line is left, or an answer told want of memory
+pub at_refusal : (old now left was is : Option (List ℕ)) (store : Shown) (ending : Ending) → IfSome now (λ input. (0 < length input) ⊎ (ending ≡ endings.OutOfMemory)) → IfSome old (IsUnder now was is store ending) → IfSome old (λ input. RanOut input left was is)
+at_refusal None now left was is store ending some h = tt
+at_refusal (Some input) now left was is store ending some h =
+    let rest = subst (λ (o : Option (List ℕ)). IfSome o (λ input. (0 < length input) ⊎ (ending ≡ endings.OutOfMemory))) h.left some in
+    ran_some (flat_map turn_text h.turns) ending (script_begun now was is store ending input h) (elim rest [ inl some ↦ inl (some_left h.rest some) | inr memory ↦ inr memory ]) h.wrote
+
+-- a line that was read is left
+pub line_left : (now : Option (List ℕ)) (ending : Ending) (count : ℕ) (kept : List ℕ) → 0 < count → IfSome now (λ xs. IsReadLine (take_through 10 xs) count kept) → IfSome now (λ input. (0 < length input) ⊎ (ending ≡ endings.OutOfMemory))
+line_left None ending count kept some h = tt
+line_left (Some []) ending count kept some h = absurd (omega (arith, some, h.0))
+line_left (Some (b ∷ bs)) ending count kept some h = inl (omega arith)
+
+-- at the end nothing is read
+pub nothing_read : (now : Option (List ℕ)) (count : ℕ) (kept : List ℕ) → count ≡ 0 → IfSome now (λ xs. IsReadLine (take_through 10 xs) count kept) → IsAtEnd now
+nothing_read None count kept zero h = tt
+nothing_read (Some xs) count kept zero h = nothing_through xs (omega (arith, h.0, zero))
+  where
+    nothing_through : (xs : List ℕ) → length (take_through 10 xs) ≡ 0 → xs ≡ []
+    nothing_through [] e = refl
+    nothing_through (b ∷ bs) e = absurd (some_through (b == 10) e)
+      where
+        some_through : (t : Bool) → length (cond t (b ∷ []) (b ∷ take_through 10 bs)) ≡ 0 → ⊥
+        some_through true e = omega (arith, e)
+        some_through false e = omega (arith, e)
+
+-- an answer told so
+pub told_left : (now : Option (List ℕ)) (ending : Ending) → ending ≡ endings.OutOfMemory → IfSome now (λ input. (0 < length input) ⊎ (ending ≡ endings.OutOfMemory))
+told_left None ending memory = tt
+told_left (Some input) ending memory = inr memory
 
 -- of a failed write the writer tells nothing
 pub whatever_written : (old now was is : Option (List ℕ)) (store : Shown) (ending : Ending) → IfSome old (IsUnder now was is store ending) → IfSome old (IsUnder now None None store ending)
@@ -279,6 +263,16 @@ told_memory endings.Good e = absurd (cc)
 told_memory endings.Refused e = absurd (cc)
 told_memory endings.OutOfMemory e = refl
 
+pub no_failed_tell : (ending : Ending) → first_cause ending causes.CannotWrite ≢ causes.CannotRead
+no_failed_tell endings.Good = λ e. cc
+no_failed_tell endings.Refused = λ e. cc
+no_failed_tell endings.OutOfMemory = λ e. cc
+
+pub told_memory_read : (ending : Ending) → first_cause ending causes.CannotRead ≡ causes.OutOfMemory → ending ≡ endings.OutOfMemory
+told_memory_read endings.Good e = absurd (cc)
+told_memory_read endings.Refused e = absurd (cc)
+told_memory_read endings.OutOfMemory e = refl
+
 pub at_failed_write : (old now left was is : Option (List ℕ)) (store : Shown) (ending : Ending) → ending ≡ endings.OutOfMemory → IfSome old (IsUnder now None None store ending) → IfSome old (λ input. RanOut input left was is)
 at_failed_write None now left was is store ending memory h = tt
 at_failed_write (Some input) now left was is store ending memory h =
@@ -286,22 +280,23 @@ at_failed_write (Some input) now left was is store ending memory h =
 
 -- ---- a line more of a run
 
-pub turned : (old now then was is after : Option (List ℕ)) (store next : Shown) (ending said : Ending) (buf text : List ℕ) → IfSome old (IsUnder now was is store ending) → IfSome now (λ xs. buf ≡ take_through 10 xs)
-    → DropsThrough now then 10 → 0 < length buf → Answered (LineTurn store (strip_last 10 buf) next) text said → Appends is after text → IfSome old (IsUnder then was after next (worse ending said))
-turned None now then was is after store next ending said buf text h bytes rest some answer wrote = tt
-turned (Some input) now then was is after store next ending said buf text h bytes rest some answer wrote =
-    let bytes2 : buf ≡ take_through 10 h.rest = subst (λ (o : Option (List ℕ)). IfSome o (λ xs. buf ≡ take_through 10 xs)) h.left bytes in
+pub turned : (old now then was is after : Option (List ℕ)) (store next : Shown) (ending said : Ending) (count : ℕ) (kept text : List ℕ) → IfSome old (IsUnder now was is store ending) → IfSome now (λ xs. IsReadLine (take_through 10 xs) count kept)
+    → DropsThrough now then 10 → 0 < count → AnswersRead store next count kept text said → Appends is after text → IfSome old (IsUnder then was after next (worse ending said))
+turned None now then was is after store next ending said count kept text h read rest some answered wrote = tt
+turned (Some input) now then was is after store next ending said count kept text h read rest some answered wrote =
+    let whole = take_through 10 h.rest in
+    let read2 : IsReadLine whole count kept = subst (λ (o : Option (List ℕ)). IfSome o (λ xs. IsReadLine (take_through 10 xs) count kept)) h.left read in
     let rest2 : then ≡ Some (drop_through 10 h.rest) = subst (λ (o : Option (List ℕ)). DropsThrough o then 10) h.left rest in
-    let line = strip_last 10 (take_through 10 h.rest) in
-    let some2 : 0 < length (take_through 10 h.rest) = subst (λ (b : List ℕ). 0 < length b) bytes2 some in
-    let plays2 : Plays store line answer.turn next = subst (λ (b : List ℕ). Plays store (strip_last 10 b) answer.turn next) bytes2 answer.is in
+    let line = strip_last 10 whole in
+    let some2 : 0 < length whole = omega (arith, some, read2.0) in
+    let answer = answered.answers whole read2 in
     record {
       rest = drop_through 10 h.rest;
       left = rest2;
       front = h.front ++ line ∷ [];
       lines = h.lines ∙ ap (λ ls. h.front ++ ls) (lines_next h.rest some2) ∙ sym (append_assoc h.front (line ∷ []) (lines_of (drop_through 10 h.rest)));
       turns = h.turns ++ answer.turn ∷ [];
-      plays = more_play widest_start store next h.front h.turns line answer.turn h.plays plays2;
+      plays = more_play widest_start store next h.front h.turns line answer.turn h.plays answer.is;
       wrote = subst (λ (t : List ℕ). Appends was after t) (ap (λ t. flat_map turn_text h.turns ++ t) answer.text_is ∙ sym (text_more h.turns answer.turn)) (appends_more was is after (flat_map turn_text h.turns) text h.wrote wrote);
       ending_is = ap (λ e. worse e said) h.ending_is ∙ ap (worse (ending_of h.turns)) answer.ending_is ∙ sym (ending_more h.turns answer.turn);
     }

@@ -1,9 +1,9 @@
 -- What a line of a script asks for.
-use Rattle.std.specs.Prelude.{ℕ, zero, suc, ◌+◌, ◌%◌, List, [], ◌∷◌, Option, Some, None, Result, Ok, Err, if◌then◌else◌, nat_le, codes, option_map}
+use Rattle.std.specs.Prelude.{ℕ, zero, suc, ◌+◌, ◌%◌, List, [], ◌∷◌, Option, Some, None, Result, Ok, Err, if◌then◌else◌, nat_le, codes, length, option_map}
 use Rattle.std.specs.Str.{bytes_eq}
 use Rattle.hex.specs.Hex.{decode_of, decode_sized}
 use Rattle.hex.specs.declared.error.FromHexError.{FromHexError}
-use Rattle.store_journal.specs.Entries.{◌>>=◌, cut_at, number_at, space, two_numbers_at}
+use Rattle.edge.specs.Fields.{◌>>=◌, cut_at, number_at, space, two_numbers_at}
 use Rattle.store_core.specs.Runs.{Command, abort, begin, begin_open, fetch, fix, forget, journal, list, open_tenant, seal, seal_as, set_limit, totals, usage}
 
 -- a command or a question of the store; or a part's upload, offset and bytes: before it is put, the upload's plan is asked for
@@ -19,15 +19,15 @@ decoded (Ok bytes) = Some bytes
 decoded (Err fault) = None
 
 -- the address that is written so: in 64 digits, of either case
-unfoldable pub address_in : List ℕ → Option (List ℕ)
-address_in digits = decoded (decode_sized digits 32)
+unfoldable pub address_of_digits : List ℕ → Option (List ℕ)
+address_of_digits digits = decoded (decode_sized digits 32)
 
 -- a tenant and an address
 abbrev pub held_at : List ℕ → Option (ℕ × List ℕ)
 held_at fields = do
   cut ← cut_at space fields
   number ← number_at cut.0
-  address ← address_in cut.1
+  address ← address_of_digits cut.1
   Some (number, address)
 
 -- ---- the bytes of a part
@@ -41,6 +41,14 @@ pattern_of offset (suc len) = offset % 251 ∷ pattern_of (offset + 1) len
 abbrev pub most_pattern : ℕ
 most_pattern = 33554432
 
+-- the most digits of a part's bytes: those of the greatest part, 2^24 bytes
+abbrev pub most_digits : ℕ
+most_digits = 33554432
+
+-- the bytes of digits, unless there are too many
+abbrev pub digits_at : List ℕ → Option (List ℕ)
+digits_at digits = if nat_le (length digits) most_digits then decoded (decode_of digits) else None
+
 -- the pattern bytes from an offset on, as many as are asked for
 abbrev pub pattern_at : ℕ → Option ℕ → Option (List ℕ)
 pattern_at offset None = None
@@ -52,12 +60,12 @@ colon = 58
 -- the bytes of a part's last field: `x:` and their digits, two for each and of either case, or `p:` and how many of the pattern
 unfoldable pub bytes_of_kind : ℕ → List ℕ → List ℕ → Option (List ℕ)
 bytes_of_kind offset kind digits =
-    if bytes_eq kind (codes "x") then decoded (decode_of digits)
+    if bytes_eq kind (codes "x") then digits_at digits
     else if bytes_eq kind (codes "p") then pattern_at offset (number_at digits)
     else None
 
-abbrev pub bytes_at : ℕ → List ℕ → Option (List ℕ)
-bytes_at offset field = do
+abbrev pub part_bytes_at : ℕ → List ℕ → Option (List ℕ)
+part_bytes_at offset field = do
   cut ← cut_at colon field
   bytes_of_kind offset cut.0 cut.1
 
@@ -67,96 +75,96 @@ puts_at fields = do
   upload ← number_at cut.0
   others ← cut_at space cut.1
   offset ← number_at others.0
-  bytes ← bytes_at offset others.1
+  bytes ← part_bytes_at offset others.1
   Some (puts upload offset bytes)
 
 -- ---- a line
 
 -- of fields behind each word
-abbrev pub open_tenant_at : List ℕ → Option Command
-open_tenant_at fields = do
+abbrev pub open_tenant_command : List ℕ → Option Command
+open_tenant_command fields = do
   limit ← number_at fields
   Some (open_tenant limit)
 
-abbrev pub set_limit_at : List ℕ → Option Command
-set_limit_at fields = do
+abbrev pub set_limit_command : List ℕ → Option Command
+set_limit_command fields = do
   numbers ← two_numbers_at fields
   Some (set_limit numbers.0 numbers.1)
 
-abbrev pub begin_at : List ℕ → Option Command
-begin_at fields = do
+abbrev pub begin_command : List ℕ → Option Command
+begin_command fields = do
   numbers ← two_numbers_at fields
   Some (begin numbers.0 numbers.1)
 
-abbrev pub begin_open_at : List ℕ → Option Command
-begin_open_at fields = do
+abbrev pub begin_open_command : List ℕ → Option Command
+begin_open_command fields = do
   numbers ← two_numbers_at fields
   Some (begin_open numbers.0 numbers.1)
 
-abbrev pub fix_at : List ℕ → Option Command
-fix_at fields = do
+abbrev pub fix_command : List ℕ → Option Command
+fix_command fields = do
   numbers ← two_numbers_at fields
   Some (fix numbers.0 numbers.1)
 
-abbrev pub seal_at : List ℕ → Option Command
-seal_at fields = do
+abbrev pub seal_command : List ℕ → Option Command
+seal_command fields = do
   upload ← number_at fields
   Some (seal upload)
 
-abbrev pub seal_as_at : List ℕ → Option Command
-seal_as_at fields = do
+abbrev pub seal_as_command : List ℕ → Option Command
+seal_as_command fields = do
   held ← held_at fields
   Some (seal_as held.0 held.1)
 
-abbrev pub abort_at : List ℕ → Option Command
-abort_at fields = do
+abbrev pub abort_command : List ℕ → Option Command
+abort_command fields = do
   upload ← number_at fields
   Some (abort upload)
 
-abbrev pub forget_at : List ℕ → Option Command
-forget_at fields = do
+abbrev pub forget_command : List ℕ → Option Command
+forget_command fields = do
   held ← held_at fields
   Some (forget held.0 held.1)
 
-abbrev pub fetch_at : List ℕ → Option Command
-fetch_at fields = do
+abbrev pub fetch_command : List ℕ → Option Command
+fetch_command fields = do
   held ← held_at fields
   Some (fetch held.0 held.1)
 
-abbrev pub usage_at : List ℕ → Option Command
-usage_at fields = do
+abbrev pub usage_command : List ℕ → Option Command
+usage_command fields = do
   tenant ← number_at fields
   Some (usage tenant)
 
-abbrev pub list_at : List ℕ → Option Command
-list_at fields = do
+abbrev pub list_command : List ℕ → Option Command
+list_command fields = do
   tenant ← number_at fields
   Some (list tenant)
 
 -- the command of a word and the fields behind it
 unfoldable pub asks_of_kind : List ℕ → List ℕ → Option Command
 asks_of_kind kind fields =
-    if bytes_eq kind (codes "tenant") then open_tenant_at fields
-    else if bytes_eq kind (codes "limit") then set_limit_at fields
-    else if bytes_eq kind (codes "begin") then begin_at fields
-    else if bytes_eq kind (codes "open") then begin_open_at fields
-    else if bytes_eq kind (codes "fix") then fix_at fields
-    else if bytes_eq kind (codes "seal") then seal_at fields
-    else if bytes_eq kind (codes "sealas") then seal_as_at fields
-    else if bytes_eq kind (codes "abort") then abort_at fields
-    else if bytes_eq kind (codes "forget") then forget_at fields
-    else if bytes_eq kind (codes "fetch") then fetch_at fields
-    else if bytes_eq kind (codes "usage") then usage_at fields
-    else if bytes_eq kind (codes "list") then list_at fields
+    if bytes_eq kind (codes "tenant") then open_tenant_command fields
+    else if bytes_eq kind (codes "limit") then set_limit_command fields
+    else if bytes_eq kind (codes "begin") then begin_command fields
+    else if bytes_eq kind (codes "open") then begin_open_command fields
+    else if bytes_eq kind (codes "fix") then fix_command fields
+    else if bytes_eq kind (codes "seal") then seal_command fields
+    else if bytes_eq kind (codes "sealas") then seal_as_command fields
+    else if bytes_eq kind (codes "abort") then abort_command fields
+    else if bytes_eq kind (codes "forget") then forget_command fields
+    else if bytes_eq kind (codes "fetch") then fetch_command fields
+    else if bytes_eq kind (codes "usage") then usage_command fields
+    else if bytes_eq kind (codes "list") then list_command fields
     else None
 
 -- the command of a line that is one word
-abbrev pub word_at : List ℕ → Option Command
-word_at word = if bytes_eq word (codes "stat") then Some totals else if bytes_eq word (codes "journal") then Some journal else None
+abbrev pub word_command : List ℕ → Option Command
+word_command word = if bytes_eq word (codes "stat") then Some totals else if bytes_eq word (codes "journal") then Some journal else None
 
 -- the command of a line that is cut behind its first word
 unfoldable pub cut_line_at : List ℕ → Option (List ℕ × List ℕ) → Option ScriptCommand
-cut_line_at line None = option_map asks (word_at line)
+cut_line_at line None = option_map asks (word_command line)
 cut_line_at line (Some cut) = if bytes_eq cut.0 (codes "put") then puts_at cut.1 else option_map asks (asks_of_kind cut.0 cut.1)
 
 -- the command of a line without its line feed, unless the line is outside the grammar

@@ -1,5 +1,5 @@
 -- A script and its output.
-use Rattle.std.specs.Prelude.{◌≡◌, ◌≢◌, ℕ, List, [], ◌∷◌, ◌++◌, Option, Some, None, Result, Ok, Err, length, codes}
+use Rattle.std.specs.Prelude.{◌≡◌, ◌≢◌, ◌⊎◌, ℕ, List, [], ◌∷◌, ◌++◌, Option, Some, None, Result, Ok, Err, length, codes}
 use Rattle.std.specs.Io.KnownBytes.{Appends, IsAtEnd}
 use Rattle.std.specs.List.{flat_map}
 use Rattle.b3_forest.specs.Parts.{PlannedPart, planned}
@@ -10,18 +10,18 @@ use Rattle.store_books.specs.declared.refusal.Refusal.{Refusal}
 use Rattle.store_books.specs.declared.refusal.Refusal.TheVariants as refusals
 use Rattle.store_core.specs.Carried.{IsCarried}
 use Rattle.store_core.specs.Commands.{plan_in}
-use Rattle.store_journal.specs.Journal.{lines_of}
+use Rattle.edge.specs.Lines.{lines_of}
 use Rattle.store_books.specs.Books.{empty_books, most_entries, most_tenants, most_workers}
 use Rattle.store_core.specs.Model.{Shown}
 use Rattle.store_core.specs.Runs.{Command, Reply, Run, Step, plan, put}
 use Rattle.store_script.specs.Grammar.{ScriptCommand, asks, command_at, puts}
-use Rattle.store_script.specs.Texts.{answer_text, fault_text, refused_text}
-use Rattle.store_script.specs.declared.outcome.Ending.{Ending}
-use Rattle.store_script.specs.declared.outcome.Ending.TheVariants as endings
-use Rattle.store_script.specs.declared.outcome.Cause.{Cause}
-use Rattle.store_script.specs.declared.outcome.Cause.TheVariants as causes
-use Rattle.store_script.specs.declared.outcome.Verdict.{Verdict}
-use Rattle.store_script.specs.declared.outcome.Verdict.TheVariants as verdicts
+use Rattle.store_script.specs.Texts.{answer_text, unmade_text, refused_text}
+use Rattle.store_script.specs.declared.ending.Ending.{Ending}
+use Rattle.store_script.specs.declared.ending.Ending.TheVariants as endings
+use Rattle.edge.specs.declared.outcome.Cause.{Cause}
+use Rattle.edge.specs.declared.outcome.Cause.TheVariants as causes
+use Rattle.edge.specs.declared.outcome.Verdict.{Verdict}
+use Rattle.edge.specs.declared.outcome.Verdict.TheVariants as verdicts
 
 -- ---- one line
 
@@ -37,7 +37,7 @@ pub data Turn : Type 0 where
 abbrev pub turn_text : Turn → List ℕ
 turn_text skipped = []
 turn_text bad = codes "bad\n"
-turn_text (unmade fault) = refused_text (fault_text fault)
+turn_text (unmade fault) = refused_text (unmade_text fault)
 turn_text (took command reply) = answer_text reply
 
 -- how a run with this turn ends at best
@@ -71,14 +71,14 @@ Puts old upload part (took asked reply) new = (asked ≡ put upload part) × Ste
 Puts old upload part _ new = ⊥
 
 -- a part that is refused is not put
-abbrev pub Makes : Shown → ℕ → PlannedPart → Option PartFault → Turn → Shown → Type 0
-Makes old upload part (Some fault) turn new = (turn ≡ unmade fault) × (new ≡ old)
-Makes old upload part None turn new = Puts old upload part turn new
+abbrev pub MakesPart : Shown → ℕ → PlannedPart → Option PartFault → Turn → Shown → Type 0
+MakesPart old upload part (Some fault) turn new = (turn ≡ unmade fault) × (new ≡ old)
+MakesPart old upload part None turn new = Puts old upload part turn new
 
 -- first the upload's plan is asked for
 abbrev pub PutsBy : Shown → ℕ → ℕ → List ℕ → Result UploadPlan Refusal → Turn → Shown → Type 0
 PutsBy old upload offset bytes (Err refusal) turn new = Takes old (plan upload) turn new
-PutsBy old upload offset bytes (Ok made_for) turn new = Makes old upload (planned made_for offset bytes) (part_refusal made_for offset (length bytes)) turn new
+PutsBy old upload offset bytes (Ok made_for) turn new = MakesPart old upload (planned made_for offset bytes) (part_refusal made_for offset (length bytes)) turn new
 
 abbrev pub Does : Shown → Option ScriptCommand → Turn → Shown → Type 0
 Does old None turn new = (turn ≡ bad) × (new ≡ old)
@@ -186,9 +186,9 @@ pub record RanSome (input : List ℕ) (old new : Option (List ℕ)) : Type 0 whe
   pub wrote : Appends old new output
 
 -- What a run leaves that ends by want of memory. The writer grew by the script's output, with an answer `refused S14`, and the
--- reader is at its end; or it grew by the answers to a beginning of the lines. Or a write failed, and the answers to a beginning
--- of the lines have a `refused S14`.
+-- reader is at its end; or it grew by the answers to a beginning of the lines, behind which a line is left, or which have a `refused S14`.
+-- Or a write failed, and the answers to a beginning of the lines have a `refused S14`.
 pub data RanOut (input : List ℕ) (left old new : Option (List ℕ)) : Type 0 where
   ran_all : IsAtEnd left → Ran input old new endings.OutOfMemory → RanOut input left old new
-  ran_some : (output : List ℕ) (ending : Ending) → IsScriptBegun input output ending → Appends old new output → RanOut input left old new
+  ran_some : (output : List ℕ) (ending : Ending) (script : IsScriptBegun input output ending) → (script.back ≢ []) ⊎ (ending ≡ endings.OutOfMemory) → Appends old new output → RanOut input left old new
   failed_write : (output : List ℕ) → IsScriptBegun input output endings.OutOfMemory → RanOut input left old new

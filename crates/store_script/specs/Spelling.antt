@@ -1,10 +1,11 @@
 -- How a command is spelled, and that a line is read exactly where it is spelled so.
-use Rattle.std.specs.Prelude.{◌≡◌, ◌+◌, ◌%◌, ◌<◌, ◌≤◌, ◌^◌, ◌⊎◌, ℕ, List, ◌++◌, Some, Ok, codes, length, slice_index}
+use Rattle.std.specs.Prelude.{◌≡◌, ◌+◌, ◌%◌, ◌<◌, ◌≤◌, ◌^◌, ◌⊎◌, ℕ, List, ◌++◌, Some, None, Ok, codes, length, slice_index}
 use Rattle.std.specs.Fmt.{decimal}
 use Rattle.hex.specs.Hex.{decode_of, decode_sized}
-use Rattle.store_journal.specs.Entries.{three_fields, two_fields}
+use Rattle.edge.specs.Fields.{three_fields, two_fields}
 use Rattle.store_core.specs.Runs.{Command, abort, begin, begin_open, fetch, fix, forget, journal, list, open_tenant, plan, put, seal, seal_as, set_limit, totals, usage}
-use Rattle.store_script.specs.Grammar.{ScriptCommand, asks, command_at, most_pattern, pattern_of, puts}
+use Rattle.store_script.specs.Lines.{most_line}
+use Rattle.store_script.specs.Grammar.{ScriptCommand, asks, command_at, most_digits, most_pattern, pattern_of, puts}
 
 -- a word, a number, and an address in 64 digits of either case
 abbrev pub IsNumberAndAddress : List ℕ → List ℕ → ℕ → List ℕ → Type 0
@@ -31,7 +32,7 @@ IsAsked line journal = line ≡ codes "journal"
 
 -- the field spells a part's bytes: by their digits, or as so many of the pattern from the offset on
 abbrev pub IsDigits : List ℕ → List ℕ → Type 0
-IsDigits field bytes = (digits : List ℕ) × (field ≡ codes "x:" ++ digits) × (decode_of digits ≡ Ok bytes)
+IsDigits field bytes = (digits : List ℕ) × (field ≡ codes "x:" ++ digits) × (length digits ≤ most_digits) × (decode_of digits ≡ Ok bytes)
 
 abbrev pub IsPattern : ℕ → List ℕ → List ℕ → Type 0
 IsPattern offset field bytes = (len : ℕ) × (field ≡ codes "p:" ++ decimal len) × (len ≤ most_pattern) × (bytes ≡ pattern_of offset len)
@@ -45,13 +46,17 @@ IsSpelled line (asks command) = IsAsked line command
 IsSpelled line (puts upload offset bytes) = (field : List ℕ) × (line ≡ codes "put " ++ three_fields (decimal upload) (decimal offset) field) × (upload < 2 ^ 64) × (offset < 2 ^ 64) × IsPart offset field bytes
 
 -- what is read is spelled so
-abbrev pub ReadIsSpelled : Type 0
-ReadIsSpelled = (line : List ℕ) (command : ScriptCommand) → command_at line ≡ Some command → IsSpelled line command
+abbrev pub ReadCommandIsSpelled : Type 0
+ReadCommandIsSpelled = (line : List ℕ) (command : ScriptCommand) → command_at line ≡ Some command → IsSpelled line command
 
 -- what is spelled so is read
-abbrev pub SpelledIsRead : Type 0
-SpelledIsRead = (line : List ℕ) (command : ScriptCommand) → IsSpelled line command → command_at line ≡ Some command
+abbrev pub SpelledCommandIsRead : Type 0
+SpelledCommandIsRead = (line : List ℕ) (command : ScriptCommand) → IsSpelled line command → command_at line ≡ Some command
 
 -- the pattern has as many bytes as are asked for, each of them its place in the upload mod 251
 abbrev pub PatternIs : Type 0
 PatternIs = (offset len : ℕ) → (length (pattern_of offset len) ≡ len) × ((i : ℕ) → i < len → slice_index (pattern_of offset len) i ≡ (offset + i) % 251)
+
+-- a longer line is no command
+abbrev pub LongIsNone : Type 0
+LongIsNone = (line : List ℕ) → most_line < length line → command_at line ≡ None

@@ -72,13 +72,13 @@ reply_text (the_journal entries) = entries_text entries
 -- ---- refusals
 
 -- the number of what is wrong with a part; want of memory is told as the store tells it
-abbrev pub fault_text : PartFault → List ℕ
-fault_text faults.NoMemory = refusal_text refusals.NoMemory
-fault_text faults.EmptyPart = part_fault_text faults.EmptyPart
-fault_text faults.OffAlign = part_fault_text faults.OffAlign
-fault_text faults.PastEnd = part_fault_text faults.PastEnd
-fault_text faults.Ragged = part_fault_text faults.Ragged
-fault_text faults.PartTooLong = part_fault_text faults.PartTooLong
+abbrev pub unmade_text : PartFault → List ℕ
+unmade_text faults.NoMemory = refusal_text refusals.NoMemory
+unmade_text faults.EmptyPart = part_fault_text faults.EmptyPart
+unmade_text faults.OffAlign = part_fault_text faults.OffAlign
+unmade_text faults.PastEnd = part_fault_text faults.PastEnd
+unmade_text faults.Ragged = part_fault_text faults.Ragged
+unmade_text faults.PartTooLong = part_fault_text faults.PartTooLong
 
 abbrev pub refused_text : List ℕ → List ℕ
 refused_text name = codes "refused " ++ (name ++ codes "\n")

@@ -6,14 +6,15 @@ ghost use Rattle.store_upload.specs.Uploads.{part_refusal};
 ghost use Rattle.store_core.specs.Commands.{plan_in, reply_seen};
 ghost use Rattle.store_script.specs.Commands.{reply_of};
 ghost use Rattle.store_script.specs.Script.{Answered, Plays, PutsBy, fault_ending, refusal_ending, reply_ending};
-ghost use Rattle.store_script.specs.Texts.{answer_text, fault_text, refused_text};
+ghost use Rattle.store_script.specs.Texts.{answer_text, unmade_text, refused_text};
 
 use crate::command::ScriptCommand;
-use crate::outcome::Ending;
+use crate::ending::Ending;
 use crate::reading::read_command;
 use crate::reply::Reply;
 use crate::stepping::{put, step};
-use crate::texts::{answer_text, bad_text, fault_text};
+use crate::text::Text;
+use crate::texts::{answer_text, bad_text, unmade_text};
 use b3_core::Work;
 use b3_forest::{PartFault, Prepared};
 use std::alloc::{AllocError, Global};
@@ -22,7 +23,7 @@ use store_core::{Refusal, Store, UploadId};
 /// A line's answer, and how a run with it ends at best.
 #[derive(Drop)]
 pub(crate) struct Answer {
-    pub text: Vec<u8>,
+    pub text: Text,
     pub ending: Ending,
 }
 
@@ -33,7 +34,7 @@ pub(crate) fn answer_line(
     line: &[u8],
     work: &mut Work,
 ) -> Result<Answer, AllocError>
-    ensures { IfOk result (λ answer. Answered (λ turn. Plays store.old line.now turn store.new) answer.text.items answer.ending) }
+    ensures { IfOk result (λ answer. Answered (λ turn. Plays store.old line.now turn store.new) answer.text answer.ending) }
 {
     if line.is_empty() {
         return Ok(skipped(alloc));
@@ -56,17 +57,17 @@ pub(crate) fn answer_line(
 
 // No answer.
 fn skipped(alloc: Global) -> Answer
-    ensures { (result.text.items ≡ []) × (result.ending ≡ Ending.Good) }
+    ensures { (result.text ≡ []) × (result.ending ≡ Ending.Good) }
 {
     Answer {
-        text: Vec::new(alloc),
+        text: Text::of(Vec::new(alloc)),
         ending: Ending::Good,
     }
 }
 
-// The answer to a line that is no command.
-fn bad(alloc: Global) -> Result<Answer, AllocError>
-    ensures { IfOk result (λ answer. (answer.text.items ≡ codes "bad\n") × (answer.ending ≡ Ending.Refused)) }
+/// The answer to a line that is no command.
+pub(crate) fn bad(alloc: Global) -> Result<Answer, AllocError>
+    ensures { IfOk result (λ answer. (answer.text ≡ codes "bad\n") × (answer.ending ≡ Ending.Refused)) }
 {
     Ok(Answer {
         text: bad_text(alloc)?,
@@ -76,13 +77,13 @@ fn bad(alloc: Global) -> Result<Answer, AllocError>
 
 // The answer to a part that can't be made.
 fn unmade(alloc: Global, fault: PartFault) -> Result<Answer, AllocError>
-    ensures { IfOk result (λ answer. (answer.text.items ≡ refused_text (fault_text fault)) × (answer.ending ≡ fault_ending fault)) }
+    ensures { IfOk result (λ answer. (answer.text ≡ refused_text (unmade_text fault)) × (answer.ending ≡ fault_ending fault)) }
 {
     let ending = match fault {
         PartFault::NoMemory => Ending::OutOfMemory,
         _ => Ending::Refused,
     };
-    let text = fault_text(alloc, fault)?;
+    let text = unmade_text(alloc, fault)?;
     Ok(Answer { text, ending })
 }
 
@@ -92,7 +93,7 @@ fn replied(
     store: &Store,
     reply: Result<Reply, Refusal>,
 ) -> Result<Answer, AllocError>
-    ensures { IfOk result (λ answer. (answer.text.items ≡ answer_text (reply_seen (reply_of store.now) reply)) × (answer.ending ≡ reply_ending (reply_seen (reply_of store.now) reply))) }
+    ensures { IfOk result (λ answer. (answer.text ≡ answer_text (reply_seen (reply_of store.now) reply)) × (answer.ending ≡ reply_ending (reply_seen (reply_of store.now) reply))) }
 {
     let ending = match &reply {
         Ok(_) => Ending::Good,
@@ -112,7 +113,7 @@ fn put_part(
     bytes: Vec<u8>,
     work: &mut Work,
 ) -> Result<Answer, AllocError>
-    ensures { IfOk result (λ answer. Answered (λ turn. PutsBy store.old upload offset bytes.items (plan_in store.old.state upload) turn store.new) answer.text.items answer.ending) }
+    ensures { IfOk result (λ answer. Answered (λ turn. PutsBy store.old upload offset bytes.items (plan_in store.old.state upload) turn store.new) answer.text answer.ending) }
 {
     let plan = match store.plan(upload) {
         Ok(plan) => plan,

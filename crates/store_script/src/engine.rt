@@ -1,18 +1,23 @@
 //! The engine.
 
-ghost use Rattle.std.specs.Prelude.{◌≡◌, ◌<◌, IfErr, IfOk, IfSome, OnOk, Err, Ok, false, length, true};
+ghost use Rattle.std.specs.Prelude.{◌≡◌, ◌<◌, ◌⊎◌, IfErr, IfOk, IfSome, OnOk, Err, Ok, length};
 ghost use Rattle.std.specs.Io.BufRead.{DropsThrough, strip_last, take_through};
 ghost use Rattle.std.specs.Io.KnownBytes.{Appends, IsAtEnd};
+ghost use Rattle.store_script.specs.Lines.{AnswersRead, IsReadLine};
 ghost use Rattle.store_script.specs.Script.{Ran, RanOut, RanSome, ended_as, first_cause, verdict_ending, widest_start, worse};
-ghost use Rattle.store_script.specs.declared.outcome.Ending.TheVariants as endings;
+ghost use Rattle.store_script.specs.declared.ending.Ending.TheVariants as endings;
 
-use crate::answer::answer_line;
-use crate::outcome::{Cause, Ending, Verdict};
-use crate::streams::write_all;
+use crate::answer::{Answer, answer_line, bad};
+use crate::ending::Ending;
+use crate::text::Text;
 use b3_core::Work;
-use std::alloc::Global;
-use std::io::{BufRead, ErrorKind, Write};
+use edge::{Cause, Verdict, flush};
+use std::alloc::{AllocError, Global};
+use std::io::{BufRead, Write};
 use store_core::{Limits, Store};
+
+// The most bytes of a command's line with its line feed.
+const MOST_LINE: usize = 33_554_481;
 
 /// Runs a script on an empty store with the widest limits: reads it line by line, and writes the answer to each line when its
 /// line feed was read. The writer is flushed behind each answer. `Good` where no line was refused and each was a command.
@@ -57,31 +62,44 @@ fn answer_lines<R: BufRead, W: Write>(
     let mut ending = Ending::Good;
     let mut line: Vec<u8> = Vec::new(alloc);
     for _ in 0..u64::MAX {
-        if !read_line(reader, &mut line, ending)? {
+        let count = read_line(reader, &mut line, ending)?;
+        if count == 0 {
             return ended_as(ending);
         }
-        let answer = answer_line(alloc, store, without_end(line.as_slice()), work)?;
+        let answer = answer_read(alloc, store, line.as_slice(), count, work)?;
         ending = worse(ending, answer.ending);
-        tell(writer, answer.text.as_slice(), ending)?;
+        tell(writer, &answer.text, ending)?;
     }
     Err(first_cause(ending, Cause::CannotRead))
 }
 
-// Reads the next line with its line feed, which the last line may lack. False at the end of the input. A failure is told by
-// the first cause behind answers that end so.
-fn read_line<R: BufRead>(reader: &mut R, line: &mut Vec<u8>, ending: Ending) -> Result<bool, Cause>
-    ensures bytes { OnOk result (IfSome (R.Read.remaining reader.old) (λ left. line.new.items ≡ take_through 10 left)) }
+// Reads the next line with its line feed, of which no more is kept than a command's line may have, and answers how many bytes it has: 0
+// at the end of the input. A failure is told by the first cause behind answers that end so.
+fn read_line<R: BufRead>(reader: &mut R, line: &mut Vec<u8>, ending: Ending) -> Result<usize, Cause>
+    ensures read { IfOk result (λ count. IfSome (R.Read.remaining reader.old) (λ left. IsReadLine (take_through 10 left) count line.new.items)) }
     ensures rest { OnOk result (DropsThrough (R.Read.remaining reader.old) (R.Read.remaining reader.new) 10) }
-    ensures end { result ≡ Ok false → IsAtEnd (R.Read.remaining reader.old) }
-    ensures some { result ≡ Ok true → 0 < length line.new.items }
+    // Memory was refused for a line's bytes, or an answer told so before.
+    ensures left { result ≡ Err Cause.OutOfMemory → IfSome (R.Read.remaining reader.old) (λ left. (0 < length left) ⊎ (ending ≡ endings.OutOfMemory)) }
     ensures cause { IfErr result (λ cause. ending ≡ endings.OutOfMemory → cause ≡ Cause.OutOfMemory) }
 {
-    line.clear();
-    match reader.read_until(b'\n', line) {
-        Ok(count) => Ok(count != 0),
-        Err(error) if error.kind() == ErrorKind::OutOfMemory => Err(Cause::OutOfMemory),
-        Err(_) => Err(first_cause(ending, Cause::CannotRead)),
+    edge::read_line(reader, line, MOST_LINE).map_err(|cause| first_cause(ending, cause))
+}
+
+// Answers a line that was read, of so many bytes.
+fn answer_read(
+    alloc: Global,
+    store: &mut Store,
+    line: &[u8],
+    count: usize,
+    work: &mut Work,
+) -> Result<Answer, AllocError>
+    requires { 0 < count }
+    ensures { IfOk result (λ answer. AnswersRead store.old store.new count line.now answer.text answer.ending) }
+{
+    if count > MOST_LINE {
+        return bad(alloc);
     }
+    answer_line(alloc, store, without_end(line), work)
 }
 
 // A line without its line feed, which the last line may lack.
@@ -95,12 +113,13 @@ fn without_end(line: &[u8]) -> &[u8]
 }
 
 // Writes an answer, and flushes. A failure is told by the first cause behind answers that end so, this one among them.
-fn tell<W: Write>(writer: &mut W, text: &[u8], ending: Ending) -> Result<(), Cause>
+fn tell<W: Write>(writer: &mut W, text: &Text, ending: Ending) -> Result<(), Cause>
     ensures wrote { OnOk result (Appends (W.contents writer.old) (W.contents writer.new) text.now) }
     ensures cause { IfErr result (λ cause. cause ≡ first_cause ending Cause.CannotWrite) }
 {
     let cause = first_cause(ending, Cause::CannotWrite);
-    write_all(writer, text).map_err(|_| cause)
+    text.write(writer).map_err(|_| cause)?;
+    flush(writer).map_err(|_| cause)
 }
 
 // How a script ends that was answered to its end, by its answers.

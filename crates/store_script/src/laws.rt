@@ -1,10 +1,11 @@
 //! Laws of the grammar.
 
-ghost use Rattle.store_script.specs.Spelling.{PatternIs, ReadIsSpelled, SpelledIsRead};
+ghost use Rattle.store_script.specs.Spelling.{LongIsNone, PatternIs, ReadCommandIsSpelled, SpelledCommandIsRead};
 
 /// What holds of the definitions that the contract of `run` names. It does nothing.
 pub fn script_laws()
-    ensures found { ReadIsSpelled }
-    ensures only { SpelledIsRead }
+    ensures found { ReadCommandIsSpelled }
+    ensures only { SpelledCommandIsRead }
     ensures pattern { PatternIs }
+    ensures long { LongIsNone }
 {}

@@ -24,7 +24,7 @@
 //! | `stat` | `objects O bytes B uploads U held H parts P` |
 //! | `journal` | `journal N`, then the N lines of the entries |
 //!
-//! DATA is `x:` and an even number of hexadecimal digits, or `p:LEN` with LEN at most 33554432: the bytes
+//! DATA is `x:` and an even number of hexadecimal digits, 33554432 at most, or `p:LEN` with LEN at most 33554432: the bytes
 //! `i mod 251` for i from OFFSET on. A `put` asks for the upload's plan first (S7), then makes the part (F2 to F6), then puts
 //! it; want of memory where the part is made is S14.
 //!
@@ -39,16 +39,15 @@
 
 mod answer;
 mod command;
+mod ending;
 mod engine;
 mod laws;
-mod outcome;
 mod reading;
 mod reply;
 mod stepping;
-mod streams;
+mod text;
 mod texts;
 
+pub use edge::{Cause, Verdict};
 pub use engine::run;
 pub use laws::script_laws;
-pub use outcome::{Cause, Verdict};
-pub use streams::write_all;

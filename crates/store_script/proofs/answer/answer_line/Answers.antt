@@ -6,7 +6,7 @@ use Rattle.store_script.proofs.LineOutcomes.{LineTurn, asked, by_bad, by_reply, 
 use Rattle.store_script.proofs.answer.answer_line.Goals as goal
 
 pub returns-then-is_empty : goal.returns-then-is_empty
-returns-then-is_empty c = nothing c.args.store.now c.args.line.now c.skipped.result.text.items c.skipped.result.ending (search rules) c.skipped.ensures.0 c.skipped.ensures.1
+returns-then-is_empty c = nothing c.args.store.now c.args.line.now c.skipped.result.text c.skipped.result.ending (search rules) c.skipped.ensures.0 c.skipped.ensures.1
 
 pub returns-in-None : goal.returns-in-None
 returns-in-None c =

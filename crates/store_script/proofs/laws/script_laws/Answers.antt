@@ -1,3 +1,4 @@
+use Rattle.store_script.proofs.Lengths.{long_is_none}
 use Rattle.store_script.proofs.Patterns.{pattern_is}
 use Rattle.store_script.proofs.Read.{again, found}
 use Rattle.store_script.proofs.laws.script_laws.Goals as goal
@@ -10,3 +11,6 @@ returns-clause-only c = again
 
 pub returns-clause-pattern : goal.returns-clause-pattern
 returns-clause-pattern c = pattern_is
+
+pub returns-clause-long : goal.returns-clause-long
+returns-clause-long c = long_is_none

@@ -1,5 +1,5 @@
 use Rattle.std.proofs.Common.{◌∙◌, ◌+◌, ◌<◌, ◌++◌, ◌∷◌, [], ℕ, arith, ap, refl, sym}
-use Rattle.store_books.specs.Books.{Begun, Books, IsAmong}
+use Rattle.store_books.specs.Books.{Begun, Books, IsBegunUpload}
 use Rattle.store_books.specs.Commands.{begin_refusal, with_begun}
 use Rattle.store_books.specs.Kept.{books_of, changed_sums}
 use Rattle.store_upload.specs.Uploads.{Upload}
@@ -9,7 +9,7 @@ use Rattle.store_books.proofs.Sums.{kept_after, kept_as}
 use Rattle.store_books.proofs.books.Books.begin.Goals as goal
 
 pub begin-requires : goal.begin-requires
-begin-requires g c = let old = c.self.inside in all_weaker (IsAmong g.H.Part.Length.len _ old.begun) (λ e. e.0 < old.begun) old.uploads.entries (λ e is. is.number) c.self.invariant.sound.uploads
+begin-requires g c = let old = c.self.inside in all_weaker (IsBegunUpload g.H.Part.Length.len _ old.begun) (λ e. e.0 < old.begun) old.uploads.entries (λ e is. is.number) c.self.invariant.sound.uploads
 
 pub invariant_of-self-2 : goal.invariant_of-self-2
 invariant_of-self-2 g c =

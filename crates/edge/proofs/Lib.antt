@@ -1,0 +1,8 @@
+mod DigitPairs
+pub mod Encoding
+pub mod FieldTexts
+pub mod Joining
+pub mod FirstLines
+mod LineParts
+pub mod Numbers
+pub mod Steps

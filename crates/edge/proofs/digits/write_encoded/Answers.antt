@@ -1,0 +1,24 @@
+use Rattle.std.proofs.Common.{rules, ◌≡◌, ◌∙◌, ◌++◌, [], ap, append_assoc, drop, refl, subst, sym, take, take-append-drop}
+use Rattle.std.specs.Io.KnownBytes.{Appends}
+use Rattle.hex.specs.Hex.{encode_lower, lower_digits}
+use Rattle.edge.proofs.Encoding.{digits_append, no_digits}
+use Rattle.edge.proofs.Joining.{appends_more, appends_none}
+use Rattle.edge.proofs.digits.write_encoded.Goals as goal
+
+pub loop-rest-init : goal.loop-rest-init
+loop-rest-init g c = ([], subst (Appends (g.W.Write.contents c.args.writer.now) (g.W.Write.contents c.args.writer.now)) (sym no_digits) (appends_none (g.W.Write.contents c.args.writer.now)), refl)
+
+pub loop-rest-preserved : goal.loop-rest-preserved
+loop-rest-preserved g c =
+    let (done, wrote, is) = c.loop-rest.invariant in
+    let front = c.split_at.result.0.now in
+    let rest = c.loop-rest.rest.now in
+    let front_is : front ≡ take c.min.result rest = search rules in
+    let back_is : c.split_at.result.1.now ≡ drop c.min.result rest = search rules in
+    let whole : rest ≡ front ++ c.split_at.result.1.now = rw (front_is, back_is) (sym (take-append-drop c.min.result rest)) in
+    let more : Appends (g.W.Write.contents c.loop-rest.writer) (g.W.Write.contents c.write_piece.new.writer) (encode_lower front) = search rules in
+    let all = appends_more (g.W.Write.contents c.args.writer.now) (g.W.Write.contents c.loop-rest.writer) (g.W.Write.contents c.write_piece.new.writer) (encode_lower done) (encode_lower front) wrote more in (
+      done ++ front,
+      subst (Appends (g.W.Write.contents c.args.writer.now) (g.W.Write.contents c.write_piece.new.writer)) (sym (digits_append lower_digits done front)) all,
+      is ∙ ap (λ (w : _). done ++ w) whole ∙ sym (append_assoc done front c.split_at.result.1.now),
+    )

@@ -1,0 +1,48 @@
+-- The fields of a line: parted by one space; and numbers among them.
+use Rattle.std.specs.Prelude.{◌^◌, ◌==◌, ◌&&◌, ℕ, List, [], ◌∷◌, ◌++◌, Option, Some, None, if◌then◌else◌, nat_lt, option_map}
+use Rattle.std.specs.Fmt.{decimal}
+use Rattle.std.specs.Str.{bytes_eq}
+use Rattle.std.specs.Str.Parse.{digits_value}
+
+abbrev pub space : ℕ
+space = 32
+
+-- ---- writing
+
+-- fields parted by one space
+abbrev pub two_fields : List ℕ → List ℕ → List ℕ
+two_fields first second = first ++ (space ∷ second)
+
+abbrev pub three_fields : List ℕ → List ℕ → List ℕ → List ℕ
+three_fields first second third = first ++ (space ∷ (second ++ (space ∷ third)))
+
+-- ---- reading
+
+-- what stands before the first of these bytes, and what stands behind it
+abbrev pub cut_at : ℕ → List ℕ → Option (List ℕ × List ℕ)
+cut_at mark [] = None
+cut_at mark (b ∷ bytes) = if b == mark then Some ([], bytes) else option_map (λ x. (b ∷ x.0, x.1)) (cut_at mark bytes)
+
+-- the number that is written so: in decimal, without leading zeros, below 2^64
+abbrev pub number_at : List ℕ → Option ℕ
+number_at digits = if bytes_eq (decimal (digits_value 10 digits)) digits && nat_lt (digits_value 10 digits) (2 ^ 64) then Some (digits_value 10 digits) else None
+
+-- the second step, where the first gave a value
+infixl 10 ◌>>=◌
+abbrev pub ◌>>=◌ : {A B : Type 0} → Option A → (A → Option B) → Option B
+None >>= f = None
+(Some x) >>= f = f x
+
+abbrev pub two_numbers_at : List ℕ → Option (ℕ × ℕ)
+two_numbers_at fields = do
+  cut ← cut_at space fields
+  first ← number_at cut.0
+  second ← number_at cut.1
+  Some (first, second)
+
+abbrev pub three_numbers_at : List ℕ → Option (ℕ × ℕ × ℕ)
+three_numbers_at fields = do
+  cut ← cut_at space fields
+  first ← number_at cut.0
+  others ← two_numbers_at cut.1
+  Some (first, others.0, others.1)

@@ -1,0 +1,19 @@
+-- A line that was read, of which no more is kept than a command's line may have.
+use Rattle.std.specs.Prelude.{◌≡◌, ℕ, List, length, take}
+use Rattle.std.specs.Io.Iter.{u64_saturate}
+use Rattle.std.specs.Io.BufRead.{strip_last}
+use Rattle.store_core.specs.Model.{Shown}
+use Rattle.store_script.specs.Script.{Answered, Plays}
+use Rattle.store_script.specs.declared.ending.Ending.{Ending}
+
+-- the most bytes of a command's line without its line feed: `put`, two numbers of 20 digits, and the digits of a part
+abbrev pub most_line : ℕ
+most_line = 33554480
+
+-- the line has so many bytes, its line feed among them, and these of them are kept
+abbrev pub IsReadLine : List ℕ → ℕ → List ℕ → Type 0
+IsReadLine whole count kept = (count ≡ u64_saturate (length whole)) × (kept ≡ take 33554481 whole)
+
+-- what is answered to it
+pub record AnswersRead (old new : Shown) (count : ℕ) (kept text : List ℕ) (ending : Ending) : Type 0 where
+  pub answers : (whole : List ℕ) → IsReadLine whole count kept → Answered (λ turn. Plays old (strip_last 10 whole) turn new) text ending

@@ -1,0 +1,12 @@
+//! How the answers of a script end.
+
+/// How a script's answers end.
+#[derive(Clone, Copy, Debug, PartialEq, Eq)]
+pub(crate) enum Ending {
+    /// No line was refused, and each was a command.
+    Good,
+    /// Some answer is `refused` or `bad`, and none is `refused S14`.
+    Refused,
+    /// Some answer is `refused S14`.
+    OutOfMemory,
+}
