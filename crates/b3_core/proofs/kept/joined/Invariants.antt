@@ -1,7 +1,7 @@
 use Rattle.std.proofs.Common.{◌≡◌, ◌*◌, length, reverse}
 use Rattle.b3_core.specs.Hashers.{joined}
 use Rattle.b3_core.specs.Work.{counted}
-use Rattle.b3_core.proofs.hasher.joined.Given as goal
+use Rattle.b3_core.proofs.kept.joined.Given as goal
 
 abbrev pub invariant-loop-left : goal.invariant-loop-left
 invariant-loop-left l =
