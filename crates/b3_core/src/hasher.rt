@@ -1,11 +1,11 @@
 //! The hash of bytes that come in pieces.
 
-ghost use Rattle.std.specs.Prelude.{◌≡◌, ℕ, ◌+◌, ◌-◌, ◌*◌, ◌/◌, ◌^◌, ◌<◌, ◌≤◌, ◌↔◌, ◌++◌, List, [], ◌∷◌, Some, length, reverse, true};
-ghost use Rattle.b3_core.specs.Hashers.{Hashing, Subtrees, AreFrom, AreSubtrees, Fits, IsBehind, IsLeft, IsNext, Holds, Makes, count_of, joined, kept_work};
+ghost use Rattle.std.specs.Prelude.{◌≡◌, ℕ, ◌+◌, ◌-◌, ◌/◌, ◌^◌, ◌<◌, ◌↔◌, ◌++◌, List, [], ◌∷◌, Some, length, true};
+ghost use Rattle.b3_core.specs.Hashers.{Fits, IsBehind, Holds, Makes, count_of, kept_work};
 ghost use Rattle.b3_core.specs.Modes.{digest_of};
 ghost use Rattle.b3_core.specs.Texts.{hasher_text};
-ghost use Rattle.b3_core.specs.Tree.{Inputs, tree_top};
-ghost use Rattle.b3_core.specs.Work.{NeverFalls, counted, hash_work};
+ghost use Rattle.b3_core.specs.Tree.{tree_top};
+ghost use Rattle.b3_core.specs.Work.{NeverFalls, hash_work};
 
 use crate::kept::Kept;
 use crate::mode::Mode;

@@ -3,7 +3,7 @@
 ghost use Rattle.std.specs.Prelude.{◌≡◌, ℕ, ◌+◌, ◌-◌, ◌^◌, ◌<◌, ◌↔◌, ◌++◌, List, [], IfNone, IfSome, IsSome, false, length, true};
 ghost use Rattle.b3_core.specs.Hashers.{Holds, Makes, kept_work};
 ghost use Rattle.b3_core.specs.HasherStates.{IsState, hashing_of};
-ghost use Rattle.b3_core.specs.Tree.{Keying, tree_top};
+ghost use Rattle.b3_core.specs.Tree.{tree_top};
 ghost use Rattle.b3_core.specs.Work.{NeverFalls, hash_work};
 
 use crate::kept::Kept;

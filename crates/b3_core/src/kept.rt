@@ -1,9 +1,9 @@
 //! What a hasher keeps, and what becomes of it as bytes come.
 
 ghost use Rattle.std.specs.Prelude.{◌≡◌, ℕ, ◌+◌, ◌-◌, ◌*◌, ◌/◌, ◌^◌, ◌<◌, ◌≤◌, ◌↔◌, ◌++◌, List, [], ◌∷◌, length, reverse, true};
-ghost use Rattle.b3_core.specs.Hashers.{AreFrom, AreSubtrees, Fits, IsBehind, IsLeft, IsNext, Holds, Makes, Subtrees, count_of, joined, kept_work};
-ghost use Rattle.b3_core.specs.Kept.{IsWithin, kept_of, nodes_of, tail_of};
-ghost use Rattle.b3_core.specs.Tree.{Inputs, Keying, tree_top};
+ghost use Rattle.b3_core.specs.Hashers.{AreFrom, AreSubtrees, Fits, IsBehind, IsLeft, IsNext, Holds, Makes, count_of, joined, kept_work};
+ghost use Rattle.b3_core.specs.Kept.{IsWithin, kept_of, nodes_of};
+ghost use Rattle.b3_core.specs.Tree.{Keying, tree_top};
 ghost use Rattle.b3_core.specs.Work.{NeverFalls, counted, hash_work};
 
 use crate::compression::CHUNK_LEN;
