@@ -15,8 +15,6 @@ import os
 import sys
 
 CHUNK = 1024
-PIECE = 1 << 16
-"""The least bytes of which an object makes a subtree: what is shorter it keeps."""
 SPAN = 1 << 20
 """The bytes of a subtree that one thread hashes."""
 
@@ -29,16 +27,19 @@ class Value(ctypes.Structure):
     _fields_ = [("words", ctypes.c_uint32 * 8)]
 
 
+Hasher = ctypes.c_uint64 * 946
+"""The memory of a hasher, whose fields are the library's."""
+
 SLICE = [ctypes.c_void_p, ctypes.c_size_t]
 COUNT = ctypes.POINTER(ctypes.c_uint64)
-library.b3_hash.argtypes = [*SLICE, *SLICE, COUNT]
-library.b3_keyed_hash.argtypes = [*SLICE, *SLICE, *SLICE, COUNT]
-library.b3_derive_key.argtypes = [*SLICE, *SLICE, *SLICE, COUNT]
-library.b3_extended.argtypes = [ctypes.c_uint32, *SLICE, *SLICE, ctypes.c_uint64, *SLICE, COUNT]
+library.b3_hasher_init.argtypes = [ctypes.POINTER(Hasher), ctypes.c_uint32, *SLICE, COUNT]
+library.b3_hasher_update.argtypes = [ctypes.POINTER(Hasher), *SLICE, COUNT]
+library.b3_hasher_extended.argtypes = [ctypes.POINTER(Hasher), ctypes.c_uint64, *SLICE, COUNT]
 library.b3_subtree.argtypes = [*SLICE, *SLICE, ctypes.c_uint64, ctypes.POINTER(Value), COUNT]
 library.b3_parent.argtypes = [*SLICE, Value, Value, ctypes.POINTER(Value), COUNT]
 library.b3_root.argtypes = [*SLICE, Value, Value, *SLICE, COUNT]
-ANSWERS = {1: "bad output", 2: "bad key", 3: "past the output's end", 4: "no subtree"}
+ANSWERS = {1: "bad output", 2: "bad key", 3: "past the output's end", 4: "no subtree", 5: "no hasher"}
+HASH, KEYED_HASH, DERIVE_KEY = range(3)
 
 
 class Bytes:
@@ -90,90 +91,45 @@ def parent(key, left, right):
     return value
 
 
-def derive_key(context, material, length=32):
-    """Bytes derived from key material in a context, a str."""
-    name, bytes_ = Bytes(context.encode()), Bytes(material)
-    return filled(length, library.b3_extended, 2, *name.whole(), *bytes_.whole(), 0)
-
-
-def extended(data, length, position=0, key=b""):
-    """So many bytes of the extended output from a position on, with or without a key."""
-    key, bytes_ = Bytes(bytes(key)), Bytes(data)
-    return filled(length, library.b3_extended, 1 if key.length else 0, *key.whole(), *bytes_.whole(), position)
-
-
 class blake3:  # As hashlib's classes are named.
-    """The hash of what `update` was given, keyed where there is a key of 32 bytes."""
+    """The hash of what `update` was given: a keyed one where there is a key of 32 bytes, and a derived key where there is a context, a str."""
 
     name = "blake3"
     digest_size = 32
     block_size = 64
 
-    def __init__(self, data=b"", *, key=b""):
-        if len(key) not in (0, 32):
-            raise ValueError("a key has 32 bytes")
-        self._key = Bytes(bytes(key))
-        self._values = []
-        """The chaining values of subtrees with their numbers of chunks, each greater than those behind it."""
-        self._chunks = 0
-        self._tail = b""
+    def __init__(self, data=b"", *, key=None, context=None):
+        if key is not None and context is not None:
+            raise ValueError("a key or a context, not both")
+        mode = KEYED_HASH if key is not None else DERIVE_KEY if context is not None else HASH
+        word = Bytes(bytes(key or b"") if context is None else context.encode())
+        self._hasher = Hasher()
+        call(library.b3_hasher_init, self._hasher, mode, *word.whole())
         self.update(data)
 
     def copy(self):
         other = blake3.__new__(blake3)
-        other.__dict__.update(self.__dict__, _values=list(self._values))
+        other._hasher = Hasher.from_buffer_copy(self._hasher)
         return other
 
     def update(self, data):
-        """Gives bytes behind those that were given before. One byte at least is always kept, since only the end tells the root."""
-        data = memoryview(data).cast("B")
-        start = 0
-        if self._tail:
-            start = min(PIECE - len(self._tail), len(data))
-            self._tail += bytes(data[:start])
-            if start == len(data):
-                return
-            self._push(Bytes(self._tail).whole(), PIECE // CHUNK)
-        given = Bytes(data.obj if isinstance(data.obj, bytes) and len(data.obj) == len(data) else data)
-        while len(data) - start > PIECE:
-            chunks = self._chunks_at_most((len(data) - start - 1) // CHUNK)
-            self._push(given.part(start, start + chunks * CHUNK), chunks)
-            start += chunks * CHUNK
-        self._tail = bytes(data[start:])
+        """Gives bytes behind those that were given before."""
+        given = Bytes(data)
+        call(library.b3_hasher_update, self._hasher, *given.whole())
 
-    def _chunks_at_most(self, most):
-        """The greatest power of two of chunks that is a subtree here."""
-        power = 1 << (most.bit_length() - 1)
-        return min(power, self._chunks & -self._chunks) if self._chunks else power
+    def digest(self, length=32, *, position=0):
+        """The hash, or so many bytes of the extended output from a position on."""
+        return filled(length, library.b3_hasher_extended, self._hasher, position)
 
-    def _push(self, part, chunks):
-        """Puts a subtree behind the others. Two of one size become their parent."""
-        value = subtree(self._key, *part, self._chunks)
-        self._chunks += chunks
-        while self._values and self._values[-1][1] == chunks:
-            value = parent(self._key, self._values.pop()[0], value)
-            chunks *= 2
-        self._values.append((value, chunks))
-
-    def digest(self):
-        tail = Bytes(self._tail)
-        if not self._values:
-            words = [*self._key.whole()] if self._key.length else []
-            return filled(32, library.b3_keyed_hash if words else library.b3_hash, *words, *tail.whole())
-        value = subtree(self._key, *tail.whole(), self._chunks)
-        for left, _ in reversed(self._values[1:]):
-            value = parent(self._key, left, value)
-        return filled(32, library.b3_root, *self._key.whole(), self._values[0][0], value)
-
-    def hexdigest(self):
-        return self.digest().hex()
+    def hexdigest(self, length=32, *, position=0):
+        return self.digest(length, position=position).hex()
 
 
 def digest_by_threads(data, threads, key=b""):
     """The hash of bytes at hand: each thread takes a MiB in turn, and then two neighbours become their parent."""
     whole, key = Bytes(data), Bytes(bytes(key))
     if whole.length <= SPAN:
-        return blake3(data, key=key.kept).digest()
+        return blake3(data, key=key.kept or None).digest()
 
     def value_at(start):
         end = min(start + SPAN, whole.length)

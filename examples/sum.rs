@@ -1,46 +1,85 @@
-//! A b3sum in Rust that reads each file whole: the proved library libb3 by `extern "C"`.
+//! A b3sum in Rust: the proved library libb3 by `extern "C"`.
 //!
 //!     rustc -O sum.rs -l b3 -L /usr/local/lib
 
-use std::fs;
+use std::fs::File;
+use std::io::{self, Read};
 use std::process::ExitCode;
 
+const HASH: u32 = 0;
 const HASH_LEN: usize = 32;
 
+/// A hasher, whose fields are the library's.
+#[repr(C, align(8))]
+struct Hasher([u8; 7568]);
+
 extern "C" {
-    fn b3_hash(
+    fn b3_hasher_init(
+        hasher: *mut Hasher,
+        mode: u32,
+        key: *const u8,
+        key_len: usize,
+        compressions: *mut u64,
+    ) -> u32;
+
+    fn b3_hasher_update(
+        hasher: *mut Hasher,
         bytes: *const u8,
         len: usize,
+        compressions: *mut u64,
+    ) -> u32;
+
+    fn b3_hasher_finalize(
+        hasher: *const Hasher,
         out: *mut u8,
         out_len: usize,
         compressions: *mut u64,
     ) -> u32;
 }
 
-/// The hash of bytes, and the compressions that it took.
-fn hash(bytes: &[u8]) -> ([u8; HASH_LEN], u64) {
-    let mut out = [0; HASH_LEN];
-    let mut compressions = 0;
-    // SAFETY: each pointer has the length beside it, what is written is borrowed alone, and no pointer is null.
-    let answer = unsafe {
-        b3_hash(
-            bytes.as_ptr(),
-            bytes.len(),
-            out.as_mut_ptr(),
-            out.len(),
-            &mut compressions,
-        )
-    };
-    assert_eq!(answer, 0, "the output has {HASH_LEN} bytes");
-    (out, compressions)
+// SAFETY of the calls: each pointer has the length beside it, what is written is borrowed alone, and no pointer is null.
+impl Hasher {
+    fn new() -> Hasher {
+        let mut hasher = Hasher([0; 7568]);
+        let key = [0];
+        let answer = unsafe { b3_hasher_init(&mut hasher, HASH, key.as_ptr(), 0, &mut 0) };
+        assert_eq!(answer, 0, "there is such a mode");
+        hasher
+    }
+
+    fn update(&mut self, bytes: &[u8]) {
+        let answer = unsafe { b3_hasher_update(self, bytes.as_ptr(), bytes.len(), &mut 0) };
+        assert_eq!(answer, 0, "it is a hasher");
+    }
+
+    fn finalize(&self) -> [u8; HASH_LEN] {
+        let mut out = [0; HASH_LEN];
+        let answer = unsafe { b3_hasher_finalize(self, out.as_mut_ptr(), out.len(), &mut 0) };
+        assert_eq!(
+            answer, 0,
+            "it is a hasher, and the output has {HASH_LEN} bytes"
+        );
+        out
+    }
+}
+
+fn hash_of_file(name: &str) -> io::Result<[u8; HASH_LEN]> {
+    let mut file = File::open(name)?;
+    let mut hasher = Hasher::new();
+    let mut piece = vec![0; 1 << 16];
+    loop {
+        match file.read(&mut piece)? {
+            0 => return Ok(hasher.finalize()),
+            len => hasher.update(&piece[..len]),
+        }
+    }
 }
 
 fn main() -> ExitCode {
     let mut status = ExitCode::SUCCESS;
     for name in std::env::args().skip(1) {
-        match fs::read(&name) {
-            Ok(bytes) => {
-                let (hash, _compressions) = hash(&bytes);
+        match hash_of_file(&name) {
+            Ok(hash) => {
                 let digits: String = hash.iter().map(|byte| format!("{byte:02x}")).collect();
                 println!("{digits}  {name}");
             }

@@ -1,36 +1,19 @@
-/* A b3sum: writes the hash of each file that it is given, or of standard input, which it reads in pieces of 64 KiB.
+/* A b3sum: writes the hash of each file that it is given, or of standard input.
  *
  *     cc -O2 sum.c $(pkg-config --cflags --libs b3) -o sum */
 #include <b3.h>
 #include <stdio.h>
 #include <string.h>
 
-enum { PIECE = 64 * B3_CHUNK_LEN, LEVELS = 48 };
-
-static const uint8_t NO_KEY[1];
-
-/* Hashes a stream to its end: whole pieces become subtrees, and each two of one size their parent. */
 static void hash_stream(FILE *stream, uint8_t hash[B3_HASH_LEN]) {
-    static uint8_t piece[PIECE];
-    b3_value values[LEVELS], value;
-    uint64_t count = 0, n = 0;
-    size_t depth = 0, len;
-    int next;
-    while (len = fread(piece, 1, PIECE, stream), (next = getc(stream)) != EOF) {
-        ungetc(next, stream);
-        b3_subtree(NO_KEY, 0, piece, len, 64 * n, &value, &count);
-        for (uint64_t m = n++; m & 1; m >>= 1)
-            b3_parent(NO_KEY, 0, values[--depth], value, &value, &count);
-        values[depth++] = value;
-    }
-    if (n == 0) {
-        b3_hash(piece, len, hash, B3_HASH_LEN, &count);
-        return;
-    }
-    b3_subtree(NO_KEY, 0, piece, len, 64 * n, &value, &count);
-    while (depth > 1)
-        b3_parent(NO_KEY, 0, values[--depth], value, &value, &count);
-    b3_root(NO_KEY, 0, values[0], value, hash, B3_HASH_LEN, &count);
+    static uint8_t piece[1 << 16];
+    uint64_t count = 0;
+    size_t len;
+    b3_hasher hasher;
+    b3_hasher_init(&hasher, B3_HASH, piece, 0, &count);
+    while ((len = fread(piece, 1, sizeof piece, stream)) > 0)
+        b3_hasher_update(&hasher, piece, len, &count);
+    b3_hasher_finalize(&hasher, hash, B3_HASH_LEN, &count);
 }
 
 int main(int argc, char **argv) {

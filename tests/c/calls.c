@@ -1,53 +1,8 @@
-/* Calls each function of include/b3.h as C does. Standard input has a line for each length of an input of the bytes 0, 1, .., 250, 0, ..:
- * the length, and 131 bytes of the extended output in the modes hash, keyed_hash and derive_key, in hexadecimal digits. The arguments are
- * the key, of 32 characters, and the context. Inputs and outputs end where memory ends, so that a byte too far is a fault.
- * The last line is `N passed, M failed`. */
-#include "b3.h"
+/* Calls each function of include/b3.h but those of hashers, as C does. */
+#include "told.h"
 #include <pthread.h>
-#include <stdio.h>
-#include <stdlib.h>
-#include <string.h>
-#include <sys/mman.h>
-#include <unistd.h>
 
-enum { MOST = 102400, TOLD = 131, THREADS = 2, ROUNDS = 200 };
-
-static const uint8_t *key, *context;
-static size_t context_len;
-static uint8_t *input_end, *output_end;
-static long passed, failed;
-
-static void shows(int holds, const char *what, size_t len) {
-    if (holds) {
-        passed++;
-    } else {
-        failed++;
-        printf("FAILED %s of %zu\n", what, len);
-    }
-}
-
-/* Where so many bytes end and nothing can be read or written behind them. */
-static uint8_t *end_of_memory(size_t bytes) {
-    size_t page = (size_t)sysconf(_SC_PAGESIZE), room = (bytes + page - 1) / page * page;
-    uint8_t *start = mmap(NULL, room + page, PROT_READ | PROT_WRITE, MAP_PRIVATE | MAP_ANONYMOUS, -1, 0);
-    if (start == MAP_FAILED || mprotect(start + room, page, PROT_NONE) != 0) {
-        perror("calls");
-        exit(1);
-    }
-    return start + room;
-}
-
-static uint8_t *input_of(size_t len) {
-    uint8_t *input = input_end - len;
-    for (size_t i = 0; i < len; i++)
-        input[i] = (uint8_t)(i % 251);
-    return input;
-}
-
-static uint64_t chunks_of(size_t len) { return len <= B3_CHUNK_LEN ? 1 : (len + B3_CHUNK_LEN - 1) / B3_CHUNK_LEN; }
-
-/* The compressions of a hash: one for each block, and one for each parent. */
-static uint64_t work_of(size_t len) { return (len <= 64 ? 1 : (len + 63) / 64) + chunks_of(len) - 1; }
+enum { THREADS = 2, ROUNDS = 200 };
 
 static size_t left_of(size_t len) {
     size_t left = B3_CHUNK_LEN;
@@ -84,17 +39,15 @@ static void whole_calls(const uint8_t *input, size_t len, uint8_t told[3][TOLD])
 }
 
 static void extended_calls(const uint8_t *input, size_t len, uint8_t told[3][TOLD]) {
-    const uint8_t *keys[3] = {key, key, context};
-    size_t key_lens[3] = {0, 32, context_len};
     for (uint32_t mode = 0; mode < 3; mode++) {
         int same = 1;
         for (size_t at = 0; at <= TOLD; at += 13)
             for (size_t more = 0; at + more <= TOLD; more += 37) {
-                uint64_t count = 0, touched = more == 0 ? 0 : (at + more - 1) / 64 - at / 64 + 1;
+                uint64_t count = 0;
                 uint8_t *out = output_end - more;
-                same &= b3_extended(mode, keys[mode], key_lens[mode], input, len, at, out, more, &count) == B3_DONE &&
+                same &= b3_extended(mode, key_of(mode), key_len_of(mode), input, len, at, out, more, &count) == B3_DONE &&
                         memcmp(out, told[mode] + at, more) == 0 &&
-                        count == (mode == 2 ? work_of(context_len) : 0) + work_of(len) - 1 + touched;
+                        count == mode_work(mode) + work_of(len) - 1 + touched(at, more);
             }
         shows(same, "b3_extended", len);
     }
@@ -205,28 +158,12 @@ static void threads(uint8_t told[3][TOLD]) {
     }
 }
 
-static void read_digits(uint8_t *to) {
-    for (int i = 0; i < TOLD; i++) {
-        unsigned byte;
-        if (scanf("%2x", &byte) != 1)
-            exit(1);
-        to[i] = (uint8_t)byte;
-    }
-}
-
 int main(int argc, char **argv) {
-    if (argc != 3 || strlen(argv[1]) != B3_KEY_LEN)
+    if (!start(argc, argv))
         return 2;
-    key = (const uint8_t *)argv[1];
-    context = (const uint8_t *)argv[2];
-    context_len = strlen(argv[2]);
-    input_end = end_of_memory(MOST);
-    output_end = end_of_memory(TOLD);
     size_t len;
     static uint8_t told[3][TOLD];
-    while (scanf("%zu", &len) == 1 && len <= MOST) {
-        for (int mode = 0; mode < 3; mode++)
-            read_digits(told[mode]);
+    while (read_told(&len, told)) {
         const uint8_t *input = input_of(len);
         whole_calls(input, len, told);
         extended_calls(input, len, told);
@@ -237,6 +174,5 @@ int main(int argc, char **argv) {
     }
     refusals();
     borders();
-    printf("%ld passed, %ld failed\n", passed, failed);
-    return failed != 0;
+    return ends();
 }

@@ -26,3 +26,15 @@ parent_answer key_len = if is_tree_key key_len then 0 else 2
 -- of a root: 2 where a tree has no such key, 1 where the output has not 32 bytes
 abbrev pub root_answer : ℕ → ℕ → ℕ
 root_answer key_len out_len = if is_tree_key key_len then hash_answer out_len else 2
+
+-- of a hasher's first call: 2 where there is no such mode
+abbrev pub init_answer : ℕ → ℕ → ℕ
+init_answer number key_len = if is_mode number key_len then 0 else 2
+
+-- why a hasher's hash is refused: 1 where the output has not 32 bytes, 5 where it is no hasher
+abbrev pub finalize_refusal : ℕ → ℕ
+finalize_refusal out_len = if out_len == 32 then 5 else 1
+
+-- why so many bytes of its extended output from a position on are refused: 3 where they reach past its end, 5 where it is no hasher
+abbrev pub read_refusal : ℕ → ℕ → ℕ
+read_refusal position out_len = if nat_lt (2 ^ 64 - 1) (position + out_len) then 3 else 5

@@ -1,3 +1,4 @@
 pub mod Answers
+pub mod Hashers
 pub mod Modes
 pub mod Nodes

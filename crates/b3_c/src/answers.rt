@@ -14,3 +14,6 @@ pub(crate) const BAD_POSITION: u32 = 3;
 
 /// The bytes are no subtree at this place of an input of fewer than 2^64 bytes.
 pub(crate) const BAD_SUBTREE: u32 = 4;
+
+/// What is handed in as a hasher is none that `b3_hasher_init` made.
+pub(crate) const BAD_HASHER: u32 = 5;

@@ -6,12 +6,16 @@
 //! of the caller's own.
 //!
 //! - `whole` hashes bytes that are at hand: `b3_hash`, `b3_keyed_hash`, `b3_derive_key`, `b3_extended`.
-//! - `nodes` hashes a tree node by node, for streams and for threads of the caller's own: `b3_subtree`, `b3_parent`, `b3_root`.
+//! - `hashers` hashes bytes that come in pieces, by a hasher that the caller keeps: `b3_hasher_init`, `b3_hasher_update`,
+//!   `b3_hasher_finalize`, `b3_hasher_extended`.
+//! - `nodes` hashes a tree node by node, for threads of the caller's own: `b3_subtree`, `b3_parent`, `b3_root`.
 #![tactic(auto)]
 
 mod answers;
+mod hashers;
 mod nodes;
 mod whole;
 
+pub use hashers::{b3_hasher_extended, b3_hasher_finalize, b3_hasher_init, b3_hasher_update};
 pub use nodes::{b3_parent, b3_root, b3_subtree};
 pub use whole::{b3_derive_key, b3_extended, b3_hash, b3_keyed_hash};

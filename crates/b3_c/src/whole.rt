@@ -1,6 +1,6 @@
 //! Bytes that are at hand, at once.
 
-ghost use Rattle.std.specs.Prelude.{◌≡◌, ◌≢◌, ◌-◌, false, true, MatchOption, length};
+ghost use Rattle.std.specs.Prelude.{◌≡◌, ◌≢◌, ◌+◌, ◌-◌, ◌^◌, ◌<◌, false, true, MatchOption, length};
 ghost use Rattle.b3_core.specs.ExtendedOutput.{blocks_touched, output_of};
 ghost use Rattle.b3_core.specs.Modes.{derive_mode, digest_of, hash_of, keyed_mode};
 ghost use Rattle.b3_core.specs.Tree.{tree_top};
@@ -104,16 +104,25 @@ pub extern "C" fn b3_extended(
     let Some(mode) = mode_of(mode, key, work) else {
         return BAD_KEY;
     };
-    let mut reader = OutputReader::new(Top::of_input(&mode, bytes, work));
+    read_output(Top::of_input(&mode, bytes, work), position, out, work);
+    DONE
+}
+
+/// Fills `out` with the extended output of a root from a position on.
+pub(crate) fn read_output(root: Top, position: u64, out: &mut [u8], work: &mut Work)
+    requires { position + length out.old < 2 ^ 64 }
+    ensures bytes { out.new ≡ output_of root position (length out.old) }
+    ensures count { work.new ≡ counted work.old (blocks_touched position (length out.old)) }
+{
+    let mut reader = OutputReader::new(root);
     reader.set_position(position);
     let Ok(()) = reader.fill(out, work) else {
         unreachable!()
     };
-    DONE
 }
 
-// The mode of a number with its key or context, if there is one.
-fn mode_of(number: u32, key: &[u8], work: &mut Work) -> Option<Mode>
+/// The mode of a number with its key or context, if there is one.
+pub(crate) fn mode_of(number: u32, key: &[u8], work: &mut Work) -> Option<Mode>
     ensures mode { MatchOption result (is_mode number (length key.now) ≡ false)
         (λ mode. (is_mode number (length key.now) ≡ true) × (mode ≡ mode_of number key.now)) }
     ensures count { MatchOption result (work.new ≡ work.old)

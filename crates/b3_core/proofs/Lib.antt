@@ -2,6 +2,7 @@ mod StandardFacts
 pub mod EachLane
 pub mod WholeChunks
 pub mod Hashings
+pub mod InPlaces
 pub mod Nodes
 pub mod OutputBytes
 pub mod SubtreePlaces

@@ -1,6 +1,8 @@
 pub mod Compression
 pub mod ExtendedOutput
 pub mod Hashers
+pub mod HasherStates
+pub mod Kept
 pub mod Lanes
 pub mod Laws
 pub mod Modes

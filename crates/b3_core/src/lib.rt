@@ -12,7 +12,8 @@
 //!   `Top::of_input` is the node from which it comes, and `Top::of_subtree` that of a subtree within an input, which
 //!   `is_subtree` tests.
 //! - `hash` is the same value by plain recursion, one compression after the other. It takes about three times as long.
-//! - `Hasher` gives that node of bytes that come in pieces, without having them all at once.
+//! - `Hasher` gives that node of bytes that come in pieces, without having them all at once. `HasherState` is what it keeps,
+//!   as plain numbers laid out as C lays them out.
 //! - `OutputReader` reads the extended output; `CountedOutput` reads it as `std::io::Read` does.
 //! - `tree_laws` states the tree in the specification's own words.
 #![tactic(auto)]
@@ -21,10 +22,13 @@ mod chunks;
 mod compression;
 mod counted_output;
 mod hasher;
+mod hasher_state;
+mod kept;
 mod lanes;
 mod laws;
 mod mode;
 mod output;
+mod places;
 mod top;
 mod tree;
 mod vectors;
@@ -38,6 +42,7 @@ pub use compression::{
 };
 pub use counted_output::CountedOutput;
 pub use hasher::Hasher;
+pub use hasher_state::HasherState;
 pub use laws::tree_laws;
 pub use mode::Mode;
 pub use output::{OutputEnd, OutputReader};

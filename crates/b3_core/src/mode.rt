@@ -1,6 +1,6 @@
 //! The modes of the hash (section 2.3): the key words, and the flag of each compression.
 
-ghost use Rattle.std.specs.Prelude.{◌≡◌, ◌≤◌, Some, length};
+ghost use Rattle.std.specs.Prelude.{◌≡◌, ◌≤◌, MatchOption, Some, false, length, nat_lt, true};
 ghost use Rattle.b3_core.specs.Modes.{hash_mode, keyed_mode, derive_mode};
 ghost use Rattle.b3_core.specs.Texts.{mode_name, mode_text};
 ghost use Rattle.b3_core.specs.Tree.{Keying};
@@ -62,6 +62,17 @@ impl Mode {
             key: words_of_key(&key),
             flag: DERIVE_KEY_MATERIAL,
         }
+    }
+
+    /// The mode with these key words and this flag, if the flag can be a mode's.
+    pub(crate) fn of_words(key: [u32; 8], flag: u32) -> Option<Mode>
+        ensures { MatchOption result (nat_lt 64 flag ≡ true)
+            (λ mode. (nat_lt 64 flag ≡ false) × (mode ≡ record { key = key; flag = flag })) }
+    {
+        if flag > DERIVE_KEY_MATERIAL {
+            return None;
+        }
+        Some(Mode { key, flag })
     }
 
     /// The mode's eight key words.

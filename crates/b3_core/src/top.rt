@@ -23,12 +23,14 @@ use std::simd::u32x8;
 /// Each node can give either a chaining value for its parent or, as the root, the hash and the extended
 /// output. So it keeps what both need.
 #[derive(Clone, Copy, PartialEq, Eq)]
+#[repr(C)]
 pub struct Top {
     chaining_value: [u32; 8],
     block_words: [u32; 16],
     counter: u64,
     block_len: u32,
-    flags: u32,
+    // Eight bits, so that ROOT can be added to any.
+    flags: u8,
 }
 
 impl Model for Top {
@@ -49,8 +51,6 @@ impl Model for Top {
       block_len = n.block_len;
       flags = n.flags;
     } };
-
-    ghost invariant = { λ n. n.flags ≤ 68 };
 }
 
 impl Top {
@@ -75,7 +75,7 @@ impl Top {
             block_words: words_of_short_block(tail),
             counter: number,
             block_len: tail.len() as u32,
-            flags: mode.flag() + start_flag(last) + CHUNK_END,
+            flags: (mode.flag() + start_flag(last) + CHUNK_END) as u8,
         }
     }
 
@@ -112,7 +112,7 @@ impl Top {
             block_words: words_of_block(&bytes[at..at + BLOCK_LEN]),
             counter: number + i as u64,
             block_len: 64,
-            flags: mode.flag() + CHUNK_END,
+            flags: (mode.flag() + CHUNK_END) as u8,
         }
     }
 
@@ -136,7 +136,7 @@ impl Top {
             block_words: joined(left, right),
             counter: 0,
             block_len: 64,
-            flags: mode.flag() + PARENT,
+            flags: (mode.flag() + PARENT) as u8,
         }
     }
 
@@ -150,7 +150,7 @@ impl Top {
             &self.block_words,
             self.counter,
             self.block_len,
-            self.flags,
+            u32::from(self.flags),
             work,
         )
     }
@@ -173,7 +173,7 @@ impl Top {
             &self.block_words,
             i,
             self.block_len,
-            self.flags + ROOT,
+            u32::from(self.flags) + ROOT,
             work,
         )
     }

@@ -1,4 +1,0 @@
-use Rattle.b3_core.proofs.hasher.Hasher.put.Goals as goal
-
-pub returns-clause-count : goal.returns-clause-count
-returns-clause-count c = rw (← c.self.view_is) c.push.ensures.count

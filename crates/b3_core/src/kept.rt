@@ -1,0 +1,227 @@
+//! What a hasher keeps, and what becomes of it as bytes come.
+
+ghost use Rattle.std.specs.Prelude.{◌≡◌, ℕ, ◌+◌, ◌-◌, ◌*◌, ◌/◌, ◌^◌, ◌<◌, ◌≤◌, ◌↔◌, ◌++◌, List, [], ◌∷◌, length, reverse, true};
+ghost use Rattle.b3_core.specs.Hashers.{AreFrom, AreSubtrees, Fits, IsBehind, IsLeft, IsNext, Holds, Makes, count_of, joined, kept_work};
+ghost use Rattle.b3_core.specs.Kept.{IsWithin, kept_of, nodes_of};
+ghost use Rattle.b3_core.specs.Tree.{Keying, tree_top};
+ghost use Rattle.b3_core.specs.Work.{NeverFalls, counted, hash_work};
+
+use crate::compression::CHUNK_LEN;
+use crate::mode::Mode;
+use crate::places::{Stack, Subtree, Tail};
+use crate::top::Top;
+use crate::wide::wide_top;
+use crate::work::Work;
+
+/// What a hasher keeps, laid out as C lays it out: one node for each whole subtree, and the bytes behind these. Each call is
+/// told the mode.
+#[derive(Clone, Copy)]
+#[repr(C)]
+pub(crate) struct Kept {
+    // Whole subtrees, each greater than those behind it.
+    subtrees: Stack,
+    // The bytes beneath them.
+    whole: u64,
+    // The bytes behind them.
+    tail: Tail,
+}
+
+impl Kept {
+    /// What is kept of no bytes.
+    pub(crate) fn new() -> Kept
+        ensures nothing { (p : Keying) → kept_of p result ≡ record { mode = p; subtrees = []; whole = 0; tail = [] } }
+        ensures within { IsWithin result }
+    {
+        Kept {
+            subtrees: Stack::new(),
+            whole: 0,
+            tail: Tail::new(),
+        }
+    }
+
+    /// Keeps no bytes.
+    pub(crate) fn clear(&mut self)
+        ensures nothing { (p : Keying) → kept_of p self.new ≡ record { mode = p; subtrees = []; whole = 0; tail = [] } }
+        ensures within { IsWithin self.new }
+    {
+        self.subtrees.clear();
+        self.whole = 0;
+        self.tail.clear();
+    }
+
+    /// Whether its lengths are those of places that there are.
+    pub(crate) fn is_within(&self) -> bool
+        ensures { result ≡ true ↔ IsWithin self.now }
+    {
+        self.subtrees.fits() && self.tail.fits()
+    }
+
+    /// Gives `bytes` behind those that were given before. They are hashed in whole subtrees as great as they can be.
+    pub(crate) fn update(&mut self, mode: &Mode, bytes: &[u8], work: &mut Work)
+        ensures bytes { (x : List ℕ) → Holds (kept_of mode.now self.old) x → length x + length bytes.now < 2 ^ 64
+            → Holds (kept_of mode.now self.new) (x ++ bytes.now) }
+        ensures count { (x : List ℕ) → Holds (kept_of mode.now self.old) x → length x + length bytes.now < 2 ^ 64
+            → Makes (kept_work (kept_of mode.now self.old).subtrees) (kept_work (kept_of mode.now self.new).subtrees) work.old work.new }
+        ensures never_falls { NeverFalls work.old work.new }
+        ensures within { IsWithin self.old → IsWithin self.new }
+    {
+        let mut rest = self.fill_tail(mode, bytes, work);
+        while rest.len() >= CHUNK_LEN {
+            let level = self.next_level(rest.len() / CHUNK_LEN);
+            let (front, behind) = rest.split_at(CHUNK_LEN << level);
+            let top = wide_top(mode, front, self.number(), work);
+            self.put(mode, Subtree { level, top }, work);
+            rest = behind;
+        }
+        self.tail.extend(rest);
+    }
+
+    // Fills up the chunk that was begun, if one was, and answers the bytes behind.
+    fn fill_tail<'a>(&mut self, mode: &Mode, bytes: &'a [u8], work: &mut Work) -> &'a [u8]
+        ensures bytes { (x : List ℕ) → Holds (kept_of mode.now self.old) x → length x + length bytes.now < 2 ^ 64
+            → IsLeft (kept_of mode.now self.old) x bytes.now work.old (kept_of mode.now self.new) result.now work.new }
+        ensures never_falls { NeverFalls work.old work.new }
+        ensures within { IsWithin self.old → IsWithin self.new }
+    {
+        if self.tail.is_empty() {
+            return bytes;
+        }
+        let room = self.tail.room();
+        let (front, rest) = bytes.split_at(room.min(bytes.len()));
+        self.tail.extend(front);
+        if self.tail.is_full() {
+            let top = Top::of_chunk(mode, self.tail.as_slice(), self.number(), work);
+            self.tail.clear();
+            self.put(mode, Subtree { level: 0, top }, work);
+        }
+        rest
+    }
+
+    /// The number of the chunk behind the whole ones that were given.
+    pub(crate) fn number(&self) -> u64
+        ensures value { result ≡ self.now.whole / 1024 }
+        ensures below { result < 2 ^ 54 }
+    {
+        self.whole / CHUNK_LEN as u64
+    }
+
+    /// Whether a whole subtree of 2^level chunks can stand next: no chunk was begun, and the last node that is kept is one of
+    /// no fewer chunks.
+    pub(crate) fn fits(&self, level: u32) -> bool
+        ensures { (p : Keying) → result ≡ true ↔ Fits level (kept_of p self.now) }
+    {
+        if !self.tail.is_empty() {
+            return false;
+        }
+        match self.subtrees.as_slice().last() {
+            Some(last) => level <= last.level,
+            None => true,
+        }
+    }
+
+    /// Puts a whole subtree of 2^level chunks behind those that were given. `top` is its node.
+    pub(crate) fn append(&mut self, mode: &Mode, top: &Top, level: u32, work: &mut Work)
+        requires { level < 54 }
+        ensures bytes { (x mine : List ℕ) → IsBehind (kept_of mode.now self.old) level top.now x mine
+            → Holds (kept_of mode.now self.new) (x ++ mine) }
+        ensures fits { (x mine : List ℕ) → IsBehind (kept_of mode.now self.old) level top.now x mine
+            → Fits level (kept_of mode.now self.new) }
+        ensures count { (x mine : List ℕ) → IsBehind (kept_of mode.now self.old) level top.now x mine
+            → Makes (kept_work ((level, top.now) ∷ (kept_of mode.now self.old).subtrees))
+            (kept_work (kept_of mode.now self.new).subtrees) work.old work.new }
+        ensures never_falls { NeverFalls work.old work.new }
+    {
+        self.put(mode, Subtree { level, top: *top }, work);
+    }
+
+    // The level of the greatest subtree of no more chunks that is not above the last one.
+    fn next_level(&self, chunks: usize) -> u32
+        requires { 0 < chunks }
+        ensures fits { 2 ^ result ≤ chunks }
+        ensures order { AreFrom result (reverse (nodes_of self.now.subtrees)) }
+    {
+        let most = chunks.ilog2();
+        match self.subtrees.as_slice().last() {
+            Some(last) => most.min(last.level),
+            None => most,
+        }
+    }
+
+    // Puts a whole subtree behind the others.
+    fn put(&mut self, mode: &Mode, next: Subtree, work: &mut Work)
+        requires { next.0 < 64 }
+        ensures tail { self.new.tail ≡ self.old.tail }
+        ensures whole { self.old.whole + 1024 * 2 ^ next.0 < 2 ^ 64 → self.new.whole ≡ self.old.whole + 1024 * 2 ^ next.0 }
+        ensures nodes { (x : List ℕ) → IsNext mode.now (reverse (nodes_of self.old.subtrees)) next x → length x < 2 ^ 64
+            → AreSubtrees mode.now (reverse (nodes_of self.new.subtrees)) x }
+        ensures from { (x : List ℕ) → IsNext mode.now (reverse (nodes_of self.old.subtrees)) next x → length x < 2 ^ 64
+            → AreFrom next.0 (reverse (nodes_of self.new.subtrees)) }
+        ensures count { (x : List ℕ) → IsNext mode.now (reverse (nodes_of self.old.subtrees)) next x → length x < 2 ^ 64
+            → Makes (kept_work (next ∷ reverse (nodes_of self.old.subtrees))) (kept_work (reverse (nodes_of self.new.subtrees))) work.old work.new }
+        ensures never_falls { NeverFalls work.old work.new }
+        ensures fits { self.old.subtrees.len ≤ 54 → self.new.subtrees.len ≤ 54 }
+    {
+        self.whole = self.whole.wrapping_add((CHUNK_LEN as u64) << next.level);
+        push(mode, &mut self.subtrees, next, work);
+    }
+
+    /// How many bytes were given, if they are fewer than 2^64.
+    pub(crate) fn count(&self) -> u64
+        ensures { (p : Keying) → result ≡ count_of (kept_of p self.now) }
+    {
+        self.whole.wrapping_add(self.tail.len() as u64)
+    }
+
+    /// The node of the tree over all bytes that were given.
+    pub(crate) fn top(&self, mode: &Mode, work: &mut Work) -> Top
+        ensures node { (x : List ℕ) → Holds (kept_of mode.now self.now) x → result ≡ tree_top x 0 mode.now }
+        ensures count { (x : List ℕ) → Holds (kept_of mode.now self.now) x
+            → Makes (kept_work (kept_of mode.now self.now).subtrees) (hash_work (length x) - 1) work.old work.new }
+        ensures never_falls { NeverFalls work.old work.new }
+    {
+        match self.subtrees.as_slice().split_last() {
+            Some((last, before)) if self.tail.is_empty() => joined(mode, before, last.top, work),
+            _ => {
+                let last = Top::of_chunk(mode, self.tail.as_slice(), self.number(), work);
+                joined(mode, self.subtrees.as_slice(), last, work)
+            }
+        }
+    }
+}
+
+// Puts a whole subtree behind others. Two of one level become one of the next.
+fn push(mode: &Mode, subtrees: &mut Stack, next: Subtree, work: &mut Work)
+    ensures nodes { (x : List ℕ) → IsNext mode.now (reverse (nodes_of subtrees.old)) next x → length x < 2 ^ 64
+        → AreSubtrees mode.now (reverse (nodes_of subtrees.new)) x }
+    ensures from { (x : List ℕ) → IsNext mode.now (reverse (nodes_of subtrees.old)) next x → length x < 2 ^ 64
+        → AreFrom next.0 (reverse (nodes_of subtrees.new)) }
+    ensures count { (x : List ℕ) → IsNext mode.now (reverse (nodes_of subtrees.old)) next x → length x < 2 ^ 64
+        → Makes (kept_work (next ∷ reverse (nodes_of subtrees.old))) (kept_work (reverse (nodes_of subtrees.new))) work.old work.new }
+    ensures never_falls { NeverFalls work.old work.new }
+    ensures fits { subtrees.old.len ≤ 54 → subtrees.new.len ≤ 54 }
+{
+    let mut next = next;
+    while let Some(last) = subtrees.as_slice().last() {
+        if last.level != next.level {
+            break;
+        }
+        let top = Top::parent(mode, &last.top, &next.top, work);
+        let level = next.level.saturating_add(1);
+        next = Subtree { level, top };
+        subtrees.pop();
+    }
+    subtrees.push(next);
+}
+
+// The node over subtrees and what stands behind them.
+fn joined(mode: &Mode, subtrees: &[Subtree], behind: Top, work: &mut Work) -> Top
+    ensures node { result ≡ joined mode.now (reverse subtrees.now) behind }
+    ensures count { work.new ≡ counted work.old (2 * length subtrees.now) }
+{
+    let (mut rest, mut top) = (subtrees, behind);
+    while let Some((left, before)) = rest.split_last() {
+        top = Top::parent(mode, &left.top, &top, work);
+        rest = before;
+    }
+    top
+}

@@ -1,0 +1,195 @@
+//! The nodes and the bytes that a hasher keeps, laid out as C lays them out.
+
+ghost use Rattle.std.specs.Prelude.{◌≡◌, ℕ, ◌+◌, ◌-◌, ◌<◌, ◌≤◌, ◌↔◌, ◌++◌, ◌==◌, [], ◌∷◌, Some, length, min, reverse, slice_get, true};
+ghost use Rattle.b3_core.specs.Kept.{nodes_of, tail_of};
+ghost use Rattle.b3_core.specs.Tree.{Inputs};
+
+use crate::compression::CHUNK_LEN;
+use crate::mode::Mode;
+use crate::top::Top;
+use std::marker::Model;
+
+/// The levels of a tree over less than 2^64 bytes.
+pub(crate) const LEVELS: usize = 54;
+
+/// The node over 2^level whole chunks.
+#[derive(Clone, Copy)]
+#[repr(C)]
+pub(crate) struct Subtree {
+    pub(crate) level: u32,
+    pub(crate) top: Top,
+}
+
+impl Model for Subtree {
+    ghost use Rattle.std.specs.Prelude.{ℕ};
+    ghost use Rattle.b3_core.specs.Tree.{Inputs};
+
+    ghost Value = { ℕ × Inputs };
+
+    ghost view = { λ s. (s.level, s.top) };
+
+    ghost inverse = { λ s. record { level = s.0; top = s.1 } };
+}
+
+/// Nodes, the last of them behind the others. A length above the number of places counts as that number.
+#[derive(Clone, Copy)]
+#[repr(C)]
+pub(crate) struct Stack {
+    places: [Subtree; LEVELS],
+    len: u32,
+}
+
+impl Stack {
+    /// No nodes.
+    #[tactic(auto, unfolding(crate::specs::Kept::nodes_of))]
+    pub(crate) fn new() -> Stack
+        ensures nodes { nodes_of result ≡ [] }
+        ensures fits { result.len ≤ 54 }
+    {
+        let blank = Subtree {
+            level: 0,
+            top: Top::of_children(&Mode::hash(), [0; 8], [0; 8]),
+        };
+        Stack {
+            places: [blank; LEVELS],
+            len: 0,
+        }
+    }
+
+    /// Drops all of them.
+    #[tactic(auto, unfolding(crate::specs::Kept::nodes_of))]
+    pub(crate) fn clear(&mut self)
+        ensures nodes { nodes_of self.new ≡ [] }
+        ensures fits { self.new.len ≤ 54 }
+    {
+        self.len = 0;
+    }
+
+    /// Whether the length is at most the number of places.
+    pub(crate) fn fits(&self) -> bool
+        ensures { result ≡ true ↔ self.now.len ≤ 54 }
+    {
+        self.len as usize <= LEVELS
+    }
+
+    /// The nodes.
+    #[tactic(auto, unfolding(crate::specs::Kept::nodes_of))]
+    pub(crate) fn as_slice(&self) -> &[Subtree]
+        ensures value { result.now ≡ nodes_of self.now }
+        ensures fits { length result.now ≤ 54 }
+    {
+        &self.places[..(self.len as usize).min(LEVELS)]
+    }
+
+    /// Drops the last one, if there is one.
+    pub(crate) fn pop(&mut self)
+        ensures rest { (last : ℕ × Inputs) → slice_get (nodes_of self.old) (length (nodes_of self.old) - 1) ≡ Some last
+            → reverse (nodes_of self.old) ≡ last ∷ reverse (nodes_of self.new) }
+        ensures fewer { 0 < length (nodes_of self.old) → length (nodes_of self.new) < length (nodes_of self.old) }
+        ensures fits { self.new.len ≤ 54 }
+    {
+        self.len = self.len.min(LEVELS as u32).saturating_sub(1);
+    }
+
+    /// Puts one behind the others, if there is room.
+    pub(crate) fn push(&mut self, next: Subtree)
+        ensures nodes { length (nodes_of self.old) < 54 → reverse (nodes_of self.new) ≡ next ∷ reverse (nodes_of self.old) }
+        ensures fits { self.old.len ≤ 54 → self.new.len ≤ 54 }
+    {
+        let len = self.len as usize;
+        if len < LEVELS {
+            self.places[len] = next;
+            self.len += 1;
+        }
+    }
+}
+
+/// The bytes of a chunk that was begun. A length above the number of places counts as that number.
+#[derive(Clone, Copy)]
+#[repr(C)]
+pub(crate) struct Tail {
+    len: u32,
+    places: [u8; CHUNK_LEN],
+}
+
+impl Tail {
+    /// No bytes.
+    #[tactic(auto, unfolding(crate::specs::Kept::tail_of))]
+    pub(crate) fn new() -> Tail
+        ensures bytes { tail_of result ≡ [] }
+        ensures fits { result.len ≤ 1024 }
+    {
+        Tail {
+            len: 0,
+            places: [0; CHUNK_LEN],
+        }
+    }
+
+    /// Drops all of them.
+    #[tactic(auto, unfolding(crate::specs::Kept::tail_of))]
+    pub(crate) fn clear(&mut self)
+        ensures bytes { tail_of self.new ≡ [] }
+        ensures fits { self.new.len ≤ 1024 }
+    {
+        self.len = 0;
+    }
+
+    /// Whether the length is at most the number of places.
+    pub(crate) fn fits(&self) -> bool
+        ensures { result ≡ true ↔ self.now.len ≤ 1024 }
+    {
+        self.len as usize <= CHUNK_LEN
+    }
+
+    /// How many they are.
+    #[tactic(auto, unfolding(crate::specs::Kept::tail_of))]
+    pub(crate) fn len(&self) -> usize
+        ensures value { result ≡ length (tail_of self.now) }
+        ensures places { result ≡ min self.now.len 1024 }
+    {
+        (self.len as usize).min(CHUNK_LEN)
+    }
+
+    /// Whether there are none.
+    pub(crate) fn is_empty(&self) -> bool
+        ensures { result ≡ (length (tail_of self.now) == 0) }
+    {
+        self.len() == 0
+    }
+
+    /// Whether they are a whole chunk.
+    pub(crate) fn is_full(&self) -> bool
+        ensures { result ≡ (length (tail_of self.now) == 1024) }
+    {
+        self.len() == CHUNK_LEN
+    }
+
+    /// How many more make a whole chunk.
+    pub(crate) fn room(&self) -> usize
+        ensures { result + length (tail_of self.now) ≡ 1024 }
+    {
+        CHUNK_LEN - self.len()
+    }
+
+    /// The bytes.
+    #[tactic(auto, unfolding(crate::specs::Kept::tail_of))]
+    pub(crate) fn as_slice(&self) -> &[u8]
+        ensures value { result.now ≡ tail_of self.now }
+        ensures fits { length result.now ≤ 1024 }
+    {
+        &self.places[..self.len()]
+    }
+
+    /// Puts bytes behind them, if there is room for all.
+    pub(crate) fn extend(&mut self, bytes: &[u8])
+        ensures bytes { length (tail_of self.old) + length bytes.now ≤ 1024 → tail_of self.new ≡ tail_of self.old ++ bytes.now }
+        ensures fits { self.old.len ≤ 1024 → self.new.len ≤ 1024 }
+    {
+        let len = self.len();
+        if bytes.len() <= self.room() {
+            let end = len + bytes.len();
+            self.places[len..end].copy_from_slice(bytes);
+            self.len = end as u32;
+        }
+    }
+}

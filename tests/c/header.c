@@ -1,0 +1,50 @@
+/* Runs the code that stands in the comments of include/b3.h, which the program `run` cuts out of them: hasher.inc, span.inc and parents.inc.
+ * Writes the hash of standard input, of more than SPAN bytes, by a hasher and then by spans. */
+#include "b3.h"
+#include <stdio.h>
+#include <string.h>
+
+enum { PIECE = 1 << 16, SPAN = 16 * B3_CHUNK_LEN, MOST = 1 << 22 };
+
+static const uint8_t key[1];
+static uint8_t input[MOST];
+static size_t input_len, read_so_far;
+
+static size_t read_piece(uint8_t *piece) {
+    size_t left = input_len - read_so_far, len = left < PIECE ? left : PIECE;
+    memcpy(piece, input + read_so_far, len);
+    read_so_far += len;
+    return len;
+}
+
+static void hash_by_hasher(uint8_t *hash) {
+    static uint8_t piece[PIECE];
+    uint64_t count = 0;
+    size_t len;
+#include "hasher.inc"
+}
+
+static void hash_by_spans(const uint8_t *bytes, size_t len, uint8_t *hash) {
+    static b3_value values[MOST / SPAN];
+    static uint64_t counts[MOST / SPAN];
+    uint64_t count = 0;
+    size_t key_len = 0, last = (len - 1) / SPAN, n, i;
+    for (i = 0; i <= last; i++)
+#include "span.inc"
+#include "parents.inc"
+}
+
+int main(void) {
+    uint8_t hash[B3_HASH_LEN];
+    input_len = fread(input, 1, MOST, stdin);
+    for (int way = 0; way < 2; way++) {
+        if (way == 0)
+            hash_by_hasher(hash);
+        else
+            hash_by_spans(input, input_len, hash);
+        for (size_t j = 0; j < sizeof hash; j++)
+            printf("%02x", hash[j]);
+        puts("");
+    }
+    return 0;
+}
