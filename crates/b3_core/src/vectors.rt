@@ -1,10 +1,10 @@
 //! Vectors of words: the steps of the compression function, in each lane. The rows of one state have four lanes, the states
 //! of some compressions side by side a lane for each.
 
-ghost use Rattle.std.specs.Prelude.{◌≡◌, ℕ, ◌^◌, ◌<◌, [], ◌∷◌, slice_index, bit_xor};
+ghost use Rattle.std.specs.Prelude.{◌≡◌, ℕ, ◌^◌, ◌<◌, slice_index, bit_xor};
 ghost use Rattle.b3_core.specs.Compression.{add32, turned, xor_turn, mix};
 
-use std::simd::{Simd, u32x4};
+use std::simd::Simd;
 
 /// A vector of words, one in each lane.
 pub(crate) trait Words: Copy {
@@ -110,28 +110,4 @@ pub(crate) fn mix<V: Words>(a: V, b: V, c: V, d: V, x: V, y: V) -> (V, V, V, V)
     let c2 = c1.add(d2.turn(8));
     let b2 = xor_turn(b1, c2, 7);
     (a2, b2, c2, d2)
-}
-
-// The words moved down by one lane, the first one to the end.
-#[inline(always)]
-pub(crate) fn down_one(x: u32x4) -> u32x4
-    ensures { result ≡ slice_index x 1 ∷ slice_index x 2 ∷ slice_index x 3 ∷ slice_index x 0 ∷ [] }
-{
-    x.rotate_elements_left::<1>()
-}
-
-// The words moved down by two lanes, the first ones to the end.
-#[inline(always)]
-pub(crate) fn down_two(x: u32x4) -> u32x4
-    ensures { result ≡ slice_index x 2 ∷ slice_index x 3 ∷ slice_index x 0 ∷ slice_index x 1 ∷ [] }
-{
-    x.rotate_elements_left::<2>()
-}
-
-// The words moved down by three lanes, the first ones to the end.
-#[inline(always)]
-pub(crate) fn down_three(x: u32x4) -> u32x4
-    ensures { result ≡ slice_index x 3 ∷ slice_index x 0 ∷ slice_index x 1 ∷ slice_index x 2 ∷ [] }
-{
-    x.rotate_elements_left::<3>()
 }
