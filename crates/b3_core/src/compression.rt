@@ -84,20 +84,19 @@ fn message_of(m: [u32; 16]) -> (u32x4, u32x4, u32x4, u32x4)
 }
 
 // The state after the seven rounds, which count as one compression.
-#[inline(always)]
 fn state_after(
-    h: [u32; 8],
-    m: [u32; 16],
+    h: &[u32; 8],
+    m: &[u32; 16],
     counter: u64,
     block_len: u32,
     flags: u32,
     work: &mut Work,
 ) -> (u32x4, u32x4, u32x4, u32x4)
-    ensures state { rows_state slice_index 0 result ≡ rounds 7 (start_state h counter block_len flags) m }
+    ensures state { rows_state slice_index 0 result ≡ rounds 7 (start_state h.now counter block_len flags) m.now }
     ensures count { work.new ≡ counted work.old 1 }
 {
-    let v = start_rows(h, counter, block_len, flags);
-    let message = message_of(m);
+    let v = start_rows(*h, counter, block_len, flags);
+    let message = message_of(*m);
     seven_rounds(v, message, work)
 }
 
@@ -131,7 +130,6 @@ fn output_words(h: [u32; 8], v: (u32x4, u32x4, u32x4, u32x4)) -> [u32; 16]
 
 /// The chaining values after a block, from those before it, of states side by side. The last rows have the counters, the blocks'
 /// lengths and the flags.
-#[inline(always)]
 pub(crate) fn compress_rows<V: Quads>(
     h: (V, V),
     m: (V, V, V, V),
@@ -161,9 +159,8 @@ pub fn compress(
     ensures words { result ≡ compress_of chaining_value.now block_words.now counter block_len flags }
     ensures count { work.new ≡ counted work.old 1 }
 {
-    let h = *chaining_value;
-    let v = state_after(h, *block_words, counter, block_len, flags, work);
-    output_words(h, v)
+    let v = state_after(chaining_value, block_words, counter, block_len, flags, work);
+    output_words(*chaining_value, v)
 }
 
 /// The first 8 words that a block compresses to, the new chaining value.
@@ -178,13 +175,6 @@ pub(crate) fn compress_to_value(
     ensures value { result ≡ take 8 (compress_of chaining_value.now block_words.now counter block_len flags) }
     ensures count { work.new ≡ counted work.old 1 }
 {
-    let v = state_after(
-        *chaining_value,
-        *block_words,
-        counter,
-        block_len,
-        flags,
-        work,
-    );
+    let v = state_after(chaining_value, block_words, counter, block_len, flags, work);
     low_words(v)
 }

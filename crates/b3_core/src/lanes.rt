@@ -102,8 +102,16 @@ fn start_states<V: Words>(h: [V; 8], t_low: V, t_high: V, d: u32) -> [V; 16]
     ]
 }
 
-// The chaining value after a whole block, from that before it, in each lane: one compression for each.
-fn compress<V: Words>(h: &mut [V; 8], m0: [V; 16], t_low: V, t_high: V, d: u32, work: &mut Work)
+// The chaining value after a whole block, from that before it, in each lane: one compression for each. It takes the step of the
+// chunks, which it doesn't use, so that there is one for each caller, into which it goes with no copy of the block.
+fn compress<V: Words, const STEP: usize>(
+    h: &mut [V; 8],
+    m0: [V; 16],
+    t_low: V,
+    t_high: V,
+    d: u32,
+    work: &mut Work,
+)
     ensures values { (j t : ℕ) → j < V.LANES → V.word t_low j ≡ t % 2 ^ 32 → V.word t_high j ≡ t / 2 ^ 32
         → lane V.word j h.new ≡ take 8 (compress_of (lane V.word j h.old) (lane V.word j m0) t 64 d) }
     ensures count { work.new ≡ counted work.old V.LANES }
@@ -177,6 +185,26 @@ fn keys<V: Words>(key: [u32; 8]) -> [V; 8]
     [k0, k1, k2, k3, k4, k5, k6, k7]
 }
 
+// The chaining value of each lane's chunk after block `k`, from that before it.
+fn compress_block<V: Chunks, const STEP: usize>(
+    h: &mut [V; 8],
+    bytes: &[u8],
+    k: usize,
+    t_low: V,
+    t_high: V,
+    d: u32,
+    work: &mut Work,
+)
+    requires len { 1024 + 1024 * (STEP * V.LANES) ≤ length bytes.now + 1024 * STEP }
+    requires block { k < 16 }
+    ensures values { (j t : ℕ) → j < V.LANES → V.word t_low j ≡ t % 2 ^ 32 → V.word t_high j ≡ t / 2 ^ 32
+        → lane V.word j h.new ≡ take 8 (compress_of (lane V.word j h.old) (block_words_of (block (chunk_bytes bytes.now (STEP * j)) k)) t 64 d) }
+    ensures count { work.new ≡ counted work.old V.LANES }
+{
+    let m = blocks_at::<V, STEP>(bytes, k);
+    compress::<V, STEP>(h, m, t_low, t_high, d, work);
+}
+
 /// The chaining value of each lane's chunk after all of its blocks but the last. The first lane has the first chunk, of the
 /// given number, and from one lane's chunk to the next lane's there are `STEP`.
 pub(crate) fn chains<V: Chunks, const STEP: usize>(
@@ -195,8 +223,8 @@ pub(crate) fn chains<V: Chunks, const STEP: usize>(
     let mut h = keys(mode.key());
     // Its proof names the loop by the label.
     'blocks: for k in 0..15 {
-        let m = blocks_at::<V, STEP>(bytes, k);
-        compress(&mut h, m, t_low, t_high, mode.flag() + start_flag(k), work);
+        let d = mode.flag() + start_flag(k);
+        compress_block::<V, STEP>(&mut h, bytes, k, t_low, t_high, d, work);
     }
     h
 }
@@ -214,17 +242,10 @@ pub(crate) fn chunk_values<V: Chunks, const STEP: usize>(
     ensures count { work.new ≡ counted work.old (16 * V.LANES) }
 {
     let mut values = chains::<V, STEP>(mode, bytes, number, work);
-    let last_block = blocks_at::<V, STEP>(bytes, 15);
     let t_low = V::low_words(number, STEP as u64);
     let t_high = V::high_words(number, STEP as u64);
-    compress(
-        &mut values,
-        last_block,
-        t_low,
-        t_high,
-        mode.flag() + CHUNK_END,
-        work,
-    );
+    let d = mode.flag() + CHUNK_END;
+    compress_block::<V, STEP>(&mut values, bytes, 15, t_low, t_high, d, work);
     values
 }
 
@@ -237,7 +258,7 @@ fn block_parents(mode: &Mode, block: [u32x8; 16], work: &mut Work) -> [u32x8; 8]
 {
     let none = u32x8::splat(0);
     let mut values = keys(mode.key());
-    compress(&mut values, block, none, none, mode.flag() + PARENT, work);
+    compress::<u32x8, 0>(&mut values, block, none, none, mode.flag() + PARENT, work);
     values
 }
 
