@@ -73,13 +73,13 @@ fn start_rows(h: [u32; 8], counter: u64, block_len: u32, flags: u32) -> (u32x4, 
 
 // The message of a block.
 #[inline(always)]
-fn message_of(m: [u32; 16]) -> (u32x4, u32x4, u32x4, u32x4)
-    ensures { rows_message slice_index 0 result ≡ m }
+fn message_of(m: &[u32; 16]) -> (u32x4, u32x4, u32x4, u32x4)
+    ensures { rows_message slice_index 0 result ≡ m.now }
 {
-    let a = u32x4::from_array([m[0], m[1], m[2], m[3]]);
-    let b = u32x4::from_array([m[4], m[5], m[6], m[7]]);
-    let c = u32x4::from_array([m[8], m[9], m[10], m[11]]);
-    let d = u32x4::from_array([m[12], m[13], m[14], m[15]]);
+    let a = u32x4::from_slice(&m[..4]);
+    let b = u32x4::from_slice(&m[4..8]);
+    let c = u32x4::from_slice(&m[8..12]);
+    let d = u32x4::from_slice(&m[12..]);
     u32x4::message(a, b, c, d)
 }
 
@@ -96,7 +96,7 @@ fn state_after(
     ensures count { work.new ≡ counted work.old 1 }
 {
     let v = start_rows(*h, counter, block_len, flags);
-    let message = message_of(*m);
+    let message = message_of(m);
     seven_rounds(v, message, work)
 }
 
