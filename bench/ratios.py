@@ -7,7 +7,7 @@ import tempfile
 import time
 
 TURNS = 25
-KIB = [1, 2, 4, 6, 8, 12, 16, 31, 32]
+KIB = [1, 2, 3, 4, 5, 6, 7, 8, 12, 16, 24, 31, 32]
 MIB = int(sys.argv[1])
 
 

@@ -1,5 +1,6 @@
 mod StandardFacts
 pub mod EachLane
+pub mod EachRow
 pub mod WholeChunks
 pub mod Hashings
 pub mod InPlaces

@@ -153,6 +153,12 @@ four_chunks_join x c p len =
     rw (eighth_one x c 0 p, eighth_one x c 1 p, eighth_one x c 2 p, eighth_one x c 3 p)
     (four_join x c 0 0 p (omega (arith, len)) ∙ all_top x c 1024 1 4096 p len)
 
+-- two chunks under their parent
+pub two_chunks_join : (x : List ℕ) (c : ℕ) (p : Keying) → length x ≡ 2048 → parent_top (chunk_at x c p 0) (chunk_at x c p 1) p ≡ tree_top x c p
+two_chunks_join x c p len =
+    rw (eighth_one x c 0 p, eighth_one x c 1 p)
+    (pair_joins x c 0 0 p (omega (arith, len)) ∙ all_top x c 1024 1 2048 p len)
+
 -- eight eighths under their seven parents
 pub eighths_join : (x : List ℕ) (c k : ℕ) (p : Keying) → length x ≡ 8192 * 2 ^ k
     → let e = group_top (2 ^ k) x c p in

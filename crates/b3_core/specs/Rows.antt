@@ -1,13 +1,39 @@
--- The state of a compression as four rows of four words (BLAKE3, section 2.2). G ends by turning its last word by 8 bits and
--- begins by turning it by 16 more. So the last row is kept as it was before that turn by 8.
-use Rattle.std.specs.Prelude.{ℕ, List, [], ◌∷◌, slice_index}
+-- The state of a compression as four rows of four words (BLAKE3, section 2.2), of one compression or of some side by side: each four
+-- lanes of a vector are a row of one of them. G ends by turning its last word by 8 bits and begins by turning it by 16 more. So the
+-- last row is kept as it was before that turn by 8.
+use Rattle.std.specs.Prelude.{◌≡◌, ℕ, ◌+◌, ◌*◌, List, [], ◌∷◌}
 use Rattle.b3_core.specs.Compression.{turned}
-use Rattle.b3_core.specs.declared.compression.Rows.{Rows}
 
--- the sixteen words of four rows
-abbrev pub state_of : Rows → List ℕ
-state_of v =
-    slice_index v.a 0 ∷ slice_index v.a 1 ∷ slice_index v.a 2 ∷ slice_index v.a 3
-    ∷ slice_index v.b 0 ∷ slice_index v.b 1 ∷ slice_index v.b 2 ∷ slice_index v.b 3
-    ∷ slice_index v.c 0 ∷ slice_index v.c 1 ∷ slice_index v.c 2 ∷ slice_index v.c 3
-    ∷ turned 8 (slice_index v.d 0) ∷ turned 8 (slice_index v.d 1) ∷ turned 8 (slice_index v.d 2) ∷ turned 8 (slice_index v.d 3) ∷ []
+-- row i of a vector has these words, where `word` tells the word of a vector's lane
+abbrev pub IsRow : {V : Type 0} → (V → ℕ → ℕ) → ℕ → V → ℕ → ℕ → ℕ → ℕ → Type 0
+IsRow word i v a b c d = (word v (4 * i) ≡ a) × (word v (4 * i + 1) ≡ b) × (word v (4 * i + 2) ≡ c) × (word v (4 * i + 3) ≡ d)
+
+-- the words of rows i of four vectors
+abbrev pub rows_words : {V : Type 0} → (V → ℕ → ℕ) → ℕ → V → V → V → V → List ℕ
+rows_words word i a b c d =
+    word a (4 * i) ∷ word a (4 * i + 1) ∷ word a (4 * i + 2) ∷ word a (4 * i + 3)
+    ∷ word b (4 * i) ∷ word b (4 * i + 1) ∷ word b (4 * i + 2) ∷ word b (4 * i + 3)
+    ∷ word c (4 * i) ∷ word c (4 * i + 1) ∷ word c (4 * i + 2) ∷ word c (4 * i + 3)
+    ∷ word d (4 * i) ∷ word d (4 * i + 1) ∷ word d (4 * i + 2) ∷ word d (4 * i + 3) ∷ []
+
+-- state i of four rows of states
+abbrev pub rows_state : {V : Type 0} → (V → ℕ → ℕ) → ℕ → V × V × V × V → List ℕ
+rows_state word i v =
+    word v.0 (4 * i) ∷ word v.0 (4 * i + 1) ∷ word v.0 (4 * i + 2) ∷ word v.0 (4 * i + 3)
+    ∷ word v.1 (4 * i) ∷ word v.1 (4 * i + 1) ∷ word v.1 (4 * i + 2) ∷ word v.1 (4 * i + 3)
+    ∷ word v.2 (4 * i) ∷ word v.2 (4 * i + 1) ∷ word v.2 (4 * i + 2) ∷ word v.2 (4 * i + 3)
+    ∷ turned 8 (word v.3 (4 * i)) ∷ turned 8 (word v.3 (4 * i + 1)) ∷ turned 8 (word v.3 (4 * i + 2)) ∷ turned 8 (word v.3 (4 * i + 3)) ∷ []
+
+-- message i, where the first two vectors have the words of even and of odd numbers of its first half, and the others those of its second
+abbrev pub rows_message : {V : Type 0} → (V → ℕ → ℕ) → ℕ → V × V × V × V → List ℕ
+rows_message word i m =
+    word m.0 (4 * i) ∷ word m.1 (4 * i) ∷ word m.0 (4 * i + 1) ∷ word m.1 (4 * i + 1)
+    ∷ word m.0 (4 * i + 2) ∷ word m.1 (4 * i + 2) ∷ word m.0 (4 * i + 3) ∷ word m.1 (4 * i + 3)
+    ∷ word m.2 (4 * i) ∷ word m.3 (4 * i) ∷ word m.2 (4 * i + 1) ∷ word m.3 (4 * i + 1)
+    ∷ word m.2 (4 * i + 2) ∷ word m.3 (4 * i + 2) ∷ word m.2 (4 * i + 3) ∷ word m.3 (4 * i + 3) ∷ []
+
+-- chaining value i of two rows of chaining values
+abbrev pub rows_value : {V : Type 0} → (V → ℕ → ℕ) → ℕ → V × V → List ℕ
+rows_value word i h =
+    word h.0 (4 * i) ∷ word h.0 (4 * i + 1) ∷ word h.0 (4 * i + 2) ∷ word h.0 (4 * i + 3)
+    ∷ word h.1 (4 * i) ∷ word h.1 (4 * i + 1) ∷ word h.1 (4 * i + 2) ∷ word h.1 (4 * i + 3) ∷ []

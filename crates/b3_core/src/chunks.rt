@@ -118,9 +118,9 @@ fn row(bytes: &[u8], at: usize) -> u32x4
     ])
 }
 
-// Four words in a row, and behind them the four that stand so many bytes further on.
+/// Four words in a row, and behind them the four that stand so many bytes further on.
 #[inline(always)]
-fn two_rows(bytes: &[u8], at: usize, further: usize) -> u32x8
+pub(crate) fn two_rows(bytes: &[u8], at: usize, further: usize) -> u32x8
     requires { at + further + 16 ≤ length bytes.now }
     ensures front { (i : ℕ) → i < 4 → slice_index result i ≡ word_at bytes.now (at + 4 * i) }
     ensures back { (i : ℕ) → i < 4 → slice_index result (i + 4) ≡ word_at bytes.now (at + further + 4 * i) }

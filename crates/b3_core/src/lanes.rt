@@ -11,7 +11,7 @@ use crate::chunks::Chunks;
 use crate::compression::{CHUNK_END, IV, PARENT};
 use crate::mode::Mode;
 use crate::top::start_flag;
-use crate::vectors::{Words, mix};
+use crate::vectors::{Words, mix_two};
 use crate::work::Work;
 use std::simd::u32x8;
 
@@ -26,10 +26,10 @@ fn columns<V: Words>(v: [V; 16], m: [V; 16]) -> [V; 16]
         v8, v9, v10, v11,
         v12, v13, v14, v15,
     ] = v;
-    let (v0, v4, v8, v12) = mix(v0, v4, v8, v12, m[0], m[1]);
-    let (v1, v5, v9, v13) = mix(v1, v5, v9, v13, m[2], m[3]);
-    let (v2, v6, v10, v14) = mix(v2, v6, v10, v14, m[4], m[5]);
-    let (v3, v7, v11, v15) = mix(v3, v7, v11, v15, m[6], m[7]);
+    let (v0, v4, v8, v12, v1, v5, v9, v13) =
+        mix_two((v0, v4, v8, v12), (v1, v5, v9, v13), (m[0], m[1]), (m[2], m[3]));
+    let (v2, v6, v10, v14, v3, v7, v11, v15) =
+        mix_two((v2, v6, v10, v14), (v3, v7, v11, v15), (m[4], m[5]), (m[6], m[7]));
     [
         v0, v1, v2, v3,
         v4, v5, v6, v7,
@@ -49,10 +49,10 @@ fn diagonals<V: Words>(v: [V; 16], m: [V; 16]) -> [V; 16]
         v8, v9, v10, v11,
         v12, v13, v14, v15,
     ] = v;
-    let (v0, v5, v10, v15) = mix(v0, v5, v10, v15, m[8], m[9]);
-    let (v1, v6, v11, v12) = mix(v1, v6, v11, v12, m[10], m[11]);
-    let (v2, v7, v8, v13) = mix(v2, v7, v8, v13, m[12], m[13]);
-    let (v3, v4, v9, v14) = mix(v3, v4, v9, v14, m[14], m[15]);
+    let (v0, v5, v10, v15, v1, v6, v11, v12) =
+        mix_two((v0, v5, v10, v15), (v1, v6, v11, v12), (m[8], m[9]), (m[10], m[11]));
+    let (v2, v7, v8, v13, v3, v4, v9, v14) =
+        mix_two((v2, v7, v8, v13), (v3, v4, v9, v14), (m[12], m[13]), (m[14], m[15]));
     [
         v0, v1, v2, v3,
         v4, v5, v6, v7,
@@ -102,8 +102,16 @@ fn start_states<V: Words>(h: [V; 8], t_low: V, t_high: V, d: u32) -> [V; 16]
     ]
 }
 
-// The chaining value after a whole block, from that before it, in each lane: one compression for each.
-fn compress<V: Words>(h: &mut [V; 8], m0: [V; 16], t_low: V, t_high: V, d: u32, work: &mut Work)
+// The chaining value after a whole block, from that before it, in each lane: one compression for each. It takes the step of the
+// chunks, which it doesn't use, so that there is one for each caller, into which it goes with no copy of the block.
+fn compress<V: Words, const STEP: usize>(
+    h: &mut [V; 8],
+    m0: [V; 16],
+    t_low: V,
+    t_high: V,
+    d: u32,
+    work: &mut Work,
+)
     ensures values { (j t : ℕ) → j < V.LANES → V.word t_low j ≡ t % 2 ^ 32 → V.word t_high j ≡ t / 2 ^ 32
         → lane V.word j h.new ≡ take 8 (compress_of (lane V.word j h.old) (lane V.word j m0) t 64 d) }
     ensures count { work.new ≡ counted work.old V.LANES }
@@ -177,6 +185,26 @@ fn keys<V: Words>(key: [u32; 8]) -> [V; 8]
     [k0, k1, k2, k3, k4, k5, k6, k7]
 }
 
+// The chaining value of each lane's chunk after block `k`, from that before it.
+fn compress_block<V: Chunks, const STEP: usize>(
+    h: &mut [V; 8],
+    bytes: &[u8],
+    k: usize,
+    t_low: V,
+    t_high: V,
+    d: u32,
+    work: &mut Work,
+)
+    requires len { 1024 + 1024 * (STEP * V.LANES) ≤ length bytes.now + 1024 * STEP }
+    requires block { k < 16 }
+    ensures values { (j t : ℕ) → j < V.LANES → V.word t_low j ≡ t % 2 ^ 32 → V.word t_high j ≡ t / 2 ^ 32
+        → lane V.word j h.new ≡ take 8 (compress_of (lane V.word j h.old) (block_words_of (block (chunk_bytes bytes.now (STEP * j)) k)) t 64 d) }
+    ensures count { work.new ≡ counted work.old V.LANES }
+{
+    let m = blocks_at::<V, STEP>(bytes, k);
+    compress::<V, STEP>(h, m, t_low, t_high, d, work);
+}
+
 /// The chaining value of each lane's chunk after all of its blocks but the last. The first lane has the first chunk, of the
 /// given number, and from one lane's chunk to the next lane's there are `STEP`.
 pub(crate) fn chains<V: Chunks, const STEP: usize>(
@@ -195,8 +223,8 @@ pub(crate) fn chains<V: Chunks, const STEP: usize>(
     let mut h = keys(mode.key());
     // Its proof names the loop by the label.
     'blocks: for k in 0..15 {
-        let m = blocks_at::<V, STEP>(bytes, k);
-        compress(&mut h, m, t_low, t_high, mode.flag() + start_flag(k), work);
+        let d = mode.flag() + start_flag(k);
+        compress_block::<V, STEP>(&mut h, bytes, k, t_low, t_high, d, work);
     }
     h
 }
@@ -214,17 +242,10 @@ pub(crate) fn chunk_values<V: Chunks, const STEP: usize>(
     ensures count { work.new ≡ counted work.old (16 * V.LANES) }
 {
     let mut values = chains::<V, STEP>(mode, bytes, number, work);
-    let last_block = blocks_at::<V, STEP>(bytes, 15);
     let t_low = V::low_words(number, STEP as u64);
     let t_high = V::high_words(number, STEP as u64);
-    compress(
-        &mut values,
-        last_block,
-        t_low,
-        t_high,
-        mode.flag() + CHUNK_END,
-        work,
-    );
+    let d = mode.flag() + CHUNK_END;
+    compress_block::<V, STEP>(&mut values, bytes, 15, t_low, t_high, d, work);
     values
 }
 
@@ -237,7 +258,7 @@ fn block_parents(mode: &Mode, block: [u32x8; 16], work: &mut Work) -> [u32x8; 8]
 {
     let none = u32x8::splat(0);
     let mut values = keys(mode.key());
-    compress(&mut values, block, none, none, mode.flag() + PARENT, work);
+    compress::<u32x8, 0>(&mut values, block, none, none, mode.flag() + PARENT, work);
     values
 }
 

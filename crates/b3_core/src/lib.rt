@@ -8,7 +8,7 @@
 //! - `Mode` is one of the three modes: hash, keyed hash, derive key.
 //! - `Top` is a node of the tree before it is known whether it is the root: of one chunk, of eight chunks at a
 //!   time, or the parent of two nodes.
-//! - `hash_wide` is the hash in a mode, by eight or four compressions at a time: the quick one, for bytes that are at hand.
+//! - `hash_wide` is the hash in a mode, by eight, four or two compressions at a time: the quick one, for bytes that are at hand.
 //!   `Top::of_input` is the node from which it comes, and `Top::of_subtree` that of a subtree within an input, which
 //!   `is_subtree` tests.
 //! - `hash` is the same value by plain recursion, one compression after the other. It takes about three times as long.
@@ -28,7 +28,9 @@ mod lanes;
 mod laws;
 mod mode;
 mod output;
+mod pairs;
 mod places;
+mod rows;
 mod top;
 mod tree;
 mod vectors;

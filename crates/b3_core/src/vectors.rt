@@ -1,10 +1,10 @@
 //! Vectors of words: the steps of the compression function, in each lane. The rows of one state have four lanes, the states
 //! of some compressions side by side a lane for each.
 
-ghost use Rattle.std.specs.Prelude.{◌≡◌, ℕ, ◌^◌, ◌<◌, [], ◌∷◌, slice_index, bit_xor};
+ghost use Rattle.std.specs.Prelude.{◌≡◌, ℕ, ◌^◌, ◌<◌, slice_index, bit_xor};
 ghost use Rattle.b3_core.specs.Compression.{add32, turned, xor_turn, mix};
 
-use std::simd::{Simd, u32x4};
+use std::simd::Simd;
 
 /// A vector of words, one in each lane.
 pub(crate) trait Words: Copy {
@@ -112,26 +112,43 @@ pub(crate) fn mix<V: Words>(a: V, b: V, c: V, d: V, x: V, y: V) -> (V, V, V, V)
     (a2, b2, c2, d2)
 }
 
-// The words moved down by one lane, the first one to the end.
+// G on two such quadruples of words, with two message words for each, step by step in turn: so the processor has two chains
+// of steps at hand, neither of which waits for the other.
 #[inline(always)]
-pub(crate) fn down_one(x: u32x4) -> u32x4
-    ensures { result ≡ slice_index x 1 ∷ slice_index x 2 ∷ slice_index x 3 ∷ slice_index x 0 ∷ [] }
+pub(crate) fn mix_two<V: Words>(
+    p: (V, V, V, V),
+    q: (V, V, V, V),
+    x: (V, V),
+    y: (V, V),
+) -> (V, V, V, V, V, V, V, V)
+    ensures first { (j : ℕ) → j < V.LANES
+        → (V.word result.0 j, V.word result.1 j, V.word result.2 j, turned 8 (V.word result.3 j))
+        ≡ mix (V.word p.0 j) (V.word p.1 j) (V.word p.2 j) (turned 8 (V.word p.3 j)) (V.word x.0 j) (V.word x.1 j) }
+    ensures second { (j : ℕ) → j < V.LANES
+        → (V.word result.4 j, V.word result.5 j, V.word result.6 j, turned 8 (V.word result.7 j))
+        ≡ mix (V.word q.0 j) (V.word q.1 j) (V.word q.2 j) (turned 8 (V.word q.3 j)) (V.word y.0 j) (V.word y.1 j) }
 {
-    x.rotate_elements_left::<1>()
-}
-
-// The words moved down by two lanes, the first ones to the end.
-#[inline(always)]
-pub(crate) fn down_two(x: u32x4) -> u32x4
-    ensures { result ≡ slice_index x 2 ∷ slice_index x 3 ∷ slice_index x 0 ∷ slice_index x 1 ∷ [] }
-{
-    x.rotate_elements_left::<2>()
-}
-
-// The words moved down by three lanes, the first ones to the end.
-#[inline(always)]
-pub(crate) fn down_three(x: u32x4) -> u32x4
-    ensures { result ≡ slice_index x 3 ∷ slice_index x 0 ∷ slice_index x 1 ∷ slice_index x 2 ∷ [] }
-{
-    x.rotate_elements_left::<3>()
+    let (a, b, c, d) = p;
+    let (e, f, g, h) = q;
+    let a0 = a.add(b);
+    let e0 = e.add(f);
+    let a1 = a0.add(x.0);
+    let e1 = e0.add(y.0);
+    let d1 = first_turn(d, a1);
+    let h1 = first_turn(h, e1);
+    let c1 = c.add(d1);
+    let g1 = g.add(h1);
+    let b1 = xor_turn(b, c1, 12);
+    let f1 = xor_turn(f, g1, 12);
+    let a2 = a1.add(b1);
+    let e2 = e1.add(f1);
+    let a3 = a2.add(x.1);
+    let e3 = e2.add(y.1);
+    let d2 = d1.xor(a3);
+    let h2 = h1.xor(e3);
+    let c2 = c1.add(d2.turn(8));
+    let g2 = g1.add(h2.turn(8));
+    let b2 = xor_turn(b1, c2, 7);
+    let f2 = xor_turn(f1, g2, 7);
+    (a3, b2, c2, d2, e3, f2, g2, h2)
 }

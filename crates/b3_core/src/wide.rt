@@ -1,4 +1,4 @@
-//! The hash by eight compressions at a time, of chunks and of parents, and by four chunks where no eight are left.
+//! The hash by eight compressions at a time, of chunks and of parents, and by four chunks or two where no eight are left.
 
 ghost use Rattle.std.specs.Prelude.{◌≡◌, ℕ, ◌+◌, ◌-◌, ◌*◌, ◌/◌, ◌^◌, ◌<◌, ◌≤◌, ◌↔◌, true, IfSome, length, slice_index};
 ghost use Rattle.b3_core.specs.Lanes.{lane, group_top};
@@ -9,34 +9,35 @@ ghost use Rattle.b3_core.specs.Work.{counted, hash_work};
 use crate::compression::CHUNK_LEN;
 use crate::lanes::{chunk_values, lane_parents, lane_words, parent_values};
 use crate::mode::Mode;
+use crate::pairs::{pair_parents, pair_values};
 use crate::top::Top;
 use crate::tree::left_len;
 use crate::vectors::Words;
 use crate::work::Work;
 use std::simd::{u32x4, u32x8};
 
-// The chaining value of the parent of two nodes with these chaining values.
-fn parent_value(mode: &Mode, left: [u32; 8], right: [u32; 8], work: &mut Work) -> [u32; 8]
-    ensures value { (l r : Inputs) → left ≡ chaining_value_of l → right ≡ chaining_value_of r
-        → result ≡ chaining_value_of (parent_top l r mode.now) }
-    ensures count { work.new ≡ counted work.old 1 }
-{
-    Top::of_children(mode, left, right).cv(work)
-}
-
-// The chaining value of the parent of the nodes in lanes `2 i` and `2 i + 1`.
+// The chaining values of two parents, of the nodes in four lanes from lane `i` on.
 #[inline(always)]
-fn pair_value<V: Words>(mode: &Mode, values: &[V; 8], i: usize, work: &mut Work) -> [u32; 8]
-    requires few { i < 4 }
-    requires lanes { 2 * i + 1 < V.LANES }
-    ensures value { (l r : Inputs) → lane V.word (2 * i) values.now ≡ chaining_value_of l → lane V.word (2 * i + 1) values.now ≡ chaining_value_of r
-        → result ≡ chaining_value_of (parent_top l r mode.now) }
-    ensures count { work.new ≡ counted work.old 1 }
+fn lane_pairs<V: Words>(
+    mode: &Mode,
+    values: &[V; 8],
+    i: usize,
+    work: &mut Work,
+) -> ([u32; 8], [u32; 8])
+    requires few { i < 8 }
+    requires lanes { i + 3 < V.LANES }
+    ensures first { (l r : Inputs) → lane V.word i values.now ≡ chaining_value_of l → lane V.word (i + 1) values.now ≡ chaining_value_of r
+        → result.0 ≡ chaining_value_of (parent_top l r mode.now) }
+    ensures second { (l r : Inputs) → lane V.word (i + 2) values.now ≡ chaining_value_of l → lane V.word (i + 3) values.now ≡ chaining_value_of r
+        → result.1 ≡ chaining_value_of (parent_top l r mode.now) }
+    ensures count { work.new ≡ counted work.old 2 }
 {
-    parent_value(
+    pair_parents(
         mode,
-        lane_words(values, 2 * i),
-        lane_words(values, 2 * i + 1),
+        lane_words(values, i),
+        lane_words(values, i + 1),
+        lane_words(values, i + 2),
+        lane_words(values, i + 3),
         work,
     )
 }
@@ -100,12 +101,9 @@ fn whole_top(mode: &Mode, bytes: &[u8], level: u32, number: u64, work: &mut Work
     ensures count { work.new ≡ counted work.old (hash_work (length bytes.now) - 1) }
 {
     let values = eighth_values(mode, bytes, level, number, work);
-    let first = pair_value(mode, &values, 0, work);
-    let second = pair_value(mode, &values, 1, work);
-    let third = pair_value(mode, &values, 2, work);
-    let fourth = pair_value(mode, &values, 3, work);
-    let left = parent_value(mode, first, second, work);
-    let right = parent_value(mode, third, fourth, work);
+    let (first, second) = lane_pairs(mode, &values, 0, work);
+    let (third, fourth) = lane_pairs(mode, &values, 4, work);
+    let (left, right) = pair_parents(mode, first, second, third, fourth, work);
     Top::of_children(mode, left, right)
 }
 
@@ -117,8 +115,18 @@ fn four_top(mode: &Mode, bytes: &[u8], number: u64, work: &mut Work) -> Top
     ensures count { work.new ≡ counted work.old 66 }
 {
     let values = chunk_values::<u32x4, 1>(mode, bytes, number, work);
-    let left = pair_value(mode, &values, 0, work);
-    let right = pair_value(mode, &values, 1, work);
+    let (left, right) = lane_pairs(mode, &values, 0, work);
+    Top::of_children(mode, left, right)
+}
+
+// The top of the tree over two whole chunks, the first with the given number.
+fn two_top(mode: &Mode, bytes: &[u8], number: u64, work: &mut Work) -> Top
+    requires len { length bytes.now ≡ 2048 }
+    requires number { number + 2 < 2 ^ 64 }
+    ensures node { result ≡ tree_top bytes.now number mode.now }
+    ensures count { work.new ≡ counted work.old 32 }
+{
+    let (left, right) = pair_values(mode, bytes, number, work);
     Top::of_children(mode, left, right)
 }
 
@@ -130,6 +138,9 @@ pub(crate) fn wide_top(mode: &Mode, bytes: &[u8], number: u64, work: &mut Work) 
 {
     if bytes.len() <= CHUNK_LEN {
         return Top::of_chunk(mode, bytes, number, work);
+    }
+    if bytes.len() == 2 * CHUNK_LEN {
+        return two_top(mode, bytes, number, work);
     }
     if bytes.len() == 4 * CHUNK_LEN {
         return four_top(mode, bytes, number, work);
@@ -145,7 +156,7 @@ pub(crate) fn wide_top(mode: &Mode, bytes: &[u8], number: u64, work: &mut Work) 
 }
 
 impl Top {
-    /// The top of the tree over a whole input, by eight or four compressions side by side: the node whose `root32` is
+    /// The top of the tree over a whole input, by eight, four or two compressions side by side: the node whose `root32` is
     /// the input's hash, and from which an `OutputReader` reads its extended output. It makes the compressions of the
     /// hash but the last one.
     pub fn of_input(mode: &Mode, bytes: &[u8], work: &mut Work) -> Top
@@ -177,7 +188,7 @@ pub fn is_subtree(len: usize, number: u64) -> bool
 
 /// The hash of `bytes` in a mode, 32 bytes (sections 2.1 to 2.6): the quick one. It makes as many compressions as the input has
 /// blocks, plus its chunks less one. Chunks and parents are compressed eight at a time, side by side, wherever 2^k whole chunks
-/// are a subtree, k at least 3, and chunks four at a time where four are one.
+/// are a subtree, k at least 3, and chunks four or two at a time where four or two are one.
 #[tactic(auto, unfolding(crate::specs::Modes::digest_of))]
 pub fn hash_wide(mode: &Mode, bytes: &[u8], work: &mut Work) -> [u8; 32]
     ensures bytes { result ≡ digest_of bytes.now mode.now }

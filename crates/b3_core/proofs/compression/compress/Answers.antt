@@ -6,4 +6,4 @@ pub returns-clause-words : goal.returns-clause-words
 unfolding compress_of
 returns-clause-words c =
     let h = c.args.chaining_value.now in
-    c.output_words.ensures ∙ ap (λ (v : List ℕ). output_words h v) c.seven_rounds-v.ensures.state
+    c.output_words.ensures ∙ ap (λ (v : List ℕ). output_words h v) c.state_after-v.ensures.state

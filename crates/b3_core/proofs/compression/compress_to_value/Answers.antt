@@ -6,4 +6,4 @@ pub returns-clause-value : goal.returns-clause-value
 unfolding compress_of
 returns-clause-value c =
     let h = c.args.chaining_value.now in
-    c.low_words.ensures h ∙ ap (λ (v : List ℕ). take 8 (output_words h v)) c.seven_rounds-v.ensures.state
+    c.low_words.ensures h ∙ ap (λ (v : List ℕ). take 8 (output_words h v)) c.state_after-v.ensures.state

@@ -1,4 +1,4 @@
-use Rattle.std.proofs.Common.{◌≡◌, ◌+◌, ◌-◌, ◌*◌, drop, length, arith, ap, ◌∙◌}
+use Rattle.std.proofs.Common.{◌≡◌, ◌+◌, ◌-◌, ◌*◌, drop, length, arith, ap, refl, ◌∙◌}
 use Rattle.std.proofs.lemmas.List.{length-drop, length-take-le}
 use Rattle.b3_core.specs.Lanes.{chunk_bytes}
 use Rattle.b3_core.proofs.EachLane.{lane_within}
@@ -13,17 +13,12 @@ returns-clause-values g c j h =
     let rest = drop (1024 * i) x in
     let rest_len : length rest ≡ length x - 1024 * i = length-drop (1024 * i) x in
     let len : length (chunk_bytes x i) ≡ 1024 = length-take-le 1024 rest (omega (arith, within, rest_len)) in
-    c.compress.ensures.values j (c.args.number + i) h (c.low_words-t_low.ensures j h) (c.high_words-t_high.ensures j h)
+    c.compress_block.ensures.values j (c.args.number + i) h (c.low_words-t_low.ensures j h) (c.high_words-t_high.ensures j h)
     ∙ whole_chunk_value (chunk_bytes x i) (c.args.number + i) c.args.mode.now _ _ _ len (c.chains-values.ensures.values j h)
-    (c.blocks_at-last_block.ensures j h)
-    (ap (λ n. n + 2) c.flag.ensures.value)
+    refl
+    (ap (λ n. n + 2) c.flag-d.ensures.value)
 
-pub blocks_at-last_block-requires : goal.blocks_at-last_block-requires
-blocks_at-last_block-requires g c =
+pub compress_block-requires : goal.compress_block-requires
+compress_block-requires g c =
     let small = g.met.V.Chunks.is_small in
     (omega arith, (c.requires.len, omega arith))
-
-pub compress-requires : goal.compress-requires
-compress-requires g c =
-    let small = g.met.V.Chunks.is_small in
-    (omega arith, omega arith)
