@@ -3,3 +3,4 @@ pub mod Consuming
 pub mod Fitting
 pub mod Lining
 pub mod Standing
+pub mod Placing

@@ -1,3 +1,5 @@
 pub mod Blocks
 pub mod Lines
 pub mod Parts
+pub mod Rounds
+pub mod Sources
