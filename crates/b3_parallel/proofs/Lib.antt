@@ -4,3 +4,4 @@ pub mod Fitting
 pub mod Lining
 pub mod Standing
 pub mod Placing
+pub mod TakingOn

@@ -1,5 +1,5 @@
 -- Blocks of a source, behind those that a hasher was given.
-use Rattle.std.proofs.Common.{suc, zero, ◌≡◌, ℕ, ◌+◌, ◌-◌, ◌*◌, ◌/◌, ◌^◌, ◌<◌, ◌≤◌, ◌++◌, List, [], ◌∷◌, Option, Some, None, IfSome, length, take, drop, set, slice_index_or, arith, refl, ap, ap₂, sym, ◌∙◌, subst, length-append}
+use Rattle.std.proofs.Common.{suc, zero, ◌≡◌, ℕ, ◌+◌, ◌-◌, ◌*◌, ◌/◌, ◌^◌, ◌<◌, ◌≤◌, ◌++◌, List, [], ◌∷◌, Option, Some, None, IfSome, length, take, drop, set, arith, refl, ap, ap₂, sym, ◌∙◌, subst, length-append}
 use Rattle.std.proofs.lemmas.List.{append-nil, take-append-drop}
 use Rattle.std.proofs.Math.Nat.{mul-le-mul_left}
 use Rattle.std.proofs.Math.Seq.{take-add, take-append_seam}
@@ -87,10 +87,10 @@ pub slots_more : (p : Keying) (known : Option (List ℕ)) (k : ℕ) (slots : Lis
 slots_more p known k [] s are is = (is, tt)
 slots_more p known k (first ∷ slots) s (one, are) is = (one, slots_more p known k slots s are is)
 
--- each thread made blocks
-pub all_taken : (p : Keying) (known : Option (List ℕ)) (k : ℕ) (lists : List (Vec Placed)) → ((i : ℕ) (d : Vec Placed) → i < length lists → ArePlaced p known k (slice_index_or lists i d).items) → AreTaken p known k lists
-all_taken p known k [] each = tt
-all_taken p known k (list ∷ lists) each = (each 0 list (omega arith), all_taken p known k lists (λ i d below. each (suc i) d (omega (arith, below))))
+-- what one thread made, behind what others did
+pub taken_more : (p : Keying) (known : Option (List ℕ)) (k : ℕ) (lists : List (Vec Placed)) (list : Vec Placed) → AreTaken p known k lists → ArePlaced p known k list.items → AreTaken p known k (lists ++ list ∷ [])
+taken_more p known k [] list are is = (is, tt)
+taken_more p known k (first ∷ lists) list (one, are) is = (one, taken_more p known k lists list are is)
 
 nothing_stands : (known : Option (List ℕ)) → StandsAt known 0 []
 nothing_stands None = tt

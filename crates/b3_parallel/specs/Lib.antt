@@ -3,3 +3,4 @@ pub mod Lines
 pub mod Parts
 pub mod Rounds
 pub mod Sources
+pub mod Takers

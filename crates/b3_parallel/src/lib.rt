@@ -15,11 +15,13 @@ mod line;
 mod parts;
 #[cfg(test)]
 mod places_tests;
+mod promised;
 mod reading;
 mod rounds;
 mod sizes;
 mod source;
 mod sourcing;
+mod takers;
 mod taking;
 #[cfg(test)]
 mod tests;

@@ -1,6 +1,7 @@
 //! The hash of bytes that threads read from any place beside that of one thread.
 
 ghost use Rattle.std.specs.Prelude.{Some, None};
+ghost use Rattle.std.specs.Arc.{arc_value};
 
 use crate::sourcing::hash_by_blocks;
 use crate::{Source, hash_source};
@@ -8,40 +9,59 @@ use b3_core::{Hasher, Mode, Runtime, Top, Work};
 use std::alloc::{AllocError, Global};
 use std::io;
 use std::io::{ErrorKind, Read};
+use std::sync::Arc;
 use std::test::Fail;
 use std::thread::Threads;
 
 // Bytes that are known.
 #[derive(Drop)]
-struct Shelf<'a>(&'a [u8]);
+struct Shelf(Arc<Vec<u8>>);
 
-impl Source for Shelf<'_> {
-    ghost bytes = { λ s. Some s.0.now };
+impl Source for Shelf {
+    ghost bytes = { λ s. Some (arc_value s.0).items };
+
+    fn again(&self) -> io::Result<Shelf> {
+        Ok(Shelf(Arc::try_clone(&self.0)?))
+    }
 
     fn read_at(&self, buf: &mut [u8], start: u64) -> io::Result<usize> {
-        let start = (start as usize).min(self.0.len());
-        let mut rest = &self.0[start..];
+        let bytes = self.0.as_slice();
+        let start = (start as usize).min(bytes.len());
+        let mut rest = &bytes[start..];
         rest.read(buf)
     }
 }
 
 // Bytes of which at most 700 are read at once, and none from a place on.
 #[derive(Drop)]
-struct Torn<'a> {
-    bytes: &'a [u8],
+struct Torn {
+    shelf: Shelf,
     fails_at: u64,
 }
 
-impl Source for Torn<'_> {
+impl Source for Torn {
     ghost bytes = { λ _. None };
+
+    fn again(&self) -> io::Result<Torn> {
+        Ok(Torn {
+            shelf: self.shelf.again()?,
+            fails_at: self.fails_at,
+        })
+    }
 
     fn read_at(&self, buf: &mut [u8], start: u64) -> io::Result<usize> {
         if start >= self.fails_at {
             return Err(io::Error::from(ErrorKind::Other));
         }
         let most = buf.len().min(700);
-        Shelf(self.bytes).read_at(&mut buf[..most], start)
+        self.shelf.read_at(&mut buf[..most], start)
     }
+}
+
+// A shelf with these bytes.
+fn shelf_of(alloc: Global, bytes: &[u8]) -> Result<Shelf, AllocError> {
+    let bytes = bytes.to_vec(alloc)?;
+    Ok(Shelf(Arc::new(alloc, bytes)?))
 }
 
 // Bytes of which no two blocks are alike.
@@ -66,7 +86,7 @@ fn by_one<T: Runtime>(rt: &T, bytes: &[u8]) -> (Top, u64) {
 
 // What comes of a source in blocks of 2 KiB, told as so many bytes: the node and the count of one thread ("alike"), none and
 // no count ("none"), or anything else.
-fn told<T: Threads + Sync + Runtime, S: Source + Sync>(
+fn told<T: Threads + Runtime, S: Source + Send + Drop + 'static>(
     rt: &T,
     alloc: Global,
     source: &S,
@@ -98,7 +118,8 @@ fn each_length_has_the_node_of_one_thread(rt: HostRuntime) -> Result<(), Fail> {
             let Some(input) = bytes.get(..*len) else {
                 continue;
             };
-            let told = told(&rt, rt.alloc(), &Shelf(input), input, *len as u64, threads);
+            let shelf = shelf_of(rt.alloc(), input)?;
+            let told = told(&rt, rt.alloc(), &shelf, input, *len as u64, threads);
             assert!(rt; told == "alike", "{len} {threads} {told}");
         }
     }
@@ -108,6 +129,7 @@ fn each_length_has_the_node_of_one_thread(rt: HostRuntime) -> Result<(), Fail> {
 #[test]
 fn a_length_that_is_told_wrong(rt: HostRuntime) -> Result<(), Fail> {
     let bytes = pattern(rt.alloc(), 20000)?;
+    let shelf = shelf_of(rt.alloc(), &bytes)?;
     for (len, wanted) in [
         (0u64, "alike"),
         (4096, "alike"),
@@ -116,7 +138,7 @@ fn a_length_that_is_told_wrong(rt: HostRuntime) -> Result<(), Fail> {
         (20480, "none"),
         (40000, "none"),
     ] {
-        let told = told(&rt, rt.alloc(), &Shelf(&bytes), &bytes, len, 3);
+        let told = told(&rt, rt.alloc(), &shelf, &bytes, len, 3);
         assert!(rt; told == wanted, "{len} {told}");
     }
     Ok(())
@@ -125,7 +147,8 @@ fn a_length_that_is_told_wrong(rt: HostRuntime) -> Result<(), Fail> {
 #[test]
 fn one_thread_reads_no_places(rt: HostRuntime) -> Result<(), Fail> {
     let bytes = pattern(rt.alloc(), 20000)?;
-    let told = told(&rt, rt.alloc(), &Shelf(&bytes), &bytes, 20000, 1);
+    let shelf = shelf_of(rt.alloc(), &bytes)?;
+    let told = told(&rt, rt.alloc(), &shelf, &bytes, 20000, 1);
     assert!(rt; told == "none", "{told}");
     Ok(())
 }
@@ -142,7 +165,7 @@ fn a_read_that_fails(rt: HostRuntime) -> Result<(), Fail> {
             (20001, "alike"),
         ] {
             let source = Torn {
-                bytes: &bytes,
+                shelf: shelf_of(rt.alloc(), &bytes)?,
                 fails_at,
             };
             let told = told(&rt, rt.alloc(), &source, &bytes, 20000, threads);
@@ -157,17 +180,10 @@ fn a_source_of_many_blocks(rt: HostRuntime) -> Result<(), Fail> {
     let bytes = pattern(rt.alloc(), (16 << 20) + 700_000)?;
     let mode = Mode::keyed(&[7; 32]);
     let wanted = by_one(&rt, &bytes);
+    let shelf = shelf_of(rt.alloc(), &bytes)?;
     for (len, some) in [((16 << 20) - 1u64, false), (16 << 20, true)] {
         let mut work = Work::new(&rt);
-        let top = hash_source(
-            &rt,
-            rt.alloc(),
-            &mode,
-            &Shelf(&bytes),
-            len,
-            Some(3),
-            &mut work,
-        );
+        let top = hash_source(&rt, rt.alloc(), &mode, &shelf, len, Some(3), &mut work);
         match top {
             Some(top) => assert!(rt; some && (top, work.count()) == wanted),
             None => assert!(rt; !some),

@@ -5,11 +5,10 @@ ghost use Rattle.b3_core.specs.Tree.{Keying};
 ghost use Rattle.b3_parallel.specs.Rounds.{ArePlaced, AreSlots, AreTaken, HasFront, IsPlaced};
 
 use crate::source::Source;
-use crate::taking::{Placed, Round, take_blocks};
-use b3_core::{Hasher, Mode, Runtime, Work};
+use crate::takers::take_all;
+use crate::taking::{Placed, Round};
+use b3_core::{Hasher, Runtime, Work};
 use std::alloc::{AllocError, Global};
-use std::sync::atomic::AtomicU64;
-use std::thread;
 use std::thread::Threads;
 
 // So many slots with nothing in them.
@@ -101,7 +100,7 @@ fn append_slots(
 
 /// Hashes the blocks of a round by so many threads, puts them behind those before them that a hasher was given, and answers whether it
 /// got all of them.
-pub(crate) fn hash_round<T: Threads + Sync + Runtime, S: Source + Sync>(
+pub(crate) fn hash_round<T: Threads + Runtime, S: Source + Send + Drop + 'static>(
     rt: &T,
     alloc: Global,
     source: &S,
@@ -123,27 +122,4 @@ pub(crate) fn hash_round<T: Threads + Sync + Runtime, S: Source + Sync>(
         Ok(slots) => append_slots(hasher, slots, round, work),
         Err(_) => false,
     }
-}
-
-// What so many threads made of the blocks of a round, each of those that it took.
-fn take_all<T: Threads + Sync + Runtime, S: Source + Sync>(
-    rt: &T,
-    alloc: Global,
-    mode: &Mode,
-    source: &S,
-    threads: usize,
-    round: Round,
-) -> Result<Vec<Vec<Placed>>, AllocError>
-    requires level { round.level < 53 }
-    requires end { round.end * 2 ^ round.level ≤ 2 ^ 53 }
-    ensures { IfOk result (λ lists. AreTaken mode.now (S.bytes source.now) round.level lists.items) }
-{
-    let next = AtomicU64::new(round.first);
-    let lists = thread::map_indices(
-        rt,
-        alloc,
-        threads,
-        &|_index| take_blocks(rt, alloc, mode, source, round, &next),
-    )?;
-    Ok(lists)
 }

@@ -13,6 +13,14 @@ pub trait Source {
     /// The bytes, where they are known.
     ghost bytes: { Self → Option (List ℕ) };
 
+    /// The same source, for another thread.
+    ///
+    /// Its error is the system's, as of too many open files.
+    fn again(&self) -> io::Result<Self>
+    where
+        Self: Sized,
+        ensures { IfOk result (λ other. bytes other ≡ bytes self.now) };
+
     /// Reads once, at most as many bytes as fit the buffer, from the byte at `start` on, counted from 0. None are read
     /// only where none stand there, or the buffer has no room.
     ///

@@ -21,22 +21,22 @@ const LEAST: u64 = 1 << 24;
 // The level of the blocks that threads take: 2^9 chunks, 512 KiB.
 const LEVEL: u32 = 9;
 
-// The most blocks of a round, 4 GiB.
-const ROUND: u64 = 1 << 13;
+// The most blocks of a round, 512 MiB.
+const ROUND: u64 = 1 << 10;
 
 /// The node of the tree over all bytes of a source, and the count of its compressions, where several threads can read it: from 16 MiB on, and
 /// by two threads and more.
 ///
 /// `len` is how many bytes it is thought to have. Each thread takes the next block of 512 KiB that none has taken, up to that length, reads it where it
 /// stands and hashes it; this one puts the nodes together in the order of the blocks, and hashes what stands behind them until nothing is left. So a source
-/// that has grown is hashed whole. Each thread has memory for one block, and of each block some 150 bytes are kept until all of 4 GiB are done.
+/// that has grown is hashed whole. Each thread has memory for one block, and of each block some 150 bytes are kept until all of 512 MiB are done.
 ///
 /// There is none where the source is thought to be shorter, or one thread is to hash; where a block can't be read, or the source has become shorter; where
 /// memory is refused; and of 2^64-1 bytes and more. Then nothing is counted, and the caller reads the source as a stream. Refused threads alone don't
 /// matter: this one takes their blocks. No thread is left at work.
 ///
 /// `threads` says how many hash, up to 16; with `None` they are as many as the processor has.
-pub fn hash_source<T: Threads + Sync + Runtime, S: Source + Sync>(
+pub fn hash_source<T: Threads + Runtime, S: Source + Send + Drop + 'static>(
     rt: &T,
     alloc: Global,
     mode: &Mode,
@@ -56,7 +56,7 @@ pub fn hash_source<T: Threads + Sync + Runtime, S: Source + Sync>(
 }
 
 // The same in blocks of 2^level chunks.
-pub(crate) fn hash_by_blocks<T: Threads + Sync + Runtime, S: Source + Sync>(
+pub(crate) fn hash_by_blocks<T: Threads + Runtime, S: Source + Send + Drop + 'static>(
     rt: &T,
     alloc: Global,
     mode: &Mode,
@@ -97,7 +97,7 @@ pub(crate) fn hash_by_blocks<T: Threads + Sync + Runtime, S: Source + Sync>(
 }
 
 // Gives a hasher the first blocks of a source, and answers whether it got them.
-fn hash_rounds<T: Threads + Sync + Runtime, S: Source + Sync>(
+fn hash_rounds<T: Threads + Runtime, S: Source + Send + Drop + 'static>(
     rt: &T,
     alloc: Global,
     source: &S,
