@@ -3,3 +3,5 @@ pub mod Consuming
 pub mod Fitting
 pub mod Lining
 pub mod Standing
+pub mod Placing
+pub mod TakingOn

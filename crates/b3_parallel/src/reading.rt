@@ -42,8 +42,8 @@ fn fill<R: Read>(reader: &mut R, block: &mut [u8]) -> io::Result<usize>
     Err(Error::from(ErrorKind::Interrupted))
 }
 
-// The same of all of a block.
-fn fill_block<R: Read>(reader: &mut R, block: &mut Vec<u8>) -> io::Result<usize>
+/// Reads until a block is full or nothing is left, and answers how many bytes it has.
+pub(crate) fn fill_block<R: Read>(reader: &mut R, block: &mut Vec<u8>) -> io::Result<usize>
     ensures len { length block.new.items ≡ vec_len block.old }
     ensures count { IfOk result (λ n. n ≤ vec_len block.old) }
     ensures bytes { IfOk result (λ n. Consumes (R.remaining reader.old) (R.remaining reader.new) (take n block.new.items)) }
@@ -67,7 +67,7 @@ fn read_piece<R: Read>(reader: &mut R, piece: &mut [u8], most: u64) -> io::Resul
 
 // Gives a hasher what is read, a piece at a time, until it was given so many bytes or nothing is left, and answers whether
 // nothing is.
-fn hash_until<R: Read>(
+pub(crate) fn hash_until<R: Read>(
     hasher: &mut Hasher,
     reader: &mut R,
     piece: &mut [u8],

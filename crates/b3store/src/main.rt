@@ -4,6 +4,7 @@
 ghost use Rattle.store_command_line.specs.Ranges.{InRange};
 
 use b3_core::{Runtime, Work};
+use std::fs::File;
 use std::io;
 use std::io::{BufReader, ErrorKind};
 use std::marker::Brand;
@@ -52,7 +53,7 @@ fn status_of(verdict: Verdict) -> u8 {
     }
 }
 
-fn perform<T: Threads + Wait + Sync + Runtime + Files + AllocGlobal>(
+fn perform<T: Threads + Wait + Sync + Runtime + Files<File = File> + AllocGlobal>(
     rt: &HostRuntime,
     threads: &T,
     options: &Options<'_>,

@@ -2,6 +2,6 @@ use Rattle.std.proofs.Common.{rules}
 use Rattle.b3_core.specs.Modes.{digest_of}
 use Rattle.store_engines.proofs.files.SystemFilesNames.digest_of.Goals as goal
 
-pub returns-in-Ok-hash_all : goal.returns-in-Ok-hash_all
+pub returns-in-Ok-hash : goal.returns-in-Ok-hash
 unfolding digest_of
-returns-in-Ok-hash_all g c = search (rules, c.in-Ok-hash_all, c.root32.ensures)
+returns-in-Ok-hash g c = search (rules, c.in-Ok-hash, c.root32.ensures)

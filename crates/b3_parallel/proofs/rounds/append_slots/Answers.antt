@@ -1,0 +1,23 @@
+use Rattle.std.proofs.Common.{◌≡◌, ◌+◌, ◌∷◌, ℕ, arith, ap, length, rules, subst}
+use Rattle.std.specs.Vec.Iter.{into_iter_items, into_iter_len}
+use Rattle.b3_parallel.specs.Rounds.{AreSlots, HasFront}
+use Rattle.b3_parallel.proofs.rounds.append_slots.Goals as goal
+
+pub loop-slot-preserved : goal.loop-slot-preserved
+loop-slot-preserved c =
+    let slot = c.in-Some.slot in
+    let items : into_iter_items c.loop-slot.rest ≡ slot ∷ into_iter_items c.next.new.self = search (rules, c.in-Some.ensures.items) in
+    let less : into_iter_len c.next.new.self + 1 ≡ into_iter_len c.loop-slot.rest = search (rules, c.in-Some.ensures.len) in
+    let more : length (into_iter_items c.loop-slot.rest) ≡ length (slot ∷ into_iter_items c.next.new.self) = ap length items in
+    record {
+      len = omega (arith, c.loop-slot.invariant.len, less, more);
+      slots = λ p known k are. (subst (AreSlots p known k) items (c.loop-slot.invariant.slots p known k are)).1;
+      front = λ p known n are is.
+          c.append_slot.ensures p known n (subst (AreSlots p known c.args.round.level) items (c.loop-slot.invariant.slots p known c.args.round.level are)).0
+          (c.loop-slot.invariant.front p known n are is) (search rules);
+    }
+
+pub returns : goal.returns
+returns c p known n are is same =
+    let end : c.loop-slot.place ≡ c.args.round.end = search rules in
+    subst (λ (m : ℕ). HasFront p known c.args.round.level c.loop-slot.hasher m n c.loop-slot.work) end (c.loop-slot.invariant.front p known n are is)

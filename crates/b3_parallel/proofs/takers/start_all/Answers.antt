@@ -1,0 +1,13 @@
+use Rattle.std.proofs.Common.{◌≡◌, ◌∷◌, ◌++◌, [], rules, subst, sym}
+use Rattle.b3_parallel.specs.Takers.{AreTaking}
+use Rattle.b3_parallel.proofs.TakingOn.{taking_more}
+use Rattle.b3_parallel.proofs.takers.start_all.Goals as goal
+
+pub loop-preserved : goal.loop-preserved
+loop-preserved g c =
+    let bytes = g.S.Source.bytes in
+    let known = bytes c.args.source.now in
+    let h = c.in-Some.handle in
+    let items : c.push.new.self.items ≡ c.loop.handles.items ++ h ∷ [] = search rules in
+    subst (AreTaking bytes c.args.mode known c.args.round.level) (sym items)
+    (taking_more bytes c.args.mode known c.args.round.level c.loop.handles.items h c.loop.invariant c.in-Some.ensures)

@@ -1,0 +1,140 @@
+//! The hash of all bytes of a source, which threads read side by side.
+
+ghost use Rattle.std.specs.Prelude.{◌≡◌, ℕ, ◌+◌, ◌-◌, ◌*◌, ◌^◌, ◌<◌, ◌≤◌, IfSome, List, None, length, true};
+ghost use Rattle.b3_core.specs.Tree.{Keying, tree_top};
+ghost use Rattle.b3_core.specs.Work.{counted, hash_work};
+ghost use Rattle.b3_parallel.specs.Blocks.{IsGiven};
+ghost use Rattle.b3_parallel.specs.Rounds.{AreAll, HasFront};
+
+use crate::reading::hash_until;
+use crate::rounds::hash_round;
+use crate::sizes::{block_limit, bytes_of, piece_len, thread_count};
+use crate::source::{Places, Source};
+use crate::taking::Round;
+use b3_core::{Hasher, Mode, Runtime, Top, Work};
+use std::alloc::Global;
+use std::thread::Threads;
+
+// The fewest bytes for which threads are started.
+const LEAST: u64 = 1 << 24;
+
+// The level of the blocks that threads take: 2^9 chunks, 512 KiB.
+const LEVEL: u32 = 9;
+
+// The most blocks of a round, 512 MiB.
+const ROUND: u64 = 1 << 10;
+
+/// The node of the tree over all bytes of a source, and the count of its compressions, where several threads can read it: from 16 MiB on, and
+/// by two threads and more.
+///
+/// `len` is how many bytes it is thought to have. Each thread takes the next block of 512 KiB that none has taken, up to that length, reads it where it
+/// stands and hashes it; this one puts the nodes together in the order of the blocks, and hashes what stands behind them until nothing is left. So a source
+/// that has grown is hashed whole. Each thread has memory for one block, and of each block some 150 bytes are kept until all of 512 MiB are done.
+///
+/// There is none where the source is thought to be shorter, or one thread is to hash; where a block can't be read, or the source has become shorter; where
+/// memory is refused; and of 2^64-1 bytes and more. Then nothing is counted, and the caller reads the source as a stream. Refused threads alone don't
+/// matter: this one takes their blocks. No thread is left at work.
+///
+/// `threads` says how many hash, up to 16; with `None` they are as many as the processor has.
+pub fn hash_source<T: Threads + Runtime, S: Source + Send + Drop + 'static>(
+    rt: &T,
+    alloc: Global,
+    mode: &Mode,
+    source: &S,
+    len: u64,
+    threads: Option<u32>,
+    work: &mut Work,
+) -> Option<Top>
+    ensures node { IfSome result (λ top. (input : List ℕ) × (top ≡ tree_top input 0 mode.now) × AreAll (S.bytes source.now) input
+        × (work.new ≡ counted work.old (hash_work (length input) - 1))) }
+    ensures none { result ≡ None → work.new ≡ work.old }
+{
+    if len < LEAST {
+        return None;
+    }
+    hash_by_blocks(rt, alloc, mode, source, len, threads, LEVEL, work)
+}
+
+// The same in blocks of 2^level chunks.
+pub(crate) fn hash_by_blocks<T: Threads + Runtime, S: Source + Send + Drop + 'static>(
+    rt: &T,
+    alloc: Global,
+    mode: &Mode,
+    source: &S,
+    len: u64,
+    threads: Option<u32>,
+    level: u32,
+    work: &mut Work,
+) -> Option<Top>
+    requires { level < 40 }
+    ensures node { IfSome result (λ top. (input : List ℕ) × (top ≡ tree_top input 0 mode.now) × AreAll (S.bytes source.now) input
+        × (work.new ≡ counted work.old (hash_work (length input) - 1))) }
+    ensures none { result ≡ None → work.new ≡ work.old }
+{
+    let threads = thread_count(rt, threads);
+    if threads < 2 {
+        return None;
+    }
+    let mut hasher = Hasher::new(mode);
+    let mut own = Work::new(rt);
+    let blocks = (len / bytes_of(level) as u64).min(block_limit(level));
+    if hash_rounds(
+        rt,
+        alloc,
+        source,
+        &mut hasher,
+        threads,
+        blocks,
+        level,
+        &mut own,
+    ) && hash_rest(alloc, source, &mut hasher, &mut own)
+    {
+        let top = hasher.top(&mut own);
+        work.absorb(own);
+        return Some(top);
+    }
+    None
+}
+
+// Gives a hasher the first blocks of a source, and answers whether it got them.
+fn hash_rounds<T: Threads + Runtime, S: Source + Send + Drop + 'static>(
+    rt: &T,
+    alloc: Global,
+    source: &S,
+    hasher: &mut Hasher,
+    threads: usize,
+    blocks: u64,
+    level: u32,
+    work: &mut Work,
+) -> bool
+    requires level { level < 53 }
+    requires blocks { blocks * 2 ^ level ≤ 2 ^ 53 }
+    ensures { (p : Keying) (n : ℕ) → HasFront p (S.bytes source.now) level hasher.old 0 n work.old
+        → result ≡ true → HasFront p (S.bytes source.now) level hasher.new blocks n work.new }
+{
+    let mut first = 0;
+    while first < blocks {
+        let end = first + ROUND.min(blocks - first);
+        let round = Round { level, first, end };
+        if !hash_round(rt, alloc, source, hasher, threads, round, work) {
+            return false;
+        }
+        first = end;
+    }
+    true
+}
+
+// Gives a hasher the bytes of a source that stand behind those that it was given, and answers whether it got all of them.
+fn hash_rest<S: Source>(alloc: Global, source: &S, hasher: &mut Hasher, work: &mut Work) -> bool
+    ensures { (p : Keying) (level count n : ℕ) → HasFront p (S.bytes source.now) level hasher.old count n work.old → count * 2 ^ level ≤ 2 ^ 53
+        → result ≡ true → (hasher.new.mode ≡ p) × (x : List ℕ) × IsGiven hasher.new x n work.new × AreAll (S.bytes source.now) x }
+{
+    let Ok(mut piece) = vec![in alloc; 0u8; piece_len()] else {
+        return false;
+    };
+    let mut reader = Places::new(source, hasher.count());
+    match hash_until(hasher, &mut reader, &mut piece, u64::MAX, work) {
+        Ok(ended) => ended,
+        Err(_) => false,
+    }
+}

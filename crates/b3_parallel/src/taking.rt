@@ -1,0 +1,114 @@
+//! Blocks of a source, each taken by the next thread that is free.
+
+ghost use Rattle.std.specs.Prelude.{◌≡◌, ℕ, ◌+◌, ◌*◌, ◌^◌, ◌<◌, ◌≤◌, IfSome, List, Option, length};
+ghost use Rattle.b3_core.specs.Tree.{Keying};
+ghost use Rattle.b3_parallel.specs.Rounds.{ArePlaced, IsPlaced};
+
+use crate::reading::fill_block;
+use crate::sizes::{bytes_of, chunks_of};
+use crate::source::{Places, Source};
+use b3_core::{CHUNK_LEN, Mode, Top, Work};
+use std::alloc::Global;
+use std::sync::atomic::{AtomicU64, Ordering};
+
+/// What a thread made of a block, behind so many blocks: its node, and the compressions.
+#[derive(Drop)]
+pub(crate) struct Placed {
+    pub(crate) place: u64,
+    pub(crate) top: Top,
+    pub(crate) work: Work,
+}
+
+/// The blocks of 2^level chunks that threads take at once, from the first up to the one at which they end.
+#[derive(Clone, Copy)]
+pub(crate) struct Round {
+    pub(crate) level: u32,
+    pub(crate) first: u64,
+    pub(crate) end: u64,
+}
+
+// Reads and hashes the block at a place, where the source has all of it.
+fn place_block<S: Source>(
+    mode: &Mode,
+    source: &S,
+    block: &mut Vec<u8>,
+    place: u64,
+    level: u32,
+    work: Work,
+) -> Option<Placed>
+    requires level { level < 53 }
+    requires len { length block.old.items ≡ 1024 * 2 ^ level }
+    requires place { (place + 1) * 2 ^ level ≤ 2 ^ 53 }
+    requires none { work ≡ 0 }
+    ensures len { length block.new.items ≡ length block.old.items }
+    ensures placed { IfSome result (IsPlaced mode.now (S.bytes source.now) level) }
+{
+    let number = place * chunks_of(level);
+    let mut reader = Places::new(source, number * CHUNK_LEN as u64);
+    match fill_block(&mut reader, block) {
+        Ok(count) if count == block.len() => {}
+        _ => return None,
+    }
+    let mut work = work;
+    let top = Top::of_subtree(mode, block.as_slice(), number, &mut work);
+    Some(Placed { place, top, work })
+}
+
+// A count that is none, of those that were made for a thread.
+fn next_work(works: &mut Vec<Work>) -> Option<Work>
+    ensures { IfSome result (λ work. work ≡ 0) }
+{
+    match works.pop() {
+        Some(work) if work.count() == 0 => Some(work),
+        _ => None,
+    }
+}
+
+/// Hashes by this thread the blocks of a round that it takes, one after another, until none is left to take, with a count of its own for each. It
+/// gives up where the source doesn't give all of a block or memory is refused, and then the other threads find none to take.
+pub(crate) fn take_blocks<S: Source>(
+    alloc: Global,
+    mode: &Mode,
+    source: &S,
+    round: Round,
+    next: &AtomicU64,
+    works: Vec<Work>,
+) -> Vec<Placed>
+    requires level { round.level < 53 }
+    requires end { round.end * 2 ^ round.level ≤ 2 ^ 53 }
+    ensures { ArePlaced mode.now (S.bytes source.now) round.level result.items }
+{
+    let mut works = works;
+    let mut taken: Vec<Placed> = Vec::new(alloc);
+    let Ok(mut block) = vec![in alloc; 0u8; bytes_of(round.level)] else {
+        return taken;
+    };
+    for _ in round.first..round.end {
+        let place = next.fetch_add(1, Ordering::SeqCst);
+        if place >= round.end {
+            break;
+        }
+        let made = match next_work(&mut works) {
+            Some(work) => place_block(mode, source, &mut block, place, round.level, work),
+            None => None,
+        };
+        if !keep(&mut taken, made) {
+            next.store(round.end, Ordering::SeqCst);
+            break;
+        }
+    }
+    taken
+}
+
+// Puts what was made of a block behind the others, and answers whether anything was, and memory was had.
+fn keep(taken: &mut Vec<Placed>, made: Option<Placed>) -> bool
+    ensures { (p : Keying) (known : Option (List ℕ)) (k : ℕ) → ArePlaced p known k taken.old.items → IfSome made (IsPlaced p known k) → ArePlaced p known k taken.new.items }
+{
+    match made {
+        Some(placed) => match taken.push(placed) {
+            Ok(()) => true,
+            Err(_) => false,
+        },
+        None => false,
+    }
+}
