@@ -26,6 +26,6 @@ pub use store_books::{
 };
 pub use store_journal::{
     AcceptedPuts, BadText, Entry, IllegalEntry, JournalWriter, LeftObject, LeftUpload, ReadError,
-    ReplayError, Replayed, Version, entry_laws, entry_lines, journal_laws, read_entry, read_journal,
-    replay, write_entry, write_journal,
+    ReplayError, Replayed, Version, entry_laws, entry_lines, journal_laws, read_entry,
+    read_journal, replay, write_entry, write_journal,
 };
