@@ -24,5 +24,5 @@ kept_of p k = record {
 }
 
 -- its lengths are those of places that there are
-abbrev pub IsWithin : Kept → Type 0
-IsWithin k = (k.subtrees.len ≤ 54) × (k.tail.len ≤ 1024)
+abbrev pub FitsItsPlaces : Kept → Type 0
+FitsItsPlaces k = (k.subtrees.len ≤ 54) × (k.tail.len ≤ 1024)

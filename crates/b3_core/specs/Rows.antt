@@ -5,8 +5,8 @@ use Rattle.std.specs.Prelude.{◌≡◌, ℕ, ◌+◌, ◌*◌, List, [], ◌∷
 use Rattle.b3_core.specs.Compression.{turned}
 
 -- row i of a vector has these words, where `word` tells the word of a vector's lane
-abbrev pub IsRow : {V : Type 0} → (V → ℕ → ℕ) → ℕ → V → ℕ → ℕ → ℕ → ℕ → Type 0
-IsRow word i v a b c d = (word v (4 * i) ≡ a) × (word v (4 * i + 1) ≡ b) × (word v (4 * i + 2) ≡ c) × (word v (4 * i + 3) ≡ d)
+abbrev pub IsRowOf : {V : Type 0} → (V → ℕ → ℕ) → ℕ → V → ℕ → ℕ → ℕ → ℕ → Type 0
+IsRowOf word i v a b c d = (word v (4 * i) ≡ a) × (word v (4 * i + 1) ≡ b) × (word v (4 * i + 2) ≡ c) × (word v (4 * i + 3) ≡ d)
 
 -- the words of rows i of four vectors
 abbrev pub rows_words : {V : Type 0} → (V → ℕ → ℕ) → ℕ → V → V → V → V → List ℕ

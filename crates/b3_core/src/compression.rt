@@ -2,7 +2,7 @@
 
 ghost use Rattle.std.specs.Prelude.{◌≡◌, ℕ, ◌+◌, ◌*◌, ◌/◌, ◌%◌, ◌^◌, ◌<◌, List, take, slice_index};
 ghost use Rattle.b3_core.specs.Compression.{rounds, start_state, output_words, compress_of};
-ghost use Rattle.b3_core.specs.Rows.{IsRow, rows_state, rows_message, rows_value};
+ghost use Rattle.b3_core.specs.Rows.{IsRowOf, rows_state, rows_message, rows_value};
 ghost use Rattle.b3_core.specs.Work.{counted};
 
 use crate::rows::{Quads, low_rows, seven_rounds};
@@ -136,7 +136,7 @@ pub(crate) fn compress_rows<V: Quads>(
     last: V,
     work: &mut Work,
 ) -> (V, V)
-    ensures values { (i t b d : ℕ) → 4 * i + 3 < V.LANES → IsRow V.word i last (t % 2 ^ 32) (t / 2 ^ 32) b d
+    ensures values { (i t b d : ℕ) → 4 * i + 3 < V.LANES → IsRowOf V.word i last (t % 2 ^ 32) (t / 2 ^ 32) b d
         → rows_value V.word i result ≡ take 8 (compress_of (rows_value V.word i h) (rows_message V.word i m) t b d) }
     ensures count { work.new ≡ counted work.old (V.LANES / 4) }
 {

@@ -2,7 +2,7 @@
 
 ghost use Rattle.std.specs.Prelude.{◌≡◌, ℕ, ◌+◌, ◌-◌, ◌*◌, ◌/◌, ◌^◌, ◌<◌, ◌≤◌, ◌↔◌, ◌++◌, List, [], ◌∷◌, length, reverse, true};
 ghost use Rattle.b3_core.specs.Hashers.{AreFrom, AreSubtrees, Fits, IsBehind, IsLeft, IsNext, Holds, Makes, count_of, joined, kept_work};
-ghost use Rattle.b3_core.specs.Kept.{IsWithin, kept_of, nodes_of};
+ghost use Rattle.b3_core.specs.Kept.{FitsItsPlaces, kept_of, nodes_of};
 ghost use Rattle.b3_core.specs.Tree.{Keying, tree_top};
 ghost use Rattle.b3_core.specs.Work.{NeverFalls, counted, hash_work};
 
@@ -30,7 +30,7 @@ impl Kept {
     /// What is kept of no bytes.
     pub(crate) fn new() -> Kept
         ensures nothing { (p : Keying) → kept_of p result ≡ record { mode = p; subtrees = []; whole = 0; tail = [] } }
-        ensures within { IsWithin result }
+        ensures within { FitsItsPlaces result }
     {
         Kept {
             subtrees: Stack::new(),
@@ -42,7 +42,7 @@ impl Kept {
     /// Keeps no bytes.
     pub(crate) fn clear(&mut self)
         ensures nothing { (p : Keying) → kept_of p self.new ≡ record { mode = p; subtrees = []; whole = 0; tail = [] } }
-        ensures within { IsWithin self.new }
+        ensures within { FitsItsPlaces self.new }
     {
         self.subtrees.clear();
         self.whole = 0;
@@ -51,7 +51,7 @@ impl Kept {
 
     /// Whether its lengths are those of places that there are.
     pub(crate) fn is_within(&self) -> bool
-        ensures { result ≡ true ↔ IsWithin self.now }
+        ensures { result ≡ true ↔ FitsItsPlaces self.now }
     {
         self.subtrees.fits() && self.tail.fits()
     }
@@ -63,7 +63,7 @@ impl Kept {
         ensures count { (x : List ℕ) → Holds (kept_of mode.now self.old) x → length x + length bytes.now < 2 ^ 64
             → Makes (kept_work (kept_of mode.now self.old).subtrees) (kept_work (kept_of mode.now self.new).subtrees) work.old work.new }
         ensures never_falls { NeverFalls work.old work.new }
-        ensures within { IsWithin self.old → IsWithin self.new }
+        ensures within { FitsItsPlaces self.old → FitsItsPlaces self.new }
     {
         let mut rest = self.fill_tail(mode, bytes, work);
         while rest.len() >= CHUNK_LEN {
@@ -81,7 +81,7 @@ impl Kept {
         ensures bytes { (x : List ℕ) → Holds (kept_of mode.now self.old) x → length x + length bytes.now < 2 ^ 64
             → IsLeft (kept_of mode.now self.old) x bytes.now work.old (kept_of mode.now self.new) result.now work.new }
         ensures never_falls { NeverFalls work.old work.new }
-        ensures within { IsWithin self.old → IsWithin self.new }
+        ensures within { FitsItsPlaces self.old → FitsItsPlaces self.new }
     {
         if self.tail.is_empty() {
             return bytes;

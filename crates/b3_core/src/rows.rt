@@ -3,7 +3,7 @@
 
 ghost use Rattle.std.specs.Prelude.{◌≡◌, ℕ, ◌+◌, ◌*◌, ◌/◌, ◌<◌, List, take, slice_index};
 ghost use Rattle.b3_core.specs.Compression.{columns, diagonals, round, permute, rounds, output_words};
-ghost use Rattle.b3_core.specs.Rows.{IsRow, rows_words, rows_state, rows_message, rows_value};
+ghost use Rattle.b3_core.specs.Rows.{IsRowOf, rows_words, rows_state, rows_message, rows_value};
 ghost use Rattle.b3_core.specs.Work.{counted};
 
 use crate::vectors::{Words, mix};
@@ -15,22 +15,22 @@ pub(crate) trait Quads: Words {
     // The same row for each state.
     fn of_row(row: u32x4) -> Self
         ensures { (i : ℕ) → 4 * i + 3 < Self.LANES
-            → IsRow Self.word i result (slice_index row 0) (slice_index row 1) (slice_index row 2) (slice_index row 3) };
+            → IsRowOf Self.word i result (slice_index row 0) (slice_index row 1) (slice_index row 2) (slice_index row 3) };
 
     // The words of each row moved down by one lane, the first one to the end.
     fn down_one(self) -> Self
         ensures { (i : ℕ) → 4 * i + 3 < Self.LANES
-            → IsRow Self.word i result (Self.word self (4 * i + 1)) (Self.word self (4 * i + 2)) (Self.word self (4 * i + 3)) (Self.word self (4 * i)) };
+            → IsRowOf Self.word i result (Self.word self (4 * i + 1)) (Self.word self (4 * i + 2)) (Self.word self (4 * i + 3)) (Self.word self (4 * i)) };
 
     // The words of each row moved down by two lanes, the first ones to the end.
     fn down_two(self) -> Self
         ensures { (i : ℕ) → 4 * i + 3 < Self.LANES
-            → IsRow Self.word i result (Self.word self (4 * i + 2)) (Self.word self (4 * i + 3)) (Self.word self (4 * i)) (Self.word self (4 * i + 1)) };
+            → IsRowOf Self.word i result (Self.word self (4 * i + 2)) (Self.word self (4 * i + 3)) (Self.word self (4 * i)) (Self.word self (4 * i + 1)) };
 
     // The words of each row moved down by three lanes, the first ones to the end.
     fn down_three(self) -> Self
         ensures { (i : ℕ) → 4 * i + 3 < Self.LANES
-            → IsRow Self.word i result (Self.word self (4 * i + 3)) (Self.word self (4 * i)) (Self.word self (4 * i + 1)) (Self.word self (4 * i + 2)) };
+            → IsRowOf Self.word i result (Self.word self (4 * i + 3)) (Self.word self (4 * i)) (Self.word self (4 * i + 1)) (Self.word self (4 * i + 2)) };
 
     // Messages whose words stand in these rows, as `round` takes them.
     fn message(a: Self, b: Self, c: Self, d: Self) -> (Self, Self, Self, Self)

@@ -1,6 +1,6 @@
 use Rattle.std.proofs.Common.{ℕ, ◌+◌, ◌^◌, ◌<◌, List, length}
 use Rattle.b3_core.specs.Hashers.{Holds, IsLeft}
-use Rattle.b3_core.specs.Kept.{IsWithin, kept_of}
+use Rattle.b3_core.specs.Kept.{FitsItsPlaces, kept_of}
 use Rattle.b3_core.specs.Work.{NeverFalls}
 use Rattle.b3_core.proofs.kept.Kept.update.Given as goal
 
@@ -10,7 +10,7 @@ invariant-loop-rest l = record {
   left : (x : List ℕ) → Holds (kept_of l.mode l.fn.self) x → length x + length l.bytes < 2 ^ 64
       → IsLeft (kept_of l.mode l.fn.self) x l.bytes l.fn.work (kept_of l.mode l.self) l.rest l.work;
   never_falls : NeverFalls l.fn.work l.work;
-  within : IsWithin l.fn.self → IsWithin l.self;
+  within : FitsItsPlaces l.fn.self → FitsItsPlaces l.self;
 }
 
 abbrev pub decreases-loop-rest : goal.decreases-loop-rest
