@@ -1,5 +1,5 @@
 #!/usr/bin/env python3
-"""Keeps the content of a folder in a store: a small tool that drives `b3store run` over its two pipes (docs/CLIENTS.md).
+"""Keeps the content of a folder in a store: a small tool that drives `b3store run` over its two pipes (docs/LIBRARY.md).
 
 It uploads the plain files of FOLDER, parts of several files in turn, reads each object back, compares it with its file, and
 gives the store's journal to `b3store audit`. It prints a line for each file, in the order of their names: `new ADDRESS LEN
