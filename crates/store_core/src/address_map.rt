@@ -7,7 +7,7 @@ use indexmap::IndexMap;
 use std::alloc::{AllocError, Global};
 use store_books::{Address, AddressIndex};
 
-// A hashed map: a store's addresses are hashes, so that nobody can choose many that meet.
+// A hashed map: a store's addresses are hashes, which spread by themselves.
 #[derive(Drop)]
 pub(crate) struct AddressMap {
     numbers: IndexMap<Address, u64>,
