@@ -13,8 +13,6 @@
 mod blocks;
 mod line;
 mod parts;
-#[cfg(test)]
-mod places_tests;
 mod promised;
 mod reading;
 mod rounds;
@@ -23,8 +21,6 @@ mod source;
 mod sourcing;
 mod takers;
 mod taking;
-#[cfg(test)]
-mod tests;
 mod updating;
 
 pub use reading::hash_all;

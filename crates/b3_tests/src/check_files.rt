@@ -1,4 +1,5 @@
-//! Lines of check files, and reports on them. What is outside the grammar stands in tests/cases/check-lines.table.
+//! What the program can't show of check files: names by themselves, want of memory, and writes that fail. Lines and reports stand in
+//! tests/cases/check-*.table.
 
 use crate::fakes::FailingWriter;
 use crate::helpers::{ABC, THREE_LINES, digest};
@@ -34,27 +35,6 @@ fn named(alloc: Global, name: &[u8]) -> Result<&'static str, AllocError> {
             }
         }
     }
-}
-
-// The digest and the name of a line, or why it is none.
-fn read(alloc: Global, line: &[u8]) -> Result<String, AllocError> {
-    match read_line(alloc, line) {
-        Ok(line) => line_text(alloc, &line),
-        Err(error) => format!(in alloc; "{error}"),
-    }
-}
-
-fn line_text(alloc: Global, line: &Line) -> Result<String, AllocError> {
-    let digits = hex::encode(alloc, line.digest)?;
-    let name = hex::encode(alloc, line.name.as_bytes())?;
-    format!(in alloc; "{digits} {name}")
-}
-
-fn written(alloc: Global) -> Result<Vec<u8>, Fail> {
-    let lines = vec![in alloc; line_of_abc(alloc, b"f")?]?;
-    let mut file = Vec::new(alloc);
-    write(lines.as_slice(), &mut file)?;
-    Ok(file)
 }
 
 // Answers for `f` alone, and counts its calls.
@@ -101,50 +81,14 @@ fn names_are_kept_or_come_back(rt: HostRuntime) -> Result<(), Fail> {
 }
 
 #[test]
-fn a_line_is_read(rt: HostRuntime) -> Result<(), Fail> {
-    let line = read(
-        rt.alloc(),
-        b"6437b3ac38465133ffb63b75273a8db548c558465d79db03fd359c6cd5bd9d85  f",
-    )?;
-    assert_eq!(rt;
-        line.as_str(),
-        "6437b3ac38465133ffb63b75273a8db548c558465d79db03fd359c6cd5bd9d85 66"
-    );
-    Ok(())
-}
-
-#[test]
 fn faults_have_texts(rt: HostRuntime) -> Result<(), Fail> {
-    let (short, none) = (read(rt.alloc(), b"short")?, ReadError::NoMemory);
+    let (short, none) = (read_line(rt.alloc(), b"short").err(), ReadError::NoMemory);
+    let short = short.ok_or("no fault")?;
     let text = format!(in rt.alloc(); "{short}; {none}")?;
     assert_eq!(rt;
         text.as_str(),
         "C2: the line is too short for digits and two spaces; out of memory"
     );
-    Ok(())
-}
-
-#[test]
-fn a_line_is_written(rt: HostRuntime) -> Result<(), Fail> {
-    let file = written(rt.alloc())?;
-    let wanted: &[u8] = b"6437b3ac38465133ffb63b75273a8db548c558465d79db03fd359c6cd5bd9d85  f\n";
-    assert!(rt; file.as_slice() == wanted);
-    Ok(())
-}
-
-#[test]
-fn a_file_is_verified(rt: HostRuntime) -> Result<(), Fail> {
-    let alloc = rt.alloc();
-    let report = report_on(alloc, Ok(Some(digest(ABC)?)), 2)?.ok_or("no report")?;
-    assert_eq!(rt;
-        (report.verdicts().len(), report.counts().is_all_good()),
-        (3, false)
-    );
-    let mut text = Vec::new(alloc);
-    report.write(&mut text)?;
-    let wanted: &[u8] =
-        b"good f\nfault 2 C2\nmissing g\ngood 1 bad 0 missing 1 unreadable 0 faults 1\n";
-    assert!(rt; text.as_slice() == wanted);
     Ok(())
 }
 

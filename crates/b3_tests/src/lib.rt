@@ -1,4 +1,4 @@
-//! Tests of hashing, parts and check files, over the public calls of `b3_core`, `b3_forest` and `b3_check`.
+//! Tests of hashing, parts and check files, over the public calls of `b3_core`, `b3_parallel`, `b3_forest` and `b3_check`.
 #![tactic(auto)]
 
 #[cfg(test)]
@@ -22,6 +22,10 @@ mod helpers;
 mod nodes;
 #[cfg(test)]
 mod outputs;
+#[cfg(test)]
+mod parallel;
+#[cfg(test)]
+mod places;
 mod scripts;
 
 pub use fakes::{FailingWriter, is_pattern, pattern};
