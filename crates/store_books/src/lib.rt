@@ -39,6 +39,3 @@ pub use refusal::Refusal;
 pub use tenant_id::TenantId;
 pub use totals::Totals;
 pub use upload_id::UploadId;
-
-#[cfg(test)]
-mod tests;

@@ -8,6 +8,8 @@ mod helpers;
 #[cfg(test)]
 mod journal;
 #[cfg(test)]
+mod journal_writers;
+#[cfg(test)]
 mod memory;
 #[cfg(test)]
 mod replay;

@@ -12,27 +12,30 @@ tenant 1 9000
 begin 0 1 5
 put 0 0 5
 seal 0 0000000000000000000000000000000000000000000000000000000000000000 new
-begin 1 0 5
-put 1 0 5
-seal 1 0000000000000000000000000000000000000000000000000000000000000000 known
-begin 2 1 2049
-put 2 2048 1
-put 2 0 1024
+begin 1 0 0
+seal 1 1111111111111111111111111111111111111111111111111111111111111111 new
+begin 2 0 5
+put 2 0 5
+seal 2 0000000000000000000000000000000000000000000000000000000000000000 known
+begin 3 1 2049
+put 3 2048 1
+put 3 0 1024
 limit 0 5
-begin 3 0 0
-abort 3
-open 4 1 2048
-open 5 1 2049
-fix 5 1025
+begin 4 0 0
+abort 4
+open 5 1 2048
+open 6 1 2049
+fix 6 1025
 ";
 
 const LEFT: &str = "limit 5
 limit 9000
 object 0000000000000000000000000000000000000000000000000000000000000000 5 of [0, 1]
-upload 2 of 1 bound 2049 end Some(2049) parts {0: 1024, 2048: 1}
-upload 4 of 1 bound 2048 end None parts {}
-upload 5 of 1 bound 2049 end Some(1025) parts {}
-objects 1 bytes 5 uploads 3 held 1025 parts 2, accepted 1035 4
+object 1111111111111111111111111111111111111111111111111111111111111111 0 of [0]
+upload 3 of 1 bound 2049 end Some(2049) parts {0: 1024, 2048: 1}
+upload 5 of 1 bound 2048 end None parts {}
+upload 6 of 1 bound 2049 end Some(1025) parts {}
+objects 2 bytes 5 uploads 3 held 1025 parts 2, accepted 1035 4
 ";
 
 fn object_text(alloc: Global, object: &LeftObject) -> Result<String, AllocError> {
