@@ -92,7 +92,7 @@ fn each_length_has_the_node_of_one_thread(rt: HostRuntime) -> Result<(), Fail> {
             let Some(input) = bytes.get(..*len) else {
                 continue;
             };
-            for most in [700usize, usize::MAX] {
+            for most in [700usize, 2048, usize::MAX] {
                 let alike = is_read_alike(&rt, rt.alloc(), input, threads, most)?;
                 assert!(rt; alike, "{len} {threads} {most}");
             }
@@ -110,6 +110,29 @@ fn a_byte_at_a_time(rt: HostRuntime) -> Result<(), Fail> {
     Ok(())
 }
 
+// Whether the failure of a reader is told, of which blocks of 2 KiB are read.
+fn is_told<T: Threads + Runtime>(
+    rt: &T,
+    alloc: Global,
+    reader: PieceReader<'_>,
+    threads: u32,
+) -> bool {
+    let mut reader = reader;
+    let mut work = Work::new(rt);
+    match hash_in_blocks(
+        rt,
+        alloc,
+        &Mode::hash(),
+        &mut reader,
+        Some(threads),
+        1,
+        &mut work,
+    ) {
+        Ok(_) => false,
+        Err(error) => error.kind() == ErrorKind::Other,
+    }
+}
+
 #[test]
 fn a_read_that_fails_is_told(rt: HostRuntime) -> Result<(), Fail> {
     let bytes = pattern(rt.alloc(), 20000)?;
@@ -117,26 +140,15 @@ fn a_read_that_fails_is_told(rt: HostRuntime) -> Result<(), Fail> {
         for fails_at in [
             0usize, 1, 2047, 2048, 2049, 4096, 6143, 6144, 12288, 19999, 20000,
         ] {
-            let mut reader = PieceReader {
-                bytes: &bytes,
-                most: 1000,
-                fails_at,
-                given: 0,
-            };
-            let mut work = Work::new(&rt);
-            let mode = Mode::hash();
-            let told = hash_in_blocks(
-                &rt,
-                rt.alloc(),
-                &mode,
-                &mut reader,
-                Some(threads),
-                1,
-                &mut work,
-            );
-            match told {
-                Ok(_) => panic!(rt; "{threads} {fails_at}"),
-                Err(error) => assert!(rt; error.kind() == ErrorKind::Other),
+            for most in [1000usize, 2048] {
+                let reader = PieceReader {
+                    bytes: &bytes,
+                    most,
+                    fails_at,
+                    given: 0,
+                };
+                let told = is_told(&rt, rt.alloc(), reader, threads);
+                assert!(rt; told, "{threads} {fails_at} {most}");
             }
         }
     }
