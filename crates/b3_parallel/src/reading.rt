@@ -20,21 +20,30 @@ use std::io;
 use std::io::{Error, ErrorKind, Read};
 use std::thread::Threads;
 
+/// How a block was filled.
+#[derive(Clone, Copy, Drop)]
+pub(crate) struct Filled {
+    /// How many bytes it has.
+    pub(crate) count: usize,
+    /// Whether one read gave them.
+    pub(crate) at_once: bool,
+}
+
 // Reads until the block is full or nothing is left.
-fn fill<R: Read>(reader: &mut R, block: &mut [u8]) -> io::Result<usize>
+fn fill<R: Read>(reader: &mut R, block: &mut [u8]) -> io::Result<Filled>
     ensures len { length block.new ≡ length block.old }
-    ensures count { IfOk result (λ n. n ≤ length block.old) }
-    ensures bytes { IfOk result (λ n. Consumes (R.remaining reader.old) (R.remaining reader.new) (take n block.new)) }
-    ensures end { IfOk result (λ n. n < length block.old → IsAtEnd (R.remaining reader.new)) }
+    ensures count { IfOk result (λ filled. filled.count ≤ length block.old) }
+    ensures bytes { IfOk result (λ filled. Consumes (R.remaining reader.old) (R.remaining reader.new) (take filled.count block.new)) }
+    ensures end { IfOk result (λ filled. filled.count < length block.old → IsAtEnd (R.remaining reader.new)) }
 {
-    let mut filled = 0;
-    for _ in 0..u64::MAX {
-        if filled >= block.len() {
-            return Ok(filled);
+    let mut count = 0;
+    for reads in 0..u64::MAX {
+        if count >= block.len() {
+            return Ok(filled_by(count, reads));
         }
-        match reader.read(&mut block[filled..]) {
-            Ok(0) => return Ok(filled),
-            Ok(count) => filled += count,
+        match reader.read(&mut block[count..]) {
+            Ok(0) => return Ok(filled_by(count, reads)),
+            Ok(more) => count += more,
             Err(error) if error.kind() == ErrorKind::Interrupted => {}
             Err(error) => return Err(error),
         }
@@ -42,12 +51,22 @@ fn fill<R: Read>(reader: &mut R, block: &mut [u8]) -> io::Result<usize>
     Err(Error::from(ErrorKind::Interrupted))
 }
 
-/// Reads until a block is full or nothing is left, and answers how many bytes it has.
-pub(crate) fn fill_block<R: Read>(reader: &mut R, block: &mut Vec<u8>) -> io::Result<usize>
+// A block with so many bytes, by so many reads.
+fn filled_by(count: usize, reads: u64) -> Filled
+    ensures { result.count ≡ count }
+{
+    Filled {
+        count,
+        at_once: reads < 2,
+    }
+}
+
+/// Reads until a block is full or nothing is left.
+pub(crate) fn fill_block<R: Read>(reader: &mut R, block: &mut Vec<u8>) -> io::Result<Filled>
     ensures len { length block.new.items ≡ vec_len block.old }
-    ensures count { IfOk result (λ n. n ≤ vec_len block.old) }
-    ensures bytes { IfOk result (λ n. Consumes (R.remaining reader.old) (R.remaining reader.new) (take n block.new.items)) }
-    ensures end { IfOk result (λ n. n < vec_len block.old → IsAtEnd (R.remaining reader.new)) }
+    ensures count { IfOk result (λ filled. filled.count ≤ vec_len block.old) }
+    ensures bytes { IfOk result (λ filled. Consumes (R.remaining reader.old) (R.remaining reader.new) (take filled.count block.new.items)) }
+    ensures end { IfOk result (λ filled. filled.count < vec_len block.old → IsAtEnd (R.remaining reader.new)) }
 {
     fill(reader, block.as_mut_slice())
 }
@@ -101,7 +120,8 @@ pub(crate) fn hash_until<R: Read>(
 ///
 /// This thread reads, and hashes the first 2 MiB. Behind them each block of 2 MiB is hashed by a thread that is started for it, while
 /// this one reads the next; their nodes are put together in the order of the blocks. Where a thread or memory for a block is refused, this
-/// one hashes the rest. No thread is left at work, behind a read that failed neither. Shorter inputs start no thread.
+/// one hashes the rest. No thread is left at work, behind a read that failed neither. Shorter inputs start no thread. A reader that gives a
+/// block in pieces, as a pipe does, is slower than this thread hashes: then this one hashes the rest too.
 ///
 /// `threads` says how many hash at once, up to 10 (more find no block to hash): with 1 it is this one alone, and with `None` as
 /// many as the processor has.
@@ -190,8 +210,8 @@ fn hash_in_line<T: Threads + Runtime, R: Read>(
     }
 }
 
-// Reads blocks behind the first one, and puts each at the end of a line. The answer is the last bytes, fewer than a block, or
-// none where the reader may have more.
+// Reads blocks behind the first one, and puts each at the end of a line, as long as each comes at once. The answer is the last bytes,
+// fewer than a block, or none where the reader may have more.
 fn read_in_line<T: Threads + Runtime, R: Read>(
     rt: &T,
     alloc: Global,
@@ -211,12 +231,12 @@ fn read_in_line<T: Threads + Runtime, R: Read>(
         let Some(mut block) = next_place(rt, alloc, hasher, line, plan, work) else {
             return Ok(None);
         };
-        let count = fill_block(reader, &mut block)?;
-        if count < block.len() {
-            block.truncate(count);
+        let filled = fill_block(reader, &mut block)?;
+        if filled.count < block.len() {
+            block.truncate(filled.count);
             return Ok(Some(block));
         }
-        if !put(rt, hasher, line, block, place, plan.level, work) {
+        if !put(rt, hasher, line, block, place, plan.level, work) || !filled.at_once {
             return Ok(None);
         }
     }

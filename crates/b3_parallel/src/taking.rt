@@ -46,7 +46,7 @@ fn place_block<S: Source>(
     let number = place * chunks_of(level);
     let mut reader = Places::new(source, number * CHUNK_LEN as u64);
     match fill_block(&mut reader, block) {
-        Ok(count) if count == block.len() => {}
+        Ok(filled) if filled.count == block.len() => {}
         _ => return None,
     }
     let mut work = work;

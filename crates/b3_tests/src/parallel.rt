@@ -92,20 +92,14 @@ fn a_stream_has_the_node_of_one_thread(rt: HostRuntime) -> Result<(), Fail> {
     Ok(())
 }
 
-// What comes of bytes in pieces of a thousand of which the read fails that comes once so many were given.
+// What comes of a reader that fails.
 fn failed_kind<T: Threads + Runtime>(
     rt: &T,
     alloc: Global,
-    bytes: &[u8],
-    fails_at: usize,
+    reader: PieceReader<'_>,
     threads: Option<u32>,
 ) -> Option<ErrorKind> {
-    let mut reader = PieceReader {
-        bytes,
-        most: 1000,
-        fails_at,
-        given: 0,
-    };
+    let mut reader = reader;
     let told = hash_all(
         rt,
         alloc,
@@ -134,8 +128,16 @@ fn a_read_that_fails_is_told(rt: HostRuntime) -> Result<(), Fail> {
     let bytes = pattern(rt.alloc(), 0, 3 * 2_097_152 + 1024)?;
     for threads in THREADS {
         for fails_at in FAILS_AT {
-            let kind = failed_kind(&rt, rt.alloc(), &bytes, *fails_at, threads);
-            assert!(rt; kind == Some(ErrorKind::Other), "{threads:?} {fails_at}");
+            for most in [1000, BLOCK] {
+                let reader = PieceReader {
+                    bytes: &bytes,
+                    most,
+                    fails_at: *fails_at,
+                    given: 0,
+                };
+                let kind = failed_kind(&rt, rt.alloc(), reader, threads);
+                assert!(rt; kind == Some(ErrorKind::Other), "{threads:?} {fails_at} {most}");
+            }
         }
     }
     Ok(())

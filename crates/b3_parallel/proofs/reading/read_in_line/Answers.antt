@@ -31,18 +31,18 @@ returns-in_default-clause-carries g c x n first len =
     (g.R.Read.remaining c.args.reader.now) (g.R.Read.remaining c.loop-place.reader)
     (placed g (goal.at.returns-in_default-clause-carries g c).After-next_place x n first len)
 
-pub returns-then-count-len-clause-carries : goal.returns-then-count-len-clause-carries
-returns-then-count-len-clause-carries g c x n first len =
+pub returns-then-filled-len-clause-carries : goal.returns-then-filled-len-clause-carries
+returns-then-filled-len-clause-carries g c x n first len =
     let mid = g.R.Read.remaining c.loop-place.reader in
     let now = g.R.Read.remaining c.fill_block.new.reader in
     let all = c.fill_block.new.block.items in
     let last = c.truncate.new.self.items in
     let size : length all ≡ 1024 * 2 ^ c.args.plan.level = search (rules, c.fill_block.ensures, c.in-Some.ensures) in
-    let most : c.in_ok-count.count ≤ length all = search (rules, c.in_ok-count.ensures, c.fill_block.ensures) in
-    let read : Consumes mid now (take c.in_ok-count.count all) = search (rules, c.in_ok-count.ensures) in
-    let short : length last < 2 ^ 62 = omega (arith, ap length c.truncate.ensures.items, length-take-le c.in_ok-count.count all most, most, size, small c.args.plan.level c.requires) in
+    let most : c.in_ok-filled.filled.count ≤ length all = search (rules, c.in_ok-filled.ensures, c.fill_block.ensures) in
+    let read : Consumes mid now (take c.in_ok-filled.filled.count all) = search (rules, c.in_ok-filled.ensures) in
+    let short : length last < 2 ^ 62 = omega (arith, ap length c.truncate.ensures.items, length-take-le c.in_ok-filled.filled.count all most, most, size, small c.args.plan.level c.requires) in
     line_ends c.args.hasher.now.mode c.args.plan.level c.next_place.new.hasher c.next_place.new.line.items x last n c.next_place.new.work c.loop-place.place
-    (g.R.Read.remaining c.args.reader.now) mid now (placed g (goal.at.returns-then-count-len-clause-carries g c).After-next_place x n first len)
+    (g.R.Read.remaining c.args.reader.now) mid now (placed g (goal.at.returns-then-filled-len-clause-carries g c).After-next_place x n first len)
     (subst (Consumes mid now) (sym c.truncate.ensures.items) read) short
 
 -- the line with the block at its end
@@ -58,8 +58,8 @@ longer g c x n first len =
     let size : length all ≡ 1024 * 2 ^ k = search (rules, c.fill_block.ensures, c.in-Some.ensures) in
     let here = line_kept p k c.loop-place.hasher c.next_place.new.hasher c.loop-place.line.items c.next_place.new.line.items x n c.loop-place.work c.next_place.new.work c.loop-place.place
     (g.R.Read.remaining c.args.reader.now) mid (c.loop-place.invariant x n first len) (λ z few is. c.next_place.ensures.carries p z n few is) in
-    let whole : take c.in_ok-count.count all ≡ all = take_all c.in_ok-count.count all (search (rules, c.in_ok-count.ensures, c.len.ensures, c.if-count-len.false)) in
-    let read : Consumes mid now (take c.in_ok-count.count all) = search (rules, c.in_ok-count.ensures) in
+    let whole : take c.in_ok-filled.filled.count all ≡ all = take_all c.in_ok-filled.filled.count all (search (rules, c.in_ok-filled.ensures, c.len.ensures, c.if-filled-len.false)) in
+    let read : Consumes mid now (take c.in_ok-filled.filled.count all) = search (rules, c.in_ok-filled.ensures) in
     line_more p k c.next_place.new.hasher c.put.new.hasher c.next_place.new.line.items c.put.new.line.items x all n c.next_place.new.work c.put.new.work c.loop-place.place
     (g.R.Read.remaining c.args.reader.now) mid now here size
     (c.block_limit-place-end.ensures c.loop-place.place c.loop-place-test.true) (subst (Consumes mid now) whole read)
