@@ -113,11 +113,18 @@ class OpenUpload(typing.NamedTuple):
     held: int
 
 
+def filed(words):
+    """What an answer to a seal says."""
+    return Filed(words[0] == "new", words[1], int(words[2]))
+
+
 class Store:
     """A store that ends with its process, and with it all that it holds."""
 
     def __init__(self, program="b3store"):
         self._lock = threading.Lock()
+        self._next = 0
+        """The number of the next upload: the store counts those that were begun."""
         self._process = subprocess.Popen([program, "serve"], stdin=subprocess.PIPE, stdout=subprocess.PIPE, bufsize=PIPE)
 
     def __enter__(self):
@@ -141,11 +148,11 @@ class Store:
 
     def begin(self, tenant, length):
         """Begins an upload of so many bytes, and gives its number."""
-        return int(self._ask("upload", f"begin {tenant} {length}")[0])
+        return self._begin(f"begin {tenant} {length}")
 
     def open(self, tenant, at_most):
         """Begins an upload of at most so many bytes, whose end is fixed later, and gives its number."""
-        return int(self._ask("upload", f"open {tenant} {at_most}")[0])
+        return self._begin(f"open {tenant} {at_most}")
 
     def fix(self, upload, length):
         """Fixes an upload's end."""
@@ -158,11 +165,32 @@ class Store:
 
     def seal(self, upload):
         """Files an upload as an object."""
-        return self._filed(f"seal {upload}")
+        return filed(self._ask(("new", "known"), f"seal {upload}"))
 
     def seal_as(self, upload, address):
         """Files an upload as an object, if it has this address."""
-        return self._filed(f"sealas {upload} {address}")
+        return filed(self._ask(("new", "known"), f"sealas {upload} {address}"))
+
+    def file(self, tenant, content, address=None):
+        """Files content of at most MOST_PART bytes at once, if it has the address, where one is given: three commands are sent together."""
+        with self._lock:
+            number = self._next
+            put = f"putb {number} 0 {len(content)}\n" if content else ""
+            seal = f"seal {number}\n" if address is None else f"sealas {number} {address}\n"
+            self._write(f"begin {tenant} {len(content)}\n{put}".encode(), content, seal.encode())
+            refusals, answers = [], []
+            for kinds in ["upload", *["held"] * bool(content), ("new", "known")]:
+                try:
+                    answers.append(self._answer(kinds))
+                except Refused as refusal:
+                    refusals.append(refusal)
+            self._next += bool(answers)
+            if refusals and answers:
+                self._write(f"abort {number}\n".encode())
+                self._answer("ok")
+            if refusals:
+                raise refusals[0]
+            return filed(answers[-1])
 
     def abort(self, upload):
         """Ends an upload without an object."""
@@ -184,7 +212,7 @@ class Store:
     def fetch(self, tenant, address, offset=0, length=MOST_UPLOAD):
         """An object's bytes, or those of a range, which ends with the object at the latest."""
         with self._lock:
-            self._send(f"fetchb {tenant} {address} {offset} {length}")
+            self._write(f"fetchb {tenant} {address} {offset} {length}\n".encode())
             count = int(self._answer("bytes")[0])
             content = self._process.stdout.read(count)
         if len(content) < count:
@@ -239,24 +267,27 @@ class Store:
                     pass
             return self._process.wait()
 
-    def _filed(self, line):
-        word, address, length = self._ask(("new", "known"), line)
-        return Filed(word == "new", address, int(length))
+    def _begin(self, line):
+        with self._lock:
+            self._write(line.encode() + b"\n")
+            number = int(self._answer("upload")[0])
+            self._next = number + 1
+            return number
 
     def _ask(self, kinds, line, content=b""):
         with self._lock:
-            self._send(line, content)
+            self._write(line.encode() + b"\n", content)
             return self._answer(kinds)
 
     def _rows(self, kind, line):
         with self._lock:
-            self._send(line)
+            self._write(line.encode() + b"\n")
             return [self._line() for _ in range(int(self._answer(kind)[0]))]
 
-    def _send(self, line, content=b""):
+    def _write(self, *pieces):
         try:
-            self._process.stdin.write(line.encode() + b"\n")
-            self._process.stdin.write(content)
+            for piece in pieces:
+                self._process.stdin.write(piece)
             self._process.stdin.flush()
         except (BrokenPipeError, ValueError):
             raise Ended("the store has ended") from None

@@ -1,13 +1,14 @@
 #!/usr/bin/env python3
 """Backs up a folder into a repository, and restores it, by a store (docs/LIBRARY.md).
 
-    backup.py save FOLDER REPOSITORY     keeps what is in FOLDER, and writes the backup's address
+    backup.py save [--all] FOLDER REPOSITORY     keeps what is in FOLDER, and writes the backup's address
     backup.py restore REPOSITORY ADDRESS FOLDER
     backup.py check REPOSITORY           compares each object with its address
 
 A repository is a folder: objects/AA/ADDRESS has the bytes of that BLAKE3 hash. Files are cut where their content says so, and a piece is kept once, whichever
-files have it, in whichever backup; so bytes put in front of a file make one new piece. A backup is an object too, a list of names and pieces.
-Links are kept as links. What is no file, folder or link (a pipe, a device, a socket) is told and left out.
+files have it, in whichever backup; so bytes put in front of a file make one new piece. A backup is a list of names and pieces, which is kept in pieces too.
+A file whose length, mode and time are those of the last backup of its folder is not read, unless `--all` asks for it. Links are kept as links. What is no file,
+folder or link (a pipe, a device, a socket) is told and left out.
 
 The store gives each piece its address, and compares what is read from the repository with it. It holds at most `--memory` bytes; beyond that it forgets
 what it has held longest.
@@ -16,6 +17,7 @@ The status is 0 where all was kept, restored or right; 1 where something was not
 """
 import argparse
 import collections
+import io
 import os
 import re
 import stat
@@ -24,7 +26,6 @@ import urllib.parse
 
 from b3store import Ended, Refused, Store
 
-PART = 1 << 20
 LEAST_PIECE, MOST_PIECE = 1 << 14, 1 << 22
 """The bytes of a piece: the last one of a file may have fewer."""
 
@@ -67,34 +68,24 @@ class Repository:
     def place(self, address):
         return os.path.join(self.path, "objects", address[:2], address)
 
-    def begin(self, length):
-        """Begins an upload, for which the store forgets what it has held longest."""
+    def hold(self, content, address=None):
+        """Gives the store an object, which must have the address, where one is told. For that the store forgets what it has held longest."""
         while True:
             try:
-                return self.store.begin(self.tenant, length)
+                filed = self.store.file(self.tenant, content, address)
+                break
             except Refused as refusal:
                 if refusal.number != "S6" or not self.held:
                     raise
                 self.store.forget(self.tenant, self.held.popitem(last=False)[0])
-
-    def hold(self, content, address=None):
-        """Gives the store an object, which must have the address, where one is told."""
-        upload = self.begin(len(content))
-        try:
-            for offset in range(0, len(content), PART):
-                self.store.put(upload, offset, memoryview(content)[offset : offset + PART])
-            filed = self.store.seal(upload) if address is None else self.store.seal_as(upload, address)
-        except Refused:
-            self.store.abort(upload)
-            raise
         self.held[filed.address] = None
         self.held.move_to_end(filed.address)
-        return filed
+        return filed.address
 
     def keep(self, content):
         """Keeps an object, and gives its address."""
-        filed = self.hold(content)
-        place = self.place(filed.address)
+        address = self.hold(content)
+        place = self.place(address)
         is_new = not os.path.exists(place)
         if is_new:
             os.makedirs(os.path.dirname(place), exist_ok=True)
@@ -103,7 +94,33 @@ class Repository:
             os.replace(place + ".new", place)
         word = "new" if is_new else "known"
         self.counts.update({word: 1, word + " bytes": len(content)})
-        return filed.address
+        return address
+
+    def keep_all(self, file):
+        """Keeps all that a file has, in pieces, and gives their addresses."""
+        return [self.keep(piece) for piece in pieces_of(file)]
+
+    def keep_backup(self, lines):
+        addresses = self.keep_all(io.BytesIO("".join(line + "\n" for line in lines).encode()))
+        return self.keep("".join(address + "\n" for address in addresses).encode())
+
+    def lines_of(self, backup):
+        """The lines of a backup."""
+        return b"".join(self.read(address) for address in self.read(backup).decode().split()).decode().splitlines()
+
+    def latest(self):
+        """The last backup of each folder."""
+        path = os.path.join(self.path, "latest")
+        if not os.path.exists(path):
+            return {}
+        with open(path, encoding="ascii") as lines:
+            return dict(line.split() for line in lines)
+
+    def note(self, folder, backup):
+        latest = {**self.latest(), quoted(os.path.abspath(folder)): backup}
+        with open(os.path.join(self.path, "latest.new"), "w", encoding="ascii") as file:
+            file.writelines(f"{folder} {backup}\n" for folder, backup in latest.items())
+        os.replace(file.name, os.path.join(self.path, "latest"))
 
     def read(self, address):
         """An object of the repository, which was compared with its address."""
@@ -136,39 +153,52 @@ def place_in(folder, path):
     return os.path.join(folder, path)
 
 
-def line_of(repository, folder, path):
-    """The backup's line of a path, or None for what is left out."""
+def line_of(repository, folder, path, known):
+    """The backup's line of a path, or None for what is left out. What the last backup knows of a file is taken from there."""
     status = os.lstat(path)
     words = [quoted(os.path.relpath(path, folder)), oct(stat.S_IMODE(status.st_mode))[2:], str(status.st_mtime_ns)]
     if stat.S_ISDIR(status.st_mode):
-        return ["folder", *words]
+        return " ".join(["folder", *words])
     if stat.S_ISLNK(status.st_mode):
-        return ["link", *words, quoted(os.readlink(path))]
+        return " ".join(["link", *words, quoted(os.readlink(path))])
     if not stat.S_ISREG(status.st_mode):
         return None
+    words = ["file", *words, str(status.st_size)]
+    if tuple(words) in known:
+        return known[tuple(words)]
     with open(path, "rb") as file:
-        return ["file", *words, *[repository.keep(piece) for piece in pieces_of(file)]]
+        return " ".join([*words, *repository.keep_all(file)])
+
+
+def known_files(repository, options):
+    """The lines of the files that the last backup of a folder has, by their first five words."""
+    backup = repository.latest().get(quoted(os.path.abspath(options.folder)))
+    if backup is None or options.all:
+        return {}
+    return {tuple(line.split(" ")[:5]): line for line in repository.lines_of(backup) if line.startswith("file ")}
 
 
 def save(repository, options):
     lines, kinds, is_whole = [], collections.Counter(), True
+    known = known_files(repository, options)
     for path in entries_of(options.folder):
         try:
-            line = line_of(repository, options.folder, path)
+            line = line_of(repository, options.folder, path, known)
             fault = "is no file, folder or link" if line is None else None
         except OSError as error:
             fault = error.strerror
         if fault is None:
-            lines.append(" ".join(line))
-            kinds[line[0]] += 1
+            lines.append(line)
+            kinds[line.split(" ")[0]] += 1
         else:
             print(f"left out: {os.path.relpath(path, options.folder)} {fault}")
             is_whole = False
-    address = repository.keep("".join(line + "\n" for line in lines).encode())
+    backup = repository.keep_backup(lines)
+    repository.note(options.folder, backup)
     counts = repository.counts
     print(f"files {kinds['file']} folders {kinds['folder']} links {kinds['link']}")
     print(f"new objects {counts['new']} bytes {counts['new bytes']} known objects {counts['known']} bytes {counts['known bytes']}")
-    print(f"backup {address}")
+    print(f"backup {backup}")
     return is_whole
 
 
@@ -179,14 +209,14 @@ def restore_line(repository, kind, place, words):
         os.symlink(unquoted(words[0]), place)
     else:
         with open(place, "wb") as file:
-            file.writelines(repository.read(address) for address in words)
+            file.writelines(repository.read(address) for address in words[1:])
 
 
 def restore(repository, options):
     is_whole = True
     os.makedirs(options.folder, exist_ok=True)
     folders = []
-    for line in repository.read(options.address).decode().splitlines():
+    for line in repository.lines_of(options.address):
         kind, path, mode, time, *words = line.split(" ")
         try:
             place = place_in(options.folder, unquoted(path))
@@ -229,6 +259,8 @@ def read_options():
         command.set_defaults(work=work)
         for word in words:
             command.add_argument(word, metavar=word.upper())
+        if work is save:
+            command.add_argument("--all", action="store_true", help="reads files too that are as the last backup has them")
     return parser.parse_args()
 
 

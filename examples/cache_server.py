@@ -71,6 +71,8 @@ class Cache:
 
     def put(self, user, key, length, parts):
         """Stores the content that the parts have, whose length may not be known before."""
+        if length is not None and length <= PART:
+            return self.put_small(user, key, b"".join(parts))
         upload = self.store.begin(user.tenant, length) if length is not None else self.open(user)
         try:
             count = self.fill(upload, parts)
@@ -83,6 +85,11 @@ class Cache:
             with contextlib.suppress(Refused, Ended):
                 self.store.abort(upload)
             raise
+
+    def put_small(self, user, key, content):
+        with self.lock:
+            filed = self.store.file(user.tenant, content)
+            self.lead(user, key, Entry(filed.address, filed.length))
 
     def open(self, user):
         """Begins an upload of unknown length. Its reservation is as much as an object may have, or all that the user has left."""
