@@ -1,243 +1,267 @@
 #!/usr/bin/env python3
-"""Keeps the content of a folder in a store: a small tool that drives `b3store run` over its two pipes (docs/LIBRARY.md).
+"""Backs up a folder into a repository, and restores it, by a store (docs/LIBRARY.md).
 
-It uploads the plain files of FOLDER, parts of several files in turn, reads each object back, compares it with its file, and
-gives the store's journal to `b3store audit`. It prints a line for each file, in the order of their names: `new ADDRESS LEN
-NAME`, `known ADDRESS LEN NAME`, `differs ADDRESS LEN NAME`, `refused .. NAME` with the store's refusal, or `unreadable NAME`;
-and then what is held, what the audit says, and how many files were kept. Names are printed as they are.
+    backup.py save [--all] FOLDER REPOSITORY     keeps what is in FOLDER, and writes the backup's address
+    backup.py restore REPOSITORY ADDRESS FOLDER
+    backup.py check REPOSITORY           compares each object with its address
 
-The exit status is 0 where all files were kept and compared equal, 1 where one was not, 2 for usage, and 3 where the store has
-ended, a folder can't be read, or the journal can't be written.
+A repository is a folder: objects/AA/ADDRESS has the bytes of that BLAKE3 hash. Files are cut where their content says so, and a piece is kept once, whichever
+files have it, in whichever backup; so bytes put in front of a file make one new piece. A backup is a list of names and pieces, which is kept in pieces too.
+A file whose length, mode and time are those of the last backup of its folder is not read, unless `--all` asks for it. Links are kept as links. What is no file,
+folder or link (a pipe, a device, a socket) is told and left out.
+
+The store gives each piece its address, and compares what is read from the repository with it. It holds at most `--memory` bytes; beyond that it forgets
+what it has held longest.
+
+The status is 0 where all was kept, restored or right; 1 where something was not, which is told; 2 for usage; 3 where the store has ended.
 """
 import argparse
 import collections
-import contextlib
-import itertools
+import io
 import os
-import subprocess
+import re
+import stat
 import sys
+import urllib.parse
 
-CHUNK_BYTES = 1024
-MOST_PART_BYTES = 1 << 24
-WIDEST_LIMIT = 1 << 46
-FILES_IN_TURN = 4
-PIPE_BYTES = 1 << 16
+from b3store import Ended, Refused, Store
 
-
-class Refused(Exception):
-    """A command was refused, and has changed nothing. The text is the refusal, as `S6 free 0`."""
+LEAST_PIECE, MOST_PIECE = 1 << 14, 1 << 22
+"""The bytes of a piece: the last one of a file may have fewer."""
 
 
-class Ended(Exception):
-    """The store's process has ended, or its answer is none to what was asked."""
+def edge_pattern():
+    """Where a piece ends: behind five bytes that are in five sets, of 32 bytes each, which is behind one place in 32,768 of random content."""
+    sets = [[byte for byte in range(256) if (byte * factor + 60) % 256 < 32] for factor in (151, 89, 203, 57, 119)]
+    return re.compile(b"".join(b"[" + b"".join(b"\\x%02x" % byte for byte in chosen) + b"]" for chosen in sets))
 
 
-class Store:
-    """A store of its own, in a process that ends with it.
-
-    Each line is sent, and its answer read, before the next line is sent. So of the two processes one reads while the other
-    writes, and neither waits for ever, whatever the lengths of lines and answers.
-    """
-
-    def __init__(self, program="b3store"):
-        pipes = {"stdin": subprocess.PIPE, "stdout": subprocess.PIPE, "bufsize": PIPE_BYTES}
-        self.process = subprocess.Popen([program, "run"], **pipes)
-
-    def __enter__(self):
-        return self
-
-    def __exit__(self, *_):
-        self.close()
-
-    def open_tenant(self, limit=WIDEST_LIMIT):
-        """The new tenant's number."""
-        return int(self.ask(f"tenant {limit}", "tenant")[1])
-
-    def begin(self, tenant, length):
-        """The new upload's number."""
-        return int(self.ask(f"begin {tenant} {length}", "upload")[1])
-
-    def put(self, upload, offset, part):
-        """How many bytes the upload holds now, and the first offset that is missing, or None."""
-        words = self.ask(f"put {upload} {offset} x:{part.hex()}", "held")
-        return int(words[1]), None if words[2] == "all" else int(words[3])
-
-    def seal(self, upload):
-        """Files the object: `new` or `known`, and its address."""
-        word, address, _ = self.ask(f"seal {upload}", "new", "known")
-        return word, address
-
-    def abort(self, upload):
-        """Ends an upload that isn't sealed."""
-        self.ask(f"abort {upload}", "ok")
-
-    def fetch(self, tenant, address):
-        """The object's bytes."""
-        _, length, digits = self.ask(f"fetch {tenant} {address}", "object")
-        return b"" if length == "0" else bytes.fromhex(digits)
-
-    def forget(self, tenant, address):
-        """The tenant holds the object no longer."""
-        self.ask(f"forget {tenant} {address}", "ok")
-
-    def held(self, tenant):
-        """The lengths of the objects that a tenant holds, by address."""
-        count = int(self.ask(f"list {tenant}", "list")[1])
-        rows = [self.line().split(" ") for _ in range(count)]
-        return {address: int(length) for address, length in rows}
-
-    def totals(self):
-        """The store's line of totals, which `audit` writes too."""
-        return " ".join(self.ask("stat", "objects"))
-
-    def journal(self):
-        """The lines of the journal's entries."""
-        count = int(self.ask("journal", "journal")[1])
-        return [self.line() for _ in range(count)]
-
-    def close(self):
-        """Ends the store, and gives its exit status."""
-        for pipe in self.process.stdin, self.process.stdout:
-            with contextlib.suppress(BrokenPipeError):
-                pipe.close()
-        return self.process.wait()
-
-    def ask(self, line, *kinds):
-        """Sends a line, and gives the words of its answer's first line, of which the first is one of these kinds."""
-        try:
-            self.process.stdin.write(line.encode() + b"\n")
-            self.process.stdin.flush()
-        except BrokenPipeError:
-            raise Ended("the store has ended") from None
-        words = self.line().split(" ")
-        if words[0] == "refused":
-            raise Refused(" ".join(words[1:]))
-        if words[0] not in kinds:
-            raise Ended(f"the answer to `{line[:40]}` is `{words[0][:40]}`")
-        return words
-
-    def line(self):
-        """The next line that the store writes."""
-        line = self.process.stdout.readline()
-        if not line.endswith(b"\n"):
-            raise Ended("the store has ended")
-        return line[:-1].decode()
+EDGE = edge_pattern()
 
 
-def upload(store, tenant, path, part_bytes):
-    """Uploads a file, and pauses behind each part. It gives `new` or `known`, and the object's address."""
-    with open(path, "rb") as file:
-        length = os.fstat(file.fileno()).st_size
-        number = store.begin(tenant, length)
-        try:
-            for offset in range(0, length, part_bytes):
-                store.put(number, offset, file.read(min(part_bytes, length - offset)))
-                yield
-            return store.seal(number)
-        except (Refused, OSError):
-            with contextlib.suppress(Refused):
-                store.abort(number)
-            raise
+def pieces_of(file):
+    """The pieces of a file, whose edges hang on the bytes before them alone."""
+    left = b""
+    while True:
+        left += file.read(MOST_PIECE)
+        at_end = len(left) < MOST_PIECE
+        start = 0
+        while len(left) - start >= MOST_PIECE or (at_end and start < len(left)):
+            edge = EDGE.search(left, start + LEAST_PIECE, start + MOST_PIECE)
+            end = edge.end() if edge else min(len(left), start + MOST_PIECE)
+            yield left[start:end]
+            start = end
+        left = left[start:]
+        if at_end:
+            return
 
 
-def keep(store, tenant, path, part_bytes, outcomes):
-    """Uploads a file, reads the object back and compares it, and notes what came of it. It pauses behind each part."""
-    try:
-        word, address = yield from upload(store, tenant, path, part_bytes)
-        with open(path, "rb") as file:
+class Repository:
+    """Objects on disk, and a store before them."""
+
+    def __init__(self, path, store, memory):
+        self.path, self.store = path, store
+        self.tenant = store.tenant(memory)
+        self.held = collections.OrderedDict()
+        self.counts = collections.Counter()
+
+    def place(self, address):
+        return os.path.join(self.path, "objects", address[:2], address)
+
+    def hold(self, content, address=None):
+        """Gives the store an object, which must have the address, where one is told. For that the store forgets what it has held longest."""
+        while True:
+            try:
+                filed = self.store.file(self.tenant, content, address)
+                break
+            except Refused as refusal:
+                if refusal.number != "S6" or not self.held:
+                    raise
+                self.store.forget(self.tenant, self.held.popitem(last=False)[0])
+        self.held[filed.address] = None
+        self.held.move_to_end(filed.address)
+        return filed.address
+
+    def keep(self, content):
+        """Keeps an object, and gives its address."""
+        address = self.hold(content)
+        place = self.place(address)
+        is_new = not os.path.exists(place)
+        if is_new:
+            os.makedirs(os.path.dirname(place), exist_ok=True)
+            with open(place + ".new", "wb") as file:
+                file.write(content)
+            os.replace(place + ".new", place)
+        word = "new" if is_new else "known"
+        self.counts.update({word: 1, word + " bytes": len(content)})
+        return address
+
+    def keep_all(self, file):
+        """Keeps all that a file has, in pieces, and gives their addresses."""
+        return [self.keep(piece) for piece in pieces_of(file)]
+
+    def keep_backup(self, lines):
+        addresses = self.keep_all(io.BytesIO("".join(line + "\n" for line in lines).encode()))
+        return self.keep("".join(address + "\n" for address in addresses).encode())
+
+    def lines_of(self, backup):
+        """The lines of a backup."""
+        return b"".join(self.read(address) for address in self.read(backup).decode().split()).decode().splitlines()
+
+    def latest(self):
+        """The last backup of each folder."""
+        path = os.path.join(self.path, "latest")
+        if not os.path.exists(path):
+            return {}
+        with open(path, encoding="ascii") as lines:
+            return dict(line.split() for line in lines)
+
+    def note(self, folder, backup):
+        latest = {**self.latest(), quoted(os.path.abspath(folder)): backup}
+        with open(os.path.join(self.path, "latest.new"), "w", encoding="ascii") as file:
+            file.writelines(f"{folder} {backup}\n" for folder, backup in latest.items())
+        os.replace(file.name, os.path.join(self.path, "latest"))
+
+    def read(self, address):
+        """An object of the repository, which was compared with its address."""
+        with open(self.place(address), "rb") as file:
             content = file.read()
-        is_same = store.fetch(tenant, address) == content
-        outcomes[path] = f"{word if is_same else 'differs'} {address} {len(content)}"
-    except Refused as refusal:
-        outcomes[path] = f"refused {refusal}"
-    except OSError:
-        outcomes[path] = "unreadable"
+        self.hold(content, address)
+        return content
 
 
-def in_turn(works):
-    """Continues works that pause, a few at a time and each by one pause, until all have ended."""
-    turns = collections.deque(itertools.islice(works, FILES_IN_TURN))
-    ended = object()
-    while turns:
-        work = turns.popleft()
-        if next(work, ended) is ended:
-            turns.extend(itertools.islice(works, 1))
+def entries_of(folder):
+    """What a folder has: paths from it, each behind the folder that it is in, in the order of their names."""
+    for entry in sorted(os.scandir(folder), key=lambda entry: entry.name):
+        yield entry.path
+        if entry.is_dir(follow_symlinks=False):
+            yield from entries_of(entry.path)
+
+
+def quoted(path):
+    return urllib.parse.quote_from_bytes(os.fsencode(path))
+
+
+def unquoted(text):
+    return os.fsdecode(urllib.parse.unquote_to_bytes(text))
+
+
+def place_in(folder, path):
+    """A path of a backup, which leads nowhere out of the folder."""
+    if os.path.isabs(path) or ".." in path.split("/"):
+        raise OSError(f"{path} leads out of the folder")
+    return os.path.join(folder, path)
+
+
+def line_of(repository, folder, path, known):
+    """The backup's line of a path, or None for what is left out. What the last backup knows of a file is taken from there."""
+    status = os.lstat(path)
+    words = [quoted(os.path.relpath(path, folder)), oct(stat.S_IMODE(status.st_mode))[2:], str(status.st_mtime_ns)]
+    if stat.S_ISDIR(status.st_mode):
+        return " ".join(["folder", *words])
+    if stat.S_ISLNK(status.st_mode):
+        return " ".join(["link", *words, quoted(os.readlink(path))])
+    if not stat.S_ISREG(status.st_mode):
+        return None
+    words = ["file", *words, str(status.st_size)]
+    if tuple(words) in known:
+        return known[tuple(words)]
+    with open(path, "rb") as file:
+        return " ".join([*words, *repository.keep_all(file)])
+
+
+def known_files(repository, options):
+    """The lines of the files that the last backup of a folder has, by their first five words."""
+    backup = repository.latest().get(quoted(os.path.abspath(options.folder)))
+    if backup is None or options.all:
+        return {}
+    return {tuple(line.split(" ")[:5]): line for line in repository.lines_of(backup) if line.startswith("file ")}
+
+
+def save(repository, options):
+    lines, kinds, is_whole = [], collections.Counter(), True
+    known = known_files(repository, options)
+    for path in entries_of(options.folder):
+        try:
+            line = line_of(repository, options.folder, path, known)
+            fault = "is no file, folder or link" if line is None else None
+        except OSError as error:
+            fault = error.strerror
+        if fault is None:
+            lines.append(line)
+            kinds[line.split(" ")[0]] += 1
         else:
-            turns.append(work)
+            print(f"left out: {os.path.relpath(path, options.folder)} {fault}")
+            is_whole = False
+    backup = repository.keep_backup(lines)
+    repository.note(options.folder, backup)
+    counts = repository.counts
+    print(f"files {kinds['file']} folders {kinds['folder']} links {kinds['link']}")
+    print(f"new objects {counts['new']} bytes {counts['new bytes']} known objects {counts['known']} bytes {counts['known bytes']}")
+    print(f"backup {backup}")
+    return is_whole
 
 
-def fail(fault):
-    raise fault
+def restore_line(repository, kind, place, words):
+    if kind == "folder":
+        os.makedirs(place, exist_ok=True)
+    elif kind == "link":
+        os.symlink(unquoted(words[0]), place)
+    else:
+        with open(place, "wb") as file:
+            file.writelines(repository.read(address) for address in words[1:])
 
 
-def plain_files(folder):
-    """The plain files in a folder and in those within it, in the order of their names."""
-    places = os.walk(folder, onerror=fail)
-    paths = [os.path.join(place, name) for place, _, names in places for name in names]
-    return sorted(path for path in paths if os.path.isfile(path))
+def restore(repository, options):
+    is_whole = True
+    os.makedirs(options.folder, exist_ok=True)
+    folders = []
+    for line in repository.lines_of(options.address):
+        kind, path, mode, time, *words = line.split(" ")
+        try:
+            place = place_in(options.folder, unquoted(path))
+            restore_line(repository, kind, place, words)
+            if kind == "folder":
+                folders.append((place, int(mode, 8), int(time)))
+            elif kind == "file":
+                os.chmod(place, int(mode, 8))
+                os.utime(place, ns=(int(time), int(time)))
+        except (Refused, OSError) as fault:
+            print(f"not restored: {unquoted(path)} {fault}")
+            is_whole = False
+    for place, mode, time in reversed(folders):
+        os.chmod(place, mode)
+        os.utime(place, ns=(time, time))
+    return is_whole
 
 
-def audit(program, journal):
-    """What `audit` writes of a journal: the totals that it leaves and what was accepted, or why it is refused."""
-    run = subprocess.run([program, "audit"], input=journal, stdout=subprocess.PIPE)
-    return run.stdout.decode().splitlines()
-
-
-def back_up(store, options):
-    """Keeps the folder's files, tells what came of each, and gives the exit status."""
-    tenant = store.open_tenant(options.limit)
-    paths = plain_files(options.folder)
-    outcomes = {}
-    in_turn(keep(store, tenant, path, options.part_bytes, outcomes) for path in paths)
-    for path in paths:
-        print(outcomes[path], os.path.relpath(path, options.folder))
-    held = store.held(tenant)
-    print(f"held {len(held)} objects of {sum(held.values())} bytes")
-    is_sound = tell_audit(store, options)
-    kept = sum(outcome.startswith(("new ", "known ")) for outcome in outcomes.values())
-    print(f"kept {kept} of {len(paths)} files")
-    return 0 if is_sound and kept == len(paths) else 1
-
-
-def tell_audit(store, options):
-    """Saves the journal, and tells what the audit says of it. True where it has the store's totals."""
-    entries = store.journal()
-    journal = "".join(entry + "\n" for entry in entries).encode()
-    if options.journal is not None:
-        with open(options.journal, "wb") as file:
-            file.write(journal)
-    told = audit(options.program, journal)
-    is_sound = told[:1] == [store.totals()]
-    print(f"audit of {len(entries)} entries {'agrees' if is_sound else 'differs'}: {', '.join(told)}")
-    return is_sound
-
-
-def number(text):
-    """A number of digits alone."""
-    if not text.isdecimal():
-        raise ValueError(text)
-    return int(text)
-
-
-def part_length(text):
-    """A length that a part may have anywhere in an upload."""
-    length = number(text)
-    if length % CHUNK_BYTES != 0 or not 0 < length <= MOST_PART_BYTES:
-        raise argparse.ArgumentTypeError(f"not a multiple of {CHUNK_BYTES} from {CHUNK_BYTES} to {MOST_PART_BYTES}")
-    return length
+def check(repository, _):
+    wrong = count = 0
+    for place, _, names in os.walk(os.path.join(repository.path, "objects")):
+        for address in names:
+            count += 1
+            try:
+                repository.read(address)
+            except (Refused, OSError) as fault:
+                print(f"wrong: {address} {fault}")
+                wrong += 1
+    print(f"objects {count} wrong {wrong}")
+    return wrong == 0
 
 
 def read_options():
-    parser = argparse.ArgumentParser(description="Keeps the content of a folder in a store, and compares it.")
-    parser.add_argument("folder", metavar="FOLDER")
+    parser = argparse.ArgumentParser(description="Backs up a folder into a repository, and restores it.")
     parser.add_argument("--program", default="b3store", metavar="PATH", help="the program b3store")
-    parser.add_argument("--journal", metavar="FILE", help="where the journal is saved")
-    parser.add_argument("--part-bytes", type=part_length, default=1 << 16, metavar="N", help="bytes of a part (65536)")
-    parser.add_argument("--limit", type=number, default=WIDEST_LIMIT, metavar="BYTES", help="the tenant's limit")
-    options = parser.parse_args()
-    if not os.path.isdir(options.folder):
-        parser.error(f"{options.folder} is no folder")
-    return options
+    parser.add_argument("--memory", type=int, default=1 << 28, metavar="BYTES", help="what the store holds at most, 8 MiB or more (256 MiB)")
+    commands = parser.add_subparsers(required=True, metavar="COMMAND")
+    for name, work, words in ("save", save, ["folder", "repository"]), ("restore", restore, ["repository", "address", "folder"]), ("check", check, ["repository"]):
+        command = commands.add_parser(name)
+        command.set_defaults(work=work)
+        for word in words:
+            command.add_argument(word, metavar=word.upper())
+        if work is save:
+            command.add_argument("--all", action="store_true", help="reads files too that are as the last backup has them")
+    return parser.parse_args()
 
 
 def main():
@@ -245,11 +269,15 @@ def main():
     options = read_options()
     try:
         with Store(options.program) as store:
-            return back_up(store, options)
+            repository = Repository(options.repository, store, options.memory)
+            return 0 if options.work(repository, options) else 1
     except Refused as refusal:
-        print(f"refused {refusal}")
+        print(f"backup: {refusal}", file=sys.stderr)
         return 1
-    except (Ended, OSError) as fault:
+    except OSError as fault:
+        print(f"backup: {fault}", file=sys.stderr)
+        return 1
+    except Ended as fault:
         print(f"backup: {fault}", file=sys.stderr)
         return 3
 

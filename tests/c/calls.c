@@ -1,8 +1,5 @@
 /* Calls each function of include/b3.h but those of hashers, as C does. */
 #include "told.h"
-#include <pthread.h>
-
-enum { THREADS = 2, ROUNDS = 200 };
 
 static size_t left_of(size_t len) {
     size_t left = B3_CHUNK_LEN;
@@ -122,12 +119,6 @@ static void borders(void) {
     shows(b3_subtree(key, 0, input, 1023, ((uint64_t)1 << 54) - 1, &value, &count) == B3_DONE, "the last chunk of all", 1023);
 }
 
-/* What a thread hashes, and whether it was always the same. */
-struct task {
-    const uint8_t *input, *told;
-    int mode, same;
-};
-
 static void *hash_often(void *of) {
     struct task *task = of;
     task->same = 1;
@@ -143,21 +134,6 @@ static void *hash_often(void *of) {
     return NULL;
 }
 
-static void threads(uint8_t told[3][TOLD]) {
-    const uint8_t *input = input_of(MOST);
-    pthread_t thread[THREADS];
-    struct task tasks[THREADS];
-    for (int i = 0; i < THREADS; i++) {
-        tasks[i] = (struct task){input, told[i % 2], i % 2, 0};
-        if (pthread_create(&thread[i], NULL, hash_often, &tasks[i]) != 0)
-            exit(1);
-    }
-    for (int i = 0; i < THREADS; i++) {
-        pthread_join(thread[i], NULL);
-        shows(tasks[i].same, "a thread's hash", MOST);
-    }
-}
-
 int main(int argc, char **argv) {
     if (!start(argc, argv))
         return 2;
@@ -170,7 +146,7 @@ int main(int argc, char **argv) {
         if (len > B3_CHUNK_LEN)
             node_calls(input, len, told);
         if (len == MOST)
-            threads(told);
+            by_threads(hash_often, told, "a thread's hash");
     }
     refusals();
     borders();

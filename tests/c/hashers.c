@@ -1,8 +1,7 @@
 /* Calls the functions of include/b3.h that take a hasher, as C does. */
 #include "told.h"
-#include <pthread.h>
 
-enum { THREADS = 2, ROUNDS = 200, RANDOM_STATES = 10000, BYTE_BY_BYTE = 8193 };
+enum { RANDOM_STATES = 10000, BYTE_BY_BYTE = 8193 };
 
 /* Hashers end where memory ends, too. */
 static b3_hasher *hasher, *copy;
@@ -193,13 +192,6 @@ static void random_states(void) {
     shows(done >= RANDOM_STATES / 4 * 3 && done + refused == RANDOM_STATES && refused > 0 && others == 0, "states of random bytes", RANDOM_STATES);
 }
 
-/* What a thread hashes, and whether it was always the same. */
-struct task {
-    const uint8_t *input, *told;
-    uint32_t mode;
-    int same;
-};
-
 static void *hash_often(void *of) {
     struct task *task = of;
     task->same = 1;
@@ -215,21 +207,6 @@ static void *hash_often(void *of) {
     return NULL;
 }
 
-static void threads(uint8_t told[3][TOLD]) {
-    const uint8_t *input = input_of(MOST);
-    pthread_t thread[THREADS];
-    struct task tasks[THREADS];
-    for (uint32_t i = 0; i < THREADS; i++) {
-        tasks[i] = (struct task){input, told[i % 2], i % 2, 0};
-        if (pthread_create(&thread[i], NULL, hash_often, &tasks[i]) != 0)
-            exit(1);
-    }
-    for (int i = 0; i < THREADS; i++) {
-        pthread_join(thread[i], NULL);
-        shows(tasks[i].same, "a thread's hasher", MOST);
-    }
-}
-
 int main(int argc, char **argv) {
     if (!start(argc, argv))
         return 2;
@@ -243,7 +220,7 @@ int main(int argc, char **argv) {
         read_calls(input, len, told);
         copies(input, len, told);
         if (len == MOST)
-            threads(told);
+            by_threads(hash_often, told, "a thread's hasher");
     }
     refusals();
     random_states();

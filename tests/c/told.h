@@ -3,13 +3,14 @@
  * characters, and the context. Inputs and outputs end where memory ends, so that a byte too far is a fault. The last line that is
  * written is `N passed, M failed`. */
 #include "b3.h"
+#include <pthread.h>
 #include <stdio.h>
 #include <stdlib.h>
 #include <string.h>
 #include <sys/mman.h>
 #include <unistd.h>
 
-enum { MOST = 102400, TOLD = 131 };
+enum { MOST = 102400, TOLD = 131, THREADS = 2, ROUNDS = 200 };
 
 static const uint8_t *key, *context;
 static size_t context_len;
@@ -82,6 +83,29 @@ static int read_told(size_t *len, uint8_t told[3][TOLD]) {
         told[i / TOLD][i % TOLD] = (uint8_t)byte;
     }
     return 1;
+}
+
+/* What a thread hashes, and whether it was always the same. */
+struct task {
+    const uint8_t *input, *told;
+    uint32_t mode;
+    int same;
+};
+
+/* Lets two threads hash at once, by the modes hash and keyed_hash. */
+static void by_threads(void *(*hash_often)(void *), uint8_t told[3][TOLD], const char *what) {
+    const uint8_t *input = input_of(MOST);
+    pthread_t thread[THREADS];
+    struct task tasks[THREADS];
+    for (uint32_t i = 0; i < THREADS; i++) {
+        tasks[i] = (struct task){input, told[i % 2], i % 2, 0};
+        if (pthread_create(&thread[i], NULL, hash_often, &tasks[i]) != 0)
+            exit(1);
+    }
+    for (int i = 0; i < THREADS; i++) {
+        pthread_join(thread[i], NULL);
+        shows(tasks[i].same, what, MOST);
+    }
 }
 
 static int ends(void) {

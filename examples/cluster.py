@@ -1,0 +1,89 @@
+#!/usr/bin/env python3
+"""Several cache servers behind nginx, on loopback addresses, which part the keys by a consistent hash.
+
+    cluster.py FOLDER [--servers N] [--port N] [--program PATH]
+
+Server K saves into FOLDER/K. Where one ends, nginx asks the next one of the ring for its keys, which are misses until they are stored again; other
+keys stay where they are. The first line of output tells the port of nginx, the second the process of each server. It ends on SIGTERM, SIGINT or SIGHUP, and each server saves.
+"""
+import argparse
+import os
+import signal
+import subprocess
+import sys
+import threading
+
+NGINX = """\
+daemon off;
+pid {folder}/nginx.pid;
+error_log {folder}/nginx.log crit;
+events {{}}
+http {{
+  access_log off;
+  client_max_body_size 0;
+  client_body_temp_path {folder}/nginx-body;
+  proxy_temp_path {folder}/nginx-proxy;
+  fastcgi_temp_path {folder}/nginx-fastcgi;
+  uwsgi_temp_path {folder}/nginx-uwsgi;
+  scgi_temp_path {folder}/nginx-scgi;
+  upstream servers {{
+    hash $request_uri consistent;
+{servers}
+  }}
+  server {{
+    listen 127.0.0.1:{port};
+    location / {{
+      proxy_pass http://servers;
+      proxy_http_version 1.1;
+      proxy_request_buffering off;
+      proxy_buffering off;
+    }}
+  }}
+}}
+"""
+
+
+class Server:
+    """A cache server in a process of its own."""
+
+    def __init__(self, folder, program):
+        words = [sys.executable, os.path.join(os.path.dirname(os.path.abspath(__file__)), "cache_server.py"), folder, "--port", "0", "--program", program]
+        self.process = subprocess.Popen(words, stdout=subprocess.PIPE)
+        line = self.process.stdout.readline().decode()
+        if "port " not in line:
+            sys.exit("cluster: a cache server does not begin")
+        self.port = int(line.split("port ")[1].split(",")[0])
+
+
+def read_options():
+    parser = argparse.ArgumentParser(description="Several cache servers behind nginx.")
+    parser.add_argument("folder", metavar="FOLDER")
+    parser.add_argument("--servers", type=int, default=4, metavar="N")
+    parser.add_argument("--port", type=int, default=8080, metavar="N")
+    parser.add_argument("--program", default="b3store", metavar="PATH", help="the program b3store")
+    return parser.parse_args()
+
+
+def main():
+    options = read_options()
+    stopping = threading.Event()
+    for number in signal.SIGTERM, signal.SIGINT, signal.SIGHUP:
+        signal.signal(number, lambda *_: stopping.set())
+    folder = os.path.abspath(options.folder)
+    os.makedirs(folder, exist_ok=True)
+    servers = [Server(os.path.join(folder, str(number)), options.program) for number in range(options.servers)]
+    lines = "\n".join(f"    server 127.0.0.1:{server.port} max_fails=1 fail_timeout=2s;" for server in servers)
+    with open(os.path.join(folder, "nginx.conf"), "w", encoding="utf-8") as file:
+        file.write(NGINX.format(folder=folder, servers=lines, port=options.port))
+    nginx = subprocess.Popen(["nginx", "-c", file.name, "-e", os.path.join(folder, "nginx.log")])
+    print(f"cluster: port {options.port}", flush=True)
+    print(f"cluster: servers {' '.join(str(server.process.pid) for server in servers)}", flush=True)
+    stopping.wait()
+    for process in [nginx, *[server.process for server in servers]]:
+        process.terminate()
+    for process in [nginx, *[server.process for server in servers]]:
+        process.wait()
+
+
+if __name__ == "__main__":
+    main()
