@@ -136,7 +136,10 @@ fn a_read_that_fails_is_told(rt: HostRuntime) -> Result<(), Fail> {
                     given: 0,
                 };
                 let kind = failed_kind(&rt, rt.alloc(), reader, threads);
-                assert!(rt; kind == Some(ErrorKind::Other), "{threads:?} {fails_at} {most}");
+                assert!(rt;
+                    kind == Some(ErrorKind::Other),
+                    "{threads:?} {fails_at} {most}"
+                );
             }
         }
     }

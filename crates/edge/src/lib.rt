@@ -15,6 +15,6 @@ mod streams;
 
 pub use digits::{decode, write_encoded};
 pub use fields::{cut_at, number, three_numbers, two_numbers};
-pub use lines::{first_line, read_line};
+pub use lines::{first_line, len_through, read_line};
 pub use outcome::{Cause, Verdict};
 pub use streams::{flush, write_all, write_bytes};

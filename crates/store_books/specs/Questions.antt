@@ -1,14 +1,33 @@
 -- What questions tell of the books.
-use Rattle.std.specs.Prelude.{ℕ, List, Result, Ok, Err, filter, map, if◌then◌else◌}
+use Rattle.std.specs.Prelude.{◌==◌, ℕ, List, Result, Ok, Err, filter, length, map, if◌then◌else◌}
+use Rattle.std.specs.List.{range_with_len}
+use Rattle.store_books.specs.declared.books.OpenUpload.{OpenUpload}
 use Rattle.store_books.specs.declared.books.Usage.{Usage}
 use Rattle.store_books.specs.declared.refusal.Refusal.{Refusal}
 use Rattle.store_books.specs.declared.refusal.Refusal.TheVariants.{NoTenant}
-use Rattle.store_books.specs.Books.{Books, Filed, is_absent, is_held_by, limit_of, reserved_of, use_of}
+use Rattle.store_books.specs.Books.{Begun, Books, Filed, is_absent, is_held_by, limit_of, reserved_of, use_of}
+use Rattle.store_upload.specs.Uploads.{held_bytes}
 
 module _ {P O : Type 0} (size : O → ℕ) where
   -- a tenant's use, reservation and limit
+  abbrev pub usage_of : Books P O → ℕ → Usage
+  usage_of b tenant = record { used = use_of size b tenant; reserved = reserved_of b tenant; limit = limit_of b tenant }
+
   abbrev pub usage_in : Books P O → ℕ → Result Usage Refusal
-  usage_in b tenant = if is_absent b tenant then Err NoTenant else Ok (record { used = use_of size b tenant; reserved = reserved_of b tenant; limit = limit_of b tenant })
+  usage_in b tenant = if is_absent b tenant then Err NoTenant else Ok (usage_of b tenant)
+
+  -- those of all tenants, by number
+  abbrev pub usages_of : Books P O → List Usage
+  usages_of b = map (usage_of b) (range_with_len 0 (length b.limits))
+
+module _ {P : Type 0} (len : P → ℕ) where
+  -- what is told of an open upload
+  abbrev pub open_upload_of : ℕ × Begun P → OpenUpload
+  open_upload_of e = record { upload = e.0; bound = e.1.upload.plan.bound; end = e.1.upload.end; held = held_bytes len e.1.upload.parts }
+
+  -- the tenant's among open uploads, in their order
+  abbrev pub open_uploads : ℕ → List (ℕ × Begun P) → List OpenUpload
+  open_uploads tenant uploads = map open_upload_of (filter (λ e. e.1.tenant == tenant) uploads)
 
 module _ {O : Type 0} (size : O → ℕ) (address : O → List ℕ) where
   -- addresses and lengths of those objects that the tenant holds, in their order

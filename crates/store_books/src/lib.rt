@@ -29,7 +29,7 @@ mod upload_id;
 
 pub use address::Address;
 pub use begun::BegunUpload;
-pub use books::{Books, Usage};
+pub use books::{Books, OpenUpload, Usage};
 pub use content::{Content, ObjectLabel};
 pub use filed::FiledObject;
 pub use index::AddressIndex;

@@ -7,3 +7,4 @@ pub mod Sums
 pub mod Filing
 pub mod Parts
 pub mod Runs
+pub mod Cuts

@@ -11,7 +11,7 @@ use Rattle.b3_forest.proofs.Ends.{same_plan_is}
 use Rattle.store_core.specs.Carried.{IsCarried}
 use Rattle.store_core.specs.Commands.{Acceptance, ModelSealed, StepsAs, address_in, address_refused, advanced, and_then, as_is, content_in, filed_in, part_refused, sealed_by, unless}
 use Rattle.store_core.specs.Model.{ModelObject, ModelStore, ModelUpload, Shown}
-use Rattle.store_core.specs.Runs.{Command, FitsItsPlan, Reply, Run, RunsCarry, Step, abort, begin, begin_open, fetch, fix, forget, journal, list, open_tenant, plan, put, replied, seal, seal_as, set_limit, totals, usage}
+use Rattle.store_core.specs.Runs.{Command, FitsItsPlan, Reply, Run, RunsCarry, Step, abort, begin, begin_open, fetch, fix, forget, holds, journal, list, open_tenant, plan, put, replied, seal, seal_as, set_limit, tenants, totals, uploads, usage}
 use Rattle.store_core.proofs.Carried.{abort_carried, begun_carried, fix_carried, forget_carried, known_carried, limit_carried, new_carried, put_carried, tenant_carried}
 use Rattle.store_core.proofs.Contents.{long_found}
 use Rattle.store_core.proofs.Parts.{is_for_plan}
@@ -105,6 +105,9 @@ step_carries old new (fetch tenant address) reply h step = subst (λ x. IsCarrie
 step_carries old new (usage tenant) reply h step = subst (λ x. IsCarried x) (sym step.1) h
 step_carries old new (plan upload) reply h step = subst (λ x. IsCarried x) (sym step.1) h
 step_carries old new (list tenant) reply h step = subst (λ x. IsCarried x) (sym step.1) h
+step_carries old new (holds tenant address) reply h step = subst (λ x. IsCarried x) (sym step.1) h
+step_carries old new (uploads tenant) reply h step = subst (λ x. IsCarried x) (sym step.1) h
+step_carries old new tenants reply h step = subst (λ x. IsCarried x) (sym step.1) h
 step_carries old new totals reply h step = subst (λ x. IsCarried x) (sym step.1) h
 step_carries old new journal reply h step = subst (λ x. IsCarried x) (sym step.1) h
 

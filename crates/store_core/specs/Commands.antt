@@ -6,6 +6,7 @@ use Rattle.std.specs.Str.{bytes_eq}
 use Rattle.b3_core.specs.Modes.{hash_of}
 use Rattle.b3_forest.specs.Parts.{PlannedPart}
 use Rattle.b3_forest.specs.Uploads.{content_of, pieces_held, put_work}
+use Rattle.store_books.specs.declared.books.OpenUpload.{OpenUpload}
 use Rattle.store_books.specs.declared.books.Usage.{Usage}
 use Rattle.store_books.specs.declared.refusal.Refusal.{Refusal}
 use Rattle.store_books.specs.declared.refusal.Refusal.TheVariants.{NoMemory, NoTenant, NoUpload, WrongAddress, WrongPlan}
@@ -209,6 +210,18 @@ fetch_in s tenant address = unless (holding_refusal hash_of s tenant address) (o
 -- addresses and lengths of those objects that the tenant holds, in their order
 abbrev pub list_in : ModelStore → ℕ → Result (List (List ℕ × ℕ)) Refusal
 list_in s tenant = if is_absent s tenant then Err NoTenant else Ok (books.listed length hash_of tenant s.objects)
+
+-- the length of the object
+abbrev pub holds_in : ModelStore → ℕ → List ℕ → Result ℕ Refusal
+holds_in s tenant address = unless (holding_refusal hash_of s tenant address) (option_map_or (λ o. length o.content) (object_at hash_of s address) 0)
+
+-- the tenant's open uploads, by number
+abbrev pub uploads_in : ModelStore → ℕ → Result (List OpenUpload) Refusal
+uploads_in s tenant = if is_absent s tenant then Err NoTenant else Ok (books.open_uploads length tenant s.uploads)
+
+-- use, reservation and limit of each tenant, by number
+abbrev pub tenants_in : ModelStore → List Usage
+tenants_in s = books.usages_of length s
 
 -- ---- compressions
 

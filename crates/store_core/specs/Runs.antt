@@ -1,6 +1,7 @@
 -- Runs of the model store: commands and questions along a list, with their replies.
 use Rattle.std.specs.Prelude.{◌≡◌, ℕ, List, [], ◌∷◌, Result, Ok, Err, length}
 use Rattle.b3_forest.specs.Parts.{PlannedPart}
+use Rattle.store_books.specs.declared.books.OpenUpload.{OpenUpload}
 use Rattle.store_books.specs.declared.books.Usage.{Usage}
 use Rattle.store_books.specs.declared.refusal.Refusal.{Refusal}
 use Rattle.store_books.specs.declared.totals.Totals.{Totals}
@@ -8,7 +9,7 @@ use Rattle.store_books.specs.Books.{totals_of}
 use Rattle.store_books.specs.Questions.{usage_in}
 use Rattle.store_core.specs.declared.store.Held.{Held}
 use Rattle.store_core.specs.Carried.{HasTotals, IsCarried}
-use Rattle.store_core.specs.Commands.{Acceptance, StepsAs, ModelSealed, Tells, abort_in, as_is, begin_in, begin_open_in, fetch_in, fix_in, forget_in, list_in, open_tenant_in, plan_in, put_in, seal_as_in, seal_in, set_limit_in}
+use Rattle.store_core.specs.Commands.{Acceptance, StepsAs, ModelSealed, Tells, abort_in, as_is, begin_in, begin_open_in, fetch_in, fix_in, forget_in, holds_in, list_in, open_tenant_in, plan_in, put_in, seal_as_in, seal_in, set_limit_in, tenants_in, uploads_in}
 use Rattle.store_core.specs.Model.{Shown}
 use Rattle.store_journal.specs.declared.entry.Entry.{Entry}
 use Rattle.store_upload.specs.Uploads.{Fits, UploadPlan}
@@ -29,6 +30,9 @@ pub data Command : Type 0 where
   usage : ℕ → Command
   plan : ℕ → Command
   list : ℕ → Command
+  holds : ℕ → List ℕ → Command
+  uploads : ℕ → Command
+  tenants : Command
   totals : Command
   journal : Command
 
@@ -44,6 +48,9 @@ pub data Reply : Type 0 where
   the_usage : Usage → Reply
   the_plan : UploadPlan → Reply
   the_list : List (List ℕ × ℕ) → Reply
+  the_length : ℕ → Reply
+  the_uploads : List OpenUpload → Reply
+  the_tenants : List Usage → Reply
   the_totals : Totals → Reply
   the_journal : List Entry → Reply
 
@@ -78,6 +85,9 @@ Step old (fetch tenant address) reply new = Tells as_is (told the_bytes (fetch_i
 Step old (usage tenant) reply new = (reply ≡ told the_usage (usage_in length old.state tenant)) × (new ≡ old)
 Step old (plan upload) reply new = (reply ≡ told the_plan (plan_in old.state upload)) × (new ≡ old)
 Step old (list tenant) reply new = Tells as_is (told the_list (list_in old.state tenant)) reply × (new ≡ old)
+Step old (holds tenant address) reply new = (reply ≡ told the_length (holds_in old.state tenant address)) × (new ≡ old)
+Step old (uploads tenant) reply new = Tells as_is (told the_uploads (uploads_in old.state tenant)) reply × (new ≡ old)
+Step old tenants reply new = Tells as_is (Ok (the_tenants (tenants_in old.state))) reply × (new ≡ old)
 Step old totals reply new = (reply ≡ Ok (the_totals (totals_of length length old.state))) × (new ≡ old)
 Step old journal reply new = (reply ≡ Ok (the_journal old.journal)) × (new ≡ old)
 

@@ -21,11 +21,11 @@ pub use object::Object;
 pub use refusal::PutRefused;
 pub use store::{Held, Sealed, Store};
 pub use store_books::{
-    Address, BadLimits, Limits, MOST_ENTRIES, MOST_LIMIT, MOST_TENANTS, Refusal, TenantId, Totals,
-    UploadId, Usage,
+    Address, BadLimits, Limits, MOST_ENTRIES, MOST_LIMIT, MOST_TENANTS, OpenUpload, Refusal,
+    TenantId, Totals, UploadId, Usage,
 };
 pub use store_journal::{
     AcceptedPuts, BadText, Entry, IllegalEntry, JournalWriter, LeftObject, LeftUpload, ReadError,
     ReplayError, Replayed, Version, entry_laws, entry_lines, journal_laws, read_entry,
-    read_journal, replay, write_entry, write_journal,
+    read_journal, replay, write_entries, write_entry, write_journal,
 };

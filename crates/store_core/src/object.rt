@@ -1,6 +1,6 @@
 //! Objects.
 
-ghost use Rattle.std.specs.Prelude.{◌≡◌, IfOk, length, map};
+ghost use Rattle.std.specs.Prelude.{◌≡◌, ◌+◌, ◌-◌, ◌≤◌, ◌++◌, IfOk, drop, length, map, min, take};
 ghost use Rattle.std.specs.Arc.{arc_value};
 ghost use Rattle.b3_core.specs.Modes.{hash_of};
 ghost use Rattle.b3_forest.specs.Uploads.{content_of, part_of};
@@ -69,6 +69,52 @@ impl Object {
     {
         self.segments.as_slice()
     }
+
+    /// Copies the bytes from `offset` on to the front of `room`, as many as there are and fit, and answers how many. The rest of `room`
+    /// stays. Time: linear in them and in the parts before their end.
+    pub fn read(&self, offset: u64, room: &mut [u8]) -> usize
+        ensures count { result ≡ min (length room.old) (length self.now - offset) }
+        ensures bytes { room.new ≡ take (length room.old) (drop offset self.now) ++ drop result room.old }
+    {
+        read_segments(self.segments.as_slice(), offset, room)
+    }
+}
+
+// Copies the bytes of segments from `offset` on to the front of `room`, as many as there are and fit.
+fn read_segments(segments: &[Segment], offset: u64, room: &mut [u8]) -> usize
+    ensures count { result ≡ min (length room.old) (length (content_of (map part_of segments.now)) - offset) }
+    ensures bytes { room.new ≡ take (length room.old) (drop offset (content_of (map part_of segments.now))) ++ drop result room.old }
+{
+    let mut skip = offset;
+    let mut at = 0usize;
+    for segment in segments {
+        if at == room.len() {
+            return at;
+        }
+        let bytes = segment.bytes.as_slice();
+        at += copy_at(behind(bytes, skip), room, at);
+        skip = skip.saturating_sub(bytes.len() as u64);
+    }
+    at
+}
+
+// The bytes behind so many.
+fn behind(bytes: &[u8], skip: u64) -> &[u8]
+    ensures { result.now ≡ drop skip bytes.now }
+{
+    let skip = skip.min(bytes.len() as u64) as usize;
+    &bytes[skip..]
+}
+
+// Copies bytes into `room` from a place on, as many as fit, and answers how many.
+fn copy_at(bytes: &[u8], room: &mut [u8], at: usize) -> usize
+    requires { at ≤ length room.old }
+    ensures count { result ≡ min (length bytes.now) (length room.old - at) }
+    ensures bytes { room.new ≡ take at room.old ++ (take result bytes.now ++ drop (at + result) room.old) }
+{
+    let count = bytes.len().min(room.len() - at);
+    room[at..at + count].copy_from_slice(&bytes[..count]);
+    count
 }
 
 // An object that the store shares with those that fetched it.

@@ -5,7 +5,7 @@ use Rattle.std.specs.Fmt.{decimal}
 use Rattle.std.proofs.lemmas.Fmt.{length-decimal-le}
 use Rattle.hex.proofs.HexLemmas.{decode_sized-ok}
 use Rattle.edge.specs.Fields.{three_fields, two_fields}
-use Rattle.store_core.specs.Runs.{Command, abort, begin, begin_open, fetch, fix, forget, journal, list, open_tenant, plan, put, seal, seal_as, set_limit, totals, usage}
+use Rattle.store_core.specs.Runs.{Command, abort, begin, begin_open, fetch, fix, forget, holds, journal, list, open_tenant, plan, put, seal, seal_as, set_limit, tenants, totals, uploads, usage}
 use Rattle.store_script.specs.Grammar.{ScriptCommand, asks, command_at, puts}
 use Rattle.store_script.specs.Lines.{most_line}
 use Rattle.store_script.specs.Spelling.{IsAsked, IsNumberAndAddress, IsPart, IsSpelled, LongIsNone}
@@ -48,6 +48,9 @@ asked line (fetch n a) h = held line (codes "fetch ") n a h (omega arith)
 asked line (usage n) h = one line (codes "usage ") n h.0 h.1 (omega arith)
 asked line (plan upload) h = absurd h
 asked line (list n) h = one line (codes "list ") n h.0 h.1 (omega arith)
+asked line (holds n a) h = absurd h
+asked line (uploads n) h = absurd h
+asked line tenants h = absurd h
 asked line totals h = omega (arith, ap length h)
 asked line journal h = omega (arith, ap length h)
 

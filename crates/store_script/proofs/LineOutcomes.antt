@@ -8,7 +8,7 @@ use Rattle.store_upload.specs.Uploads.{UploadPlan, part_refusal}
 use Rattle.store_upload.specs.declared.refusal.PartFault.{PartFault}
 use Rattle.store_upload.specs.declared.refusal.PartFault.TheVariants as faults
 use Rattle.store_books.specs.declared.refusal.Refusal.{Refusal}
-use Rattle.store_core.specs.Commands.{plan_in}
+use Rattle.store_core.specs.Commands.{plan_in, reply_seen}
 use Rattle.store_core.specs.Model.{Shown}
 use Rattle.store_core.specs.Runs.{Command, Reply, Step, plan, put, the_plan, told}
 use Rattle.store_script.specs.Grammar.{ScriptCommand, asks, command_at, puts}
@@ -16,7 +16,11 @@ use Rattle.store_script.specs.Lines.{AnswersRead}
 use Rattle.store_script.proofs.Lengths.{long_is_none}
 use Rattle.store_script.specs.Script.{Answered, Does, MakesPart, Plays, PutsBy, Turn, bad, fault_ending, reply_ending, skipped, took, unmade}
 use Rattle.store_script.specs.Texts.{answer_text, unmade_text, refused_text}
+use Rattle.store_script.specs.Answers.{told_ending, told_text}
+use Rattle.store_script.specs.Commands.{reply_of}
 use Rattle.store_script.specs.declared.answer.Answer.{Answer}
+use Rattle.store_script.specs.declared.answer.Answer.TheVariants as answers
+use Rattle.store_script.specs.declared.reply.Reply.{Reply as CodeReply}
 use Rattle.store_script.specs.declared.ending.Ending.{Ending}
 use Rattle.store_script.specs.declared.ending.Ending.TheVariants as endings
 
@@ -32,22 +36,13 @@ SaysFault fault text ending = (text ≡ refused_text (unmade_text fault)) × (en
 abbrev pub SaysBad : List ℕ → Ending → Type 0
 SaysBad text ending = (text ≡ codes "bad\n") × (ending ≡ endings.Refused)
 
-answered : {E : Type 0} (r : Result Answer E) (Said : List ℕ → Ending → Type 0) (Is : Turn → Type 0) → ((text : List ℕ) (ending : Ending) → Said text ending → Answered Is text ending) → IfOk r (λ a. Said a.text a.ending) → IfOk r (λ a. Answered Is a.text a.ending)
-answered (Ok a) Said Is f h = f a.text a.ending h
-answered (Err e) Said Is f h = h
+-- a reply that is seen another way ends alike
+seen_ending : {R M : Type 0} (seen : R → M) (reply : Result R Refusal) → reply_ending reply ≡ reply_ending (reply_seen seen reply)
+seen_ending seen (Ok reply) = refl
+seen_ending seen (Err refusal) = refl
 
--- an answer to a step, to a part that isn't made, and to a line that is no command
-pub by_reply : {E : Type 0} (r : Result Answer E) (reply : Result Reply Refusal) (Is : Turn → Type 0) → ((text : List ℕ) (ending : Ending) → Says reply text ending → Answered Is text ending) → IfOk r (λ a. Says reply a.text a.ending) → IfOk r (λ a. Answered Is a.text a.ending)
-by_reply r reply Is f h = answered r (Says reply) Is f h
-
-pub by_fault : {E : Type 0} (r : Result Answer E) (fault : PartFault) (Is : Turn → Type 0) → ((text : List ℕ) (ending : Ending) → SaysFault fault text ending → Answered Is text ending) → IfOk r (λ a. SaysFault fault a.text a.ending) → IfOk r (λ a. Answered Is a.text a.ending)
-by_fault r fault Is f h = answered r (SaysFault fault) Is f h
-
-pub by_bad : {E : Type 0} (r : Result Answer E) (Is : Turn → Type 0) → ((text : List ℕ) (ending : Ending) → SaysBad text ending → Answered Is text ending) → IfOk r (λ a. SaysBad a.text a.ending) → IfOk r (λ a. Answered Is a.text a.ending)
-by_bad r Is f h = answered r SaysBad Is f h
-
-pub by_part : {E : Type 0} (r : Result Answer E) (Made Is : Turn → Type 0) → ((text : List ℕ) (ending : Ending) → Answered Made text ending → Answered Is text ending) → IfOk r (λ a. Answered Made a.text a.ending) → IfOk r (λ a. Answered Is a.text a.ending)
-by_part r Made Is f h = answered r (Answered Made) Is f h
+pub says : (shown : Shown) (reply : Result CodeReply Refusal) → Says (reply_seen (reply_of shown) reply) (told_text shown (answers.Replied reply)) (told_ending (answers.Replied reply))
+says shown reply = (refl, seen_ending (reply_of shown) reply)
 
 -- ---- a part
 
@@ -135,22 +130,20 @@ strip_shorter xs = go (nat_lt 0 (length xs) && slice_index xs (length xs - 1) ==
     go false = omega arith
 
 -- a longer line is no command
-pub long_line : {E : Type 0} (r : Result Answer E) (old : Shown) (count : ℕ) (kept : List ℕ) → 33554481 < count → IfOk r (λ a. SaysBad a.text a.ending)
-    → IfOk r (λ a. AnswersRead old old count kept a.text a.ending)
-long_line (Err e) old count kept long says = tt
-long_line (Ok a) old count kept long says = record {
+pub long_line : (old : Shown) (count : ℕ) (kept : List ℕ) → 33554481 < count → AnswersRead old old count kept (told_text old answers.Bad) (told_ending answers.Bad)
+long_line old count kept long = record {
   answers = λ whole read.
       let line = strip_last 10 whole in
       let most : 33554480 < length line = omega (arith, long, read.0, strip_shorter whole) in
-      no_command old line a.text a.ending (omega (arith, most)) (sym (long_is_none line most)) says;
+      no_command old line (codes "bad\n") endings.Refused (omega (arith, most)) (sym (long_is_none line most)) (refl, refl);
 }
 
 -- any other is kept whole
-pub short_line : {E : Type 0} (r : Result Answer E) (old new : Shown) (count : ℕ) (kept line : List ℕ) → count ≤ 33554481 → line ≡ strip_last 10 kept → IfOk r (λ a. Answered (LineTurn old line new) a.text a.ending)
-    → IfOk r (λ a. AnswersRead old new count kept a.text a.ending)
+pub short_line : {E : Type 0} (r : Result Answer E) (old new : Shown) (count : ℕ) (kept line : List ℕ) → count ≤ 33554481 → line ≡ strip_last 10 kept → IfOk r (λ a. Answered (LineTurn old line new) (told_text new a) (told_ending a))
+    → IfOk r (λ a. AnswersRead old new count kept (told_text new a) (told_ending a))
 short_line (Err e) old new count kept line short is h = tt
 short_line (Ok a) old new count kept line short is h = record {
   answers = λ whole read.
       let all : kept ≡ whole = read.1 ∙ take_all 33554481 whole (omega (arith, short, read.0)) in
-      subst (λ (l : List ℕ). Answered (LineTurn old l new) a.text a.ending) (is ∙ ap (strip_last 10) all) h;
+      subst (λ (l : List ℕ). Answered (LineTurn old l new) (told_text new a) (told_ending a)) (is ∙ ap (strip_last 10) all) h;
 }

@@ -8,7 +8,7 @@ use Rattle.std.proofs.lemmas.Slice.Eq.{bytes_eq-Decides}
 use Rattle.hex.specs.Hex.{decode_of, decode_sized}
 use Rattle.hex.specs.declared.error.FromHexError.{FromHexError}
 use Rattle.edge.specs.Fields.{cut_at, number_at, space, three_fields, two_fields, two_numbers_at}
-use Rattle.store_core.specs.Runs.{Command, abort, begin, begin_open, fetch, fix, forget, journal, list, open_tenant, plan, put, seal, seal_as, set_limit, totals, usage}
+use Rattle.store_core.specs.Runs.{Command, abort, begin, begin_open, fetch, fix, forget, holds, journal, list, open_tenant, plan, put, seal, seal_as, set_limit, tenants, totals, uploads, usage}
 use Rattle.edge.proofs.FieldTexts.{cut_again, cut_found, decimal_spaceless, number_again, two_again, two_found}
 use Rattle.edge.proofs.Steps.{bind_is, bind_some, chosen, none_some, some_is}
 use Rattle.edge.proofs.Numbers.{read_back}
@@ -260,6 +260,9 @@ asked_again line (fetch n a) h = ap command_at h.1 ∙ ap (option_map asks) (bin
 asked_again line (usage n) h = ap command_at h.0 ∙ ap (option_map asks) (bind_is (number_at (decimal n)) _ n (number_again n h.1))
 asked_again line (plan upload) h = absurd h
 asked_again line (list n) h = ap command_at h.0 ∙ ap (option_map asks) (bind_is (number_at (decimal n)) _ n (number_again n h.1))
+asked_again line (holds tenant address) h = absurd h
+asked_again line (uploads tenant) h = absurd h
+asked_again line tenants h = absurd h
 asked_again line totals h = ap command_at h
 asked_again line journal h = ap command_at h
 

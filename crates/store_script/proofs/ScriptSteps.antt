@@ -66,7 +66,7 @@ Came old bad new = new ≡ old
 Came old (unmade fault) new = new ≡ old
 Came old (took command reply) new = Step old command reply new
 
-came_takes : (old new : Shown) (command : Command) (turn : Turn) → Takes old command turn new → Came old turn new
+pub came_takes : (old new : Shown) (command : Command) (turn : Turn) → Takes old command turn new → Came old turn new
 came_takes old new command skipped h = absurd h
 came_takes old new command bad h = absurd h
 came_takes old new command (unmade fault) h = absurd h
@@ -82,7 +82,7 @@ came_makes : (old new : Shown) (upload : ℕ) (part : PlannedPart) (refused : Op
 came_makes old new upload part (Some fault) turn h = subst (λ (t : Turn). Came old t new) (sym h.0) h.1
 came_makes old new upload part None turn h = came_puts old new upload part turn h
 
-came_put : (old new : Shown) (upload offset : ℕ) (bytes : List ℕ) (made_by : Result UploadPlan Refusal) (turn : Turn) → PutsBy old upload offset bytes made_by turn new → Came old turn new
+pub came_put : (old new : Shown) (upload offset : ℕ) (bytes : List ℕ) (made_by : Result UploadPlan Refusal) (turn : Turn) → PutsBy old upload offset bytes made_by turn new → Came old turn new
 came_put old new upload offset bytes (Err refusal) turn h = came_takes old new (plan upload) turn h
 came_put old new upload offset bytes (Ok made_for) turn h = came_makes old new upload (planned made_for offset bytes) (part_refusal made_for offset (length bytes)) turn h
 
@@ -91,7 +91,7 @@ came_does old new None turn h = subst (λ (t : Turn). Came old t new) (sym h.0) 
 came_does old new (Some (asks command)) turn h = came_takes old new command turn h
 came_does old new (Some (puts upload offset bytes)) turn h = came_put old new upload offset bytes (plan_in old.state upload) turn h
 
-came : (old new : Shown) (line : List ℕ) (turn : Turn) → Plays old line turn new → Came old turn new
+pub came : (old new : Shown) (line : List ℕ) (turn : Turn) → Plays old line turn new → Came old turn new
 came old new [] turn h = subst (λ (t : Turn). Came old t new) (sym h.0) h.1
 came old new (b ∷ line) turn h = came_does old new (command_at (b ∷ line)) turn h
 

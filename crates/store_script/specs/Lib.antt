@@ -4,4 +4,5 @@ pub mod Texts
 pub mod Commands
 pub mod Lines
 pub mod Script
+pub mod Answers
 pub mod Spelling

@@ -49,7 +49,7 @@ abbrev pub fault_ending : PartFault → Ending
 fault_ending faults.NoMemory = endings.OutOfMemory
 fault_ending _ = endings.Refused
 
-abbrev pub reply_ending : Result Reply Refusal → Ending
+abbrev pub reply_ending : {R : Type 0} → Result R Refusal → Ending
 reply_ending (Ok reply) = endings.Good
 reply_ending (Err refusal) = refusal_ending refusal
 

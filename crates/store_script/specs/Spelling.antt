@@ -3,7 +3,7 @@ use Rattle.std.specs.Prelude.{◌≡◌, ◌+◌, ◌%◌, ◌<◌, ◌≤◌, �
 use Rattle.std.specs.Fmt.{decimal}
 use Rattle.hex.specs.Hex.{decode_of, decode_sized}
 use Rattle.edge.specs.Fields.{three_fields, two_fields}
-use Rattle.store_core.specs.Runs.{Command, abort, begin, begin_open, fetch, fix, forget, journal, list, open_tenant, plan, put, seal, seal_as, set_limit, totals, usage}
+use Rattle.store_core.specs.Runs.{Command, abort, begin, begin_open, fetch, fix, forget, holds, journal, list, open_tenant, plan, put, seal, seal_as, set_limit, tenants, totals, uploads, usage}
 use Rattle.store_script.specs.Lines.{most_line}
 use Rattle.store_script.specs.Grammar.{ScriptCommand, asks, command_at, most_digits, most_pattern, pattern_of, puts}
 
@@ -11,7 +11,7 @@ use Rattle.store_script.specs.Grammar.{ScriptCommand, asks, command_at, most_dig
 abbrev pub IsNumberAndAddress : List ℕ → List ℕ → ℕ → List ℕ → Type 0
 IsNumberAndAddress line word number address = (digits : List ℕ) × (line ≡ word ++ two_fields (decimal number) digits) × (number < 2 ^ 64) × (decode_sized digits 32 ≡ Ok address)
 
--- the line spells the command; a plan is not asked for by a line of its own
+-- the line spells the command; a plan is not asked for by a line of its own, and three questions are a session's
 abbrev pub IsAsked : List ℕ → Command → Type 0
 IsAsked line (open_tenant limit) = (line ≡ codes "tenant " ++ decimal limit) × (limit < 2 ^ 64)
 IsAsked line (set_limit tenant limit) = (line ≡ codes "limit " ++ two_fields (decimal tenant) (decimal limit)) × (tenant < 2 ^ 64) × (limit < 2 ^ 64)
@@ -27,6 +27,9 @@ IsAsked line (fetch tenant address) = IsNumberAndAddress line (codes "fetch ") t
 IsAsked line (usage tenant) = (line ≡ codes "usage " ++ decimal tenant) × (tenant < 2 ^ 64)
 IsAsked line (plan upload) = ⊥
 IsAsked line (list tenant) = (line ≡ codes "list " ++ decimal tenant) × (tenant < 2 ^ 64)
+IsAsked line (holds tenant address) = ⊥
+IsAsked line (uploads tenant) = ⊥
+IsAsked line tenants = ⊥
 IsAsked line totals = line ≡ codes "stat"
 IsAsked line journal = line ≡ codes "journal"
 

@@ -1,5 +1,5 @@
 -- The answers' texts.
-use Rattle.std.specs.Prelude.{ℕ, List, [], ◌∷◌, ◌++◌, Option, Some, None, Result, Ok, Err, length, codes}
+use Rattle.std.specs.Prelude.{ℕ, List, [], ◌∷◌, ◌++◌, ◌+◌, Option, Some, None, Result, Ok, Err, length, codes}
 use Rattle.std.specs.Fmt.{decimal}
 use Rattle.std.specs.List.{flat_map}
 use Rattle.store_upload.specs.declared.refusal.PartFault.{PartFault}
@@ -9,6 +9,7 @@ use Rattle.store_journal.specs.declared.entry.Entry.{Entry}
 use Rattle.store_books.specs.declared.refusal.Refusal.{Refusal}
 use Rattle.store_books.specs.declared.refusal.Refusal.TheVariants as refusals
 use Rattle.store_books.specs.declared.totals.Totals.{Totals}
+use Rattle.store_books.specs.declared.books.OpenUpload.{OpenUpload}
 use Rattle.store_books.specs.declared.books.Usage.{Usage}
 use Rattle.store_core.specs.Commands.{ModelSealed}
 use Rattle.store_books.specs.Refusals.{refusal_text}
@@ -16,7 +17,7 @@ use Rattle.store_upload.specs.Texts.{part_fault_text}
 use Rattle.store_journal.specs.Entries.{filing_word}
 use Rattle.store_journal.specs.Journal.{entry_lines}
 use Rattle.store_books.specs.Totals.{totals_text}
-use Rattle.store_core.specs.Runs.{Reply, begun_upload, done, now_held, now_sealed, opened_tenant, the_bytes, the_journal, the_list, the_plan, the_totals, the_usage}
+use Rattle.store_core.specs.Runs.{Reply, begun_upload, done, now_held, now_sealed, opened_tenant, the_bytes, the_journal, the_length, the_list, the_plan, the_tenants, the_totals, the_uploads, the_usage}
 
 -- ---- replies: each line with its line feed
 
@@ -49,6 +50,36 @@ listed_line object = encode_lower object.0 ++ (codes " " ++ (decimal object.1 ++
 abbrev pub list_text : List (List ℕ × ℕ) → List ℕ
 list_text objects = codes "list " ++ (decimal (length objects) ++ (codes "\n" ++ flat_map listed_line objects))
 
+-- how many bytes a held object has
+abbrev pub length_text : ℕ → List ℕ
+length_text len = codes "has " ++ (decimal len ++ codes "\n")
+
+-- an upload's end, or one dash where it isn't fixed
+abbrev pub end_text : Option ℕ → List ℕ
+end_text None = codes "-"
+end_text (Some end) = decimal end
+
+-- an open upload's number, its bound, its end and how many bytes it holds, in a line
+abbrev pub upload_line : OpenUpload → List ℕ
+upload_line u = decimal u.upload ++ (codes " " ++ (decimal u.bound ++ (codes " " ++ (end_text u.end ++ (codes " " ++ (decimal u.held ++ codes "\n"))))))
+
+-- how many open uploads there are, and the line of each
+abbrev pub uploads_text : List OpenUpload → List ℕ
+uploads_text uploads = codes "uploads " ++ (decimal (length uploads) ++ (codes "\n" ++ flat_map upload_line uploads))
+
+-- a tenant's number, its use, its reservation and its limit, in a line
+abbrev pub tenant_line : ℕ → Usage → List ℕ
+tenant_line number u = decimal number ++ (codes " " ++ (decimal u.used ++ (codes " " ++ (decimal u.reserved ++ (codes " " ++ (decimal u.limit ++ codes "\n"))))))
+
+-- the lines of tenants, the first of which has this number
+abbrev pub tenant_lines : ℕ → List Usage → List ℕ
+tenant_lines number [] = []
+tenant_lines number (u ∷ usages) = tenant_line number u ++ tenant_lines (number + 1) usages
+
+-- how many tenants there are, and the line of each
+abbrev pub tenants_text : List Usage → List ℕ
+tenants_text usages = codes "tenants " ++ (decimal (length usages) ++ (codes "\n" ++ tenant_lines 0 usages))
+
 abbrev pub totals_line : Totals → List ℕ
 totals_line t = totals_text t ++ codes "\n"
 
@@ -66,6 +97,9 @@ reply_text (the_bytes bytes) = object_text bytes
 reply_text (the_usage u) = usage_text u
 reply_text (the_plan plan) = codes "ok\n"
 reply_text (the_list objects) = list_text objects
+reply_text (the_length len) = length_text len
+reply_text (the_uploads uploads) = uploads_text uploads
+reply_text (the_tenants usages) = tenants_text usages
 reply_text (the_totals t) = totals_line t
 reply_text (the_journal entries) = entries_text entries
 

@@ -1,129 +1,159 @@
 //! The answer to a line.
 
-ghost use Rattle.std.specs.Prelude.{◌≡◌, IfOk, [], codes};
+ghost use Rattle.std.specs.Prelude.{◌≡◌, ◌<◌, IfErr, IfOk, OnErr, OnOk};
+ghost use Rattle.std.specs.Io.KnownBytes.{Appends};
 ghost use Rattle.b3_forest.specs.Parts.{planned};
 ghost use Rattle.store_upload.specs.Uploads.{part_refusal};
 ghost use Rattle.store_core.specs.Commands.{plan_in, reply_seen};
+ghost use Rattle.store_script.specs.Answers.{told_ending, told_text};
 ghost use Rattle.store_script.specs.Commands.{reply_of};
-ghost use Rattle.store_script.specs.Script.{Answered, Plays, PutsBy, fault_ending, refusal_ending, reply_ending};
-ghost use Rattle.store_script.specs.Texts.{answer_text, unmade_text, refused_text};
+ghost use Rattle.store_script.specs.Lines.{AnswersRead};
+ghost use Rattle.store_script.specs.Script.{Answered, Plays, PutsBy, fault_ending, reply_ending};
+ghost use Rattle.std.specs.Io.BufRead.{strip_last};
 
 use crate::command::ScriptCommand;
 use crate::ending::Ending;
 use crate::reading::read_command;
 use crate::reply::Reply;
 use crate::stepping::{put, step};
-use crate::text::Text;
-use crate::texts::{answer_text, bad_text, unmade_text};
+use crate::texts::{write_answer, write_bad, write_unmade};
 use b3_core::Work;
 use b3_forest::{PartFault, Prepared};
+use edge::Cause;
 use std::alloc::{AllocError, Global};
+use std::io::Write;
 use store_core::{Refusal, Store, UploadId};
 
-/// A line's answer, and how a run with it ends at best.
+/// The most bytes of a command's line with its line feed.
+pub const MOST_LINE: usize = 33_554_481;
+
+/// What is answered to a line: nothing to an empty one, `bad`, why a part can't be made, or the store's reply or refusal.
 #[derive(Drop)]
-pub(crate) struct Answer {
-    pub text: Text,
-    pub ending: Ending,
+pub enum Answer {
+    Nothing,
+    Bad,
+    Unmade(PartFault),
+    Replied(Result<Reply, Refusal>),
 }
 
-/// Answers a line without its line feed.
-pub(crate) fn answer_line(
+impl Answer {
+    /// How a run with this answer ends at best.
+    pub fn ending(&self) -> Ending
+        ensures { result ≡ told_ending self.now }
+    {
+        match self {
+            Answer::Nothing => Ending::Good,
+            Answer::Bad => Ending::Refused,
+            Answer::Unmade(fault) => fault_ending(*fault),
+            Answer::Replied(reply) => reply_ending(reply),
+        }
+    }
+
+    /// Writes the answer of a store. It takes no memory.
+    pub fn write<W: Write>(self, store: &Store, writer: &mut W) -> Result<(), Cause>
+        ensures wrote { OnOk result (Appends (W.contents writer.old) (W.contents writer.new) (told_text store.now self)) }
+        ensures cause { IfErr result (λ cause. cause ≡ Cause.CannotWrite) }
+    {
+        match self {
+            Answer::Nothing => Ok(()),
+            Answer::Bad => write_bad(writer),
+            Answer::Unmade(fault) => write_unmade(writer, fault),
+            Answer::Replied(reply) => write_answer(writer, store, reply),
+        }
+    }
+}
+
+fn fault_ending(fault: PartFault) -> Ending
+    ensures { result ≡ fault_ending fault }
+{
+    match fault {
+        PartFault::NoMemory => Ending::OutOfMemory,
+        _ => Ending::Refused,
+    }
+}
+
+fn reply_ending(reply: &Result<Reply, Refusal>) -> Ending
+    ensures { result ≡ reply_ending reply.now }
+{
+    match reply {
+        Ok(_) => Ending::Good,
+        Err(Refusal::NoMemory) => Ending::OutOfMemory,
+        Err(_) => Ending::Refused,
+    }
+}
+
+/// Answers a line that was read, of so many bytes with its line feed, of which no more are kept than a command's line may have.
+/// Where memory is refused for what the line has, the store stays as it was.
+pub fn answer_read(
+    alloc: Global,
+    store: &mut Store,
+    line: &[u8],
+    count: usize,
+    work: &mut Work,
+) -> Result<Answer, AllocError>
+    requires { 0 < count }
+    ensures answered { IfOk result (λ answer. AnswersRead store.old store.new count line.now (told_text store.new answer) (told_ending answer)) }
+    ensures unchanged { OnErr result (store.new ≡ store.old) }
+{
+    if count > MOST_LINE {
+        return Ok(Answer::Bad);
+    }
+    answer_line(alloc, store, without_end(line), work)
+}
+
+/// A line without its line feed, which the last line may lack.
+pub fn without_end(line: &[u8]) -> &[u8]
+    ensures { result.now ≡ strip_last 10 line.now }
+{
+    match line {
+        [front @ .., b'\n'] => front,
+        _ => line,
+    }
+}
+
+// Answers a line without its line feed.
+fn answer_line(
     alloc: Global,
     store: &mut Store,
     line: &[u8],
     work: &mut Work,
 ) -> Result<Answer, AllocError>
-    ensures { IfOk result (λ answer. Answered (λ turn. Plays store.old line.now turn store.new) answer.text answer.ending) }
+    ensures answered { IfOk result (λ answer. Answered (λ turn. Plays store.old line.now turn store.new) (told_text store.new answer) (told_ending answer)) }
+    ensures unchanged { OnErr result (store.new ≡ store.old) }
 {
     if line.is_empty() {
-        return Ok(skipped(alloc));
+        return Ok(Answer::Nothing);
     }
     match read_command(alloc, line)? {
-        None => bad(alloc),
-        Some(ScriptCommand::Asks(command)) => {
-            let reply = step(store, command, work);
-            replied(alloc, store, reply)
-        }
+        None => Ok(Answer::Bad),
+        Some(ScriptCommand::Asks(command)) => Ok(Answer::Replied(step(store, command, work))),
         Some(
             ScriptCommand::Puts {
                 upload,
                 offset,
                 bytes,
             },
-        ) => put_part(alloc, store, UploadId::new(upload), offset, bytes, work),
+        ) => Ok(put_part(alloc, store, UploadId::new(upload), offset, bytes, work)),
     }
 }
 
-// No answer.
-fn skipped(alloc: Global) -> Answer
-    ensures { (result.text ≡ []) × (result.ending ≡ Ending.Good) }
-{
-    Answer {
-        text: Text::of(Vec::new(alloc)),
-        ending: Ending::Good,
-    }
-}
-
-/// The answer to a line that is no command.
-pub(crate) fn bad(alloc: Global) -> Result<Answer, AllocError>
-    ensures { IfOk result (λ answer. (answer.text ≡ codes "bad\n") × (answer.ending ≡ Ending.Refused)) }
-{
-    Ok(Answer {
-        text: bad_text(alloc)?,
-        ending: Ending::Refused,
-    })
-}
-
-// The answer to a part that can't be made.
-fn unmade(alloc: Global, fault: PartFault) -> Result<Answer, AllocError>
-    ensures { IfOk result (λ answer. (answer.text ≡ refused_text (unmade_text fault)) × (answer.ending ≡ fault_ending fault)) }
-{
-    let ending = match fault {
-        PartFault::NoMemory => Ending::OutOfMemory,
-        _ => Ending::Refused,
-    };
-    let text = unmade_text(alloc, fault)?;
-    Ok(Answer { text, ending })
-}
-
-// The answer to a step of the store.
-fn replied(
-    alloc: Global,
-    store: &Store,
-    reply: Result<Reply, Refusal>,
-) -> Result<Answer, AllocError>
-    ensures { IfOk result (λ answer. (answer.text ≡ answer_text (reply_seen (reply_of store.now) reply)) × (answer.ending ≡ reply_ending (reply_seen (reply_of store.now) reply))) }
-{
-    let ending = match &reply {
-        Ok(_) => Ending::Good,
-        Err(Refusal::NoMemory) => Ending::OutOfMemory,
-        Err(_) => Ending::Refused,
-    };
-    let text = answer_text(alloc, store, reply)?;
-    Ok(Answer { text, ending })
-}
-
-// Asks for the upload's plan, makes the part, and puts it.
-fn put_part(
+/// Asks for the upload's plan, makes the part, and puts it.
+pub fn put_part(
     alloc: Global,
     store: &mut Store,
     upload: UploadId,
     offset: u64,
     bytes: Vec<u8>,
     work: &mut Work,
-) -> Result<Answer, AllocError>
-    ensures { IfOk result (λ answer. Answered (λ turn. PutsBy store.old upload offset bytes.items (plan_in store.old.state upload) turn store.new) answer.text answer.ending) }
+) -> Answer
+    ensures { Answered (λ turn. PutsBy store.old upload offset bytes.items (plan_in store.old.state upload) turn store.new) (told_text store.new result) (told_ending result) }
 {
     let plan = match store.plan(upload) {
         Ok(plan) => plan,
-        Err(refusal) => return replied(alloc, store, Err(refusal)),
+        Err(refusal) => return Answer::Replied(Err(refusal)),
     };
     match Prepared::make(alloc, &plan, offset, bytes, work) {
-        Ok(part) => {
-            let reply = put(store, upload, part, work);
-            replied(alloc, store, reply)
-        }
-        Err(refused) => unmade(alloc, refused.fault),
+        Ok(part) => Answer::Replied(put(store, upload, part, work)),
+        Err(refused) => Answer::Unmade(refused.fault),
     }
 }

@@ -4,7 +4,7 @@ use store_core::{Address, TenantId, UploadId};
 
 /// A command or a question of the store, but for a put. Lengths and limits are in bytes.
 #[derive(Clone, Copy, Debug, PartialEq, Eq)]
-pub(crate) enum Command {
+pub enum Command {
     OpenTenant { limit: u64 },
     SetLimit { tenant: TenantId, limit: u64 },
     Begin { tenant: TenantId, len: u64 },
@@ -17,6 +17,9 @@ pub(crate) enum Command {
     Fetch { tenant: TenantId, address: Address },
     Usage { tenant: TenantId },
     List { tenant: TenantId },
+    Holds { tenant: TenantId, address: Address },
+    Uploads { tenant: TenantId },
+    Tenants,
     Totals,
     Journal,
 }

@@ -2,7 +2,7 @@
 
 /// How a script's answers end.
 #[derive(Clone, Copy, Debug, PartialEq, Eq)]
-pub(crate) enum Ending {
+pub enum Ending {
     /// No line was refused, and each was a command.
     Good,
     /// Some answer is `refused` or `bad`, and none is `refused S14`.

@@ -1,29 +1,26 @@
 //! The engine.
 
 ghost use Rattle.std.specs.Prelude.{◌≡◌, ◌<◌, ◌⊎◌, IfErr, IfOk, IfSome, OnOk, Err, Ok, length};
-ghost use Rattle.std.specs.Io.BufRead.{DropsThrough, strip_last, take_through};
+ghost use Rattle.std.specs.Io.BufRead.{DropsThrough, take_through};
 ghost use Rattle.std.specs.Io.KnownBytes.{Appends, IsAtEnd};
-ghost use Rattle.store_script.specs.Lines.{AnswersRead, IsReadLine};
+ghost use Rattle.store_script.specs.Answers.{told_ending, told_text};
+ghost use Rattle.store_script.specs.Lines.{IsReadLine};
 ghost use Rattle.store_script.specs.Script.{Ran, RanOut, RanSome, ended_as, first_cause, verdict_ending, widest_start, worse};
 ghost use Rattle.store_script.specs.declared.ending.Ending.TheVariants as endings;
 
-use crate::answer::{Answer, answer_line, bad};
+use crate::answer::{Answer, MOST_LINE, answer_read};
 use crate::ending::Ending;
-use crate::text::Text;
 use b3_core::Work;
 use edge::{Cause, Verdict, flush};
-use std::alloc::{AllocError, Global};
+use std::alloc::Global;
 use std::io::{BufRead, Write};
 use store_core::{Limits, Store};
-
-// The most bytes of a command's line with its line feed.
-const MOST_LINE: usize = 33_554_481;
 
 /// Runs a script on an empty store with the widest limits: reads it line by line, and writes the answer to each line when its
 /// line feed was read. The writer is flushed behind each answer. `Good` where no line was refused and each was a command.
 ///
-/// It stops at the first read or write that fails, or where memory is refused for a line, a part's bytes or an answer's
-/// text; nothing more is written. Behind 2^64-1 lines it gives up reading, as std's readers do. A script in which some answer
+/// It stops at the first read or write that fails, or where memory is refused for a line or a part's bytes; nothing more is
+/// written. Behind 2^64-1 lines it gives up reading, as std's readers do. A script in which some answer
 /// is `refused S14` is answered on, and ends by want of memory, also where a read or a write fails later: the first cause is
 /// told. What a failed read leaves of a line is not run. Compressions are counted in `work`.
 pub fn run<R: BufRead, W: Write>(
@@ -67,8 +64,8 @@ fn answer_lines<R: BufRead, W: Write>(
             return ended_as(ending);
         }
         let answer = answer_read(alloc, store, line.as_slice(), count, work)?;
-        ending = worse(ending, answer.ending);
-        tell(writer, &answer.text, ending)?;
+        ending = worse(ending, answer.ending());
+        tell(writer, store, answer, ending)?;
     }
     Err(first_cause(ending, Cause::CannotRead))
 }
@@ -85,40 +82,18 @@ fn read_line<R: BufRead>(reader: &mut R, line: &mut Vec<u8>, ending: Ending) -> 
     edge::read_line(reader, line, MOST_LINE).map_err(|cause| first_cause(ending, cause))
 }
 
-// Answers a line that was read, of so many bytes.
-fn answer_read(
-    alloc: Global,
-    store: &mut Store,
-    line: &[u8],
-    count: usize,
-    work: &mut Work,
-) -> Result<Answer, AllocError>
-    requires { 0 < count }
-    ensures { IfOk result (λ answer. AnswersRead store.old store.new count line.now answer.text answer.ending) }
-{
-    if count > MOST_LINE {
-        return bad(alloc);
-    }
-    answer_line(alloc, store, without_end(line), work)
-}
-
-// A line without its line feed, which the last line may lack.
-fn without_end(line: &[u8]) -> &[u8]
-    ensures { result.now ≡ strip_last 10 line.now }
-{
-    match line {
-        [front @ .., b'\n'] => front,
-        _ => line,
-    }
-}
-
 // Writes an answer, and flushes. A failure is told by the first cause behind answers that end so, this one among them.
-fn tell<W: Write>(writer: &mut W, text: &Text, ending: Ending) -> Result<(), Cause>
-    ensures wrote { OnOk result (Appends (W.contents writer.old) (W.contents writer.new) text.now) }
+fn tell<W: Write>(
+    writer: &mut W,
+    store: &Store,
+    answer: Answer,
+    ending: Ending,
+) -> Result<(), Cause>
+    ensures wrote { OnOk result (Appends (W.contents writer.old) (W.contents writer.new) (told_text store.now answer)) }
     ensures cause { IfErr result (λ cause. cause ≡ first_cause ending Cause.CannotWrite) }
 {
     let cause = first_cause(ending, Cause::CannotWrite);
-    text.write(writer).map_err(|_| cause)?;
+    answer.write(store, writer).map_err(|_| cause)?;
     flush(writer).map_err(|_| cause)
 }
 

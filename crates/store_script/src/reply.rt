@@ -2,11 +2,11 @@
 
 use b3_forest::Plan;
 use std::sync::Arc;
-use store_core::{Address, Held, Object, Sealed, TenantId, Totals, UploadId, Usage};
+use store_core::{Address, Held, Object, OpenUpload, Sealed, TenantId, Totals, UploadId, Usage};
 
 /// What an accepted command or an answered question tells. `Journal` stands for the journal that the store keeps.
 #[derive(Drop)]
-pub(crate) enum Reply {
+pub enum Reply {
     Tenant(TenantId),
     Upload(UploadId, Plan),
     Held(Held),
@@ -15,6 +15,9 @@ pub(crate) enum Reply {
     Object(Arc<Object>),
     Usage(Usage),
     List(Vec<(Address, u64)>),
+    Length(u64),
+    Uploads(Vec<OpenUpload>),
+    Tenants(Vec<Usage>),
     Totals(Totals),
     Journal,
 }

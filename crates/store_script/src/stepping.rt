@@ -3,7 +3,7 @@
 ghost use Rattle.std.specs.Prelude.{◌≡◌};
 ghost use Rattle.b3_forest.specs.Parts.{planned};
 ghost use Rattle.store_core.specs.Commands.{reply_seen};
-ghost use Rattle.store_core.specs.Runs.{Step, abort, begin, begin_open, fetch, fix, forget, list, open_tenant, put, seal, seal_as, set_limit, usage};
+ghost use Rattle.store_core.specs.Runs.{Step, abort, begin, begin_open, fetch, fix, forget, holds, list, open_tenant, put, seal, seal_as, set_limit, tenants, uploads, usage};
 ghost use Rattle.store_script.specs.Commands.{command_seen, reply_of};
 
 use crate::command::Command;
@@ -13,7 +13,7 @@ use b3_forest::Prepared;
 use store_core::{Address, Refusal, Store, TenantId, UploadId};
 
 /// Does a command, or asks a question.
-pub(crate) fn step(store: &mut Store, command: Command, work: &mut Work) -> Result<Reply, Refusal>
+pub fn step(store: &mut Store, command: Command, work: &mut Work) -> Result<Reply, Refusal>
     ensures { Step store.old (command_seen command) (reply_seen (reply_of store.new) result) store.new }
 {
     match command {
@@ -29,6 +29,9 @@ pub(crate) fn step(store: &mut Store, command: Command, work: &mut Work) -> Resu
         Command::Fetch { tenant, address } => fetch(store, tenant, address),
         Command::Usage { tenant } => usage(store, tenant),
         Command::List { tenant } => list(store, tenant),
+        Command::Holds { tenant, address } => holds(store, tenant, address),
+        Command::Uploads { tenant } => uploads(store, tenant),
+        Command::Tenants => tenants(store),
         Command::Totals => Ok(Reply::Totals(store.totals())),
         Command::Journal => Ok(Reply::Journal),
     }
@@ -138,4 +141,25 @@ fn list(store: &Store, tenant: TenantId) -> Result<Reply, Refusal>
 {
     let objects = store.list(tenant)?;
     Ok(Reply::List(objects))
+}
+
+fn holds(store: &Store, tenant: TenantId, address: Address) -> Result<Reply, Refusal>
+    ensures { Step store.now (holds tenant address) (reply_seen (reply_of store.now) result) store.now }
+{
+    let len = store.holds(tenant, address)?;
+    Ok(Reply::Length(len))
+}
+
+fn uploads(store: &Store, tenant: TenantId) -> Result<Reply, Refusal>
+    ensures { Step store.now (uploads tenant) (reply_seen (reply_of store.now) result) store.now }
+{
+    let open = store.uploads(tenant)?;
+    Ok(Reply::Uploads(open))
+}
+
+fn tenants(store: &Store) -> Result<Reply, Refusal>
+    ensures { Step store.now tenants (reply_seen (reply_of store.now) result) store.now }
+{
+    let usages = store.tenants()?;
+    Ok(Reply::Tenants(usages))
 }

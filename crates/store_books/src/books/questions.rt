@@ -2,15 +2,17 @@
 
 ghost use Rattle.std.specs.Prelude.{◌≡◌, IfOk, slice_get};
 ghost use Rattle.std.specs.Map.{values_of};
-ghost use Rattle.store_books.specs.Questions.{listed, usage_in};
+ghost use Rattle.store_books.specs.Books.{Begun};
+ghost use Rattle.store_books.specs.Questions.{listed, open_upload_of, open_uploads, usage_in, usages_of};
 
 use crate::address::Address;
 use crate::begun::BegunUpload;
-use crate::books::{Books, Usage};
+use crate::books::{Books, OpenUpload, Usage};
 use crate::content::Content;
 use crate::filed::FiledObject;
 use crate::index::AddressIndex;
 use crate::refusal::Refusal;
+use crate::upload_id::UploadId;
 use std::alloc::{AllocError, Global};
 use std::collections::btree_map::{Iter, Values};
 use store_upload::HeldParts;
@@ -57,5 +59,45 @@ impl<H: HeldParts, O: Content, I: AddressIndex> Books<H, O, I> {
         ensures { IfOk result (λ list. list.items ≡ listed O.size O.address tenant self.now.objects) }
     {
         self.catalog.list(alloc, tenant)
+    }
+
+    /// The open uploads of a tenant, by number. Time: linear in all open uploads.
+    pub fn list_uploads(&self, alloc: Global, tenant: u64) -> Result<Vec<OpenUpload>, AllocError>
+        ensures { IfOk result (λ list. list.items ≡ open_uploads H.Part.len tenant self.now.uploads) }
+    {
+        let mut list = Vec::new(alloc);
+        for (number, begun) in self.uploads.iter() {
+            if begun.tenant() == tenant {
+                list.push(open_upload(*number, begun))?;
+            }
+        }
+        Ok(list)
+    }
+
+    /// The use, reservation and limit of each tenant, by number.
+    pub fn usages(&self, alloc: Global) -> Result<Vec<Usage>, AllocError>
+        ensures { IfOk result (λ list. list.items ≡ usages_of O.size self.now) }
+    {
+        let mut list = Vec::new(alloc);
+        for tenant in 0..self.tenants() {
+            let Ok(usage) = self.usage(tenant) else {
+                unreachable!();
+            };
+            list.push(usage)?;
+        }
+        Ok(list)
+    }
+}
+
+// What is told of the open upload of a number.
+fn open_upload<H: HeldParts>(number: u64, begun: &BegunUpload<H>) -> OpenUpload
+    ensures { result ≡ open_upload_of H.Part.len (number, begun.now) }
+{
+    let upload = begun.upload();
+    OpenUpload {
+        upload: UploadId::new(number),
+        bound: upload.plan().bound(),
+        end: upload.end(),
+        held: upload.held(),
     }
 }
