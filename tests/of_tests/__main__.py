@@ -1,4 +1,4 @@
-"""python3 tests/of_tests: shows that tests/growths, tests/random, tests/memory and tests/program fail where they must: over `true`
+"""python3 tests/of_tests: shows that tests/growths, tests/random, tests/memory, tests/program and tests/clients fail where they must: over `true`
 and `cat` in the program's place, where no growth can be refused, and where there is no C compiler or no test program. Each is run
 so, and must end with status 1 and a last line `N passed, M failed`, where M is not 0 and no more pass than is said here.
 
@@ -28,6 +28,10 @@ FEW_CASES = 50
 MOST_OF_A_HUNDRED = 3
 """So much of tests/program may pass with any program: a dozen cases ask nothing of it. They compare the manual page, the code of
 docs/LIBRARY.md and the second reading with what else is in the repository, and one wants no output of no lines."""
+
+
+MOST_OF_CLIENTS = 20
+"""The same of tests/clients: two of its cases compare the client with the page, and with stores that are none."""
 
 
 def row_of(words, answer, is_test):
@@ -134,6 +138,7 @@ def try_program(trials, name):
     trials.fails(f"random over {name}", [random, program, "--cases", str(FEW_CASES)])
     trials.fails(f"memory over {name}", [memory, program, "--program-alone"], "it answered")
     trials.fails(f"program over {name}", [os.path.join(TESTS, "program"), program], most=MOST_OF_A_HUNDRED)
+    trials.fails(f"clients over {name}", [os.path.join(TESTS, "clients"), program], most=MOST_OF_CLIENTS)
 
 
 def main():
