@@ -109,7 +109,7 @@ impl Signal {
 }
 
 /// What a gate does.
-#[derive(Clone, Copy, Debug)]
+#[derive(Clone, Copy)]
 pub(crate) enum Rule {
     /// Passes all parts.
     Pass,
