@@ -3,6 +3,7 @@
 ghost use Rattle.std.specs.Prelude.{◌≡◌, All, vec_len};
 ghost use Rattle.store_board.specs.Seats.{IsSeatOf};
 
+use crate::gates::zeros;
 use std::sync::atomic::{AtomicU64, Ordering};
 use std::test::Fail;
 use std::thread;
@@ -18,30 +19,52 @@ fn claimed(board: &Board, seat: &mut BoardSeat) -> Option<u64>
     Some(draw.number())
 }
 
+// What both seats draw in turn, three times each.
+fn drawn_in_turn(board: &Board, first: &mut BoardSeat, second: &mut BoardSeat) -> [Option<u64>; 6]
+    requires first { IsSeatOf board.now first.old }
+    requires second { IsSeatOf board.now second.old }
+    ensures first { IsSeatOf board.now first.new }
+    ensures second { IsSeatOf board.now second.new }
+{
+    [
+        claimed(board, first),
+        claimed(board, second),
+        claimed(board, first),
+        claimed(board, second),
+        claimed(board, first),
+        claimed(board, second),
+    ]
+}
+
+// Whether one seat sees a stop before the other makes it and behind that, and what it draws then.
+fn seen_and_drawn(
+    board: &Board,
+    stops: &mut BoardSeat,
+    looks: &mut BoardSeat,
+) -> (bool, bool, Option<u64>)
+    requires stops { IsSeatOf board.now stops.old }
+    requires looks { IsSeatOf board.now looks.old }
+    ensures stops { IsSeatOf board.now stops.new }
+    ensures looks { IsSeatOf board.now looks.new }
+{
+    let before = board.stopped(looks);
+    board.stop(stops);
+    let after = board.stopped(looks);
+    (before, after, claimed(board, looks))
+}
+
 // Both seats draw until they are done, and once more; the second is done before the first is. Done seats see a stop, too.
 #[test]
 fn seats_draw_in_turn(rt: HostRuntime) -> Result<(), Fail> {
     let (board, mut seats) = Board::new(rt.alloc(), 3, 2)?;
     let mut second = seats.pop().expect(&rt, "two seats");
     let mut first = seats.pop().expect(&rt, "two seats");
-    let drawn = [
-        claimed(&board, &mut first),
-        claimed(&board, &mut second),
-        claimed(&board, &mut first),
-        claimed(&board, &mut second),
-        claimed(&board, &mut first),
-        claimed(&board, &mut second),
-    ];
+    let drawn = drawn_in_turn(&board, &mut first, &mut second);
+    let seen = seen_and_drawn(&board, &mut first, &mut second);
+    let end = board.close(vec![in rt.alloc(); first, second]?);
     assert_eq!(rt; drawn, [Some(0), Some(1), Some(2), None, None, None]);
-    let before = board.stopped(&mut second);
-    board.stop(&mut first);
-    let after = board.stopped(&mut second);
-    assert_eq!(rt;
-        (before, after, claimed(&board, &mut second)),
-        (false, true, None)
-    );
-    let drawn = board.close(vec![in rt.alloc(); first, second]?);
-    assert_eq!(rt; (drawn.handed, drawn.spent), (3, true));
+    assert_eq!(rt; seen, (false, true, None));
+    assert_eq!(rt; (end.handed, end.spent), (3, true));
     Ok(())
 }
 
@@ -51,13 +74,10 @@ fn a_stopped_board_draws_on(rt: HostRuntime) -> Result<(), Fail> {
     let mut second = seats.pop().expect(&rt, "two seats");
     let mut first = seats.pop().expect(&rt, "two seats");
     let drawn = claimed(&board, &mut first);
-    let before = board.stopped(&mut first);
-    board.stop(&mut second);
-    let after = board.stopped(&mut first);
-    assert_eq!(rt; (drawn, before, after), (Some(0), false, true));
-    assert_eq!(rt; claimed(&board, &mut first), Some(1));
-    let drawn = board.close(vec![in rt.alloc(); first, second]?);
-    assert_eq!(rt; (drawn.handed, drawn.spent), (2, false));
+    let seen = seen_and_drawn(&board, &mut second, &mut first);
+    let end = board.close(vec![in rt.alloc(); first, second]?);
+    assert_eq!(rt; (drawn, seen), (Some(0), (false, true, Some(1))));
+    assert_eq!(rt; (end.handed, end.spent), (2, false));
     Ok(())
 }
 
@@ -123,33 +143,33 @@ fn draw_in_four_threads<R: Threads + Sync>(
     );
 }
 
-// Draws 5000 numbers in four threads, and tells how many of them were drawn once.
-fn drawn_once<R: Threads + Sync + AllocGlobal>(rt: &R, seats: u64) -> Result<(Drawn, u64), Fail> {
-    let mut counts = Vec::new(rt.alloc());
-    for _ in 0..5000 {
-        counts.push(AtomicU64::new(0))?;
-    }
-    let (board, mut seats) = Board::new(rt.alloc(), 5000, seats)?;
-    draw_in_four_threads(rt, &board, counts.as_slice(), &mut seats);
-    let drawn = board.close(seats);
-    let mut once = 0u64;
-    for times in counts.iter() {
-        if times.load(Ordering::SeqCst) == 1 {
-            once = once.wrapping_add(1);
-        }
-    }
-    Ok((drawn, once))
+// Draws all numbers in four threads, and counts how often each was drawn.
+fn drawn_by<R: Threads + Sync + AllocGlobal>(
+    rt: &R,
+    seats: u64,
+    counts: &[AtomicU64],
+) -> Result<Drawn, BoardRefusal> {
+    let (board, mut seats) = Board::new(rt.alloc(), counts.len() as u64, seats)?;
+    draw_in_four_threads(rt, &board, counts, &mut seats);
+    Ok(board.close(seats))
+}
+
+// Whether each number was drawn once.
+fn is_once_for_each(counts: &[AtomicU64]) -> bool {
+    counts.iter().all(|times| times.load(Ordering::SeqCst) == 1)
+}
+
+// Whether four threads draw each of 5000 numbers once, and leave none.
+fn are_drawn_once<R: Threads + Sync + AllocGlobal>(rt: &R, seats: u64) -> Result<bool, Fail> {
+    let counts = zeros(rt.alloc(), 5000)?;
+    let drawn = drawn_by(rt, seats, counts.as_slice())?;
+    Ok(drawn.handed == 5000 && drawn.spent && is_once_for_each(counts.as_slice()))
 }
 
 #[test]
 fn four_threads_draw_each_number_once(rt: HostRuntime) -> Result<(), Fail> {
     for seats in [1, 2, 16] {
-        let (drawn, once) = drawn_once(&rt, seats)?;
-        assert_eq!(rt;
-            (drawn.handed, drawn.spent, once),
-            (5000, true, 5000),
-            "{seats} seats"
-        );
+        assert!(rt; are_drawn_once(&rt, seats)?, "{seats} seats");
     }
     Ok(())
 }

@@ -14,6 +14,15 @@ const STILL_TURNS: u64 = 2000;
 /// The most parts of an upload here.
 pub(crate) const MOST_PARTS: u64 = 4096;
 
+/// So many counts of zero.
+pub(crate) fn zeros(alloc: Global, count: u64) -> Result<Vec<AtomicU64>, AllocError> {
+    let mut counts = Vec::new(alloc);
+    for _ in 0..count {
+        counts.push(AtomicU64::new(0))?;
+    }
+    Ok(counts)
+}
+
 /// How often a gate was asked, in all and for each part, and whether it lets those pass that it holds.
 #[derive(Drop)]
 pub(crate) struct Signal {
@@ -24,13 +33,9 @@ pub(crate) struct Signal {
 
 impl Signal {
     pub(crate) fn new(alloc: Global) -> Result<Signal, AllocError> {
-        let mut parts = Vec::new(alloc);
-        for _ in 0..MOST_PARTS {
-            parts.push(AtomicU64::new(0))?;
-        }
         Ok(Signal {
             asked: AtomicU64::new(0),
-            parts,
+            parts: zeros(alloc, MOST_PARTS)?,
             released: AtomicBool::new(false),
         })
     }
@@ -104,7 +109,7 @@ impl Signal {
 }
 
 /// What a gate does.
-#[derive(Clone, Copy, Debug)]
+#[derive(Clone, Copy)]
 pub(crate) enum Rule {
     /// Passes all parts.
     Pass,

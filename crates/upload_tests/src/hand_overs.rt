@@ -86,7 +86,7 @@ fn give_and_take<R: Wait + AllocGlobal + Runtime + Abort>(
     second: &mut Option<GivePass>,
     third: &mut Option<GivePass>,
     taker: &mut TakePass,
-) -> Result<(), AllocError>
+) -> Result<(), Fail>
     requires first { IfSome first.old (λ p. IsGiverOf hand_over.now p) }
     requires second { IfSome second.old (λ p. IsGiverOf hand_over.now p) }
     requires third { IfSome third.old (λ p. IsGiverOf hand_over.now p) }
@@ -132,28 +132,39 @@ fn pass_above(
 
 const STEPS: u64 = 500;
 
+// A hand-over of so much room and so many givers, beside a list.
+fn moves_as_a_list<R: Wait + AllocGlobal + Runtime + Abort>(
+    rt: &R,
+    capacity: usize,
+    givers: u64,
+) -> Result<(), Fail>
+    requires { 0 < givers }
+{
+    let (hand_over, mut passes, mut taker) = HandOver::<Unasked>::new(
+        rt.alloc(),
+        capacity,
+        givers,
+    )?;
+    let mut third = pass_above(&hand_over, &mut passes, 2);
+    let mut second = pass_above(&hand_over, &mut passes, 1);
+    let mut first = pass_above(&hand_over, &mut passes, 0);
+    give_and_take(
+        rt,
+        &hand_over,
+        capacity,
+        givers,
+        &mut first,
+        &mut second,
+        &mut third,
+        &mut taker,
+    )
+}
+
 #[test]
 fn one_thread_gives_and_takes_as_with_a_list(rt: HostRuntime) -> Result<(), Fail> {
     for capacity in 1..6usize {
         for givers in 1..4u64 {
-            let (hand_over, mut passes, mut taker) = HandOver::<Unasked>::new(
-                rt.alloc(),
-                capacity,
-                givers,
-            )?;
-            let mut third = pass_above(&hand_over, &mut passes, 2);
-            let mut second = pass_above(&hand_over, &mut passes, 1);
-            let mut first = pass_above(&hand_over, &mut passes, 0);
-            give_and_take(
-                &rt,
-                &hand_over,
-                capacity,
-                givers,
-                &mut first,
-                &mut second,
-                &mut third,
-                &mut taker,
-            )?;
+            moves_as_a_list(&rt, capacity, givers)?;
         }
     }
     Ok(())
@@ -197,8 +208,9 @@ fn parts_come_in_the_order_in_which_they_were_given(rt: HostRuntime) -> Result<(
     let (hand_over, mut givers, mut taker) = HandOver::<Unasked>::new(rt.alloc(), 2, 2)?;
     let mut second = givers.pop().expect(&rt, "two givers");
     let mut first = givers.pop().expect(&rt, "two givers");
-    give_four(&rt, &hand_over, &mut first, &mut second, &mut taker)?;
+    let given = give_four(&rt, &hand_over, &mut first, &mut second, &mut taker);
     let moved = hand_over.close(&rt, vec![in rt.alloc(); first, second]?, taker);
+    given?;
     assert_eq!(rt; (moved.given, moved.taken), (4, 3));
     Ok(())
 }
