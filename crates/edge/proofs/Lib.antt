@@ -3,6 +3,6 @@ pub mod Encoding
 pub mod FieldTexts
 pub mod Joining
 pub mod FirstLines
-mod LineParts
+pub mod LineParts
 pub mod Numbers
 pub mod Steps

@@ -1,0 +1,6 @@
+mod Frames
+mod Ranges
+mod Lines
+mod Parts
+mod Served
+mod Under

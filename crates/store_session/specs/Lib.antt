@@ -1,0 +1,4 @@
+pub mod Reads
+pub mod Inner
+pub mod Requests
+pub mod Session

@@ -1,0 +1,75 @@
+-- What a line of a session asks for that a script's lines don't.
+use Rattle.std.specs.Prelude.{◌≡◌, ℕ, Bool, List, Option, Some, None, if◌then◌else◌, codes, length, nat_lt}
+use Rattle.std.specs.Io.BufRead.{strip_last}
+use Rattle.std.specs.Str.{bytes_eq}
+use Rattle.edge.specs.Fields.{◌>>=◌, cut_at, number_at, space, three_numbers_at, two_numbers_at}
+use Rattle.store_script.specs.Grammar.{address_of_digits, held_at}
+use Rattle.store_script.specs.declared.command.Command.TheVariants.{Holds, Tenants, Uploads}
+use Rattle.store_session.specs.Reads.{IsLineRead, most_request}
+use Rattle.store_session.specs.declared.reading.LineRead.{LineRead}
+use Rattle.store_session.specs.declared.request.Range.{Range}
+use Rattle.store_session.specs.declared.request.Request.{Request}
+use Rattle.store_session.specs.declared.request.Request.TheVariants.{Asks, Entries, Fetch, Put}
+
+abbrev pub put_at : List ℕ → Option Request
+put_at fields = do
+  numbers ← three_numbers_at fields
+  Some (Put numbers.0 numbers.1 numbers.2)
+
+-- an address, or an address and a range of its object's bytes
+abbrev pub fetch_of : ℕ → List ℕ → Option (List ℕ × List ℕ) → Option Request
+fetch_of tenant field None = do
+  address ← address_of_digits field
+  Some (Fetch (record { tenant = tenant; address = address; range = None }))
+fetch_of tenant field (Some cut) = do
+  address ← address_of_digits cut.0
+  numbers ← two_numbers_at cut.1
+  Some (Fetch (record { tenant = tenant; address = address; range = Some (record { from = numbers.0; len = numbers.1 }) }))
+
+abbrev pub fetch_at : List ℕ → Option Request
+fetch_at fields = do
+  cut ← cut_at space fields
+  tenant ← number_at cut.0
+  fetch_of tenant cut.1 (cut_at space cut.1)
+
+abbrev pub holds_at : List ℕ → Option Request
+holds_at fields = do
+  held ← held_at fields
+  Some (Asks (Holds held.0 held.1))
+
+abbrev pub uploads_at : List ℕ → Option Request
+uploads_at fields = do
+  tenant ← number_at fields
+  Some (Asks (Uploads tenant))
+
+abbrev pub entries_at : List ℕ → Option Request
+entries_at fields = do
+  from ← number_at fields
+  Some (Entries from)
+
+-- the request of a word and the fields behind it
+unfoldable pub request_of_kind : List ℕ → List ℕ → Option Request
+request_of_kind kind fields =
+    if bytes_eq kind (codes "putb") then put_at fields
+    else if bytes_eq kind (codes "fetchb") then fetch_at fields
+    else if bytes_eq kind (codes "has") then holds_at fields
+    else if bytes_eq kind (codes "uploads") then uploads_at fields
+    else if bytes_eq kind (codes "entries") then entries_at fields
+    else None
+
+-- the request of a line that is cut behind its first word
+abbrev pub cut_request_at : List ℕ → Option (List ℕ × List ℕ) → Option Request
+cut_request_at line None = if bytes_eq line (codes "tenants") then Some (Asks Tenants) else None
+cut_request_at line (Some cut) = request_of_kind cut.0 cut.1
+
+-- the request of a line without its line feed
+abbrev pub request_at : List ℕ → Option Request
+request_at line = cut_request_at line (cut_at space line)
+
+-- the request of a line with its line feed, which the last line may lack; none in a line of a script
+abbrev pub request_in : List ℕ → Option Request
+request_in whole = if nat_lt most_request (length whole) then None else request_at (strip_last 10 whole)
+
+-- it is the request of the line that was read
+pub record AsksFor (read : LineRead) (kept : List ℕ) (request : Option Request) : Type 0 where
+  pub asks : (whole : List ℕ) → IsLineRead whole read kept → request ≡ request_in whole

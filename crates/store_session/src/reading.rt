@@ -1,0 +1,182 @@
+//! Reads of a line, and of so many bytes behind it.
+
+ghost use Rattle.std.specs.Prelude.{◌≡◌, ◌+◌, ◌-◌, ◌<◌, ◌≤◌, ◌++◌, ℕ, List, [], IfErr, IfOk, IfSome, OnOk, false, length, take, true, vec_capacity, vec_len};
+ghost use Rattle.std.specs.Io.BufRead.{DropsThrough, take_through};
+ghost use Rattle.edge.specs.Reads.{TakesPart};
+ghost use Rattle.store_session.specs.Inner.{KeepsPart};
+ghost use Rattle.store_session.specs.Reads.{Copied, IsLineRead, Skipped, TakesSome, most_request};
+
+use edge::{Cause, len_through};
+use std::io::{BufRead, ErrorKind};
+use store_script::MOST_LINE;
+
+/// How many bytes a line has, with its line feed, and whether those of them are kept that a command's line may have.
+#[derive(Clone, Copy, Debug, PartialEq, Eq)]
+pub(crate) struct LineRead {
+    pub count: usize,
+    pub is_kept: bool,
+}
+
+/// Reads the next line with its line feed, which the last one may lack: of no bytes at the end of the input. Where memory is refused
+/// for its bytes, they are read and lost.
+pub(crate) fn read_line<R: BufRead>(reader: &mut R, line: &mut Vec<u8>) -> Result<LineRead, Cause>
+    requires { most_request ≤ vec_capacity line.old }
+    ensures read { IfOk result (λ read. IfSome (R.Read.remaining reader.old) (λ input. IsLineRead (take_through 10 input) read line.new.items)) }
+    ensures rest { OnOk result (DropsThrough (R.Read.remaining reader.old) (R.Read.remaining reader.new) 10) }
+    ensures room { most_request ≤ vec_capacity line.new }
+    ensures cause { IfErr result (λ cause. cause ≡ Cause.CannotRead) }
+{
+    line.clear();
+    let mut count = 0usize;
+    let mut is_kept = true;
+    for _ in 0..u64::MAX {
+        let (len, is_done, is_held) = line_part(reader, line, is_kept)?;
+        count = count.saturating_add(len);
+        is_kept = is_held;
+        if is_done {
+            return Ok(LineRead { count, is_kept });
+        }
+    }
+    Err(Cause::CannotRead)
+}
+
+// Takes what the reader holds of a line, and keeps it where the line was kept so far and there is memory.
+fn line_part<R: BufRead>(
+    reader: &mut R,
+    line: &mut Vec<u8>,
+    is_kept: bool,
+) -> Result<(usize, bool, bool), Cause>
+    requires { most_request ≤ vec_capacity line.old }
+    ensures part { IfOk result (λ part. (bytes : List ℕ) × TakesPart (R.Read.remaining reader.old) (R.Read.remaining reader.new) part.0 part.1 bytes
+        × KeepsPart is_kept part.2 line.old.items line.new.items bytes) }
+    ensures room { most_request ≤ vec_capacity line.new }
+    ensures cause { IfErr result (λ cause. cause ≡ Cause.CannotRead) }
+{
+    let available = match reader.fill_buf() {
+        Ok(available) => available,
+        Err(error) => {
+            return if error.kind() == ErrorKind::Interrupted {
+                Ok((0, false, is_kept))
+            } else {
+                Err(Cause::CannotRead)
+            };
+        }
+    };
+    let end = len_through(available);
+    let is_done = end == 0 || available[end - 1] == b'\n';
+    let is_held = keep(line, &available[..end], is_kept);
+    reader.consume(end);
+    Ok((end, is_done, is_held))
+}
+
+// Adds bytes to a line that was kept so far, as many as a command's line may have. False where memory is refused.
+fn keep(line: &mut Vec<u8>, bytes: &[u8], is_kept: bool) -> bool
+    requires { most_request ≤ vec_capacity line.old }
+    ensures kept { KeepsPart is_kept result line.old.items line.new.items bytes.now }
+    ensures room { most_request ≤ vec_capacity line.new }
+{
+    if !is_kept {
+        return false;
+    }
+    let count = MOST_LINE.saturating_sub(line.len()).min(bytes.len());
+    let is_short = line.capacity() - line.len() < count;
+    if is_short && line.reserve(count).is_err() {
+        return false;
+    }
+    let Ok(()) = line.extend_from_slice(&bytes[..count]) else {
+        unreachable!()
+    };
+    true
+}
+
+/// Reads so many bytes and drops them. False where the input ends before.
+pub(crate) fn skip<R: BufRead>(reader: &mut R, len: u64) -> Result<bool, Cause>
+    ensures skipped { IfOk result (λ is_whole. IfSome (R.Read.remaining reader.old) (λ input. Skipped is_whole len input (R.Read.remaining reader.new))) }
+    ensures cause { IfErr result (λ cause. cause ≡ Cause.CannotRead) }
+{
+    let mut left = len;
+    for _ in 0..u64::MAX {
+        if left == 0 {
+            return Ok(true);
+        }
+        match skip_part(reader, left)? {
+            Some(count) => left -= count,
+            None => return Ok(false),
+        }
+    }
+    Err(Cause::CannotRead)
+}
+
+// Drops what the reader holds, at most so many bytes.
+fn skip_part<R: BufRead>(reader: &mut R, most: u64) -> Result<Option<u64>, Cause>
+    ensures some { IfOk result (λ count. (bytes : List ℕ) × TakesSome (R.Read.remaining reader.old) (R.Read.remaining reader.new) most count bytes) }
+    ensures cause { IfErr result (λ cause. cause ≡ Cause.CannotRead) }
+{
+    let available = match reader.fill_buf() {
+        Ok(available) => available,
+        Err(error) => {
+            return if error.kind() == ErrorKind::Interrupted {
+                Ok(Some(0))
+            } else {
+                Err(Cause::CannotRead)
+            };
+        }
+    };
+    let len = available.len();
+    let count = (len as u64).min(most);
+    reader.consume(count as usize);
+    if len == 0 { Ok(None) } else { Ok(Some(count)) }
+}
+
+/// Reads so many bytes into the room that there is for them. False where the input ends before.
+pub(crate) fn copy<R: BufRead>(
+    reader: &mut R,
+    bytes: &mut Vec<u8>,
+    len: usize,
+) -> Result<bool, Cause>
+    requires empty { bytes.old.items ≡ [] }
+    requires room { len ≤ vec_capacity bytes.old }
+    ensures copied { IfOk result (λ is_whole. IfSome (R.Read.remaining reader.old) (λ input. Copied is_whole len input bytes.new.items (R.Read.remaining reader.new))) }
+    ensures cause { IfErr result (λ cause. cause ≡ Cause.CannotRead) }
+{
+    for _ in 0..u64::MAX {
+        if bytes.len() >= len {
+            return Ok(true);
+        }
+        let left = len - bytes.len();
+        if copy_part(reader, bytes, left)?.is_none() {
+            return Ok(false);
+        }
+    }
+    Err(Cause::CannotRead)
+}
+
+// Moves what the reader holds, at most so many bytes.
+fn copy_part<R: BufRead>(
+    reader: &mut R,
+    bytes: &mut Vec<u8>,
+    most: usize,
+) -> Result<Option<usize>, Cause>
+    requires { vec_len bytes.old + most ≤ vec_capacity bytes.old }
+    ensures some { IfOk result (λ count. (more : List ℕ) × TakesSome (R.Read.remaining reader.old) (R.Read.remaining reader.new) most count more × (bytes.new.items ≡ bytes.old.items ++ more)) }
+    ensures room { vec_capacity bytes.old ≤ vec_capacity bytes.new }
+    ensures cause { IfErr result (λ cause. cause ≡ Cause.CannotRead) }
+{
+    let available = match reader.fill_buf() {
+        Ok(available) => available,
+        Err(error) => {
+            return if error.kind() == ErrorKind::Interrupted {
+                Ok(Some(0))
+            } else {
+                Err(Cause::CannotRead)
+            };
+        }
+    };
+    let len = available.len();
+    let count = len.min(most);
+    let Ok(()) = bytes.extend_from_slice(&available[..count]) else {
+        unreachable!()
+    };
+    reader.consume(count);
+    if len == 0 { Ok(None) } else { Ok(Some(count)) }
+}

@@ -1,0 +1,153 @@
+//! Reading what a line asks for.
+
+ghost use Rattle.std.specs.Prelude.{◌≡◌};
+ghost use Rattle.edge.specs.Fields.{cut_at};
+ghost use Rattle.store_script.specs.Grammar.{held_at};
+ghost use Rattle.store_session.specs.Requests.{AsksFor, entries_at, fetch_at, fetch_of, holds_at, put_at, request_at, request_of_kind, uploads_at};
+
+use crate::reading::LineRead;
+use edge::{cut_at, number, three_numbers, two_numbers};
+use store_core::{Address, TenantId};
+use store_script::{Command, address, number_and_address, without_end};
+
+/// The most bytes of a line with a request of its own, with its line feed.
+pub(crate) const MOST_REQUEST: usize = 200;
+
+/// So many bytes from one of them on.
+#[derive(Clone, Copy, Debug, PartialEq, Eq)]
+pub(crate) struct Range {
+    pub from: u64,
+    pub len: u64,
+}
+
+/// The bytes of an object that a tenant holds, or those of a range.
+#[derive(Clone, Copy, Debug, PartialEq, Eq)]
+pub(crate) struct Wanted {
+    pub tenant: TenantId,
+    pub address: Address,
+    pub range: Option<Range>,
+}
+
+/// What a line asks for that a script's lines don't.
+#[derive(Clone, Copy, Debug, PartialEq, Eq)]
+pub(crate) enum Request {
+    /// To put so many bytes, which stand behind the line.
+    Put { upload: u64, offset: u64, len: u64 },
+    /// Bytes of an object.
+    Fetch(Wanted),
+    /// A question of the store.
+    Asks(Command),
+    /// The journal's entries from this number on.
+    Entries { from: u64 },
+}
+
+/// What a line asks for that was read so; `None` for a line of a script.
+pub(crate) fn request_of(line: &[u8], read: LineRead) -> Option<Request>
+    ensures { AsksFor read line.now result }
+{
+    if !read.is_kept {
+        return None;
+    }
+    if read.count > MOST_REQUEST {
+        return None;
+    }
+    read_request(without_end(line))
+}
+
+fn read_request(line: &[u8]) -> Option<Request>
+    ensures { result ≡ request_at line.now }
+{
+    match cut_at(line, b' ') {
+        Some((kind, fields)) => request_of_kind(kind, fields),
+        None if line == b"tenants".as_slice() => Some(Request::Asks(Command::Tenants)),
+        None => None,
+    }
+}
+
+#[tactic(auto, unfolding(crate::specs::Requests::request_of_kind))]
+fn request_of_kind(kind: &[u8], fields: &[u8]) -> Option<Request>
+    ensures { result ≡ request_of_kind kind.now fields.now }
+{
+    if kind == b"putb".as_slice() {
+        return put(fields);
+    }
+    if kind == b"fetchb".as_slice() {
+        return fetch(fields);
+    }
+    if kind == b"has".as_slice() {
+        return holds(fields);
+    }
+    if kind == b"uploads".as_slice() {
+        return uploads(fields);
+    }
+    if kind == b"entries".as_slice() {
+        return entries(fields);
+    }
+    None
+}
+
+fn put(fields: &[u8]) -> Option<Request>
+    ensures { result ≡ put_at fields.now }
+{
+    let (upload, offset, len) = three_numbers(fields)?;
+    Some(Request::Put {
+        upload,
+        offset,
+        len,
+    })
+}
+
+fn fetch(fields: &[u8]) -> Option<Request>
+    ensures { result ≡ fetch_at fields.now }
+{
+    let (tenant, field) = cut_at(fields, b' ')?;
+    let tenant = number(tenant)?;
+    fetch_of(tenant, field)
+}
+
+fn fetch_of(tenant: u64, field: &[u8]) -> Option<Request>
+    ensures { result ≡ fetch_of tenant field.now (cut_at 32 field.now) }
+{
+    let tenant = TenantId::new(tenant);
+    match cut_at(field, b' ') {
+        None => {
+            let address = address(field)?;
+            Some(Request::Fetch(Wanted {
+                tenant,
+                address,
+                range: None,
+            }))
+        }
+        Some((digits, numbers)) => {
+            let address = address(digits)?;
+            let (from, len) = two_numbers(numbers)?;
+            Some(Request::Fetch(Wanted {
+                tenant,
+                address,
+                range: Some(Range { from, len }),
+            }))
+        }
+    }
+}
+
+fn holds(fields: &[u8]) -> Option<Request>
+    ensures { result ≡ holds_at fields.now }
+{
+    let (tenant, address) = number_and_address(fields)?;
+    let tenant = TenantId::new(tenant);
+    Some(Request::Asks(Command::Holds { tenant, address }))
+}
+
+fn uploads(fields: &[u8]) -> Option<Request>
+    ensures { result ≡ uploads_at fields.now }
+{
+    let tenant = TenantId::new(number(fields)?);
+    Some(Request::Asks(Command::Uploads { tenant }))
+}
+
+fn entries(fields: &[u8]) -> Option<Request>
+    ensures { result ≡ entries_at fields.now }
+{
+    let from = number(fields)?;
+    Some(Request::Entries { from })
+}
