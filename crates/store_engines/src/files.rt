@@ -90,25 +90,22 @@ impl<R: AllocGlobal + Threads + Runtime> SystemFiles<'_, R> {
     }
 
     // The root of an open file by threads that read it from any place, where it is a regular one and they can.
-    fn root_from_places(&mut self, file: &File) -> Option<Top>
+    fn root_from_places(&mut self, file: &FileBytes) -> Option<Top>
         ensures root { IfSome result (λ top. (bytes : List ℕ) × (top ≡ tree_top bytes 0 self.old.mode)) }
         ensures mode { self.new.mode ≡ self.old.mode }
     {
-        let Ok(found) = file.metadata() else {
+        let Ok(found) = file.0.metadata() else {
             return None;
         };
         if !found.is_file() {
             return None;
         }
-        let Ok(file) = file.try_clone() else {
-            return None;
-        };
         let (rt, mode) = (self.rt, self.mode);
         hash_source(
             rt,
             rt.alloc(),
             &mode,
-            &FileBytes(file),
+            file,
             found.len(),
             self.threads,
             &mut self.work,
@@ -130,13 +127,13 @@ impl<R: Files<File = File> + AllocGlobal + Threads + Runtime> SystemFiles<'_, R>
             return Err(FileFault::Failed(Reason::NotUtf8));
         };
         let mut file = match File::open(self.rt, path) {
-            Ok(file) => file,
+            Ok(file) => FileBytes(file),
             Err(error) => return Err(fault_of(&error)),
         };
         if let Some(root) = self.root_from_places(&file) {
             return Ok(root);
         }
-        self.stream_root(&mut file)
+        self.stream_root(&mut file.0)
     }
 }
 
