@@ -2,7 +2,7 @@
 reading gives."""
 import typing
 
-from blake3 import address_of, output_of
+from blake3 import address_of, keyed, output_of
 from check_files import check_answer
 from journal import ANSWERS, HEADER
 from script import answers_of, call_of, pattern
@@ -13,7 +13,8 @@ ADDRESS = address_of(OBJECT)
 LONG = pattern(0, 9 << 20)
 LONG_ADDRESS = "8516f8a0ae9a7a21cdd69df13aaa9b2a22a499848fb3185cea4cae496ce4d91a"
 """What `b3sum` tells of it: an input of several blocks, which the second reading takes minutes to hash."""
-FILES = {"object": OBJECT, "abc": b"abc"}
+KEY = bytes(range(32))
+FILES = {"object": OBJECT, "abc": b"abc", "key": KEY}
 FROB = b"error: unexpected argument '--frob' found\n"
 HELP = b"A content-addressed store: objects under their BLAKE3 hash\n\nUsage: "
 SIGNED = b"b3store: a number is decimal digits, without a sign; see b3store sum --help\n"
@@ -84,6 +85,11 @@ def wrote_nothing(answer):
     return answer == b""
 
 
+def lines_of(text):
+    """Whether an answer is some of the first lines of a text."""
+    return lambda answer: text.startswith(answer) and answer[-1:] in (b"", b"\n")
+
+
 def told_a_refusal(answer):
     return answer in (b"", b"refused U5\n", b"refused U1 S14\n")
 
@@ -99,7 +105,7 @@ def usage(beginning):
 
 
 def read(told):
-    """Of an engine that reads all before it writes, by what the second reading says: the output, and the status."""
+    """Of an engine over all its input, by what the second reading says: the output, and the status."""
     output, status = told
     return Answer(status, output, b"")
 
@@ -116,7 +122,13 @@ def cases(program):
     yield Case([program, "sum", "--length", "+4"], OBJECT, usage(SIGNED), wrote_nothing)
     yield Case([program, "sum", "--frob"], OBJECT, usage(FROB), wrote_nothing)
     yield Case([program, "--help"], OBJECT, usage(HELP), wrote_nothing)
-    yield Case([program, "check"], check, read(check_answer(check, digests)), wrote_nothing)
+    report = read(check_answer(check, digests))
+    yield Case([program, "check"], check, report, lines_of(report.stdout))
+    lines = f"{ADDRESS}  object\n{address_of(b'abc')}  abc\n"
+    yield Case([program, "sum", "object", "abc"], b"", good(lines), lines_of(lines.encode()))
+    yield Case([program, "sum", "--files-from", "-"], b"object\n\nabc", good(lines), lines_of(lines.encode()))
+    digits = output_of(OBJECT, 4, keyed(KEY)).hex()
+    yield Case([program, "sum", "--key-file", "key", "--length", "4", "object"], b"", good(f"{digits}\n"), wrote_nothing)
     yield Case([program, "audit"], journal, read(ANSWERS["audit"](journal)), wrote_nothing)
     yield Case([program, "migrate"], journal, read(ANSWERS["migrate"](journal)), wrote_nothing)
     yield Case([program, "run"], SCRIPT.encode(), script, is_beginning_by_the_model)

@@ -1,8 +1,7 @@
 -- A chain of calls of names, one call longer.
 use Rattle.std.proofs.Common.{ℕ, List, [], ◌∷◌, ◌++◌, inl, inr, refl, subst}
 use Rattle.b3_check.specs.declared.file.NumberedLine.{NumberedLine}
-use Rattle.b3_check.specs.declared.report.Verdict.{Verdict}
-use Rattle.b3_check.specs.Reports.{Answer, IsCutShort, IsRefusedFor, IsReport, IsVerdictBy}
+use Rattle.b3_check.specs.Reports.{Answer, IsReport, IsVerdictBy, Verdict}
 
 -- the verdict on one line more
 pub IsReport-push : {S : Type 0} (gives : S → List ℕ → Answer → S → Type 0) (old mid new : S) (lines : List NumberedLine) (verdicts : List Verdict) (line : NumberedLine) (verdict : Verdict)
@@ -12,11 +11,3 @@ IsReport-push gives old mid new (first ∷ lines) (first_verdict ∷ verdicts) l
 IsReport-push gives old mid new [] (first_verdict ∷ verdicts) line verdict h v = absurd h
 IsReport-push gives old mid new (first ∷ lines) [] line verdict h v = absurd h
 
--- ---- where the names had no memory
-
-pub stops_behind : {S : Type 0} (gives : S → List ℕ → Answer → S → Type 0) (old mid new : S) (front : List NumberedLine) (line : NumberedLine) (back : List NumberedLine) (verdicts : List Verdict)
-    → IsReport gives old front verdicts mid → IsRefusedFor gives mid line.line new → IsCutShort gives old (front ++ line ∷ back) new
-stops_behind gives old mid new [] line back [] h k = inl (subst (λ s. IsRefusedFor gives s line.line new) h k)
-stops_behind gives old mid new (first ∷ front) line back (verdict ∷ verdicts) h k = inr (h.0, verdict, h.1, stops_behind gives h.0 mid new front line back verdicts h.2 k)
-stops_behind gives old mid new [] line back (verdict ∷ verdicts) h k = absurd h
-stops_behind gives old mid new (first ∷ front) line back [] h k = absurd h

@@ -3,6 +3,7 @@ pub mod CutOffs
 pub mod Cuts
 pub mod Escapes
 pub mod Grammar
+pub mod Reporting
 pub mod Rests
 pub mod Returns
 pub mod Rows

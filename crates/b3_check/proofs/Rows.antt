@@ -11,8 +11,10 @@ use Rattle.b3_check.specs.Names.{backslash, unescaped_from}
 use Rattle.b3_check.specs.Lines.{digest_at, line_at, rest_at, without_returns, written_line}
 use Rattle.edge.specs.Lines.{lines_of}
 use Rattle.b3_check.specs.Files.{numbered_from, file_at}
-use Rattle.b3_check.specs.Reports.{report_text, verdict_text}
-use Rattle.b3_check.specs.declared.report.Verdict.TheVariants as verdicts
+use Rattle.b3_check.specs.declared.report.Found.TheVariants.{Good, Bad, Missing}
+use Rattle.b3_check.specs.declared.report.Shown.TheVariants.{All, AllButGood, Nothing}
+use Rattle.b3_check.specs.Reports.{Verdict, report_text, verdict_text}
+use Rattle.b3_check.specs.Reports.Verdict.{faulty, named}
 
 unfoldable on_literals : ⊤
 unfolding hex_on_literals unescaped_from without_returns rest_at lines_of numbered_from
@@ -148,13 +150,23 @@ skipped_line = refl
 
 -- ---- reports
 
-three_verdicts : report_text (verdicts.Good (codes "f") ∷ verdicts.Fault 2 Short ∷ verdicts.Missing (codes "g") ∷ []) ≡ codes "good f\nfault 2 C2\nmissing g\ngood 1 bad 0 missing 1 unreadable 0 faults 1\n"
+abbrev good_fault_missing : List Verdict
+good_fault_missing = named Good (codes "f") ∷ faulty 2 Short ∷ named Missing (codes "g") ∷ []
+
+three_verdicts : report_text All good_fault_missing ≡ codes "good f\nfault 2 C2\nmissing g\ngood 1 bad 0 missing 1 unreadable 0 faults 1\n"
 unfolding on_literals
 three_verdicts = rw (decimal_digit 2 (omega arith), decimal_digit 1 (omega arith), decimal_digit 0 (omega arith)) refl
 
-two_verdicts : report_text (verdicts.Bad (codes "f") ∷ verdicts.Fault 3 Short ∷ []) ≡ codes "bad f\nfault 3 C2\ngood 0 bad 1 missing 0 unreadable 0 faults 1\n"
+without_good : report_text AllButGood good_fault_missing ≡ codes "fault 2 C2\nmissing g\ngood 1 bad 0 missing 1 unreadable 0 faults 1\n"
+unfolding on_literals
+without_good = rw (decimal_digit 2 (omega arith), decimal_digit 1 (omega arith), decimal_digit 0 (omega arith)) refl
+
+nothing_shown : report_text Nothing good_fault_missing ≡ []
+nothing_shown = refl
+
+two_verdicts : report_text All (named Bad (codes "f") ∷ faulty 3 Short ∷ []) ≡ codes "bad f\nfault 3 C2\ngood 0 bad 1 missing 0 unreadable 0 faults 1\n"
 unfolding on_literals
 two_verdicts = rw (decimal_digit 3 (omega arith), decimal_digit 1 (omega arith), decimal_digit 0 (omega arith)) refl
 
-escaped_verdict : verdict_text (verdicts.Good (codes "a\\b")) ≡ codes "\\good a\\\\b\n"
+escaped_verdict : verdict_text (named Good (codes "a\\b")) ≡ codes "\\good a\\\\b\n"
 escaped_verdict = refl

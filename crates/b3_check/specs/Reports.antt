@@ -1,5 +1,5 @@
 -- Reports on check files: a verdict on each line, and their text.
-use Rattle.std.specs.Prelude.{◌≡◌, ◌⊎◌, ℕ, Bool, true, false, List, [], ◌∷◌, ◌++◌, Option, Some, None, Result, Ok, Err, codes, count_by, if◌then◌else◌}
+use Rattle.std.specs.Prelude.{◌≡◌, ◌≤◌, ◌+◌, ℕ, Bool, true, false, not, List, [], ◌∷◌, ◌++◌, Option, Some, None, Result, Ok, Err, codes, count_by, if◌then◌else◌}
 use Rattle.std.specs.Fmt.{decimal}
 use Rattle.std.specs.List.{flat_map}
 use Rattle.std.specs.Str.{bytes_eq}
@@ -9,29 +9,46 @@ use Rattle.b3_check.specs.declared.line.Line.{Line}
 use Rattle.b3_check.specs.declared.names.NameFault.{NameFault}
 use Rattle.b3_check.specs.declared.names.NameFault.TheVariants as faults
 use Rattle.b3_check.specs.declared.report.Counts.{Counts}
-use Rattle.b3_check.specs.declared.report.Verdict.{Verdict}
-use Rattle.b3_check.specs.declared.report.Verdict.TheVariants as verdicts
+use Rattle.b3_check.specs.declared.report.Found.{Found}
+use Rattle.b3_check.specs.declared.report.Found.TheVariants.{Good, Bad, Missing, Unreadable}
+use Rattle.b3_check.specs.declared.report.Shown.{Shown}
+use Rattle.b3_check.specs.declared.report.Shown.TheVariants.{All, AllButGood, Nothing}
+use Rattle.edge.specs.declared.outcome.Cause.{Cause}
+use Rattle.edge.specs.declared.outcome.Cause.TheVariants.{CannotRead, CannotWrite, OutOfMemory}
+use Rattle.std.specs.Io.KnownBytes.{Appends}
 use Rattle.b3_check.specs.Faults.{code_of}
 use Rattle.edge.specs.Lines.{line_feed}
 use Rattle.b3_check.specs.Names.{escaped, mark_of}
+use Rattle.b3_check.specs.Output.{IsCutOff}
 
 -- ---- verdicts
+
+-- what is said of a line: what became of its name, or that the line of a number has a fault
+pub data Verdict : Type 0 where
+  named : Found → List ℕ → Verdict
+  faulty : ℕ → Fault → Verdict
 
 -- what a table of names may answer
 abbrev pub Answer : Type 0
 Answer = Result (Option (List ℕ)) NameFault
 
--- the verdict on a line for which that answer was given; there is none where memory ran out
-abbrev pub verdict_of : Line → Answer → Option Verdict
-verdict_of line (Ok (Some digest)) = Some (if bytes_eq digest line.digest then verdicts.Good line.name else verdicts.Bad line.name)
-verdict_of line (Ok None) = Some (verdicts.Missing line.name)
-verdict_of line (Err faults.Unreadable) = Some (verdicts.Unreadable line.name)
-verdict_of line (Err faults.NoMemory) = None
+-- what became of a line for which that answer was given; there is nothing where memory ran out
+abbrev pub found_of : Line → Answer → Option Found
+found_of line (Ok (Some digest)) = Some (if bytes_eq digest line.digest then Good else Bad)
+found_of line (Ok None) = Some Missing
+found_of line (Err faults.Unreadable) = Some Unreadable
+found_of line (Err faults.NoMemory) = None
+
+-- that was found for a line: the names were called once, from the state old
+pub record IsFound {S : Type 0} (gives : S → List ℕ → Answer → S → Type 0) (old : S) (line : Line) (found : Found) (new : S) : Type 0 where
+  pub answer : Answer
+  pub asked : gives old line.name answer new
+  pub found_is : found_of line answer ≡ Some found
 
 -- the verdict on a numbered line: the names were called once, from the state old, or not at all where the line has a fault
 abbrev pub IsVerdictBy : {S : Type 0} → (S → List ℕ → Answer → S → Type 0) → S → ℕ → Result Line Fault → Verdict → S → Type 0
-IsVerdictBy gives old number (Ok line) verdict new = (answer : Answer) × gives old line.name answer new × (verdict_of line answer ≡ Some verdict)
-IsVerdictBy gives old number (Err fault) verdict new = (verdict ≡ verdicts.Fault number fault) × (new ≡ old)
+IsVerdictBy gives old number (Ok line) verdict new = (found : Found) × IsFound gives old line found new × (verdict ≡ named found line.name)
+IsVerdictBy gives old number (Err fault) verdict new = (verdict ≡ faulty number fault) × (new ≡ old)
 
 -- A chain of calls of the names, one for each line without a fault, in file order, each from the state that the call
 -- before left; the verdicts follow the answers.
@@ -46,50 +63,42 @@ abbrev pub IsRefusedFor : {S : Type 0} → (S → List ℕ → Answer → S → 
 IsRefusedFor gives old (Ok line) new = gives old line.name (Err faults.NoMemory) new
 IsRefusedFor gives old (Err fault) new = ⊥
 
--- Where the names ended it: such a chain for a beginning of the lines, and for the line behind it they answered want of
--- memory.
-abbrev pub IsCutShort : {S : Type 0} → (S → List ℕ → Answer → S → Type 0) → S → List NumberedLine → S → Type 0
-IsCutShort gives old [] new = ⊥
-IsCutShort {S} gives old (line ∷ lines) new =
-    IsRefusedFor gives old line.line new
-    ⊎ ((mid : S) × (verdict : Verdict) × IsVerdictBy gives old line.number line.line verdict mid × IsCutShort gives mid lines new)
-
 -- ---- counts
 
 abbrev pub is_good : Verdict → Bool
-is_good (verdicts.Good name) = true
-is_good (verdicts.Bad name) = false
-is_good (verdicts.Missing name) = false
-is_good (verdicts.Unreadable name) = false
-is_good (verdicts.Fault line fault) = false
+is_good (named Good name) = true
+is_good (named Bad name) = false
+is_good (named Missing name) = false
+is_good (named Unreadable name) = false
+is_good (faulty line fault) = false
 
 abbrev pub is_bad : Verdict → Bool
-is_bad (verdicts.Good name) = false
-is_bad (verdicts.Bad name) = true
-is_bad (verdicts.Missing name) = false
-is_bad (verdicts.Unreadable name) = false
-is_bad (verdicts.Fault line fault) = false
+is_bad (named Good name) = false
+is_bad (named Bad name) = true
+is_bad (named Missing name) = false
+is_bad (named Unreadable name) = false
+is_bad (faulty line fault) = false
 
 abbrev pub is_missing : Verdict → Bool
-is_missing (verdicts.Good name) = false
-is_missing (verdicts.Bad name) = false
-is_missing (verdicts.Missing name) = true
-is_missing (verdicts.Unreadable name) = false
-is_missing (verdicts.Fault line fault) = false
+is_missing (named Good name) = false
+is_missing (named Bad name) = false
+is_missing (named Missing name) = true
+is_missing (named Unreadable name) = false
+is_missing (faulty line fault) = false
 
 abbrev pub is_unreadable : Verdict → Bool
-is_unreadable (verdicts.Good name) = false
-is_unreadable (verdicts.Bad name) = false
-is_unreadable (verdicts.Missing name) = false
-is_unreadable (verdicts.Unreadable name) = true
-is_unreadable (verdicts.Fault line fault) = false
+is_unreadable (named Good name) = false
+is_unreadable (named Bad name) = false
+is_unreadable (named Missing name) = false
+is_unreadable (named Unreadable name) = true
+is_unreadable (faulty line fault) = false
 
 abbrev pub is_fault : Verdict → Bool
-is_fault (verdicts.Good name) = false
-is_fault (verdicts.Bad name) = false
-is_fault (verdicts.Missing name) = false
-is_fault (verdicts.Unreadable name) = false
-is_fault (verdicts.Fault line fault) = true
+is_fault (named Good name) = false
+is_fault (named Bad name) = false
+is_fault (named Missing name) = false
+is_fault (named Unreadable name) = false
+is_fault (faulty line fault) = true
 
 -- how many verdicts of each kind there are
 abbrev pub counts_of : List Verdict → Counts
@@ -101,6 +110,29 @@ counts_of verdicts = record {
   faults = count_by is_fault verdicts;
 }
 
+-- a count, one more where that is so
+abbrev pub one_more : Bool → ℕ → ℕ
+one_more true n = n + 1
+one_more false n = n
+
+-- counts and one verdict more
+abbrev pub counted : Verdict → Counts → Counts
+counted verdict counts = record {
+  good = one_more (is_good verdict) counts.good;
+  bad = one_more (is_bad verdict) counts.bad;
+  missing = one_more (is_missing verdict) counts.missing;
+  unreadable = one_more (is_unreadable verdict) counts.unreadable;
+  faults = one_more (is_fault verdict) counts.faults;
+}
+
+-- no count is above n
+pub record AreWithin (n : ℕ) (counts : Counts) : Type 0 where
+  pub good : counts.good ≤ n
+  pub bad : counts.bad ≤ n
+  pub missing : counts.missing ≤ n
+  pub unreadable : counts.unreadable ≤ n
+  pub faults : counts.faults ≤ n
+
 -- ---- the text
 
 -- the line of a verdict on a name
@@ -111,13 +143,31 @@ named_text word name = mark_of name ++ (word ++ (escaped name ++ line_feed ∷ [
 abbrev pub fault_line : ℕ → Fault → List ℕ
 fault_line line fault = codes "fault " ++ (decimal line ++ (32 ∷ (code_of fault ++ line_feed ∷ [])))
 
+-- what is written of a name, before it
+abbrev pub word_of : Found → List ℕ
+word_of Good = codes "good "
+word_of Bad = codes "bad "
+word_of Missing = codes "missing "
+word_of Unreadable = codes "unreadable "
+
 -- the line of a verdict
 abbrev pub verdict_text : Verdict → List ℕ
-verdict_text (verdicts.Good name) = named_text (codes "good ") name
-verdict_text (verdicts.Bad name) = named_text (codes "bad ") name
-verdict_text (verdicts.Missing name) = named_text (codes "missing ") name
-verdict_text (verdicts.Unreadable name) = named_text (codes "unreadable ") name
-verdict_text (verdicts.Fault line fault) = fault_line line fault
+verdict_text (named found name) = named_text (word_of found) name
+verdict_text (faulty line fault) = fault_line line fault
+
+-- whether a line is written of a verdict
+abbrev pub shows : Shown → Verdict → Bool
+shows All verdict = true
+shows AllButGood verdict = not (is_good verdict)
+shows Nothing verdict = false
+
+-- what is written of a verdict
+abbrev pub shown_line : Shown → Verdict → List ℕ
+shown_line shown verdict = if shows shown verdict then verdict_text verdict else []
+
+-- what is written of verdicts, one after another
+abbrev pub lines_text : Shown → List Verdict → List ℕ
+lines_text shown verdicts = flat_map (shown_line shown) verdicts
 
 -- a word and a count
 abbrev pub count_text : List ℕ → ℕ → List ℕ
@@ -129,6 +179,57 @@ counts_text counts =
     count_text (codes "good ") counts.good ++ (count_text (codes " bad ") counts.bad ++ (count_text (codes " missing ") counts.missing
     ++ (count_text (codes " unreadable ") counts.unreadable ++ (count_text (codes " faults ") counts.faults ++ line_feed ∷ []))))
 
--- a line for each verdict, and then the counts
-abbrev pub report_text : List Verdict → List ℕ
-report_text verdicts = flat_map verdict_text verdicts ++ counts_text (counts_of verdicts)
+-- what is written of counts
+abbrev pub shown_counts : Shown → Counts → List ℕ
+shown_counts All counts = counts_text counts
+shown_counts AllButGood counts = counts_text counts
+shown_counts Nothing counts = []
+
+-- a line for each verdict of which one is written, and then the counts
+abbrev pub report_text : Shown → List Verdict → List ℕ
+report_text shown verdicts = lines_text shown verdicts ++ shown_counts shown (counts_of verdicts)
+
+-- ---- where it ended
+
+-- A write failed: the chain is one for the lines that were asked for, and a beginning of the report on them went out, and not all.
+pub record IsBroken {S : Type 0} (gives : S → List ℕ → Answer → S → Type 0) (shown : Shown) (old : S) (lines : List NumberedLine) (new : S) (before after : Option (List ℕ)) : Type 0 where
+  pub front : List NumberedLine
+  pub back : List NumberedLine
+  pub verdicts : List Verdict
+  pub all : front ++ back ≡ lines
+  pub asked : IsReport gives old front verdicts new
+  pub went : IsCutOff before after (report_text shown verdicts)
+
+-- The names ended it: the chain is one for the lines before, whose verdicts were written, and for the next line they answered want of
+-- memory.
+pub record IsRefused {S : Type 0} (gives : S → List ℕ → Answer → S → Type 0) (shown : Shown) (old : S) (lines : List NumberedLine) (new : S) (before after : Option (List ℕ)) : Type 0 where
+  pub front : List NumberedLine
+  pub line : NumberedLine
+  pub back : List NumberedLine
+  pub verdicts : List Verdict
+  pub mid : S
+  pub all : front ++ line ∷ back ≡ lines
+  pub asked : IsReport gives old front verdicts mid
+  pub refused : IsRefusedFor gives mid line.line new
+  pub went : Appends before after (lines_text shown verdicts)
+
+-- what ended a report
+abbrev pub IsEnded : {S : Type 0} → (S → List ℕ → Answer → S → Type 0) → Shown → S → List NumberedLine → Cause → S → Option (List ℕ) → Option (List ℕ) → Type 0
+IsEnded gives shown old lines CannotRead new before after = ⊥
+IsEnded gives shown old lines CannotWrite new before after = IsBroken gives shown old lines new before after
+IsEnded gives shown old lines OutOfMemory new before after = IsRefused gives shown old lines new before after
+
+-- ---- one line of them
+
+-- a line was asked for: its verdict is counted, and what is shown of it was written
+pub record IsAsked {S : Type 0} (gives : S → List ℕ → Answer → S → Type 0) (shown : Shown) (old : S) (number : ℕ) (line : Result Line Fault) (new : S) (before after : Counts) (written grown : Option (List ℕ)) : Type 0 where
+  pub verdict : Verdict
+  pub asked : IsVerdictBy gives old number line verdict new
+  pub counts : after ≡ counted verdict before
+  pub went : Appends written grown (shown_line shown verdict)
+
+-- what ended a report at a line
+abbrev pub IsLineEnded : {S : Type 0} → (S → List ℕ → Answer → S → Type 0) → Shown → S → ℕ → Result Line Fault → Cause → S → Option (List ℕ) → Option (List ℕ) → Type 0
+IsLineEnded gives shown old number line CannotRead new written grown = ⊥
+IsLineEnded gives shown old number line CannotWrite new written grown = (verdict : Verdict) × IsVerdictBy gives old number line verdict new × IsCutOff written grown (shown_line shown verdict)
+IsLineEnded gives shown old number line OutOfMemory new written grown = IsRefusedFor gives old line new × (grown ≡ written)

@@ -10,7 +10,7 @@
 //! - `CheckFile` is the numbered lines of a file, each read or with its fault; one bad line doesn't stop the others.
 //! - `write` writes lines, and what it writes is read back as the same lines.
 //! - `Names` gives the digests of what has a name, as files do; `verify` asks it once for each line without a fault,
-//!   in file order, and gives a `Report`: a `Verdict` on each line and their `Counts`, which it writes as text.
+//!   in file order, and writes the lines of the report that are `Shown`, each before it asks for the next. It gives their `Counts`.
 //! - `check_file_laws` states what holds of the definitions that these contracts name.
 //!
 //! Want of memory is an error of its own wherever memory is taken, and comes in place of any other answer.
@@ -35,6 +35,6 @@ pub use line::Line;
 pub use name::{Name, RefusedName};
 pub use names::{NameFault, Names};
 pub use reading::read_line;
-pub use report::{Counts, Report, Verdict};
+pub use report::{Counts, Shown};
 pub use verifying::verify;
 pub use writing::write;

@@ -1,10 +1,10 @@
 //! Reports on check files.
 
-ghost use Rattle.std.specs.Prelude.{◌≡◌, ◌↔◌, OnErr, OnOk, IsTrue};
+ghost use Rattle.std.specs.Prelude.{◌≡◌, ◌↔◌, ◌+◌, ◌-◌, ◌^◌, ℕ, List, OnErr, OnOk, IsTrue};
 ghost use Rattle.std.specs.Io.KnownBytes.{Appends};
-ghost use Rattle.std.specs.List.{flat_map};
 ghost use Rattle.b3_check.specs.Output.{IsCutOff};
-ghost use Rattle.b3_check.specs.Reports.{counts_of, counts_text, fault_line, report_text, verdict_text};
+ghost use Rattle.b3_check.specs.Reports.{AreWithin, Verdict, counted, counts_text, fault_line, shown_counts, shown_line, shows, verdict_text};
+ghost use Rattle.b3_check.specs.Reports.Verdict.{faulty, named};
 
 use crate::fault::Fault;
 use crate::name::Name;
@@ -13,30 +13,43 @@ use crate::writing::write_named;
 use itoa::Buffer;
 use std::io;
 use std::io::Write;
-use std::marker::Model;
 
-/// What became of one line of a check file.
-#[derive(Debug, Drop)]
-pub enum Verdict {
+/// Which lines of a report are written.
+#[derive(Clone, Copy, Debug, PartialEq, Eq)]
+pub enum Shown {
+    /// All lines.
+    All,
+    /// Those of names whose file has its hash are left out.
+    AllButGood,
+    /// None, and no counts.
+    Nothing,
+}
+
+/// What became of a name.
+#[derive(Clone, Copy, Debug, PartialEq, Eq)]
+pub(crate) enum Found {
     /// What has the name has the line's digest.
-    Good(Name),
+    Good,
     /// What has the name has another digest.
-    Bad(Name),
+    Bad,
     /// Nothing has the name.
-    Missing(Name),
+    Missing,
     /// What has the name could not be read.
-    Unreadable(Name),
-    /// The line of this number is no check line.
-    Fault { line: u64, fault: Fault },
+    Unreadable,
 }
 
 /// How many verdicts of each kind there are.
 #[derive(Clone, Copy, Debug, Default, PartialEq, Eq)]
 pub struct Counts {
+    /// Names of what has their line's digest.
     pub good: u64,
+    /// Names of what has another digest.
     pub bad: u64,
+    /// Names that nothing has.
     pub missing: u64,
+    /// Names of what could not be read.
     pub unreadable: u64,
+    /// Lines that are no check lines.
     pub faults: u64,
 }
 
@@ -47,104 +60,88 @@ impl Counts {
     {
         self.bad == 0 && self.missing == 0 && self.unreadable == 0 && self.faults == 0
     }
-}
 
-/// The verdicts on a check file's lines, in file order, and their counts. Contracts see it as the list of verdicts.
-#[derive(Debug, Drop)]
-pub struct Report {
-    verdicts: Vec<Verdict>,
-    counts: Counts,
-}
-
-impl Model for Report {
-    ghost use Rattle.std.specs.Prelude.{◌≡◌, List};
-    ghost use Rattle.b3_check.specs.declared.report.Verdict.{Verdict as Item};
-
-    ghost Value = { List Item };
-
-    ghost use Rattle.b3_check.specs.Reports.{counts_of};
-
-    ghost view = { λ r. r.verdicts.items };
-
-    ghost invariant = { λ r. r.counts ≡ counts_of r.verdicts.items };
-}
-
-impl Report {
-    /// The verdicts with their counts.
-    pub(crate) fn new(verdicts: Vec<Verdict>) -> Report
-        ensures { result ≡ verdicts.items }
+    /// Counts what became of a name.
+    pub(crate) fn add_found(&mut self, found: Found)
+        requires { AreWithin (2 ^ 64 - 2) self.old }
+        ensures { (name : List ℕ) → self.new ≡ counted (named found name) self.old }
     {
-        let counts = counts_of(verdicts.as_slice());
-        Report { verdicts, counts }
-    }
-
-    /// The verdicts in file order.
-    pub fn verdicts(&self) -> &[Verdict]
-        ensures { result.now ≡ self.now }
-    {
-        self.verdicts.as_slice()
-    }
-
-    /// How many verdicts of each kind there are.
-    pub fn counts(&self) -> Counts
-        ensures { result ≡ counts_of self.now }
-    {
-        self.counts
-    }
-
-    /// Writes a line for each verdict, and then one of the counts. The only error is the writer's, before it has taken all
-    /// of them.
-    pub fn write<W: Write>(&self, writer: &mut W) -> io::Result<()>
-        ensures written { OnOk result (Appends (W.contents writer.old) (W.contents writer.new) (report_text self.now)) }
-        // What went out before an error is a beginning of the report.
-        ensures failed { OnErr result (IsCutOff (W.contents writer.old) (W.contents writer.new) (report_text self.now)) }
-    {
-        write_verdicts(self.verdicts(), writer)?;
-        write_counts(self.counts(), writer)
-    }
-}
-
-fn counts_of(verdicts: &[Verdict]) -> Counts
-    ensures { result ≡ counts_of verdicts.now }
-{
-    let mut counts = Counts::default();
-    for verdict in verdicts {
-        match verdict {
-            Verdict::Good(_) => counts.good += 1,
-            Verdict::Bad(_) => counts.bad += 1,
-            Verdict::Missing(_) => counts.missing += 1,
-            Verdict::Unreadable(_) => counts.unreadable += 1,
-            Verdict::Fault { .. } => counts.faults += 1,
+        match found {
+            Found::Good => self.good += 1,
+            Found::Bad => self.bad += 1,
+            Found::Missing => self.missing += 1,
+            Found::Unreadable => self.unreadable += 1,
         }
     }
-    counts
-}
 
-fn write_verdicts<W: Write>(verdicts: &[Verdict], writer: &mut W) -> io::Result<()>
-    ensures written { OnOk result (Appends (W.contents writer.old) (W.contents writer.new) (flat_map verdict_text verdicts.now)) }
-    ensures failed { OnErr result (IsCutOff (W.contents writer.old) (W.contents writer.new) (flat_map verdict_text verdicts.now)) }
-{
-    for verdict in verdicts {
-        write_verdict(verdict, writer)?;
-    }
-    Ok(())
-}
-
-fn write_verdict<W: Write>(verdict: &Verdict, writer: &mut W) -> io::Result<()>
-    ensures written { OnOk result (Appends (W.contents writer.old) (W.contents writer.new) (verdict_text verdict.now)) }
-    ensures failed { OnErr result (IsCutOff (W.contents writer.old) (W.contents writer.new) (verdict_text verdict.now)) }
-{
-    match verdict {
-        Verdict::Good(name) => write_named(b"good", b" ", name, writer),
-        Verdict::Bad(name) => write_named(b"bad", b" ", name, writer),
-        Verdict::Missing(name) => write_named(b"missing", b" ", name, writer),
-        Verdict::Unreadable(name) => write_named(b"unreadable", b" ", name, writer),
-        Verdict::Fault { line, fault } => write_fault(*line, *fault, writer),
+    /// Counts a line with a fault.
+    pub(crate) fn add_fault(&mut self)
+        requires { AreWithin (2 ^ 64 - 2) self.old }
+        ensures { (line : ℕ) (fault : Fault) → self.new ≡ counted (faulty line fault) self.old }
+    {
+        self.faults += 1;
     }
 }
 
-// The line of a fault.
-fn write_fault<W: Write>(line: u64, fault: Fault, writer: &mut W) -> io::Result<()>
+/// Writes the line of what became of a name, where one is written.
+pub(crate) fn write_found<W: Write>(
+    shown: Shown,
+    found: Found,
+    name: &Name,
+    writer: &mut W,
+) -> io::Result<()>
+    ensures written { OnOk result (Appends (W.contents writer.old) (W.contents writer.new) (shown_line shown (named found name.now))) }
+    ensures failed { OnErr result (IsCutOff (W.contents writer.old) (W.contents writer.new) (shown_line shown (named found name.now))) }
+{
+    if shows_found(shown, found) {
+        write_found_line(found, name, writer)
+    } else {
+        Ok(())
+    }
+}
+
+// Writes the line of what became of a name.
+fn write_found_line<W: Write>(found: Found, name: &Name, writer: &mut W) -> io::Result<()>
+    ensures written { OnOk result (Appends (W.contents writer.old) (W.contents writer.new) (verdict_text (named found name.now))) }
+    ensures failed { OnErr result (IsCutOff (W.contents writer.old) (W.contents writer.new) (verdict_text (named found name.now))) }
+{
+    match found {
+        Found::Good => write_named(b"good", b" ", name, writer),
+        Found::Bad => write_named(b"bad", b" ", name, writer),
+        Found::Missing => write_named(b"missing", b" ", name, writer),
+        Found::Unreadable => write_named(b"unreadable", b" ", name, writer),
+    }
+}
+
+// Whether a line is written of what became of a name.
+fn shows_found(shown: Shown, found: Found) -> bool
+    ensures { (name : List ℕ) → result ≡ shows shown (named found name) }
+{
+    match shown {
+        Shown::All => true,
+        Shown::AllButGood => found != Found::Good,
+        Shown::Nothing => false,
+    }
+}
+
+/// Writes the line of a fault, where one is written.
+pub(crate) fn write_fault<W: Write>(
+    shown: Shown,
+    line: u64,
+    fault: Fault,
+    writer: &mut W,
+) -> io::Result<()>
+    ensures written { OnOk result (Appends (W.contents writer.old) (W.contents writer.new) (shown_line shown (faulty line fault))) }
+    ensures failed { OnErr result (IsCutOff (W.contents writer.old) (W.contents writer.new) (shown_line shown (faulty line fault))) }
+{
+    match shown {
+        Shown::All | Shown::AllButGood => write_fault_line(line, fault, writer),
+        Shown::Nothing => Ok(()),
+    }
+}
+
+// Writes the line of a fault.
+fn write_fault_line<W: Write>(line: u64, fault: Fault, writer: &mut W) -> io::Result<()>
     ensures written { OnOk result (Appends (W.contents writer.old) (W.contents writer.new) (fault_line line fault)) }
     ensures failed { OnErr result (IsCutOff (W.contents writer.old) (W.contents writer.new) (fault_line line fault)) }
 {
@@ -154,7 +151,23 @@ fn write_fault<W: Write>(line: u64, fault: Fault, writer: &mut W) -> io::Result<
     write_pieces(writer, &[b"fault ", number, b" ", code, b"\n"])
 }
 
-fn write_counts<W: Write>(counts: Counts, writer: &mut W) -> io::Result<()>
+/// Writes the line of the counts, where it is written.
+pub(crate) fn write_counts<W: Write>(
+    shown: Shown,
+    counts: Counts,
+    writer: &mut W,
+) -> io::Result<()>
+    ensures written { OnOk result (Appends (W.contents writer.old) (W.contents writer.new) (shown_counts shown counts)) }
+    ensures failed { OnErr result (IsCutOff (W.contents writer.old) (W.contents writer.new) (shown_counts shown counts)) }
+{
+    match shown {
+        Shown::All | Shown::AllButGood => write_counts_line(counts, writer),
+        Shown::Nothing => Ok(()),
+    }
+}
+
+// Writes the line of the counts.
+fn write_counts_line<W: Write>(counts: Counts, writer: &mut W) -> io::Result<()>
     ensures written { OnOk result (Appends (W.contents writer.old) (W.contents writer.new) (counts_text counts)) }
     ensures failed { OnErr result (IsCutOff (W.contents writer.old) (W.contents writer.new) (counts_text counts)) }
 {

@@ -1,82 +1,97 @@
 //! Verifying a check file.
 
-ghost use Rattle.std.specs.Prelude.{◌≡◌, ◌⊎◌, IfOk, OnErr};
-ghost use Rattle.b3_check.specs.Reports.{IsCutShort, IsRefusedFor, IsReport, IsVerdictBy};
+ghost use Rattle.std.specs.Prelude.{◌≡◌, ◌≢◌, ◌+◌, ◌-◌, ◌^◌, ℕ, List, IfErr, IfOk, OnErr, OnOk};
+ghost use Rattle.std.specs.Io.KnownBytes.{Appends};
+ghost use Rattle.b3_check.specs.Reports.{AreWithin, IsAsked, IsEnded, IsFound, IsLineEnded, IsReport, Verdict, counts_of, report_text};
 
 use crate::file::{CheckFile, NumberedLine};
 use crate::line::Line;
 use crate::names::{NameFault, Names};
-use crate::report::{Report, Verdict};
-use std::alloc::{AllocError, Global};
+use crate::report::{Counts, Found, Shown, write_counts, write_fault, write_found};
+use edge::Cause;
+use std::alloc::AllocError;
+use std::io::Write;
 
-/// Asks the names for the digest of each line without a fault, in file order, and reports what they answered.
+/// Asks the names for the digest of each line without a fault, in file order, and writes of each line what is shown, before it asks for
+/// the next; and then what is shown of the counts.
 ///
-/// All memory is taken before the first call. The only error is want of memory: before any call, or as the last answer of the
-/// names, which ends the calls.
-pub fn verify<N: Names>(
-    alloc: Global,
+/// It takes no memory. It stops at the first write that fails, or where the names answer want of memory.
+pub fn verify<N: Names, W: Write>(
     file: &CheckFile,
+    shown: Shown,
     names: &mut N,
-) -> Result<Report, AllocError>
-    ensures report { IfOk result (λ report. IsReport N.gives names.old file.now report names.new) }
-    ensures stopped { OnErr result ((names.new ≡ names.old) ⊎ IsCutShort N.gives names.old file.now names.new) }
+    writer: &mut W,
+) -> Result<Counts, Cause>
+    ensures report { IfOk result (λ counts. (verdicts : List Verdict) × IsReport N.gives names.old file.now verdicts names.new
+        × (counts ≡ counts_of verdicts) × Appends (W.contents writer.old) (W.contents writer.new) (report_text shown verdicts)) }
+    ensures stopped { IfErr result (λ cause. IsEnded N.gives shown names.old file.now cause names.new (W.contents writer.old) (W.contents writer.new)) }
 {
-    let lines = copies_of(alloc, file.lines())?;
-    let mut verdicts = Vec::with_capacity(alloc, lines.len())?;
-    for line in lines {
-        let verdict = verdict_on(line, names)?;
-        verdicts.push_reserved(verdict);
+    let mut counts = Counts::default();
+    for line in file.lines() {
+        verify_line(line, shown, names, &mut counts, writer)?;
     }
-    Ok(Report::new(verdicts))
+    match write_counts(shown, counts, writer) {
+        Ok(()) => Ok(counts),
+        Err(_) => Err(Cause::CannotWrite),
+    }
 }
 
-fn copies_of(alloc: Global, lines: &[NumberedLine]) -> Result<Vec<NumberedLine>, AllocError>
-    ensures { IfOk result (λ copies. copies.items ≡ lines.now) }
+// Asks for one line, counts its verdict, and writes what is shown of it.
+fn verify_line<N: Names, W: Write>(
+    line: &NumberedLine,
+    shown: Shown,
+    names: &mut N,
+    counts: &mut Counts,
+    writer: &mut W,
+) -> Result<(), Cause>
+    requires { AreWithin (2 ^ 64 - 2) counts.old }
+    ensures asked { OnOk result (IsAsked N.gives shown names.old line.now.number line.now.line names.new counts.old counts.new (W.contents writer.old) (W.contents writer.new)) }
+    ensures stopped { IfErr result (λ cause. IsLineEnded N.gives shown names.old line.now.number line.now.line cause names.new (W.contents writer.old) (W.contents writer.new)) }
 {
-    let mut copies = Vec::with_capacity(alloc, lines.len())?;
-    for line in lines {
-        copies.push(copy_of(line)?)?;
+    match &line.line {
+        Ok(named) => verify_named(named, shown, names, counts, writer),
+        Err(fault) => {
+            counts.add_fault();
+            match write_fault(shown, line.number, *fault, writer) {
+                Ok(()) => Ok(()),
+                Err(_) => Err(Cause::CannotWrite),
+            }
+        }
     }
-    Ok(copies)
 }
 
-fn copy_of(line: &NumberedLine) -> Result<NumberedLine, AllocError>
-    ensures { IfOk result (λ copy. copy ≡ line.now) }
+// The same of a line that has no fault.
+fn verify_named<N: Names, W: Write>(
+    line: &Line,
+    shown: Shown,
+    names: &mut N,
+    counts: &mut Counts,
+    writer: &mut W,
+) -> Result<(), Cause>
+    requires { AreWithin (2 ^ 64 - 2) counts.old }
+    ensures asked { OnOk result (IsAsked N.gives shown names.old 0 (Ok line.now) names.new counts.old counts.new (W.contents writer.old) (W.contents writer.new)) }
+    ensures stopped { IfErr result (λ cause. IsLineEnded N.gives shown names.old 0 (Ok line.now) cause names.new (W.contents writer.old) (W.contents writer.new)) }
 {
-    let said = match &line.line {
-        Ok(named) => Ok(named.clone()?),
-        Err(fault) => Err(*fault),
+    let Ok(found) = found_of(line, names) else {
+        return Err(Cause::OutOfMemory);
     };
-    Ok(NumberedLine {
-        number: line.number,
-        line: said,
-    })
-}
-
-fn verdict_on<N: Names>(line: NumberedLine, names: &mut N) -> Result<Verdict, AllocError>
-    ensures verdict { IfOk result (λ verdict. IsVerdictBy N.gives names.old line.number line.line verdict names.new) }
-    ensures stopped { OnErr result (IsRefusedFor N.gives names.old line.line names.new) }
-{
-    let NumberedLine { number, line } = line;
-    match line {
-        Ok(named) => verdict_of(named, names),
-        Err(fault) => Ok(Verdict::Fault {
-            line: number,
-            fault,
-        }),
+    counts.add_found(found);
+    match write_found(shown, found, &line.name, writer) {
+        Ok(()) => Ok(()),
+        Err(_) => Err(Cause::CannotWrite),
     }
 }
 
-fn verdict_of<N: Names>(line: Line, names: &mut N) -> Result<Verdict, AllocError>
-    ensures verdict { IfOk result (λ verdict. IsVerdictBy N.gives names.old 0 (Ok line) verdict names.new) }
-    ensures stopped { OnErr result (IsRefusedFor N.gives names.old (Ok line) names.new) }
+// What became of the name of a line.
+fn found_of<N: Names>(line: &Line, names: &mut N) -> Result<Found, AllocError>
+    ensures found { IfOk result (λ found. IsFound N.gives names.old line.now found names.new) }
+    ensures stopped { OnErr result (N.gives names.old line.now.name (Err NameFault.NoMemory) names.new) }
 {
-    let Line { digest, name } = line;
-    match names.digest_of(name.as_bytes()) {
-        Ok(Some(found)) if found == digest => Ok(Verdict::Good(name)),
-        Ok(Some(_)) => Ok(Verdict::Bad(name)),
-        Ok(None) => Ok(Verdict::Missing(name)),
-        Err(NameFault::Unreadable) => Ok(Verdict::Unreadable(name)),
+    match names.digest_of(line.name.as_bytes()) {
+        Ok(Some(found)) if found == line.digest => Ok(Found::Good),
+        Ok(Some(_)) => Ok(Found::Bad),
+        Ok(None) => Ok(Found::Missing),
+        Err(NameFault::Unreadable) => Ok(Found::Unreadable),
         Err(NameFault::NoMemory) => Err(AllocError),
     }
 }

@@ -3,7 +3,11 @@
 
 ghost use Rattle.store_command_line.specs.Ranges.{InRange};
 
+mod inputs;
+mod telling;
+
 use b3_core::{Runtime, Work};
+use inputs::{check_status, sum_status};
 use std::fs::File;
 use std::io;
 use std::io::{BufReader, ErrorKind};
@@ -13,18 +17,9 @@ use std::rt::Files;
 use std::sync::Wait;
 use std::sync::ledger::Blank;
 use std::thread::Threads;
-use store_command_line::{Fault, Options, options};
-use store_engines::{
-    ALL_PARTS, Cause, SystemFiles, Verdict, audit, check, migrate, run, sum, upload,
-};
-
-const GOOD: u8 = 0;
-
-const REFUSED: u8 = 1;
-
-const USAGE: u8 = 2;
-
-const STOPPED: u8 = 3;
+use store_command_line::{Fault, Options, UploadOptions, options};
+use store_engines::{ALL_PARTS, Cause, Verdict, audit, migrate, run, upload};
+use telling::{GOOD, USAGE, status, stopped};
 
 // The words of the command line. The system's words may be any bytes; those that are not UTF-8 are a usage fault.
 fn words_of(rt: &HostRuntime) -> Result<Vec<String>, Fault> {
@@ -40,57 +35,51 @@ fn words_of(rt: &HostRuntime) -> Result<Vec<String>, Fault> {
     Ok(words)
 }
 
-// Tells the cause on standard error. A standard error that can't be written changes no status.
-fn stopped(rt: &HostRuntime, cause: Cause) -> u8 {
-    let _ = eprintln!(rt; "b3store: {cause}");
-    STOPPED
+// Answers a script.
+fn answered(rt: &HostRuntime) -> Result<Verdict, Cause> {
+    let Ok(mut lines) = BufReader::new(rt.alloc(), rt.stdin()) else {
+        return Err(Cause::OutOfMemory);
+    };
+    let mut work = Work::new(rt);
+    run(rt.alloc(), &mut lines, &mut io::writer(rt), &mut work)
 }
 
-fn status_of(verdict: Verdict) -> u8 {
-    match verdict {
-        Verdict::Good => GOOD,
-        Verdict::Refused => REFUSED,
-    }
+// Uploads standard input.
+fn uploaded<T: Threads + Wait + Sync + Runtime + AllocGlobal>(
+    rt: &HostRuntime,
+    threads: &T,
+    options: UploadOptions,
+) -> Result<Verdict, Cause> {
+    let (mut reader, mut writer) = (rt.stdin(), io::writer(rt));
+    let (bytes, calls) = (Blank::new(ALL_PARTS), Blank::new(ALL_PARTS));
+    upload::<Brand, _, _, _>(
+        threads,
+        rt.alloc(),
+        options,
+        bytes,
+        calls,
+        &mut reader,
+        &mut writer,
+    )
 }
 
+// Does what is asked for, and answers the status.
 fn perform<T: Threads + Wait + Sync + Runtime + Files<File = File> + AllocGlobal>(
     rt: &HostRuntime,
     threads: &T,
     options: &Options<'_>,
-) -> Result<u8, Cause>
+) -> u8
     requires { InRange options.now }
 {
     let alloc = rt.alloc();
-    let mut reader = rt.stdin();
-    let mut writer = io::writer(rt);
+    let (mut reader, mut writer) = (rt.stdin(), io::writer(rt));
     match options {
-        Options::Sum(options) => {
-            let mut work = Work::new(rt);
-            sum(threads, alloc, options, &mut reader, &mut writer, &mut work)?;
-            Ok(GOOD)
-        }
-        Options::Run => {
-            let Ok(mut lines) = BufReader::new(alloc, reader) else {
-                return Err(Cause::OutOfMemory);
-            };
-            let mut work = Work::new(rt);
-            Ok(status_of(run(alloc, &mut lines, &mut writer, &mut work)?))
-        }
-        Options::Upload(options) => Ok(status_of(upload::<Brand, _, _, _>(
-            threads,
-            alloc,
-            *options,
-            Blank::new(ALL_PARTS),
-            Blank::new(ALL_PARTS),
-            &mut reader,
-            &mut writer,
-        )?)),
-        Options::Check(options) => {
-            let mut names = SystemFiles::new(threads, options.threads);
-            Ok(status_of(check(alloc, &mut names, &mut reader, &mut writer)?))
-        }
-        Options::Audit => Ok(status_of(audit(alloc, &mut reader, &mut writer)?)),
-        Options::Migrate => Ok(status_of(migrate(alloc, &mut reader, &mut writer)?)),
+        Options::Sum(options) => sum_status(rt, threads, options),
+        Options::Run => status(rt, answered(rt)),
+        Options::Upload(options) => status(rt, uploaded(rt, threads, *options)),
+        Options::Check(options) => check_status(rt, threads, options),
+        Options::Audit => status(rt, audit(alloc, &mut reader, &mut writer)),
+        Options::Migrate => status(rt, migrate(alloc, &mut reader, &mut writer)),
     }
 }
 
@@ -101,6 +90,10 @@ fn unusable(rt: &HostRuntime, fault: Fault) -> u8 {
             let _ = eprint!(rt; "{text}");
             USAGE
         }
+        Fault::Version(text) => match print!(rt; "{text}") {
+            Ok(()) => GOOD,
+            Err(_) => stopped(rt, Cause::CannotWrite),
+        },
         Fault::NoMemory => stopped(rt, Cause::OutOfMemory),
     }
 }
@@ -111,10 +104,7 @@ fn main(rt: HostRuntime) -> ExitCode {
         Err(fault) => return ExitCode::from(unusable(&rt, fault)),
     };
     let status = match options(rt.alloc(), words.as_slice()) {
-        Ok(options) => match perform(&rt, &rt, &options) {
-            Ok(status) => status,
-            Err(cause) => stopped(&rt, cause),
-        },
+        Ok(options) => perform(&rt, &rt, &options),
         Err(fault) => unusable(&rt, fault),
     };
     ExitCode::from(status)

@@ -1,29 +1,43 @@
 -- The subcommand that a parse entered, from what the getters say.
-use Rattle.std.proofs.Common.{◌≡◌, ◌∙◌, ℕ, Bool, true, false, List, [], Option, Some, None, ap, sym, subst, codes, inl, inr, refl, rules}
-use Rattle.std.specs.Prelude.{option_map, IfSome}
+use Rattle.std.proofs.Common.{◌≡◌, ◌∙◌, ℕ, Bool, true, false, List, [], Option, Some, None, ap, sym, subst, codes, inl, inr, refl, rules, map, length, get_or, arith}
+use Rattle.std.specs.Borrow.{Bor}
+use Rattle.std.specs.Prelude.{All, option_map, IfSome, OnOk, Result, Ok, Err}
+use Rattle.std.proofs.Math.ListN.{get_or-map, length-map}
+use Rattle.std.proofs.lemmas.List.Elements.{All-map}
+use Rattle.b3_check.specs.Names.{IsName}
 use Rattle.store_command_line.specs.CommandLine.{IsTaken, command_line}
-use Rattle.store_command_line.specs.Ranges.{IsWithin}
-use Rattle.store_command_line.specs.Stated.{SaysFlag, SaysNumber, SpellsOr}
+use Rattle.store_command_line.specs.Ranges.{AreNamed, IsWithin}
+use Rattle.store_command_line.specs.Stated.{SaysFlag, SaysInputs, SaysNumber, SpellsOr}
+use Rattle.store_command_line.specs.declared.said.SumInputs.{SumInputs}
+use Rattle.store_command_line.specs.declared.said.SumInputs.TheVariants.{Standard, Named, Listed}
 use Rattle.clap.specs.Words.{App, HasKind, Row, Text, fault_of, is_simple_and_free, kind_of, subcommand_name_of, subcommand_of, subcommand_rows_of}
 use Rattle.clap.specs.declared.error.Error.{Error}
 use Rattle.clap.specs.declared.error.kind.ErrorKind.TheVariants as kinds
 use Rattle.clap.specs.declared.parser.matches.ArgMatches.{ArgMatches}
 
-pair_of : (o : Option (Text × List Row)) (n : Text) (rs : List Row) → Some n ≡ option_map (λ p. p.0) o → Some rs ≡ option_map (λ p. p.1) o → o ≡ Some (n, rs)
-pair_of None n rs a b = cc
-pair_of (Some (x, y)) n rs a b = cc
-
 names : (m : ArgMatches) → subcommand_name_of m ≡ option_map (λ p. p.0) (subcommand_rows_of m)
 names m = search rules
 
-entered : (m : ArgMatches) (n : Text) (rs : List Row) → Some n ≡ subcommand_name_of m → Some rs ≡ option_map (λ p. p.1) (subcommand_rows_of m) → subcommand_rows_of m ≡ Some (n, rs)
-entered m n rs a b = pair_of (subcommand_rows_of m) n rs (a ∙ names m) b
+-- of a pair that may be there, from what its parts are
+two_maps : {A : Type 0} (f : A → Text) (g : A → List Row) (r : Option A) (s : Option (Text × List Row)) → option_map f r ≡ option_map (λ p. p.0) s → option_map g r ≡ option_map (λ p. p.1) s
+    → option_map (λ a. (f a, g a)) r ≡ s
+two_maps f g None None a b = refl
+two_maps f g None (Some (n, rows)) a b = cc
+two_maps f g (Some x) None a b = cc
+two_maps f g (Some x) (Some (n, rows)) a b = cc
 
--- the words enter the subcommand of that name
-pub entered_as : (a : App) (words : List Text) (m : ArgMatches) (n name : Text) (rows : List Row) → a ≡ command_line → subcommand_rows_of m ≡ subcommand_of a words
-    → Some n ≡ subcommand_name_of m → Some rows ≡ option_map (λ p. p.1) (subcommand_rows_of m) → n ≡ name → subcommand_of command_line words ≡ Some (name, rows)
-entered_as a words m n name rows shape matches is rows_are named =
-    ap (λ (b : App). subcommand_of b words) (sym shape) ∙ sym matches ∙ entered m n rows is rows_are ∙ ap (λ (x : Text). Some (x, rows)) named
+-- the subcommand that a parse entered, from what its getter says
+pub entered_as : {A : Type 0} (f : A → Text) (g : A → List Row) (r : Option A) (m : ArgMatches) → option_map f r ≡ subcommand_name_of m → option_map g r ≡ option_map (λ p. p.1) (subcommand_rows_of m)
+    → option_map (λ a. (f a, g a)) r ≡ subcommand_rows_of m
+entered_as f g r m name rows = two_maps f g r (subcommand_rows_of m) (name ∙ names m) rows
+
+-- what a parse entered is what the words enter
+pub entered_by : (a : App) (words : List Text) (m : ArgMatches) → a ≡ command_line → subcommand_rows_of m ≡ subcommand_of a words → subcommand_rows_of m ≡ subcommand_of command_line words
+entered_by a words m shape matches = matches ∙ ap (λ (b : App). subcommand_of b words) shape
+
+pub on_ok : {T E : Type 0} (r : Result T E) (P : Type 0) → P → OnOk r P
+on_ok (Ok x) P p = p
+on_ok (Err e) P p = tt
 
 -- what a flag's getter says is what clap keeps of it
 pub says_flag : (o : Option Text) (b : Bool) → (o ≡ None → b ≡ false) → (o ≡ Some (codes "true") → b ≡ true) → (o ≡ Some (codes "false") → b ≡ false) → SaysFlag o b
@@ -48,3 +62,21 @@ memory a words e shape fails is = go (subst (λ ks. HasKind ks e) (ap (λ (b : A
 pub spelled_or : (most other n : ℕ) (o : Option Text) (P : Type 0) → SpellsOr other o n → IsWithin most n → ((m : Option ℕ) → SaysNumber o m → IfSome m (IsWithin most) → P) → P
 spelled_or most other n None P spells within f = f None tt tt
 spelled_or most other n (Some t) P spells within f = f (Some n) spells within
+
+-- ---- the names of files
+
+abbrev behind : List (Bor Text) → List Text
+behind = map (λ t. t.now)
+
+each_behind : (P : Text → Type 0) (texts : List (Bor Text)) → All P (behind texts) → All (λ t. P t.now) texts
+each_behind P texts h = λ k d lt. subst P (get_or-map (λ (t : Bor Text). t.now) texts k d) (h k d.now (omega (arith, length-map texts (λ (t : Bor Text). t.now))))
+
+named_too : (P : Text → Type 0) (names texts : List (Bor Text)) → behind names ≡ behind texts → All (λ n. P n.now) names → All (λ t. P t.now) texts
+named_too P names texts same h = each_behind P texts (subst (All P) same (All-map P (λ (n : Bor Text). n.now) names h))
+
+-- where words without an option are given, only their names are hashed
+pub only_named : (i : SumInputs) (files : Option (List Text)) (said list null : Option Text) (texts : List (Bor Text)) (P : Type 0)
+    → files ≡ Some (behind texts) → SaysInputs i files said list null → AreNamed i → (All (λ t. IsName t.now) texts → P) → P
+only_named (Standard name) files said list null texts P is says named f = absurd (let none = says.1 in cc)
+only_named (Named names) files said list null texts P is says named f = f (let both = says.0 in named_too IsName names.items texts (cc) named)
+only_named (Listed l) files said list null texts P is says named f = absurd (let none = says.2 in cc)

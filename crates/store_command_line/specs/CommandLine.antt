@@ -1,7 +1,7 @@
 -- The command line, as the program states it to clap.
-use Rattle.std.specs.Prelude.{◌≡◌, ℕ, List, [], Some, pos, codes}
+use Rattle.std.specs.Prelude.{◌≡◌, ℕ, List, [], Some, pos, true, codes}
 use Rattle.clap.specs.Words.{App, Rule, Text, fault_of, new_app, new_rule, with_rule, with_subcommand}
-use Rattle.clap.specs.declared.builder.action.ArgAction.TheVariants.{SetTrue}
+use Rattle.clap.specs.declared.builder.action.ArgAction.TheVariants.{Append, SetTrue}
 use Rattle.clap.specs.declared.builder.value_parser.ValueParser.TheVariants as vp
 
 -- an option `--ID VALUE`
@@ -16,11 +16,36 @@ number_rule id most = record (value_rule id) { parser = Some (vp.Signed (pos 1) 
 abbrev pub flag_rule : Text → Rule
 flag_rule id = record (new_rule id) { long = Some id; action = Some SetTrue }
 
--- `sum [--name NAME] [--key HEX64] [--context TEXT] [--length N] [--threads T]`
+-- a flag that has a letter too
+abbrev pub short_flag_rule : Text → ℕ → Rule
+short_flag_rule id letter = record (flag_rule id) { short = Some letter }
+
+-- a word without an option, and any number of such words
+abbrev pub word_rule : Text → Rule
+word_rule id = record (new_rule id) { value_names = 1 }
+
+abbrev pub words_rule : Text → Rule
+words_rule id = record (word_rule id) { action = Some Append }
+
+-- `[FILE].. [--name NAME]`
+abbrev pub with_names : App → App
+with_names a = with_rule (with_rule a (words_rule (codes "file"))) (value_rule (codes "name"))
+
+-- `[--files-from LIST] [--null]`
+abbrev pub with_list : App → App
+with_list a = with_rule (with_rule a (value_rule (codes "files-from"))) (short_flag_rule (codes "null") 48)
+
+-- `[--key HEX64] [--key-file FILE] [--context TEXT]`
+abbrev pub with_mode : App → App
+with_mode a = with_rule (with_rule (with_rule a (value_rule (codes "key"))) (value_rule (codes "key-file"))) (value_rule (codes "context"))
+
+-- `[--length N] [--threads T]`
+abbrev pub with_output : App → App
+with_output a = with_rule (with_rule a (number_rule (codes "length") 65536)) (number_rule (codes "threads") 16)
+
+-- `sum` with these
 abbrev pub sum_line : App
-sum_line =
-    with_rule (with_rule (with_rule (with_rule (with_rule (new_app (codes "sum")) (value_rule (codes "name"))) (value_rule (codes "key")))
-    (value_rule (codes "context"))) (number_rule (codes "length") 65536)) (number_rule (codes "threads") 16)
+sum_line = with_output (with_mode (with_list (with_names (new_app (codes "sum")))))
 
 -- `run`
 abbrev pub run_line : App
@@ -32,9 +57,13 @@ upload_line =
     with_rule (with_rule (with_rule (new_app (codes "upload")) (number_rule (codes "workers") 16)) (number_rule (codes "part-chunks") 16384))
     (flag_rule (codes "journal"))
 
--- `check [--threads T]`
+-- `[LIST] [--quiet] [--status]`
+abbrev pub with_shown : App → App
+with_shown a = with_rule (with_rule (with_rule a (word_rule (codes "list"))) (flag_rule (codes "quiet"))) (flag_rule (codes "status"))
+
+-- `check` with these, and `[--threads T]`
 abbrev pub check_line : App
-check_line = with_rule (new_app (codes "check")) (number_rule (codes "threads") 16)
+check_line = with_rule (with_shown (new_app (codes "check"))) (number_rule (codes "threads") 16)
 
 -- `audit`
 abbrev pub audit_line : App
@@ -44,9 +73,13 @@ audit_line = new_app (codes "audit")
 abbrev pub migrate_line : App
 migrate_line = new_app (codes "migrate")
 
--- the program's line with the subcommands that hash and store
+-- the program's line, which has a version
+abbrev pub program_line : App
+program_line = let bare = new_app (codes "b3store") in record bare { top = record bare.top { has_version = true } }
+
+-- and with the subcommands that hash and store
 abbrev pub storing_line : App
-storing_line = with_subcommand (with_subcommand (with_subcommand (new_app (codes "b3store")) sum_line.top) run_line.top) upload_line.top
+storing_line = with_subcommand (with_subcommand (with_subcommand program_line sum_line.top) run_line.top) upload_line.top
 
 -- and with those that read reports and journals
 abbrev pub command_line : App

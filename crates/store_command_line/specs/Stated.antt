@@ -1,13 +1,21 @@
 -- What the words of a command line say to the program.
-use Rattle.std.specs.Prelude.{◌≡◌, ℕ, Bool, true, false, Option, Some, None, Result, Ok, IfErr, IsSomeAnd, List, codes}
+use Rattle.std.specs.Prelude.{◌≡◌, ◌≢◌, ℕ, Bool, true, false, Option, Some, None, Result, Ok, IfErr, IsSomeAnd, List, codes, map}
 use Rattle.std.specs.Str.Parse.{IsNumeral, digits_value}
-use Rattle.clap.specs.Words.{Row, Text, first_of, one_of}
+use Rattle.b3_check.specs.declared.report.Shown.{Shown}
+use Rattle.b3_check.specs.declared.report.Shown.TheVariants.{All, AllButGood, Nothing}
+use Rattle.clap.specs.Words.{Row, Text, all_of, first_of, one_of}
 use Rattle.hex.specs.Hex.{decode_sized}
+use Rattle.store_command_line.specs.declared.said.AskedMode.{AskedMode}
+use Rattle.store_command_line.specs.declared.said.AskedMode.TheVariants.{Known, KeyFile}
 use Rattle.store_command_line.specs.declared.said.CheckOptions.{CheckOptions}
 use Rattle.store_command_line.specs.declared.said.Fault.{Fault}
 use Rattle.store_command_line.specs.declared.said.Fault.TheVariants.{NoMemory}
+use Rattle.store_command_line.specs.declared.said.Input.{Input}
+use Rattle.store_command_line.specs.declared.said.Input.TheVariants as inputs
 use Rattle.store_command_line.specs.declared.said.Options.{Options}
 use Rattle.store_command_line.specs.declared.said.Options.TheVariants.{Sum, Run, Upload, Check, Audit, Migrate}
+use Rattle.store_command_line.specs.declared.said.SumInputs.{SumInputs}
+use Rattle.store_command_line.specs.declared.said.SumInputs.TheVariants.{Standard, Named, Listed}
 use Rattle.store_command_line.specs.declared.said.SumMode.{SumMode}
 use Rattle.store_command_line.specs.declared.said.SumMode.TheVariants.{Hash, Keyed, Derive}
 use Rattle.store_command_line.specs.declared.said.SumOptions.{SumOptions}
@@ -40,14 +48,36 @@ SaysMode Hash key context = (key ≡ None) × (context ≡ None)
 SaysMode (Keyed k) key context = IsSomeAnd key (λ t. decode_sized t 32 ≡ Ok k) × (context ≡ None)
 SaysMode (Derive c) key context = (key ≡ None) × (context ≡ Some c.now)
 
+-- the same, from that of `--key-file` too: one of the three options at most
+abbrev pub SaysAsked : AskedMode → Option Text → Option Text → Option Text → Type 0
+SaysAsked (Known mode) key context file = SaysMode mode key context × (file ≡ None)
+SaysAsked (KeyFile path) key context file = (key ≡ None) × (context ≡ None) × (file ≡ Some path.now)
+
+-- an input, from the text that names it
+abbrev pub NamesInput : Input → Text → Type 0
+NamesInput inputs.Standard t = t ≡ codes "-"
+NamesInput (inputs.File path) t = (t ≡ path.now) × (t ≢ codes "-")
+
+-- the same, where standard input is meant if none is named
+abbrev pub SaysInput : Input → Option Text → Type 0
+SaysInput input (Some t) = NamesInput input t
+SaysInput input None = input ≡ inputs.Standard
+
 -- the name in the check line, from the text of `--name`
 abbrev pub SaysName : Text → Option Text → Type 0
 SaysName name None = name ≡ codes "-"
 SaysName name (Some t) = name ≡ t
 
+-- what is hashed, from the words without an option and the texts of `--name`, `--files-from` and `--null`: standard input, or the files
+-- of the words, or those of the list
+abbrev pub SaysInputs : SumInputs → Option (List Text) → Option Text → Option Text → Option Text → Type 0
+SaysInputs (Standard name) files said list null = SaysName name.now said × (files ≡ None) × (list ≡ None)
+SaysInputs (Named names) files said list null = (files ≡ Some (map (λ name. name.now) names.items)) × (said ≡ None) × (list ≡ None)
+SaysInputs (Listed names) files said list null = IsSomeAnd list (NamesInput names.list) × SaysFlag null names.has_nuls × (files ≡ None) × (said ≡ None)
+
 pub record SaysSum (o : SumOptions) (rows : List Row) : Type 0 where
-  pub name : SaysName o.name.now (first_of (codes "name") rows)
-  pub mode : SaysMode o.mode (first_of (codes "key") rows) (first_of (codes "context") rows)
+  pub inputs : SaysInputs o.inputs (all_of (codes "file") rows) (first_of (codes "name") rows) (first_of (codes "files-from") rows) (one_of (codes "null") rows)
+  pub mode : SaysAsked o.mode (first_of (codes "key") rows) (first_of (codes "context") rows) (first_of (codes "key-file") rows)
   pub length : SaysNumber (first_of (codes "length") rows) o.length
   pub threads : SaysNumber (first_of (codes "threads") rows) o.threads
 
@@ -56,7 +86,22 @@ pub record SaysUpload (o : UploadOptions) (rows : List Row) : Type 0 where
   pub part_chunks : SpellsOr 64 (first_of (codes "part-chunks") rows) o.part_chunks
   pub journal : SaysFlag (one_of (codes "journal") rows) o.journal
 
+-- which lines of a report are written, from `--quiet` and `--status`, which goes before it
+abbrev pub shown_by : Bool → Bool → Shown
+shown_by quiet true = Nothing
+shown_by true false = AllButGood
+shown_by false false = All
+
+pub record SaysShown (shown : Shown) (quiet status : Option Text) : Type 0 where
+  pub is_quiet : Bool
+  pub is_status : Bool
+  pub says_quiet : SaysFlag quiet is_quiet
+  pub says_status : SaysFlag status is_status
+  pub by : shown ≡ shown_by is_quiet is_status
+
 pub record SaysCheck (o : CheckOptions) (rows : List Row) : Type 0 where
+  pub list : SaysInput o.list (first_of (codes "list") rows)
+  pub shown : SaysShown o.shown (one_of (codes "quiet") rows) (one_of (codes "status") rows)
   pub threads : SaysNumber (first_of (codes "threads") rows) o.threads
 
 -- the subcommand that was entered, and its rows, say these options

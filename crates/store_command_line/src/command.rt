@@ -1,9 +1,9 @@
 //! The command line, as clap is told it: one builder for each subcommand.
 
 ghost use Rattle.std.specs.Prelude.{◌≡◌, IfOk, codes, false};
-ghost use Rattle.clap.specs.Words.{app_of, rule_of};
+ghost use Rattle.clap.specs.Words.{app_of, new_app, rule_of};
 ghost use Rattle.clap.specs.declared.builder.command.Command.TheViews.{out-Command as fields_of};
-ghost use Rattle.store_command_line.specs.CommandLine.{value_rule, flag_rule, sum_line, run_line, upload_line, check_line, audit_line, migrate_line, storing_line, command_line, number_rule};
+ghost use Rattle.store_command_line.specs.CommandLine.{value_rule, flag_rule, short_flag_rule, word_rule, words_rule, program_line, with_list, with_mode, with_names, with_output, with_shown, sum_line, run_line, upload_line, check_line, audit_line, migrate_line, storing_line, command_line, number_rule};
 
 use clap::{Arg, ArgAction, Command, value_parser};
 use std::alloc::{AllocError, Global};
@@ -28,34 +28,119 @@ fn threads_argument<'a>(alloc: Global) -> Arg<'a>
     value_argument(alloc, "threads", "T", help).value_parser(value_parser!(u32).range(1..17))
 }
 
-// An argument is made where it is taken, so that none is in hand where an earlier one is refused memory.
+// A word without an option.
+fn word_argument<'a>(alloc: Global, id: &'a str, value_name: &'a str, help: &'a str) -> Arg<'a>
+    ensures rule { rule_of result ≡ word_rule id.entry.now }
+    ensures local { result.global ≡ false }
+{
+    Arg::new(alloc, id).value_name(value_name).help(help)
+}
+
+// The names of files, and the name of standard input. An argument is made where it is taken, so that none is in hand where an earlier
+// one is refused memory.
+fn with_names<'a>(alloc: Global, command: Command<'a>) -> Result<Command<'a>, AllocError>
+    requires { (fields_of command).has_globals ≡ false }
+    ensures shape { IfOk result (λ c. app_of c ≡ with_names (app_of command.entry)) }
+    ensures local { IfOk result (λ c. (fields_of c).has_globals ≡ false) }
+{
+    let file = "Write the check line of each of these files in turn; - is standard input";
+    let name = "Write this name in the check line of standard input";
+    command
+        .arg(word_argument(alloc, "file", "FILE", file).action(ArgAction::Append))?
+        .arg(value_argument(alloc, "name", "NAME", name))
+}
+
+// The flag by which a byte 0 ends names.
+fn null_argument<'a>(alloc: Global) -> Arg<'a>
+    ensures rule { rule_of result ≡ short_flag_rule (codes "null") 48 }
+    ensures local { result.global ≡ false }
+{
+    let help = "The names in the list are ended by a byte 0, and not by line feeds";
+    flag_argument(alloc, "null", help).short('0')
+}
+
+// The names of files in a list.
+fn with_list<'a>(alloc: Global, command: Command<'a>) -> Result<Command<'a>, AllocError>
+    requires { (fields_of command).has_globals ≡ false }
+    ensures shape { IfOk result (λ c. app_of c ≡ with_list (app_of command.entry)) }
+    ensures local { IfOk result (λ c. (fields_of c).has_globals ≡ false) }
+{
+    let list = "Take the files' names from this list, a line for each; - is standard input";
+    command
+        .arg(value_argument(alloc, "files-from", "LIST", list))?
+        .arg(null_argument(alloc))
+}
+
+// The modes.
+fn with_mode<'a>(alloc: Global, command: Command<'a>) -> Result<Command<'a>, AllocError>
+    requires { (fields_of command).has_globals ≡ false }
+    ensures shape { IfOk result (λ c. app_of c ≡ with_mode (app_of command.entry)) }
+    ensures local { IfOk result (λ c. (fields_of c).has_globals ≡ false) }
+{
+    let key =
+        "Hash with this key of 32 bytes, in 64 hexadecimal digits, which every process can see";
+    let key_file = "Hash with the key in this file: 32 bytes, or 64 hexadecimal digits";
+    let context = "Derive a key in this context from the input; not with a key";
+    command
+        .arg(value_argument(alloc, "key", "HEX64", key))?
+        .arg(value_argument(alloc, "key-file", "FILE", key_file))?
+        .arg(value_argument(alloc, "context", "TEXT", context))
+}
+
+// What is written of a hash, and by how many threads it is made.
+fn with_output<'a>(alloc: Global, command: Command<'a>) -> Result<Command<'a>, AllocError>
+    requires { (fields_of command).has_globals ≡ false }
+    ensures shape { IfOk result (λ c. app_of c ≡ with_output (app_of command.entry)) }
+    ensures local { IfOk result (λ c. (fields_of c).has_globals ≡ false) }
+{
+    command
+        .arg(length_argument(alloc))?
+        .arg(threads_argument(alloc))
+}
+
+// The length of the extended output.
+fn length_argument<'a>(alloc: Global) -> Arg<'a>
+    ensures rule { rule_of result ≡ number_rule (codes "length") 65536 }
+    ensures local { result.global ≡ false }
+{
+    let help = "Write this many bytes of the extended output as digits, and no name (1 to 65536)";
+    value_argument(alloc, "length", "N", help).value_parser(value_parser!(u32).range(1..65537))
+}
+
+// `sum` without options.
+fn bare_sum<'a>(alloc: Global) -> Command<'a>
+    ensures shape { app_of result ≡ new_app (codes "sum") }
+    ensures local { (fields_of result).has_globals ≡ false }
+{
+    Command::new(alloc, "sum").about(
+        "Write the check line of each file, or of standard input: its BLAKE3 hash and its name",
+    )
+}
+
 fn sum_command<'a>(alloc: Global) -> Result<Command<'a>, AllocError>
     ensures shape { IfOk result (λ c. app_of c ≡ sum_line) }
     ensures local { IfOk result (λ c. (fields_of c).has_globals ≡ false) }
 {
-    let about =
-        "Read standard input, and write its check line: the BLAKE3 hash and a name, - by default";
-    let key = "Hash with this key of 32 bytes, in 64 hexadecimal digits";
-    let context = "Derive a key in this context from the input; not with --key";
-    let length = "Write this many bytes of the extended output as digits, and no name (1 to 65536)";
-    Command::new(alloc, "sum")
-        .about(about)
-        .arg(value_argument(alloc, "name", "NAME", "Write this name in the check line"))?
-        .arg(value_argument(alloc, "key", "HEX64", key))?
-        .arg(value_argument(alloc, "context", "TEXT", context))?
-        .arg(value_argument(alloc, "length", "N", length).value_parser(value_parser!(u32).range(
-            1..65537,
-        )))?
-        .arg(threads_argument(alloc))
+    let command = with_names(alloc, bare_sum(alloc))?;
+    let command = with_list(alloc, command)?;
+    let command = with_mode(alloc, command)?;
+    with_output(alloc, command)
+}
+
+// What stands at the end of the help of `run`.
+fn script_commands() -> &'static str {
+    "Commands, each on a line of its own:\n  tenant LIMIT        a new tenant with this limit in bytes\n  limit T LIMIT       another limit of tenant T\n  begin T LEN         a new upload of LEN bytes\n  open T ATMOST       a new upload of at most so many bytes\n  fix U LEN           the length of such an upload\n  put U OFFSET DATA   a part of upload U: x: and digits, or p:LEN for a pattern\n  seal U              its bytes are filed as an object\n  sealas U ADDRESS    the same, if that is its address\n  abort U             it is given up\n  forget T ADDRESS    the tenant holds the object no longer\n  fetch T ADDRESS     the object's bytes, as digits\n  usage T             what the tenant uses\n  list T              the objects that it holds\n  stat                the store's totals\n  journal             the entries of what was accepted"
 }
 
 fn run_command<'a>(alloc: Global) -> Command<'a>
     ensures shape { app_of result ≡ run_line }
     ensures local { (fields_of result).has_globals ≡ false }
 {
-    Command::new(alloc, "run").about(
-        "Read a script of commands for a store, and write each one's answer when it was read",
-    )
+    Command::new(alloc, "run")
+        .about(
+            "Read a script of commands for a store, and write each one's answer when it was read",
+        )
+        .after_help(script_commands())
 }
 
 // An option `--ID` without a value.
@@ -94,14 +179,37 @@ fn check_codes() -> &'static str {
     "Faults of a line, of which the first is told:\n  C1  a tagged line\n  C2  too short\n  C3  no hexadecimal digit\n  C4  not two spaces\n  C5  no name\n  C6  a wrong escape\n  C7  a byte 0 in the name"
 }
 
-fn check_command<'a>(alloc: Global) -> Result<Command<'a>, AllocError>
-    ensures shape { IfOk result (λ c. app_of c ≡ check_line) }
-    ensures local { IfOk result (λ c. (fields_of c).has_globals ≡ false) }
+// `check` without options.
+fn bare_check<'a>(alloc: Global) -> Command<'a>
+    ensures shape { app_of result ≡ new_app (codes "check") }
+    ensures local { (fields_of result).has_globals ≡ false }
 {
     Command::new(alloc, "check")
         .about("Read check lines, and report of each whether the file of its name has its hash")
         .after_help(check_codes())
-        .arg(threads_argument(alloc))
+}
+
+// Where the check lines are, and which lines of the report are written.
+fn with_shown<'a>(alloc: Global, command: Command<'a>) -> Result<Command<'a>, AllocError>
+    requires { (fields_of command).has_globals ≡ false }
+    ensures shape { IfOk result (λ c. app_of c ≡ with_shown (app_of command.entry)) }
+    ensures local { IfOk result (λ c. (fields_of c).has_globals ≡ false) }
+{
+    let list = "Read the check lines from this file; standard input if none is named, or -";
+    let quiet = "Leave out the lines of files that have their hash";
+    let status = "Write nothing: the exit status tells whether all files have their hash";
+    command
+        .arg(word_argument(alloc, "list", "LIST", list))?
+        .arg(flag_argument(alloc, "quiet", quiet))?
+        .arg(flag_argument(alloc, "status", status))
+}
+
+fn check_command<'a>(alloc: Global) -> Result<Command<'a>, AllocError>
+    ensures shape { IfOk result (λ c. app_of c ≡ check_line) }
+    ensures local { IfOk result (λ c. (fields_of c).has_globals ≡ false) }
+{
+    let command = with_shown(alloc, bare_check(alloc))?;
+    command.arg(threads_argument(alloc))
 }
 
 // What stands at the end of the help of subcommands that read a journal.
@@ -127,14 +235,28 @@ fn migrate_command<'a>(alloc: Global) -> Command<'a>
         .after_help(journal_codes())
 }
 
+// The program's version, and the line of the toolchain's that it is proved with.
+fn version() -> &'static str {
+    "1.0.0 (proved with a Rattle kit of logic dac8208d650f15bf)"
+}
+
+// The program's command without subcommands.
+fn bare_program<'a>(alloc: Global) -> Command<'a>
+    ensures shape { app_of result ≡ program_line }
+    ensures local { (fields_of result).has_globals ≡ false }
+{
+    Command::new(alloc, "b3store")
+        .about("A content-addressed store: objects under their BLAKE3 hash")
+        .version(version())
+}
+
 // The program's command with the subcommands that hash and store.
 fn storing_program<'a>(alloc: Global) -> Result<Command<'a>, AllocError>
     ensures shape { IfOk result (λ c. app_of c ≡ storing_line) }
     ensures local { IfOk result (λ c. (fields_of c).has_globals ≡ false) }
 {
     let sum = sum_command(alloc)?;
-    let program = Command::new(alloc, "b3store")
-        .about("A content-addressed store: objects under their BLAKE3 hash")
+    let program = bare_program(alloc)
         .subcommand(sum)?
         .subcommand(run_command(alloc))?;
     let upload = upload_command(alloc)?;

@@ -3,7 +3,17 @@
 ghost use Rattle.std.specs.Prelude.{◌≡◌};
 ghost use Rattle.store_command_line.specs.declared.said.Fault.TheVariants.{NoMemory};
 
+use b3_check::Shown;
 use std::alloc::AllocError;
+
+/// An input that words name.
+#[derive(Clone, Copy, Debug)]
+pub enum Input<'a> {
+    /// Standard input, which is named `-`, and is meant where no input is named.
+    Standard,
+    /// The file of this path.
+    File(&'a str),
+}
 
 /// The mode that `sum` hashes in.
 #[derive(Clone, Copy, Debug)]
@@ -16,16 +26,45 @@ pub enum SumMode<'a> {
     Derive(&'a str),
 }
 
-/// The options of `sum`.
+/// The mode that the words of `sum` ask for.
 #[derive(Clone, Copy, Debug)]
+pub enum AskedMode<'a> {
+    /// This one.
+    Known(SumMode<'a>),
+    /// The keyed mode, whose key the file of this path has.
+    KeyFile(&'a str),
+}
+
+/// The names of files, from a list.
+#[derive(Clone, Copy, Debug)]
+pub struct NameList<'a> {
+    /// Where the list is.
+    pub list: Input<'a>,
+    /// Whether a byte 0 ends each name, and not a line feed.
+    pub has_nuls: bool,
+}
+
+/// What `sum` hashes.
+#[derive(Debug, Drop)]
+pub enum SumInputs<'a> {
+    /// Standard input, whose check line has this name.
+    Standard(&'a str),
+    /// What has these names; `-` is standard input.
+    Named(Vec<&'a str>),
+    /// What has the names of a list.
+    Listed(NameList<'a>),
+}
+
+/// The options of `sum`.
+#[derive(Debug, Drop)]
 pub struct SumOptions<'a> {
-    /// The name that stands in the check line.
-    pub name: &'a str,
-    /// The mode that the input is hashed in.
-    pub mode: SumMode<'a>,
+    /// What is hashed.
+    pub inputs: SumInputs<'a>,
+    /// The mode that it is hashed in.
+    pub mode: AskedMode<'a>,
     /// How many bytes of the extended output are asked for, in place of the check line.
     pub length: Option<u32>,
-    /// By how many threads the input is hashed, at most; `None` for as many as there are processors.
+    /// By how many threads an input is hashed, at most; `None` for as many as there are processors.
     pub threads: Option<u32>,
 }
 
@@ -42,13 +81,17 @@ pub struct UploadOptions {
 
 /// The options of `check`.
 #[derive(Clone, Copy, Debug)]
-pub struct CheckOptions {
+pub struct CheckOptions<'a> {
+    /// Where the check lines are.
+    pub list: Input<'a>,
+    /// Which lines of the report are written.
+    pub shown: Shown,
     /// By how many threads a file is hashed, at most; `None` for as many as there are processors.
     pub threads: Option<u32>,
 }
 
 /// A subcommand with its options.
-#[derive(Clone, Copy, Debug)]
+#[derive(Debug, Drop)]
 pub enum Options<'a> {
     /// `sum`.
     Sum(SumOptions<'a>),
@@ -57,7 +100,7 @@ pub enum Options<'a> {
     /// `upload`.
     Upload(UploadOptions),
     /// `check`.
-    Check(CheckOptions),
+    Check(CheckOptions<'a>),
     /// `audit`.
     Audit,
     /// `migrate`.
@@ -69,6 +112,8 @@ pub enum Options<'a> {
 pub enum Fault {
     /// The words are wrong, or ask for help: the text that tells so.
     Usage(String),
+    /// The words ask for the version: the text that tells it.
+    Version(String),
     /// Memory was refused.
     NoMemory,
 }

@@ -1,21 +1,27 @@
 //! What the words of the command line say.
 
-ghost use Rattle.std.specs.Prelude.{◌≡◌, ◌↔◌, ◌^◌, ◌≤◌, ℕ, true, List, Option, None, IfOk, IfSome, IsErr, OnOk, codes, map, option_map};
+ghost use Rattle.std.specs.Prelude.{◌≡◌, ◌↔◌, ◌^◌, ◌≤◌, ℕ, All, true, List, Option, Some, None, IfOk, IfSome, IsErr, OnOk, codes, map, option_map};
 ghost use Rattle.clap.specs.Values.{kind_of};
-ghost use Rattle.clap.specs.Words.{found_of, first_of, one_of, rows_of, subcommand_of};
+ghost use Rattle.clap.specs.Words.{all_of, found_of, first_of, one_of, rows_of, subcommand_of, subcommand_rows_of};
 ghost use Rattle.b3_check.specs.Names.{IsName};
 ghost use Rattle.store_command_line.specs.CommandLine.{IsTaken, command_line};
-ghost use Rattle.store_command_line.specs.Ranges.{AreWithin, InRange, IsWithin};
-ghost use Rattle.store_command_line.specs.Stated.{IsNotUsage, IsNumber, Says, SaysCheck, SaysFlag, SaysMode, SaysName, SaysSum, SaysUpload, SaysNumber, SpellsOr};
+ghost use Rattle.store_command_line.specs.Ranges.{AreNamed, AreWithin, InRange, IsSumInRange, IsWithin};
+ghost use Rattle.store_command_line.specs.Stated.{IsNotUsage, IsNumber, NamesInput, Says, SaysAsked, SaysCheck, SaysFlag, SaysInput, SaysInputs, SaysMode, SaysName, SaysShown, SaysSum, SaysUpload, SaysNumber, SpellsOr};
+ghost use Rattle.store_command_line.specs.declared.said.AskedMode.{AskedMode as SaidAsked};
 ghost use Rattle.store_command_line.specs.declared.said.CheckOptions.{CheckOptions as SaidCheck};
 ghost use Rattle.store_command_line.specs.declared.said.Fault.TheVariants.{NoMemory, Usage};
+ghost use Rattle.store_command_line.specs.declared.said.SumInputs.{SumInputs as SaidInputs};
 ghost use Rattle.store_command_line.specs.declared.said.Options.{Options as Said};
 ghost use Rattle.store_command_line.specs.declared.said.SumMode.{SumMode as SaidMode};
 ghost use Rattle.store_command_line.specs.declared.said.SumOptions.{SumOptions as SaidSum};
 ghost use Rattle.store_command_line.specs.declared.said.UploadOptions.{UploadOptions as SaidUpload};
 
 use crate::command::program;
-use crate::said::{CheckOptions, Fault, Options, SumMode, SumOptions, UploadOptions};
+use crate::said::{
+    AskedMode, CheckOptions, Fault, Input, NameList, Options, SumInputs, SumMode, SumOptions,
+    UploadOptions,
+};
+use b3_check::Shown;
 use clap::error::ErrorKind;
 use clap::{ArgMatches, Error};
 use hex::FromHex;
@@ -47,13 +53,23 @@ fn error_text<S: AsStr>(alloc: Global, error: &Error, words: &[S]) -> Result<Str
     }
 }
 
+// Why there are no options where clap finds a fault in the words.
 fn fault_of<S: AsStr>(alloc: Global, error: &Error, words: &[S]) -> Fault
     ensures { kind_of error.now ≡ ErrorKind.OutOfMemory → result ≡ NoMemory }
 {
-    if error.kind() == ErrorKind::OutOfMemory {
-        return Fault::NoMemory;
+    match error.kind() {
+        ErrorKind::OutOfMemory => Fault::NoMemory,
+        ErrorKind::DisplayVersion => version_told(error.to_string(alloc)),
+        _ => told(error_text(alloc, error, words)),
     }
-    told(error_text(alloc, error, words))
+}
+
+// The text of the version, where there was memory for it.
+fn version_told(text: Result<String, AllocError>) -> Fault {
+    match text {
+        Ok(text) => Fault::Version(text),
+        Err(_) => Fault::NoMemory,
+    }
 }
 
 // What is wrong with an option of a subcommand.
@@ -128,6 +144,26 @@ fn sum_mode<'a>(alloc: Global, found: &ArgMatches<'a>) -> Result<SumMode<'a>, Fa
     }
 }
 
+// The mode that is asked for.
+fn asked_mode<'a>(alloc: Global, found: &ArgMatches<'a>) -> Result<AskedMode<'a>, Fault>
+    ensures says { IfOk result (λ m. let rows = rows_of (found_of found.now) in
+        SaysAsked m (first_of (codes "key") rows) (first_of (codes "context") rows) (first_of (codes "key-file") rows)) }
+    ensures only { let rows = rows_of (found_of found.now) in (m : SaidAsked)
+        → SaysAsked m (first_of (codes "key") rows) (first_of (codes "context") rows) (first_of (codes "key-file") rows) → IsNotUsage result }
+{
+    let Some(path) = text_of(found, "key-file") else {
+        return Ok(AskedMode::Known(sum_mode(alloc, found)?));
+    };
+    match (text_of(found, "key"), text_of(found, "context")) {
+        (None, None) => Ok(AskedMode::KeyFile(path)),
+        _ => Err(usage(
+            alloc,
+            "sum",
+            "--key, --key-file and --context exclude each other",
+        )),
+    }
+}
+
 // Whether a check line may have the name.
 fn is_name(text: &str) -> bool
     ensures { (result ≡ true) ↔ IsName text.now }
@@ -155,32 +191,124 @@ fn sum_name<'a>(alloc: Global, found: &ArgMatches<'a>) -> Result<&'a str, Fault>
     Ok(name)
 }
 
+// Whether a check line may have each of the names.
+fn are_names(texts: &[&str]) -> bool
+    ensures { (result ≡ true) ↔ All (λ text. IsName text.now) texts.now }
+{
+    texts.iter().all(|text| is_name(text))
+}
+
+// The input that a text names.
+fn input_of(text: &str) -> Input<'_>
+    ensures { NamesInput result text.entry.now }
+{
+    if text == "-" {
+        Input::Standard
+    } else {
+        Input::File(text)
+    }
+}
+
+// The texts of the words without an option.
+fn words_of<'a, 'b>(found: &'b ArgMatches<'a>, id: &str) -> Option<&'b [&'a str]>
+    ensures { option_map (λ texts. map (λ text. text.now) texts.now) result ≡ all_of id.now (rows_of (found_of found.now)) }
+{
+    found.get_strs(id)
+}
+
+// Files by their names.
+fn named_inputs<'a>(alloc: Global, files: &[&'a str]) -> Result<SumInputs<'a>, Fault>
+    ensures says { IfOk result (λ inputs. (null : Option (List ℕ)) → SaysInputs inputs (Some (map (λ name. name.now) files.now)) None None null) }
+    ensures lawful { IfOk result AreNamed }
+    ensures only { All (λ name. IsName name.now) files.now → IsNotUsage result }
+{
+    if !are_names(files) {
+        return Err(usage(alloc, "sum", "a file's name is not empty and has no byte 0"));
+    }
+    Ok(SumInputs::Named(Vec::from_slice(alloc, files)?))
+}
+
+// What is hashed.
+fn sum_inputs<'a>(alloc: Global, found: &ArgMatches<'a>) -> Result<SumInputs<'a>, Fault>
+    ensures says { IfOk result (λ i. let rows = rows_of (found_of found.now) in
+        SaysInputs i (all_of (codes "file") rows) (first_of (codes "name") rows) (first_of (codes "files-from") rows) (one_of (codes "null") rows)) }
+    ensures lawful { IfOk result AreNamed }
+    ensures only { let rows = rows_of (found_of found.now) in (i : SaidInputs)
+        → SaysInputs i (all_of (codes "file") rows) (first_of (codes "name") rows) (first_of (codes "files-from") rows) (one_of (codes "null") rows)
+        → AreNamed i → IsNotUsage result }
+{
+    let files = words_of(found, "file");
+    let list = text_of(found, "files-from");
+    if let (None, None) = (files, list) {
+        return Ok(SumInputs::Standard(sum_name(alloc, found)?));
+    }
+    match (files, list, text_of(found, "name")) {
+        (Some(files), None, None) => named_inputs(alloc, files),
+        (None, Some(list), None) => Ok(SumInputs::Listed(NameList {
+            list: input_of(list),
+            has_nuls: flag(found, "null"),
+        })),
+        _ => Err(usage(
+            alloc,
+            "sum",
+            "files' names, --files-from and --name exclude each other",
+        )),
+    }
+}
+
 fn sum_options<'a>(alloc: Global, found: &ArgMatches<'a>) -> Result<SumOptions<'a>, Fault>
     ensures says { IfOk result (λ o. SaysSum o (rows_of (found_of found.now))) }
-    ensures named { IfOk result (λ o. IsName o.name.now) }
-    ensures range { IfOk result (λ o. IfSome o.length (IsWithin 65536) × IfSome o.threads (IsWithin 16)) }
-    ensures only { (o : SaidSum) → SaysSum o (rows_of (found_of found.now)) → IsName o.name.now → IfSome o.length (IsWithin 65536)
-        → IfSome o.threads (IsWithin 16) → IsNotUsage result }
+    ensures range { IfOk result IsSumInRange }
+    ensures only { (o : SaidSum) → SaysSum o (rows_of (found_of found.now)) → IsSumInRange o → IsNotUsage result }
 {
-    let name = sum_name(alloc, found)?;
-    let mode = sum_mode(alloc, found)?;
+    let mode = asked_mode(alloc, found)?;
     let length = number_within(alloc, found, "sum", "length", 65536)?;
     let threads = number_within(alloc, found, "sum", "threads", 16)?;
+    let inputs = sum_inputs(alloc, found)?;
     Ok(SumOptions {
-        name,
+        inputs,
         mode,
         length,
         threads,
     })
 }
 
-fn check_options(alloc: Global, found: &ArgMatches<'_>) -> Result<CheckOptions, Fault>
+// Which lines of a report are written.
+fn shown(found: &ArgMatches<'_>) -> Shown
+    ensures { let rows = rows_of (found_of found.now) in SaysShown result (one_of (codes "quiet") rows) (one_of (codes "status") rows) }
+{
+    let is_quiet = flag(found, "quiet");
+    let is_status = flag(found, "status");
+    if is_status {
+        Shown::Nothing
+    } else if is_quiet {
+        Shown::AllButGood
+    } else {
+        Shown::All
+    }
+}
+
+// The input that a word names, or standard input where no word does.
+fn word_input<'a>(found: &ArgMatches<'a>, id: &str) -> Input<'a>
+    ensures { SaysInput result (first_of id.now (rows_of (found_of found.now))) }
+{
+    match text_of(found, id) {
+        Some(text) => input_of(text),
+        None => Input::Standard,
+    }
+}
+
+fn check_options<'a>(alloc: Global, found: &ArgMatches<'a>) -> Result<CheckOptions<'a>, Fault>
     ensures says { IfOk result (λ o. SaysCheck o (rows_of (found_of found.now))) }
     ensures range { IfOk result (λ o. IfSome o.threads (IsWithin 16)) }
     ensures only { (o : SaidCheck) → SaysCheck o (rows_of (found_of found.now)) → IfSome o.threads (IsWithin 16) → IsNotUsage result }
 {
     let threads = number_within(alloc, found, "check", "threads", 16)?;
-    Ok(CheckOptions { threads })
+    Ok(CheckOptions {
+        list: word_input(found, "list"),
+        shown: shown(found),
+        threads,
+    })
 }
 
 // A number from 1 to `most` of an option of `upload`, or another where none is given.
@@ -224,12 +352,36 @@ fn upload_options(alloc: Global, found: &ArgMatches<'_>) -> Result<UploadOptions
     })
 }
 
+// The subcommand that the words enter, and what is found there.
+fn entered<'a, 'b>(matches: &'b ArgMatches<'a>) -> Option<(&'a str, &'b ArgMatches<'a>)>
+    ensures { option_map (λ p. (p.0.now, rows_of (found_of p.1.now))) result ≡ subcommand_rows_of matches.now }
+{
+    matches.subcommand()
+}
+
+// What the subcommand and what is found there say.
+fn options_of<'a>(alloc: Global, matches: &ArgMatches<'a>) -> Result<Options<'a>, Fault>
+    ensures says { IfOk result (λ o. Says o (subcommand_rows_of matches.now)) }
+    ensures range { IfOk result InRange }
+    ensures only { (o : Said) → Says o (subcommand_rows_of matches.now) → InRange o → IsNotUsage result }
+{
+    match entered(matches) {
+        Some(("sum", found)) => Ok(Options::Sum(sum_options(alloc, found)?)),
+        Some(("run", _)) => Ok(Options::Run),
+        Some(("upload", found)) => Ok(Options::Upload(upload_options(alloc, found)?)),
+        Some(("check", found)) => Ok(Options::Check(check_options(alloc, found)?)),
+        Some(("audit", _)) => Ok(Options::Audit),
+        Some(("migrate", _)) => Ok(Options::Migrate),
+        _ => Err(told(help_text(alloc))),
+    }
+}
+
 /// What the words say, the first of them being the program's name.
 ///
 /// `Ok` with the subcommand and the values that clap states of the words, where clap finds no fault in them, each number is
-/// decimal digits without a sign and within its range, the name is not empty and has no byte 0, and there are not both a key
-/// and a context. All other words are `Usage`, a request for help too, as no word but the program's name is one. `NoMemory` where
-/// memory is refused.
+/// decimal digits without a sign and within its range, names are not empty and have no byte 0, and no two options are given that exclude
+/// each other. Words that ask for the version are `Version`. All other words are `Usage`, a request for help too, as no word but the
+/// program's name is one. `NoMemory` where memory is refused.
 pub fn options<'a, S: AsStr>(alloc: Global, words: &'a [S]) -> Result<Options<'a>, Fault>
     ensures says { IfOk result (λ o. Says o (subcommand_of command_line (map S.text words.entry.now))) }
     ensures range { IfOk result InRange }
@@ -242,13 +394,5 @@ pub fn options<'a, S: AsStr>(alloc: Global, words: &'a [S]) -> Result<Options<'a
         Ok(matches) => matches,
         Err(error) => return Err(fault_of(alloc, &error, words)),
     };
-    match matches.subcommand() {
-        Some(("sum", found)) => Ok(Options::Sum(sum_options(alloc, found)?)),
-        Some(("run", _)) => Ok(Options::Run),
-        Some(("upload", found)) => Ok(Options::Upload(upload_options(alloc, found)?)),
-        Some(("check", found)) => Ok(Options::Check(check_options(alloc, found)?)),
-        Some(("audit", _)) => Ok(Options::Audit),
-        Some(("migrate", _)) => Ok(Options::Migrate),
-        _ => Err(told(help_text(alloc))),
-    }
+    options_of(alloc, &matches)
 }

@@ -1,1 +1,4 @@
+pub mod FileSums
+pub mod Known
+pub mod ListNames
 pub mod UploadTexts

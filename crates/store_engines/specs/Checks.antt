@@ -1,12 +1,16 @@
 -- What `check` writes, and its verdict.
-use Rattle.std.specs.Prelude.{◌≡◌, ◌↔◌, ◌⊎◌, ℕ, List, Ok, Err, Some, None}
+use Rattle.std.specs.Prelude.{◌≡◌, ◌↔◌, ◌⊎◌, ℕ, List, ◌++◌, Option, Result, Ok, Err, Some, None}
+use Rattle.std.specs.Io.KnownBytes.{Appends}
 use Rattle.std.specs.Str.{IsUtf8}
+use Rattle.b3_check.specs.declared.file.NumberedLine.{NumberedLine}
 use Rattle.b3_check.specs.declared.names.NameFault.TheVariants.{NoMemory, Unreadable}
 use Rattle.b3_check.specs.declared.report.Counts.{Counts}
-use Rattle.b3_check.specs.declared.report.Verdict.{Verdict as LineVerdict}
+use Rattle.b3_check.specs.declared.report.Shown.{Shown}
 use Rattle.b3_check.specs.Files.{file_at}
-use Rattle.b3_check.specs.Reports.{Answer, IsCutShort, IsReport, counts_of, report_text}
-use Rattle.b3_core.specs.Modes.{digest_of, hash_mode}
+use Rattle.b3_check.specs.Output.{AllBut}
+use Rattle.b3_check.specs.Reports.{Answer, IsRefused, IsReport, Verdict as LineVerdict, counts_of, report_text}
+use Rattle.b3_core.specs.Modes.{digest_of}
+use Rattle.b3_core.specs.Tree.{Inputs, Keying, tree_top}
 use Rattle.edge.specs.declared.outcome.Cause.{Cause}
 use Rattle.edge.specs.declared.outcome.Cause.TheVariants.{CannotRead, CannotWrite, OutOfMemory}
 use Rattle.edge.specs.declared.outcome.Verdict.{Verdict}
@@ -16,26 +20,45 @@ use Rattle.edge.specs.declared.outcome.Verdict.TheVariants.{Good}
 abbrev pub IsAllGood : Counts → Type 0
 IsAllGood counts = (counts.bad ≡ 0) × (counts.missing ≡ 0) × (counts.unreadable ≡ 0) × (counts.faults ≡ 0)
 
--- The names were asked for each line of the file without a fault, and went from one state to another; the text is
--- that of the report on the lines, and the verdict is good exactly where all of them are.
-pub record IsChecked {S : Type 0} (gives : S → List ℕ → Answer → S → Type 0) (old : S) (input text : List ℕ) (verdict : Verdict) (new : S) : Type 0 where
-  pub lines : List LineVerdict
-  pub report : IsReport gives old (file_at input) lines new
-  pub written : text ≡ report_text lines
-  pub good : (verdict ≡ Good) ↔ IsAllGood (counts_of lines)
+-- The names were asked for each line of the file without a fault, and went from one state to another; what is shown of the report was
+-- written, and the verdict is good exactly where all lines are.
+pub record IsChecked {S : Type 0} (gives : S → List ℕ → Answer → S → Type 0) (shown : Shown) (old : S) (input : List ℕ) (verdict : Verdict) (new : S) (before after : Option (List ℕ)) : Type 0 where
+  pub verdicts : List LineVerdict
+  pub report : IsReport gives old (file_at input) verdicts new
+  pub written : Appends before after (report_text shown verdicts)
+  pub good : (verdict ≡ Good) ↔ IsAllGood (counts_of verdicts)
 
--- What stopped a check: a failed read before the names were asked anything, or a failed write after they had
--- answered for all lines; else want of memory before they were asked, theirs, or the report's after they had answered.
-abbrev pub IsStopped : {S : Type 0} → (S → List ℕ → Answer → S → Type 0) → S → List ℕ → Cause → S → Type 0
-IsStopped gives old input CannotRead new = new ≡ old
-IsStopped gives old input CannotWrite new = (lines : List LineVerdict) × IsReport gives old (file_at input) lines new
-IsStopped gives old input OutOfMemory new =
-    (new ≡ old) ⊎ IsCutShort gives old (file_at input) new ⊎ ((lines : List LineVerdict) × IsReport gives old (file_at input) lines new)
+-- a write failed: the names had answered for some lines, and no more than what is shown of these went out
+pub record IsCut {S : Type 0} (gives : S → List ℕ → Answer → S → Type 0) (shown : Shown) (old : S) (lines : List NumberedLine) (new : S) (before after : Option (List ℕ)) : Type 0 where
+  pub front : List NumberedLine
+  pub back : List NumberedLine
+  pub verdicts : List LineVerdict
+  pub rest : List ℕ
+  pub all : front ++ back ≡ lines
+  pub asked : IsReport gives old front verdicts new
+  pub went : AllBut before after (report_text shown verdicts) rest
 
--- What the system's files may answer for a name: a digest is the hash of some bytes, and every answer but
--- unreadable is for a name that is UTF-8. What a file holds can't be said.
-abbrev pub IsAnswerOfFiles : List ℕ → Answer → Type 0
-IsAnswerOfFiles name (Ok (Some digest)) = IsUtf8 name × ((bytes : List ℕ) × (digest ≡ digest_of bytes hash_mode))
-IsAnswerOfFiles name (Ok None) = IsUtf8 name
-IsAnswerOfFiles name (Err Unreadable) = Unit {0}
-IsAnswerOfFiles name (Err NoMemory) = IsUtf8 name
+-- nothing was asked, and nothing written
+abbrev pub IsIdle : {S : Type 0} → S → S → Option (List ℕ) → Option (List ℕ) → Type 0
+IsIdle old new before after = (new ≡ old) × (after ≡ before)
+
+-- what stopped a check of a file: a failed read, before anything; a failed write; or want of memory, before anything or as the names'
+-- last answer
+abbrev pub IsStopped : {S : Type 0} → (S → List ℕ → Answer → S → Type 0) → Shown → S → List ℕ → Cause → S → Option (List ℕ) → Option (List ℕ) → Type 0
+IsStopped gives shown old input CannotRead new before after = IsIdle old new before after
+IsStopped gives shown old input CannotWrite new before after = IsCut gives shown old (file_at input) new before after
+IsStopped gives shown old input OutOfMemory new before after = IsIdle old new before after ⊎ IsRefused gives shown old (file_at input) new before after
+
+-- the same of a failed read, whatever the input is
+abbrev pub IsUntouched : {S : Type 0} → S → S → Option (List ℕ) → Option (List ℕ) → Cause → Type 0
+IsUntouched old new before after CannotRead = IsIdle old new before after
+IsUntouched old new before after CannotWrite = Unit {0}
+IsUntouched old new before after OutOfMemory = Unit {0}
+
+-- What the system's files may answer for a name, in a mode: a digest is the hash of some bytes, and every answer but unreadable is for a
+-- name that is UTF-8. What a file holds can't be said.
+abbrev pub IsAnswerOfFiles : Keying → List ℕ → Answer → Type 0
+IsAnswerOfFiles mode name (Ok (Some digest)) = IsUtf8 name × ((bytes : List ℕ) × (digest ≡ digest_of bytes mode))
+IsAnswerOfFiles mode name (Ok None) = IsUtf8 name
+IsAnswerOfFiles mode name (Err Unreadable) = Unit {0}
+IsAnswerOfFiles mode name (Err NoMemory) = IsUtf8 name

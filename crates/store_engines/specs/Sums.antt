@@ -1,13 +1,21 @@
 -- What `sum` writes.
-use Rattle.std.specs.Prelude.{ℕ, List, ◌++◌, Option, Some, None, codes}
+use Rattle.std.specs.Prelude.{◌≡◌, ◌⊎◌, ℕ, Bool, true, false, List, [], ◌∷◌, ◌++◌, Option, Some, None, Result, Ok, Err, codes, if◌then◌else◌}
+use Rattle.std.specs.List.{list_all}
+use Rattle.std.specs.Io.KnownBytes.{Appends}
 use Rattle.hex.specs.Hex.{encode_lower}
-use Rattle.b3_core.specs.Tree.{Keying, tree_top}
+use Rattle.b3_core.specs.Tree.{Inputs, Keying, tree_top}
 use Rattle.b3_core.specs.ExtendedOutput.{output_of}
-use Rattle.b3_core.specs.Modes.{digest_of, hash_mode, keyed_mode, derive_mode}
+use Rattle.b3_core.specs.Modes.{hash_mode, keyed_mode, derive_mode}
 use Rattle.b3_check.specs.Lines.{written_line}
+use Rattle.edge.specs.declared.outcome.Cause.{Cause}
+use Rattle.edge.specs.declared.outcome.Cause.TheVariants.{CannotRead, CannotWrite, OutOfMemory}
+use Rattle.edge.specs.declared.outcome.Verdict.{Verdict}
+use Rattle.edge.specs.declared.outcome.Verdict.TheVariants.{Good, Refused}
 use Rattle.store_command_line.specs.declared.said.SumMode.{SumMode}
 use Rattle.store_command_line.specs.declared.said.SumMode.TheVariants.{Hash, Keyed, Derive}
-use Rattle.store_command_line.specs.declared.said.SumOptions.{SumOptions}
+use Rattle.store_engines.specs.declared.sources.FileFault.{FileFault}
+use Rattle.store_engines.specs.declared.sources.Reason.{Reason}
+use Rattle.store_engines.specs.declared.sources.FileFault.TheVariants.{Failed, NoMemory}
 
 -- the mode that the options say
 abbrev pub mode_of : SumMode → Keying
@@ -15,12 +23,87 @@ mode_of Hash = hash_mode
 mode_of (Keyed key) = keyed_mode key
 mode_of (Derive context) = derive_mode context.now
 
--- without a length the check line of the hash and the name; with one the digits of so many bytes of the
--- extended output, and no name
-abbrev pub text_in : Keying → List ℕ → Option ℕ → List ℕ → List ℕ
-text_in mode name None input = written_line (record { digest = digest_of input mode; name = name })
-text_in mode name (Some len) input = encode_lower (output_of (tree_top input 0 mode) 0 len) ++ codes "\n"
+-- What is written of an input's root: without a length the check line of the hash and the name; with one the digits of so many bytes of
+-- the extended output, and no name.
+abbrev pub root_text : Option ℕ → List ℕ → Inputs → List ℕ
+root_text None name root = written_line (record { digest = output_of root 0 32; name = name })
+root_text (Some len) name root = encode_lower (output_of root 0 len) ++ codes "\n"
 
 -- what `sum` writes of an input
-abbrev pub sum_text : SumOptions → List ℕ → List ℕ
-sum_text o input = text_in (mode_of o.mode) o.name.now o.length input
+abbrev pub sum_text : Option ℕ → List ℕ → Keying → List ℕ → List ℕ
+sum_text length name mode input = root_text length name (tree_top input 0 mode)
+
+-- ---- files
+
+-- what a source answers for a name that it doesn't end at: the root of what has it, or why there is none
+abbrev pub Answer : Type 0
+Answer = Result Inputs Reason
+
+-- a name was asked for, and where there is no root, why was told
+abbrev pub IsAnswered : {S : Type 0} → (S → List ℕ → Result Inputs FileFault → S → Type 0) → (S → List ℕ → Reason → S → Type 0) → S → List ℕ → Answer → S → Type 0
+IsAnswered gives tells old name (Ok root) new = gives old name (Ok root) new
+IsAnswered {S} gives tells old name (Err reason) new = (mid : S) × gives old name (Err (Failed reason)) mid × tells mid name reason new
+
+-- A chain of answers, one for each name, in order, each from the state that the one before left.
+abbrev pub AreAnswered : {S : Type 0} → (S → List ℕ → Result Inputs FileFault → S → Type 0) → (S → List ℕ → Reason → S → Type 0) → S → List (List ℕ) → List Answer → S → Type 0
+AreAnswered gives tells old [] [] new = new ≡ old
+AreAnswered {S} gives tells old (name ∷ names) (answer ∷ answers) new = (mid : S) × IsAnswered gives tells old name answer mid × AreAnswered gives tells mid names answers new
+AreAnswered gives tells old [] (answer ∷ answers) new = ⊥
+AreAnswered gives tells old (name ∷ names) [] new = ⊥
+
+-- what is written of an answer: a line where there is a root, and nothing where there is none
+abbrev pub answer_text : Option ℕ → List ℕ → Answer → List ℕ
+answer_text length name (Ok root) = root_text length name root
+answer_text length name (Err reason) = []
+
+-- what is written of answers, those to the names in order
+abbrev pub answers_text : Option ℕ → List (List ℕ) → List Answer → List ℕ
+answers_text length (name ∷ names) (answer ∷ answers) = answer_text length name answer ++ answers_text length names answers
+answers_text length [] answers = []
+answers_text length names [] = []
+
+abbrev pub has_root : Answer → Bool
+has_root (Ok root) = true
+has_root (Err reason) = false
+
+-- good exactly where there is a root for each name
+abbrev pub answers_verdict : List Answer → Verdict
+answers_verdict answers = if list_all has_root answers then Good else Refused
+
+-- good where both are
+abbrev pub both : Verdict → Verdict → Verdict
+both Good second = second
+both Refused second = Refused
+
+-- What stopped it, at a name: the source had no memory for it, or there was a root for it, and no memory for the line or a write that
+-- failed.
+abbrev pub IsStoppedAt : {S : Type 0} → (S → List ℕ → Result Inputs FileFault → S → Type 0) → Cause → S → List ℕ → S → Type 0
+IsStoppedAt gives CannotRead old name new = ⊥
+IsStoppedAt gives CannotWrite old name new = (root : Inputs) × gives old name (Ok root) new
+IsStoppedAt gives OutOfMemory old name new = gives old name (Err NoMemory) new ⊎ ((root : Inputs) × gives old name (Ok root) new)
+
+-- The names before the one that it stopped at were answered, and for want of memory no more than what is written of them was.
+pub record IsSumStopped {S : Type 0} (gives : S → List ℕ → Result Inputs FileFault → S → Type 0) (tells : S → List ℕ → Reason → S → Type 0) (length : Option ℕ) (old : S) (names : List (List ℕ)) (cause : Cause) (new : S) (before after : Option (List ℕ)) : Type 0 where
+  pub front : List (List ℕ)
+  pub name : List ℕ
+  pub back : List (List ℕ)
+  pub answers : List Answer
+  pub mid : S
+  pub all : front ++ name ∷ back ≡ names
+  pub answered : AreAnswered gives tells old front answers mid
+  pub stopped : IsStoppedAt gives cause mid name new
+  pub wrote : cause ≡ OutOfMemory → Appends before after (answers_text length front answers)
+
+-- what the system's files, or another source of some bytes, may answer in a mode: a root is that of some bytes
+abbrev pub IsRootOfSome : Keying → Result Inputs FileFault → Type 0
+IsRootOfSome mode (Ok root) = (bytes : List ℕ) × (root ≡ tree_top bytes 0 mode)
+IsRootOfSome mode (Err fault) = Unit {0}
+
+-- ---- one file
+
+-- a name was answered, what is written of the answer was, and the verdict is on it
+pub record IsSummed {S : Type 0} (gives : S → List ℕ → Result Inputs FileFault → S → Type 0) (tells : S → List ℕ → Reason → S → Type 0) (length : Option ℕ) (old : S) (name : List ℕ) (new : S) (before after : Option (List ℕ)) (verdict : Verdict) : Type 0 where
+  pub answer : Answer
+  pub answered : IsAnswered gives tells old name answer new
+  pub wrote : Appends before after (answer_text length name answer)
+  pub good : verdict ≡ (if has_root answer then Good else Refused)

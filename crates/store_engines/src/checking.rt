@@ -1,26 +1,14 @@
 //! The engine of `check`.
 
-ghost use Rattle.std.specs.Prelude.{◌≡◌, ◌≢◌, ◌↔◌, ℕ, List, IfErr, IfOk, IfSome, OnOk};
+ghost use Rattle.std.specs.Prelude.{◌≡◌, ◌↔◌, ℕ, List, IfErr, IfOk, IfSome, OnOk};
 ghost use Rattle.std.specs.Io.KnownBytes.{Appends, IsAtEnd};
-ghost use Rattle.b3_check.specs.Reports.{report_text};
-ghost use Rattle.store_engines.specs.Checks.{IsAllGood, IsChecked, IsStopped};
+ghost use Rattle.store_engines.specs.Checks.{IsAllGood, IsChecked, IsStopped, IsUntouched};
 
 use crate::streams::read_all;
-use b3_check::{CheckFile, Counts, Names, Report, verify};
-use edge::{Cause, Verdict, write_all};
-use std::alloc::{AllocError, Global};
+use b3_check::{CheckFile, Counts, Names, Shown, verify};
+use edge::{Cause, Verdict};
+use std::alloc::Global;
 use std::io::{Read, Write};
-
-// The text of a report. A vector takes every write that memory is had for.
-fn text_of(alloc: Global, report: &Report) -> Result<Vec<u8>, AllocError>
-    ensures { IfOk result (λ text. text.items ≡ report_text report.now) }
-{
-    let mut text: Vec<u8> = Vec::new(alloc);
-    match report.write(&mut text) {
-        Ok(()) => Ok(text),
-        Err(_) => Err(AllocError),
-    }
-}
 
 fn verdict_of(counts: Counts) -> Verdict
     ensures { (result ≡ Verdict.Good) ↔ IsAllGood counts }
@@ -32,29 +20,32 @@ fn verdict_of(counts: Counts) -> Verdict
     }
 }
 
-/// Verifies a check file, and writes the report.
+/// Verifies a check file, and writes what is shown of the report.
 ///
-/// It reads all its input as a check file, asks the names for the digest of each line without a fault, and then writes
-/// the report on the lines. `Good` where all of them are good.
+/// It reads all its input as a check file, and then asks the names for the digest of each line without a fault. What is shown of a line is
+/// written before it asks for the next, and what is shown of the counts at the end. `Good` where all lines are good.
 ///
-/// It stops at the first read or write that fails, or where memory is refused, to the names too. It writes nothing
-/// before it has read and asked everything.
+/// It stops at the first read or write that fails, or where memory is refused, to the names too. It writes and asks nothing before it has
+/// read everything.
 pub fn check<R: Read, W: Write, N: Names>(
     alloc: Global,
+    shown: Shown,
     names: &mut N,
     reader: &mut R,
     writer: &mut W,
 ) -> Result<Verdict, Cause>
-    ensures checked { IfOk result (λ verdict. IfSome (R.remaining reader.old) (λ input. (text : List ℕ)
-        × IsChecked N.gives names.old input text verdict names.new × Appends (W.contents writer.old) (W.contents writer.new) text)) }
+    ensures checked { IfOk result (λ verdict. IfSome (R.remaining reader.old) (λ input.
+        IsChecked N.gives shown names.old input verdict names.new (W.contents writer.old) (W.contents writer.new))) }
     ensures end { OnOk result (IsAtEnd (R.remaining reader.new)) }
-    ensures stopped { IfErr result (λ cause. IfSome (R.remaining reader.old) (λ input. IsStopped N.gives names.old input cause names.new)) }
-    ensures silent { IfErr result (λ cause. cause ≢ Cause.CannotWrite → W.contents writer.new ≡ W.contents writer.old) }
+    ensures stopped { IfErr result (λ cause. IfSome (R.remaining reader.old) (λ input.
+        IsStopped N.gives shown names.old input cause names.new (W.contents writer.old) (W.contents writer.new))) }
+    ensures silent { IfErr result (IsUntouched names.old names.new (W.contents writer.old) (W.contents writer.new)) }
 {
     let input = read_all(alloc, reader)?;
     let file = CheckFile::read(alloc, &input)?;
-    let report = verify(alloc, &file, names)?;
-    let text = text_of(alloc, &report)?;
-    write_all(writer, &text)?;
-    Ok(verdict_of(report.counts()))
+    let counts = verify(&file, shown, names, writer)?;
+    match writer.flush() {
+        Ok(()) => Ok(verdict_of(counts)),
+        Err(_) => Err(Cause::CannotWrite),
+    }
 }

@@ -3,6 +3,7 @@
 //! | Engine | Reads | Writes |
 //! |---|---|---|
 //! | `sum` | bytes | their check line, or the first bytes of their extended output |
+//! | `sum_files` | what has each of some names | of each the same, as it is known |
 //! | `check` | check lines | of each whether the content of its name has its hash |
 //! | `run` | a script | its answers, from a store of its own |
 //! | `upload` | bytes | their check line and the accounts of an upload by several workers |
@@ -10,7 +11,7 @@
 //! | `migrate` | a journal's text | the text of version 2 of its entries |
 //!
 //! An engine ends by its `Verdict`, or by the `Cause` that stopped it. `SystemFiles` are the names that `check` asks in the
-//! program.
+//! program, and `SystemInputs` the sources of `sum_files`. `read_key` and `read_names` read the key and the names that `sum` takes from files.
 //!
 //! Contracts know what a reader gives and what a writer took where their types tell it, as those of slices and of vectors do. The
 //! texts and verdicts are defined in `specs/`: `Sums`, `Checks`, `Uploads`, `Journals`, `Audits` and `Migrations`; those of a script
@@ -21,7 +22,10 @@ mod auditing;
 mod checking;
 mod files;
 mod journals;
+mod keys;
+mod lists;
 mod migrating;
+mod sources;
 mod streams;
 mod summing;
 mod uploading;
@@ -29,9 +33,12 @@ mod uploading;
 pub use auditing::audit;
 pub use checking::check;
 pub use edge::{Cause, Verdict};
-pub use files::SystemFiles;
+pub use files::{SystemFiles, SystemInputs, fault_of};
+pub use keys::read_key;
+pub use lists::{names_of, read_names};
 pub use migrating::migrate;
+pub use sources::{FileFault, Reason, Sources};
 pub use store_ledger::ALL_PARTS;
 pub use store_script::run;
-pub use summing::sum;
+pub use summing::{SumRequest, sum, sum_files};
 pub use uploading::upload;

@@ -7,20 +7,34 @@ ghost use Rattle.b3_check.specs.Lines.{written_line};
 ghost use Rattle.b3_check.specs.Names.{IsName};
 ghost use Rattle.b3_core.specs.ExtendedOutput.{output_of};
 ghost use Rattle.b3_core.specs.Tree.{tree_top};
-ghost use Rattle.store_engines.specs.Sums.{mode_of, sum_text};
+ghost use Rattle.store_engines.specs.Sums.{Answer, AreAnswered, IsStoppedAt, IsSumStopped, IsSummed, answers_text, answers_verdict, both, mode_of, root_text, sum_text};
 
+use crate::sources::{FileFault, Sources};
 use crate::streams::read_cause;
-use b3_check::Line;
+use b3_check::{Line, Name};
 use b3_core::{Mode, OutputReader, Runtime, Top, Work};
 use b3_parallel::hash_all;
-use edge::{Cause, write_all};
+use edge::{Cause, Verdict, write_all};
 use std::alloc::{AllocError, Global};
 use std::io::{Read, Write};
 use std::thread::Threads;
-use store_command_line::{SumMode, SumOptions};
+use store_command_line::SumMode;
 
-// The mode that the options say.
-fn mode_of(mode: SumMode<'_>, work: &mut Work) -> Mode
+/// How an input is hashed, and what is written of it.
+#[derive(Clone, Copy, Debug)]
+pub struct SumRequest<'a> {
+    /// The name that stands in the check line.
+    pub name: &'a str,
+    /// The mode that the input is hashed in.
+    pub mode: SumMode<'a>,
+    /// How many bytes of the extended output are asked for, in place of the check line.
+    pub length: Option<u32>,
+    /// By how many threads the input is hashed, at most; `None` for as many as there are processors.
+    pub threads: Option<u32>,
+}
+
+/// The mode that the options say.
+pub(crate) fn mode_of(mode: SumMode<'_>, work: &mut Work) -> Mode
     ensures { result ≡ mode_of mode.entry }
 {
     match mode {
@@ -31,17 +45,22 @@ fn mode_of(mode: SumMode<'_>, work: &mut Work) -> Mode
 }
 
 /// The check line of a digest.
-pub(crate) fn line_of(alloc: Global, digest: [u8; 32], name: &str) -> Result<Vec<u8>, AllocError>
+pub(crate) fn line_of(alloc: Global, digest: [u8; 32], name: &[u8]) -> Result<Vec<u8>, AllocError>
     requires { IsName name.now }
     ensures { IfOk result (λ line. line.items ≡ written_line (record { digest = digest; name = name.now })) }
 {
-    let name = Vec::from_slice(alloc, name.as_bytes())?;
+    let name = Vec::from_slice(alloc, name)?;
     let line = Line::new(digest, name).unwrap();
     line.text(alloc)
 }
 
 // The check line of the input of which this is the root.
-fn check_line(alloc: Global, name: &str, root: &Top, work: &mut Work) -> Result<Vec<u8>, AllocError>
+fn check_line(
+    alloc: Global,
+    name: &[u8],
+    root: &Top,
+    work: &mut Work,
+) -> Result<Vec<u8>, AllocError>
     requires { IsName name.now }
     ensures { IfOk result (λ line. line.items ≡ written_line (record { digest = output_of root.now 0 32; name = name.now })) }
 {
@@ -61,28 +80,29 @@ fn output_line(alloc: Global, root: Top, len: u32, work: &mut Work) -> Result<Ve
     Ok(line.into_bytes())
 }
 
-// What `sum` writes of the input of which this is the root.
+// What is written of the input of which this is the root.
 fn text_of(
     alloc: Global,
-    options: &SumOptions<'_>,
+    length: Option<u32>,
+    name: &[u8],
     root: Top,
     work: &mut Work,
 ) -> Result<Vec<u8>, AllocError>
-    requires { IsName options.now.name.now }
-    ensures { (input : List ℕ) → root ≡ tree_top input 0 (mode_of options.now.mode) → IfOk result (λ text. text.items ≡ sum_text options.now input) }
+    requires { IsName name.now }
+    ensures { IfOk result (λ text. text.items ≡ root_text length name.now root) }
 {
-    match options.length {
-        None => check_line(alloc, options.name, &root, work),
+    match length {
+        None => check_line(alloc, name, &root, work),
         Some(len) => output_line(alloc, root, len, work),
     }
 }
 
-/// Writes the hash of all its input, as the options ask for it.
+/// Writes the hash of all its input, as it is asked for.
 ///
-/// Without a length that is the check line with the options' name; with a length it is the digits of so many bytes of the
+/// Without a length that is the check line with the name that is asked for; with a length it is the digits of so many bytes of the
 /// extended output, and a line feed.
 ///
-/// The input is hashed as it is read, by as many threads as the options say, in memory that doesn't grow with it. No thread is left
+/// The input is hashed as it is read, by at most as many threads as are asked for, in memory that doesn't grow with it. No thread is left
 /// at work.
 ///
 /// It stops at the first read or write that fails, or where memory is refused. It writes nothing before it has
@@ -90,22 +110,85 @@ fn text_of(
 pub fn sum<T: Threads + Runtime, R: Read, W: Write>(
     rt: &T,
     alloc: Global,
-    options: &SumOptions<'_>,
+    request: &SumRequest<'_>,
     reader: &mut R,
     writer: &mut W,
     work: &mut Work,
 ) -> Result<(), Cause>
-    requires { IsName options.now.name.now }
+    requires { IsName request.now.name.now }
     ensures written { OnOk result (IfSome (R.remaining reader.old) (λ input.
-        Appends (W.contents writer.old) (W.contents writer.new) (sum_text options.now input))) }
+        Appends (W.contents writer.old) (W.contents writer.new) (sum_text request.now.length request.now.name.now (mode_of request.now.mode) input))) }
     ensures end { OnOk result (IsAtEnd (R.remaining reader.new)) }
     ensures silent { IfErr result (λ cause. cause ≢ Cause.CannotWrite → W.contents writer.new ≡ W.contents writer.old) }
 {
-    let mode = mode_of(options.mode, work);
-    let root = match hash_all(rt, alloc, &mode, reader, options.threads, work) {
+    let mode = mode_of(request.mode, work);
+    let root = match hash_all(rt, alloc, &mode, reader, request.threads, work) {
         Ok(root) => root,
         Err(error) => return Err(read_cause(&error)),
     };
-    let text = text_of(alloc, options, root, work)?;
+    let text = text_of(alloc, request.length, request.name.as_bytes(), root, work)?;
     write_all(writer, &text)
+}
+
+/// Writes the hash of what has each of the names, in order, each when it is known: its check line, or with a length the digits of so many
+/// bytes of the extended output. Where there is no root for a name, the sources are told, nothing is written of it, and the next name is
+/// next. `Good` where there is a root for each.
+///
+/// It stops at the first write that fails, or where memory is refused, to the sources too.
+pub fn sum_files<S: Sources, W: Write>(
+    alloc: Global,
+    length: Option<u32>,
+    names: &[Name],
+    sources: &mut S,
+    writer: &mut W,
+    work: &mut Work,
+) -> Result<Verdict, Cause>
+    ensures summed { IfOk result (λ verdict. (answers : List Answer) × AreAnswered S.gives S.tells sources.old names.now answers sources.new
+        × Appends (W.contents writer.old) (W.contents writer.new) (answers_text length names.now answers) × (verdict ≡ answers_verdict answers)) }
+    ensures stopped { IfErr result (λ cause. IsSumStopped S.gives S.tells length sources.old names.now cause sources.new (W.contents writer.old) (W.contents writer.new)) }
+{
+    let mut verdict = Verdict::Good;
+    for name in names {
+        let found = sum_file(alloc, length, name, sources, writer, work)?;
+        verdict = both(verdict, found);
+    }
+    Ok(verdict)
+}
+
+// Good where both are.
+fn both(first: Verdict, second: Verdict) -> Verdict
+    ensures { result ≡ both first second }
+{
+    match first {
+        Verdict::Good => second,
+        Verdict::Refused => Verdict::Refused,
+    }
+}
+
+// Writes the hash of what has a name, or tells why there is none.
+fn sum_file<S: Sources, W: Write>(
+    alloc: Global,
+    length: Option<u32>,
+    name: &Name,
+    sources: &mut S,
+    writer: &mut W,
+    work: &mut Work,
+) -> Result<Verdict, Cause>
+    ensures summed { IfOk result (IsSummed S.gives S.tells length sources.old name.now sources.new (W.contents writer.old) (W.contents writer.new)) }
+    ensures stopped { IfErr result (λ cause. IsStoppedAt S.gives cause sources.old name.now sources.new) }
+    ensures silent { IfErr result (λ cause. cause ≡ Cause.OutOfMemory → W.contents writer.new ≡ W.contents writer.old) }
+{
+    let bytes = name.as_bytes();
+    match sources.root_of(bytes) {
+        Ok(root) => {
+            let text = text_of(alloc, length, bytes, root, work)?;
+            write_all(writer, &text)?;
+            Ok(Verdict::Good)
+        }
+        Err(FileFault::Failed(reason)) => {
+            sources.tell(bytes, reason);
+            Ok(Verdict::Refused)
+        }
+        Err(FileFault::NoMemory) => Err(Cause::OutOfMemory),
+    }
 }

@@ -107,7 +107,7 @@ fn uploaded_text<L: Ledgers>(
     let Ok(accepted) = locked.settle(&mut share) else {
         unreachable!()
     };
-    let line = line_of(alloc, address.bytes(), "-")?;
+    let line = line_of(alloc, address.bytes(), b"-")?;
     let accepted = accepted_line(alloc, accepted.bytes, accepted.calls)?;
     let entries = journal_part(alloc, journal, locked.store().journal())?;
     joined(line, accepted.as_bytes(), entries.as_slice())

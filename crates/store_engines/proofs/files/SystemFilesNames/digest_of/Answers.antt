@@ -1,7 +1,12 @@
-use Rattle.std.proofs.Common.{rules}
+use Rattle.std.proofs.Common.{◌∙◌, ap, inl, inr}
+use Rattle.b3_core.specs.ExtendedOutput.{output_of}
 use Rattle.b3_core.specs.Modes.{digest_of}
 use Rattle.store_engines.proofs.files.SystemFilesNames.digest_of.Goals as goal
 
-pub returns-in-Ok-hash : goal.returns-in-Ok-hash
+pub returns-in-Ok : goal.returns-in-Ok
 unfolding digest_of
-returns-in-Ok-hash g c = search (rules, c.in-Ok-hash, c.root32.ensures)
+returns-in-Ok g c =
+    let root = c.in-Ok.ensures.root in (
+      (elim c.in-Ok.ensures.utf8 [ inl utf8 ↦ utf8 | inr other ↦ absurd (cc) ], (root.0, c.root32.ensures.bytes ∙ ap (λ top. output_of top 0 32) root.1)),
+      c.in-Ok.ensures.mode,
+    )

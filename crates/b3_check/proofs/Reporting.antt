@@ -1,0 +1,115 @@
+-- Reports, one line longer, and where one ended.
+use Rattle.std.proofs.Common.{◌≡◌, ◌∙◌, ℕ, ◌+◌, ◌<◌, ◌≤◌, Bool, true, false, List, [], ◌∷◌, ◌++◌, Option, cond, length, take, drop, get_or, ap, sym, subst, refl, arith, append_assoc, append-nil, take-append-drop, take_all}
+use Rattle.std.specs.Prelude.{count_by}
+use Rattle.std.specs.List.{flat_map}
+use Rattle.std.specs.Io.KnownBytes.{Appends}
+use Rattle.std.proofs.KnownBytes.{Appends-trans}
+use Rattle.std.proofs.lemmas.Grind.{flat_map-append}
+use Rattle.std.proofs.lemmas.List.{drop_more, take_more}
+use Rattle.std.proofs.lemmas.List.Sums.{sum_by-append}
+use Rattle.edge.specs.declared.outcome.Cause.{Cause}
+use Rattle.edge.specs.declared.outcome.Cause.TheVariants.{CannotRead, CannotWrite, OutOfMemory}
+use Rattle.b3_check.specs.declared.file.NumberedLine.{NumberedLine}
+use Rattle.b3_check.specs.declared.report.Counts.{Counts}
+use Rattle.b3_check.specs.declared.report.Shown.{Shown}
+use Rattle.b3_check.specs.Output.{IsCutOff}
+use Rattle.b3_check.specs.Reports.{Answer, AreWithin, IsAsked, IsBroken, IsEnded, IsLineEnded, IsReport, Verdict, counted, counts_of, is_bad, is_fault, is_good, is_missing, is_unreadable, lines_text, one_more, report_text, shown_counts, shown_line}
+use Rattle.b3_check.proofs.Chain.{IsReport-push}
+use Rattle.b3_check.proofs.CutOffs.{cut_in_first, cut_in_second}
+
+-- ---- counts
+
+count_push : (p : Verdict → Bool) (verdicts : List Verdict) (verdict : Verdict) → count_by p (verdicts ++ verdict ∷ []) ≡ one_more (p verdict) (count_by p verdicts)
+count_push p verdicts verdict = sum_by-append (λ x. cond (p x) 1 0) verdicts (verdict ∷ []) ∙ go (p verdict) (count_by p verdicts)
+  where
+    go : (b : Bool) (n : ℕ) → n + (0 + cond b 1 0) ≡ one_more b n
+    go true n = omega arith
+    go false n = omega arith
+
+counts_push : (verdicts : List Verdict) (verdict : Verdict) → counts_of (verdicts ++ verdict ∷ []) ≡ counted verdict (counts_of verdicts)
+counts_push verdicts verdict =
+    rw (count_push is_good verdicts verdict, count_push is_bad verdicts verdict, count_push is_missing verdicts verdict, count_push is_unreadable verdicts verdict, count_push is_fault verdicts verdict) refl
+
+within_more : (n : ℕ) (verdict : Verdict) (before after : Counts) → after ≡ counted verdict before → AreWithin n before → AreWithin (n + 1) after
+within_more n verdict before after is h = subst (AreWithin (n + 1)) (sym is) (record {
+  good = more (is_good verdict) before.good h.good;
+  bad = more (is_bad verdict) before.bad h.bad;
+  missing = more (is_missing verdict) before.missing h.missing;
+  unreadable = more (is_unreadable verdict) before.unreadable h.unreadable;
+  faults = more (is_fault verdict) before.faults h.faults;
+})
+  where
+    more : (b : Bool) (m : ℕ) → m ≤ n → one_more b m ≤ n + 1
+    more true m le = omega arith
+    more false m le = omega arith
+
+-- ---- one line more
+
+-- what holds behind i lines
+abbrev pub IsUpTo : {S : Type 0} → (S → List ℕ → Answer → S → Type 0) → Shown → S → List NumberedLine → ℕ → S → Counts → Option (List ℕ) → Option (List ℕ) → Type 0
+IsUpTo gives shown old lines i new counts before after =
+    (verdicts : List Verdict) × IsReport gives old (take i lines) verdicts new × (counts ≡ counts_of verdicts) × AreWithin i counts
+    × Appends before after (lines_text shown verdicts)
+
+lines_push : (shown : Shown) (verdicts : List Verdict) (verdict : Verdict) → lines_text shown (verdicts ++ verdict ∷ []) ≡ lines_text shown verdicts ++ shown_line shown verdict
+lines_push shown verdicts verdict =
+    flat_map-append (shown_line shown) verdicts (verdict ∷ []) ∙ ap (λ (text : List ℕ). lines_text shown verdicts ++ text) (append-nil (shown_line shown verdict))
+
+taken : (lines : List NumberedLine) (i : ℕ) (line : NumberedLine) → i < length lines → line ≡ get_or lines i line → take (i + 1) lines ≡ take i lines ++ line ∷ []
+taken lines i line lt is = take_more lines i line lt ∙ ap (λ (l : NumberedLine). take i lines ++ l ∷ []) (sym is)
+
+parted : (lines : List NumberedLine) (i : ℕ) (line : NumberedLine) → i < length lines → line ≡ get_or lines i line → take i lines ++ line ∷ drop (i + 1) lines ≡ lines
+parted lines i line lt is =
+    ap (λ (l : NumberedLine). take i lines ++ l ∷ drop (i + 1) lines) is ∙ ap (λ (ls : List NumberedLine). take i lines ++ ls) (sym (drop_more lines i line lt)) ∙ take-append-drop i lines
+
+pub one_line_more : {S : Type 0} (gives : S → List ℕ → Answer → S → Type 0) (shown : Shown) (old mid new : S) (lines : List NumberedLine) (i : ℕ) (line : NumberedLine) (counts after : Counts) (before grown last : Option (List ℕ))
+    → i < length lines → line ≡ get_or lines i line → IsUpTo gives shown old lines i mid counts before grown → IsAsked gives shown mid line.number line.line new counts after grown last
+    → IsUpTo gives shown old lines (i + 1) new after before last
+one_line_more gives shown old mid new lines i line counts after before grown last lt is h a = (
+  h.0 ++ a.verdict ∷ [],
+  subst (λ (ls : List NumberedLine). IsReport gives old ls (h.0 ++ a.verdict ∷ []) new) (sym (taken lines i line lt is)) (IsReport-push gives old mid new (take i lines) h.0 line a.verdict h.1 a.asked),
+  a.counts ∙ ap (counted a.verdict) h.2 ∙ sym (counts_push h.0 a.verdict),
+  within_more i a.verdict counts after a.counts h.3,
+  subst (Appends before last) (sym (lines_push shown h.0 a.verdict)) (Appends-trans before grown last (lines_text shown h.0) (shown_line shown a.verdict) h.4 a.went),
+)
+
+-- ---- where it ended
+
+pub ended_at : {S : Type 0} (gives : S → List ℕ → Answer → S → Type 0) (shown : Shown) (old mid new : S) (lines : List NumberedLine) (i : ℕ) (line : NumberedLine) (counts : Counts) (before grown last : Option (List ℕ)) (cause : Cause)
+    → i < length lines → line ≡ get_or lines i line → IsUpTo gives shown old lines i mid counts before grown → IsLineEnded gives shown mid line.number line.line cause new grown last
+    → IsEnded gives shown old lines cause new before last
+ended_at gives shown old mid new lines i line counts before grown last CannotRead lt is h e = absurd e
+ended_at gives shown old mid new lines i line counts before grown last CannotWrite lt is h e =
+    let all = h.0 ++ e.0 ∷ [] in
+    let text = shown_counts shown (counts_of all) in record {
+      front = take i lines ++ line ∷ [];
+      back = drop (i + 1) lines;
+      verdicts = all;
+      all = append_assoc (take i lines) (line ∷ []) (drop (i + 1) lines) ∙ parted lines i line lt is;
+      asked = IsReport-push gives old mid new (take i lines) h.0 line e.0 h.1 e.1;
+      went = cut_in_first before last (lines_text shown all) text
+          (subst (IsCutOff before last) (sym (lines_push shown h.0 e.0)) (cut_in_second before grown last (lines_text shown h.0) (shown_line shown e.0) h.4 e.2));
+    }
+ended_at gives shown old mid new lines i line counts before grown last OutOfMemory lt is h e = record {
+  front = take i lines;
+  line = line;
+  back = drop (i + 1) lines;
+  verdicts = h.0;
+  mid = mid;
+  all = parted lines i line lt is;
+  asked = h.1;
+  refused = e.0;
+  went = subst (λ (o : Option (List ℕ)). Appends before o (lines_text shown h.0)) (sym e.1) h.4;
+}
+
+-- a write of the counts failed, behind all lines
+pub broken_behind : {S : Type 0} (gives : S → List ℕ → Answer → S → Type 0) (shown : Shown) (old new : S) (lines : List NumberedLine) (i : ℕ) (counts : Counts) (before grown last : Option (List ℕ))
+    → length lines ≤ i → IsUpTo gives shown old lines i new counts before grown → IsCutOff grown last (shown_counts shown counts) → IsBroken gives shown old lines new before last
+broken_behind gives shown old new lines i counts before grown last le h cut = record {
+  front = take i lines;
+  back = [];
+  verdicts = h.0;
+  all = append-nil (take i lines) ∙ take_all i lines le;
+  asked = h.1;
+  went = cut_in_second before grown last (lines_text shown h.0) (shown_counts shown (counts_of h.0)) h.4 (subst (λ (k : Counts). IsCutOff grown last (shown_counts shown k)) h.2 cut);
+}

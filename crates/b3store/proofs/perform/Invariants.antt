@@ -1,9 +1,0 @@
-use Rattle.b3store.proofs.perform.Given as goal
-
-abbrev pub ghosts-upload : goal.ghosts-upload
-ghosts-upload g a = record {
-  bytes_name = a.bytes.name;
-  bytes_parts = a.bytes.parts;
-  calls_name = a.calls.name;
-  calls_parts = a.calls.parts;
-}

@@ -1,0 +1,174 @@
+//! `sum` and `check`, over standard input and files.
+
+ghost use Rattle.std.specs.Prelude.{All, IfOk};
+ghost use Rattle.b3_check.specs.Names.{IsName};
+ghost use Rattle.store_command_line.specs.Ranges.{IsSumInRange};
+
+use crate::telling::{misused, opened, status, stopped};
+use b3_check::Name;
+use b3_core::{Runtime, Work};
+use std::fs::File;
+use std::io;
+use std::io::{LineWriter, Read};
+use std::rt::Files;
+use std::thread::Threads;
+use store_command_line::{
+    AskedMode, CheckOptions, Input, NameList, SumInputs, SumMode, SumOptions,
+};
+use store_engines::{
+    Cause, SumRequest, SystemFiles, SystemInputs, Verdict, check, names_of, read_key, read_names,
+    sum, sum_files,
+};
+
+// The mode that is asked for, or the status where its key can't be had.
+fn mode_of<'a>(rt: &HostRuntime, asked: AskedMode<'a>) -> Result<SumMode<'a>, u8> {
+    let path = match asked {
+        AskedMode::Known(mode) => return Ok(mode),
+        AskedMode::KeyFile(path) => path,
+    };
+    let mut file = opened(rt, path)?;
+    match read_key(rt.alloc(), &mut file) {
+        Ok(Some(key)) => Ok(SumMode::Keyed(key)),
+        Ok(None) => Err(misused(
+            rt,
+            "--key-file takes a file of 32 bytes or of 64 hexadecimal digits; see b3store sum --help",
+        )),
+        Err(cause) => Err(stopped(rt, cause)),
+    }
+}
+
+// The names that a reader gives, or the status where they can't be had.
+fn names_from<R: Read>(rt: &HostRuntime, reader: &mut R, has_nuls: bool) -> Result<Vec<Name>, u8> {
+    match read_names(rt.alloc(), reader, has_nuls) {
+        Ok(Some(names)) => Ok(names),
+        Ok(None) => Err(misused(
+            rt,
+            "a name in the list has a byte 0; --null takes names that are ended by one",
+        )),
+        Err(cause) => Err(stopped(rt, cause)),
+    }
+}
+
+// The names in a list, or the status where they can't be had.
+fn names_in(rt: &HostRuntime, names: &NameList<'_>) -> Result<Vec<Name>, u8> {
+    match names.list {
+        Input::Standard => names_from(rt, &mut rt.stdin(), names.has_nuls),
+        Input::File(path) => names_from(rt, &mut opened(rt, path)?, names.has_nuls),
+    }
+}
+
+// Writes the hash of standard input.
+fn sum_standard<T: Threads + Runtime>(
+    rt: &HostRuntime,
+    threads: &T,
+    request: &SumRequest<'_>,
+) -> Result<Verdict, Cause>
+    requires { IsName request.now.name.now }
+{
+    let mut work = Work::new(rt);
+    let (mut reader, mut writer) = (rt.stdin(), io::writer(rt));
+    sum(
+        threads,
+        rt.alloc(),
+        request,
+        &mut reader,
+        &mut writer,
+        &mut work,
+    )?;
+    Ok(Verdict::Good)
+}
+
+// Writes the hash of what has each name.
+fn sum_named<T: Threads + Runtime + Files<File = File> + AllocGlobal>(
+    rt: &HostRuntime,
+    threads: &T,
+    mode: SumMode<'_>,
+    options: &SumOptions<'_>,
+    names: &[Name],
+) -> Result<Verdict, Cause> {
+    let Ok(mut writer) = LineWriter::new(rt.alloc(), io::writer(rt)) else {
+        return Err(Cause::OutOfMemory);
+    };
+    let files = SystemFiles::new(threads, mode, options.threads);
+    let mut inputs = SystemInputs::new(files, rt.stdin(), rt.stderr());
+    let mut work = Work::new(rt);
+    sum_files(
+        rt.alloc(),
+        options.length,
+        names,
+        &mut inputs,
+        &mut writer,
+        &mut work,
+    )
+}
+
+// The status of `sum`, or that of what it needs and can't have.
+fn summed<T: Threads + Runtime + Files<File = File> + AllocGlobal>(
+    rt: &HostRuntime,
+    threads: &T,
+    options: &SumOptions<'_>,
+) -> Result<u8, u8>
+    requires { IsSumInRange options.now }
+{
+    let mode = mode_of(rt, options.mode)?;
+    let names = match &options.inputs {
+        SumInputs::Standard(name) => {
+            let request = SumRequest {
+                name,
+                mode,
+                length: options.length,
+                threads: options.threads,
+            };
+            return Ok(status(rt, sum_standard(rt, threads, &request)));
+        }
+        SumInputs::Named(words) => match names_of(rt.alloc(), words.as_slice()) {
+            Ok(names) => names,
+            Err(_) => return Err(stopped(rt, Cause::OutOfMemory)),
+        },
+        SumInputs::Listed(names) => names_in(rt, names)?,
+    };
+    Ok(status(rt, sum_named(rt, threads, mode, options, names.as_slice())))
+}
+
+/// The status of `sum`.
+pub(crate) fn sum_status<T: Threads + Runtime + Files<File = File> + AllocGlobal>(
+    rt: &HostRuntime,
+    threads: &T,
+    options: &SumOptions<'_>,
+) -> u8
+    requires { IsSumInRange options.now }
+{
+    match summed(rt, threads, options) {
+        Ok(status) => status,
+        Err(status) => status,
+    }
+}
+
+// Verifies the check lines that a reader gives.
+fn checked<T: Threads + Runtime + Files<File = File> + AllocGlobal, R: Read>(
+    rt: &HostRuntime,
+    threads: &T,
+    options: &CheckOptions<'_>,
+    reader: &mut R,
+) -> Result<Verdict, Cause> {
+    let Ok(mut writer) = LineWriter::new(rt.alloc(), io::writer(rt)) else {
+        return Err(Cause::OutOfMemory);
+    };
+    let mut names = SystemFiles::new(threads, SumMode::Hash, options.threads);
+    check(rt.alloc(), options.shown, &mut names, reader, &mut writer)
+}
+
+/// The status of `check`.
+pub(crate) fn check_status<T: Threads + Runtime + Files<File = File> + AllocGlobal>(
+    rt: &HostRuntime,
+    threads: &T,
+    options: &CheckOptions<'_>,
+) -> u8 {
+    match options.list {
+        Input::Standard => status(rt, checked(rt, threads, options, &mut rt.stdin())),
+        Input::File(path) => match opened(rt, path) {
+            Ok(mut file) => status(rt, checked(rt, threads, options, &mut file)),
+            Err(status) => status,
+        },
+    }
+}

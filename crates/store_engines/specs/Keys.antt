@@ -1,0 +1,17 @@
+-- Keys in files.
+use Rattle.std.specs.Prelude.{◌==◌, ℕ, List, Option, Some, None, Result, Ok, Err, length, take, slice_index, if◌then◌else◌}
+use Rattle.edge.specs.Lines.{line_feed}
+use Rattle.hex.specs.Hex.{decode_sized}
+use Rattle.hex.specs.declared.error.FromHexError.{FromHexError}
+
+-- the digits, without the line feed that may stand behind 64 of them
+abbrev pub without_feed : List ℕ → List ℕ
+without_feed text = if length text == 65 then (if slice_index text 64 == line_feed then take 64 text else text) else text
+
+abbrev pub decoded : Result (List ℕ) FromHexError → Option (List ℕ)
+decoded (Ok key) = Some key
+decoded (Err fault) = None
+
+-- the key that a text is: 32 bytes as they stand, or 64 digits
+abbrev pub key_at : List ℕ → Option (List ℕ)
+key_at text = if length text == 32 then Some text else decoded (decode_sized (without_feed text) 32)

@@ -1,0 +1,23 @@
+-- Names in lists.
+use Rattle.std.specs.Prelude.{◌==◌, ℕ, Bool, true, false, List, [], ◌∷◌, ◌++◌, Option, Some, None, length, option_map, if◌then◌else◌}
+use Rattle.edge.specs.Lines.{line_feed}
+use Rattle.b3_check.specs.Names.{has_nul}
+
+-- a name in front of others, unless it is empty; there are none where it has a byte 0
+abbrev pub in_front : List ℕ → Option (List (List ℕ)) → Option (List (List ℕ))
+in_front name others =
+    if length name == 0 then others
+    else if has_nul name then None
+    else option_map (λ names. name ∷ names) others
+
+-- the names that are ended by a byte, of which the first has this front
+unfoldable pub names_from : ℕ → List ℕ → List ℕ → Option (List (List ℕ))
+names_from end front [] = in_front front (Some [])
+names_from end front (b ∷ bytes) = if b == end then in_front front (names_from end [] bytes) else names_from end (front ++ b ∷ []) bytes
+
+abbrev pub end_of : Bool → ℕ
+end_of has_nuls = if has_nuls then 0 else line_feed
+
+-- the names in a list
+abbrev pub names_at : Bool → List ℕ → Option (List (List ℕ))
+names_at has_nuls text = names_from (end_of has_nuls) [] text

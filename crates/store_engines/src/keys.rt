@@ -1,0 +1,48 @@
+//! Reading a key from a file.
+
+ghost use Rattle.std.specs.Prelude.{◌≡◌, IfOk, IfSome};
+ghost use Rattle.store_engines.specs.Keys.{key_at, without_feed};
+
+use crate::streams::read_all;
+use edge::Cause;
+use hex::FromHex;
+use std::alloc::Global;
+use std::io::Read;
+
+/// The key that all input is: 32 bytes as they stand, or 64 hexadecimal digits of either case, behind which one line feed may stand.
+/// `None` where it is neither.
+pub fn read_key<R: Read>(alloc: Global, reader: &mut R) -> Result<Option<[u8; 32]>, Cause>
+    ensures { IfOk result (λ key. IfSome (R.remaining reader.old) (λ text. key ≡ key_at text)) }
+{
+    let text = read_all(alloc, reader)?;
+    Ok(key_of(text.as_slice()))
+}
+
+// The key that a text is.
+fn key_of(text: &[u8]) -> Option<[u8; 32]>
+    ensures { result ≡ key_at text.now }
+{
+    if text.len() == 32 {
+        let mut key = [0; 32];
+        key.copy_from_slice(text);
+        return Some(key);
+    }
+    match <[u8; 32] as FromHex>::from_hex(without_feed(text)) {
+        Ok(key) => Some(key),
+        Err(_) => None,
+    }
+}
+
+// The digits, without the line feed that may stand behind 64 of them.
+fn without_feed(text: &[u8]) -> &[u8]
+    ensures { result.now ≡ without_feed text.now }
+{
+    if text.len() != 65 {
+        return text;
+    }
+    if text[64] != b'\n' {
+        return text;
+    }
+    let (digits, _) = text.split_at(64);
+    digits
+}
