@@ -26,6 +26,10 @@ sum_line =
 abbrev pub run_line : App
 run_line = new_app (codes "run")
 
+-- `serve`
+abbrev pub serve_line : App
+serve_line = new_app (codes "serve")
+
 -- `upload [--workers W] [--part-chunks P] [--journal]`
 abbrev pub upload_line : App
 upload_line =
@@ -46,7 +50,7 @@ migrate_line = new_app (codes "migrate")
 
 -- the program's line with the subcommands that hash and store
 abbrev pub storing_line : App
-storing_line = with_subcommand (with_subcommand (with_subcommand (new_app (codes "b3store")) sum_line.top) run_line.top) upload_line.top
+storing_line = with_subcommand (with_subcommand (with_subcommand (with_subcommand (new_app (codes "b3store")) sum_line.top) run_line.top) serve_line.top) upload_line.top
 
 -- and with those that read reports and journals
 abbrev pub command_line : App

@@ -3,7 +3,7 @@
 ghost use Rattle.std.specs.Prelude.{◌≡◌, IfOk, codes, false};
 ghost use Rattle.clap.specs.Words.{app_of, rule_of};
 ghost use Rattle.clap.specs.declared.builder.command.Command.TheViews.{out-Command as fields_of};
-ghost use Rattle.store_command_line.specs.CommandLine.{value_rule, flag_rule, sum_line, run_line, upload_line, check_line, audit_line, migrate_line, storing_line, command_line, number_rule};
+ghost use Rattle.store_command_line.specs.CommandLine.{value_rule, flag_rule, sum_line, run_line, serve_line, upload_line, check_line, audit_line, migrate_line, storing_line, command_line, number_rule};
 
 use clap::{Arg, ArgAction, Command, value_parser};
 use std::alloc::{AllocError, Global};
@@ -56,6 +56,14 @@ fn run_command<'a>(alloc: Global) -> Command<'a>
     Command::new(alloc, "run").about(
         "Read a script of commands for a store, and write each one's answer when it was read",
     )
+}
+
+fn serve_command<'a>(alloc: Global) -> Command<'a>
+    ensures shape { app_of result ≡ serve_line }
+    ensures local { (fields_of result).has_globals ≡ false }
+{
+    Command::new(alloc, "serve")
+        .about("Answer a program's commands for a store line by line, with raw bytes behind them")
 }
 
 // An option `--ID` without a value.
@@ -136,7 +144,8 @@ fn storing_program<'a>(alloc: Global) -> Result<Command<'a>, AllocError>
     let program = Command::new(alloc, "b3store")
         .about("A content-addressed store: objects under their BLAKE3 hash")
         .subcommand(sum)?
-        .subcommand(run_command(alloc))?;
+        .subcommand(run_command(alloc))?
+        .subcommand(serve_command(alloc))?;
     let upload = upload_command(alloc)?;
     program.subcommand(upload)
 }
