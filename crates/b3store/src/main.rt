@@ -10,7 +10,7 @@ use b3_core::{Runtime, Work};
 use inputs::{check_status, sum_status};
 use std::fs::File;
 use std::io;
-use std::io::{BufReader, ErrorKind};
+use std::io::{BufReader, BufWriter, ErrorKind};
 use std::marker::Brand;
 use std::process::ExitCode;
 use std::rt::Files;
@@ -18,8 +18,11 @@ use std::sync::Wait;
 use std::sync::ledger::Blank;
 use std::thread::Threads;
 use store_command_line::{Fault, Options, UploadOptions, options};
-use store_engines::{ALL_PARTS, Cause, Verdict, audit, migrate, run, upload};
+use store_engines::{ALL_PARTS, Cause, Verdict, audit, migrate, run, serve, upload};
 use telling::{GOOD, USAGE, status, stopped};
+
+// How many bytes a session reads at a time.
+const AT_A_TIME: usize = 1 << 16;
 
 // The words of the command line. The system's words may be any bytes; those that are not UTF-8 are a usage fault.
 fn words_of(rt: &HostRuntime) -> Result<Vec<String>, Fault> {
@@ -40,8 +43,23 @@ fn answered(rt: &HostRuntime) -> Result<Verdict, Cause> {
     let Ok(mut lines) = BufReader::new(rt.alloc(), rt.stdin()) else {
         return Err(Cause::OutOfMemory);
     };
+    let Ok(mut answers) = BufWriter::new(rt.alloc(), io::writer(rt)) else {
+        return Err(Cause::OutOfMemory);
+    };
     let mut work = Work::new(rt);
-    run(rt.alloc(), &mut lines, &mut io::writer(rt), &mut work)
+    run(rt.alloc(), &mut lines, &mut answers, &mut work)
+}
+
+// Serves a session over standard input and output.
+fn served(rt: &HostRuntime) -> Result<Verdict, Cause> {
+    let Ok(mut lines) = BufReader::with_capacity(rt.alloc(), AT_A_TIME, rt.stdin()) else {
+        return Err(Cause::OutOfMemory);
+    };
+    let Ok(mut answers) = BufWriter::new(rt.alloc(), io::writer(rt)) else {
+        return Err(Cause::OutOfMemory);
+    };
+    let mut work = Work::new(rt);
+    serve(rt.alloc(), &mut lines, &mut answers, &mut work)
 }
 
 // Uploads standard input.
@@ -76,6 +94,7 @@ fn perform<T: Threads + Wait + Sync + Runtime + Files<File = File> + AllocGlobal
     match options {
         Options::Sum(options) => sum_status(rt, threads, options),
         Options::Run => status(rt, answered(rt)),
+        Options::Serve => status(rt, served(rt)),
         Options::Upload(options) => status(rt, uploaded(rt, threads, *options)),
         Options::Check(options) => check_status(rt, threads, options),
         Options::Audit => status(rt, audit(alloc, &mut reader, &mut writer)),

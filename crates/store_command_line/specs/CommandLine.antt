@@ -51,6 +51,10 @@ sum_line = with_output (with_mode (with_list (with_names (new_app (codes "sum"))
 abbrev pub run_line : App
 run_line = new_app (codes "run")
 
+-- `serve`
+abbrev pub serve_line : App
+serve_line = new_app (codes "serve")
+
 -- `upload [--workers W] [--part-chunks P] [--journal]`
 abbrev pub upload_line : App
 upload_line =
@@ -79,7 +83,7 @@ program_line = let bare = new_app (codes "b3store") in record bare { top = recor
 
 -- and with the subcommands that hash and store
 abbrev pub storing_line : App
-storing_line = with_subcommand (with_subcommand (with_subcommand program_line sum_line.top) run_line.top) upload_line.top
+storing_line = with_subcommand (with_subcommand (with_subcommand (with_subcommand program_line sum_line.top) run_line.top) serve_line.top) upload_line.top
 
 -- and with those that read reports and journals
 abbrev pub command_line : App

@@ -2,7 +2,7 @@
 use Rattle.std.specs.Prelude.{◌≤◌, ℕ, All, IfSome}
 use Rattle.b3_check.specs.Names.{IsName}
 use Rattle.store_command_line.specs.declared.said.Options.{Options}
-use Rattle.store_command_line.specs.declared.said.Options.TheVariants.{Sum, Run, Upload, Check, Audit, Migrate}
+use Rattle.store_command_line.specs.declared.said.Options.TheVariants.{Sum, Run, Serve, Upload, Check, Audit, Migrate}
 use Rattle.store_command_line.specs.declared.said.SumInputs.{SumInputs}
 use Rattle.store_command_line.specs.declared.said.SumInputs.TheVariants.{Standard, Named, Listed}
 use Rattle.store_command_line.specs.declared.said.SumOptions.{SumOptions}
@@ -29,6 +29,7 @@ IsSumInRange o = AreNamed o.inputs × IfSome o.length (IsWithin 65536) × IfSome
 abbrev pub InRange : Options → Type 0
 InRange (Sum o) = IsSumInRange o
 InRange Run = Unit {0}
+InRange Serve = Unit {0}
 InRange (Upload o) = AreWithin o
 InRange (Check o) = IfSome o.threads (IsWithin 16)
 InRange Audit = Unit {0}

@@ -13,7 +13,7 @@ use Rattle.store_command_line.specs.declared.said.Fault.TheVariants.{NoMemory}
 use Rattle.store_command_line.specs.declared.said.Input.{Input}
 use Rattle.store_command_line.specs.declared.said.Input.TheVariants as inputs
 use Rattle.store_command_line.specs.declared.said.Options.{Options}
-use Rattle.store_command_line.specs.declared.said.Options.TheVariants.{Sum, Run, Upload, Check, Audit, Migrate}
+use Rattle.store_command_line.specs.declared.said.Options.TheVariants.{Sum, Run, Serve, Upload, Check, Audit, Migrate}
 use Rattle.store_command_line.specs.declared.said.SumInputs.{SumInputs}
 use Rattle.store_command_line.specs.declared.said.SumInputs.TheVariants.{Standard, Named, Listed}
 use Rattle.store_command_line.specs.declared.said.SumMode.{SumMode}
@@ -108,6 +108,7 @@ pub record SaysCheck (o : CheckOptions) (rows : List Row) : Type 0 where
 abbrev pub Says : Options → Option (Text × List Row) → Type 0
 Says (Sum o) found = (rows : List Row) × (found ≡ Some (codes "sum", rows)) × SaysSum o rows
 Says Run found = (rows : List Row) × (found ≡ Some (codes "run", rows))
+Says Serve found = (rows : List Row) × (found ≡ Some (codes "serve", rows))
 Says (Upload o) found = (rows : List Row) × (found ≡ Some (codes "upload", rows)) × SaysUpload o rows
 Says (Check o) found = (rows : List Row) × (found ≡ Some (codes "check", rows)) × SaysCheck o rows
 Says Audit found = (rows : List Row) × (found ≡ Some (codes "audit", rows))

@@ -3,7 +3,7 @@
 ghost use Rattle.std.specs.Prelude.{◌≡◌, IfOk, codes, false};
 ghost use Rattle.clap.specs.Words.{app_of, new_app, rule_of};
 ghost use Rattle.clap.specs.declared.builder.command.Command.TheViews.{out-Command as fields_of};
-ghost use Rattle.store_command_line.specs.CommandLine.{value_rule, flag_rule, short_flag_rule, word_rule, words_rule, program_line, with_list, with_mode, with_names, with_output, with_shown, sum_line, run_line, upload_line, check_line, audit_line, migrate_line, storing_line, command_line, number_rule};
+ghost use Rattle.store_command_line.specs.CommandLine.{value_rule, flag_rule, short_flag_rule, word_rule, words_rule, program_line, with_list, with_mode, with_names, with_output, with_shown, sum_line, run_line, serve_line, upload_line, check_line, audit_line, migrate_line, storing_line, command_line, number_rule};
 
 use clap::{Arg, ArgAction, Command, value_parser};
 use std::alloc::{AllocError, Global};
@@ -143,6 +143,14 @@ fn run_command<'a>(alloc: Global) -> Command<'a>
         .after_help(script_commands())
 }
 
+fn serve_command<'a>(alloc: Global) -> Command<'a>
+    ensures shape { app_of result ≡ serve_line }
+    ensures local { (fields_of result).has_globals ≡ false }
+{
+    Command::new(alloc, "serve")
+        .about("Answer a program's commands for a store line by line, with raw bytes behind them")
+}
+
 // An option `--ID` without a value.
 fn flag_argument<'a>(alloc: Global, id: &'a str, help: &'a str) -> Arg<'a>
     ensures rule { rule_of result ≡ flag_rule id.entry.now }
@@ -258,7 +266,8 @@ fn storing_program<'a>(alloc: Global) -> Result<Command<'a>, AllocError>
     let sum = sum_command(alloc)?;
     let program = bare_program(alloc)
         .subcommand(sum)?
-        .subcommand(run_command(alloc))?;
+        .subcommand(run_command(alloc))?
+        .subcommand(serve_command(alloc))?;
     let upload = upload_command(alloc)?;
     program.subcommand(upload)
 }

@@ -97,6 +97,8 @@ pub enum Options<'a> {
     Sum(SumOptions<'a>),
     /// `run`.
     Run,
+    /// `serve`.
+    Serve,
     /// `upload`.
     Upload(UploadOptions),
     /// `check`.

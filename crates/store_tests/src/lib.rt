@@ -12,6 +12,8 @@ mod journal_writers;
 #[cfg(test)]
 mod memory;
 #[cfg(test)]
+mod questions;
+#[cfg(test)]
 mod replay;
 #[cfg(test)]
 mod store;
