@@ -81,9 +81,13 @@ migrate_line = new_app (codes "migrate")
 abbrev pub program_line : App
 program_line = let bare = new_app (codes "b3store") in record bare { top = record bare.top { has_version = true } }
 
--- and with the subcommands that hash and store
+-- and with the subcommands that hash an input and answer lines
+abbrev pub answering_line : App
+answering_line = with_subcommand (with_subcommand (with_subcommand program_line sum_line.top) run_line.top) serve_line.top
+
+-- and with the one that stores an input
 abbrev pub storing_line : App
-storing_line = with_subcommand (with_subcommand (with_subcommand (with_subcommand program_line sum_line.top) run_line.top) serve_line.top) upload_line.top
+storing_line = with_subcommand answering_line upload_line.top
 
 -- and with those that read reports and journals
 abbrev pub command_line : App

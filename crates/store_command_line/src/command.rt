@@ -3,7 +3,7 @@
 ghost use Rattle.std.specs.Prelude.{◌≡◌, IfOk, codes, false};
 ghost use Rattle.clap.specs.Words.{app_of, new_app, rule_of};
 ghost use Rattle.clap.specs.declared.builder.command.Command.TheViews.{out-Command as fields_of};
-ghost use Rattle.store_command_line.specs.CommandLine.{value_rule, flag_rule, short_flag_rule, word_rule, words_rule, program_line, with_list, with_mode, with_names, with_output, with_shown, sum_line, run_line, serve_line, upload_line, check_line, audit_line, migrate_line, storing_line, command_line, number_rule};
+ghost use Rattle.store_command_line.specs.CommandLine.{value_rule, flag_rule, short_flag_rule, word_rule, words_rule, program_line, with_list, with_mode, with_names, with_output, with_shown, sum_line, run_line, serve_line, upload_line, check_line, audit_line, migrate_line, answering_line, storing_line, command_line, number_rule};
 
 use clap::{Arg, ArgAction, Command, value_parser};
 use std::alloc::{AllocError, Global};
@@ -147,8 +147,9 @@ fn serve_command<'a>(alloc: Global) -> Command<'a>
     ensures shape { app_of result ≡ serve_line }
     ensures local { (fields_of result).has_globals ≡ false }
 {
-    Command::new(alloc, "serve")
-        .about("Answer a program's commands for a store line by line, with raw bytes behind them")
+    Command::new(alloc, "serve").about(
+        "Answer a program's commands for a store line by line, with raw bytes behind them",
+    )
 }
 
 // An option `--ID` without a value.
@@ -258,16 +259,24 @@ fn bare_program<'a>(alloc: Global) -> Command<'a>
         .version(version())
 }
 
-// The program's command with the subcommands that hash and store.
+// The program's command with the subcommands that hash an input and answer lines.
+fn answering_program<'a>(alloc: Global) -> Result<Command<'a>, AllocError>
+    ensures shape { IfOk result (λ c. app_of c ≡ answering_line) }
+    ensures local { IfOk result (λ c. (fields_of c).has_globals ≡ false) }
+{
+    let sum = sum_command(alloc)?;
+    bare_program(alloc)
+        .subcommand(sum)?
+        .subcommand(run_command(alloc))?
+        .subcommand(serve_command(alloc))
+}
+
+// The same with the one that stores an input.
 fn storing_program<'a>(alloc: Global) -> Result<Command<'a>, AllocError>
     ensures shape { IfOk result (λ c. app_of c ≡ storing_line) }
     ensures local { IfOk result (λ c. (fields_of c).has_globals ≡ false) }
 {
-    let sum = sum_command(alloc)?;
-    let program = bare_program(alloc)
-        .subcommand(sum)?
-        .subcommand(run_command(alloc))?
-        .subcommand(serve_command(alloc))?;
+    let program = answering_program(alloc)?;
     let upload = upload_command(alloc)?;
     program.subcommand(upload)
 }

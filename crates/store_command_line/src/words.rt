@@ -46,9 +46,8 @@ fn error_text<S: AsStr>(alloc: Global, error: &Error, words: &[S]) -> Result<Str
         return Ok(text);
     };
     match words.get(1).map(|word| word.as_str()) {
-        Some(name @ ("sum" | "run" | "serve" | "upload" | "check" | "audit" | "migrate")) => format!(in alloc;
-            "{front}'b3store {name} --help'.\n"
-        ),
+        Some(name @ ("sum" | "run" | "serve" | "upload" | "check" | "audit" | "migrate")) =>
+            format!(in alloc; "{front}'b3store {name} --help'.\n"),
         _ => format!(in alloc; "{front}'b3store --help'.\n"),
     }
 }
