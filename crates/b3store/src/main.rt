@@ -6,7 +6,7 @@ ghost use Rattle.store_command_line.specs.Ranges.{InRange};
 use b3_core::{Runtime, Work};
 use std::fs::File;
 use std::io;
-use std::io::{BufReader, ErrorKind};
+use std::io::{BufReader, BufWriter, ErrorKind};
 use std::marker::Brand;
 use std::process::ExitCode;
 use std::rt::Files;
@@ -15,7 +15,7 @@ use std::sync::ledger::Blank;
 use std::thread::Threads;
 use store_command_line::{Fault, Options, options};
 use store_engines::{
-    ALL_PARTS, Cause, SystemFiles, Verdict, audit, check, migrate, run, sum, upload,
+    ALL_PARTS, Cause, SystemFiles, Verdict, audit, check, migrate, run, serve, sum, upload,
 };
 
 const GOOD: u8 = 0;
@@ -25,6 +25,9 @@ const REFUSED: u8 = 1;
 const USAGE: u8 = 2;
 
 const STOPPED: u8 = 3;
+
+// How many bytes a session reads at a time.
+const AT_A_TIME: usize = 1 << 16;
 
 // The words of the command line. The system's words may be any bytes; those that are not UTF-8 are a usage fault.
 fn words_of(rt: &HostRuntime) -> Result<Vec<String>, Fault> {
@@ -73,8 +76,21 @@ fn perform<T: Threads + Wait + Sync + Runtime + Files<File = File> + AllocGlobal
             let Ok(mut lines) = BufReader::new(alloc, reader) else {
                 return Err(Cause::OutOfMemory);
             };
+            let Ok(mut answers) = BufWriter::new(alloc, writer) else {
+                return Err(Cause::OutOfMemory);
+            };
             let mut work = Work::new(rt);
-            Ok(status_of(run(alloc, &mut lines, &mut writer, &mut work)?))
+            Ok(status_of(run(alloc, &mut lines, &mut answers, &mut work)?))
+        }
+        Options::Serve => {
+            let Ok(mut lines) = BufReader::with_capacity(alloc, AT_A_TIME, reader) else {
+                return Err(Cause::OutOfMemory);
+            };
+            let Ok(mut answers) = BufWriter::new(alloc, writer) else {
+                return Err(Cause::OutOfMemory);
+            };
+            let mut work = Work::new(rt);
+            Ok(status_of(serve(alloc, &mut lines, &mut answers, &mut work)?))
         }
         Options::Upload(options) => Ok(status_of(upload::<Brand, _, _, _>(
             threads,

@@ -26,6 +26,10 @@ sum_line =
 abbrev pub run_line : App
 run_line = new_app (codes "run")
 
+-- `serve`
+abbrev pub serve_line : App
+serve_line = new_app (codes "serve")
+
 -- `upload [--workers W] [--part-chunks P] [--journal]`
 abbrev pub upload_line : App
 upload_line =
@@ -48,9 +52,13 @@ migrate_line = new_app (codes "migrate")
 abbrev pub storing_line : App
 storing_line = with_subcommand (with_subcommand (with_subcommand (new_app (codes "b3store")) sum_line.top) run_line.top) upload_line.top
 
+-- and with that which serves
+abbrev pub serving_line : App
+serving_line = with_subcommand storing_line serve_line.top
+
 -- and with those that read reports and journals
 abbrev pub command_line : App
-command_line = with_subcommand (with_subcommand (with_subcommand storing_line check_line.top) audit_line.top) migrate_line.top
+command_line = with_subcommand (with_subcommand (with_subcommand serving_line check_line.top) audit_line.top) migrate_line.top
 
 -- clap finds no fault in the words, of which the first is the program's name
 unfoldable pub IsTaken : List Text → Type 0

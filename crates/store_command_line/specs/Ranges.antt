@@ -2,7 +2,7 @@
 use Rattle.std.specs.Prelude.{◌≤◌, ℕ, IfSome}
 use Rattle.b3_check.specs.Names.{IsName}
 use Rattle.store_command_line.specs.declared.said.Options.{Options}
-use Rattle.store_command_line.specs.declared.said.Options.TheVariants.{Sum, Run, Upload, Check, Audit, Migrate}
+use Rattle.store_command_line.specs.declared.said.Options.TheVariants.{Sum, Run, Serve, Upload, Check, Audit, Migrate}
 use Rattle.store_command_line.specs.declared.said.UploadOptions.{UploadOptions}
 
 -- from 1 to `most`
@@ -17,6 +17,7 @@ AreWithin o = IsWithin 16 o.workers × IsWithin 16384 o.part_chunks
 abbrev pub InRange : Options → Type 0
 InRange (Sum o) = IsName o.name.now × IfSome o.length (IsWithin 65536) × IfSome o.threads (IsWithin 16)
 InRange Run = Unit {0}
+InRange Serve = Unit {0}
 InRange (Upload o) = AreWithin o
 InRange (Check o) = IfSome o.threads (IsWithin 16)
 InRange Audit = Unit {0}

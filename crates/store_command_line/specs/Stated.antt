@@ -7,7 +7,7 @@ use Rattle.store_command_line.specs.declared.said.CheckOptions.{CheckOptions}
 use Rattle.store_command_line.specs.declared.said.Fault.{Fault}
 use Rattle.store_command_line.specs.declared.said.Fault.TheVariants.{NoMemory}
 use Rattle.store_command_line.specs.declared.said.Options.{Options}
-use Rattle.store_command_line.specs.declared.said.Options.TheVariants.{Sum, Run, Upload, Check, Audit, Migrate}
+use Rattle.store_command_line.specs.declared.said.Options.TheVariants.{Sum, Run, Serve, Upload, Check, Audit, Migrate}
 use Rattle.store_command_line.specs.declared.said.SumMode.{SumMode}
 use Rattle.store_command_line.specs.declared.said.SumMode.TheVariants.{Hash, Keyed, Derive}
 use Rattle.store_command_line.specs.declared.said.SumOptions.{SumOptions}
@@ -63,6 +63,7 @@ pub record SaysCheck (o : CheckOptions) (rows : List Row) : Type 0 where
 abbrev pub Says : Options → Option (Text × List Row) → Type 0
 Says (Sum o) found = (rows : List Row) × (found ≡ Some (codes "sum", rows)) × SaysSum o rows
 Says Run found = (rows : List Row) × (found ≡ Some (codes "run", rows))
+Says Serve found = (rows : List Row) × (found ≡ Some (codes "serve", rows))
 Says (Upload o) found = (rows : List Row) × (found ≡ Some (codes "upload", rows)) × SaysUpload o rows
 Says (Check o) found = (rows : List Row) × (found ≡ Some (codes "check", rows)) × SaysCheck o rows
 Says Audit found = (rows : List Row) × (found ≡ Some (codes "audit", rows))

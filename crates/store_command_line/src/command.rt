@@ -3,7 +3,7 @@
 ghost use Rattle.std.specs.Prelude.{◌≡◌, IfOk, codes, false};
 ghost use Rattle.clap.specs.Words.{app_of, rule_of};
 ghost use Rattle.clap.specs.declared.builder.command.Command.TheViews.{out-Command as fields_of};
-ghost use Rattle.store_command_line.specs.CommandLine.{value_rule, flag_rule, sum_line, run_line, upload_line, check_line, audit_line, migrate_line, storing_line, command_line, number_rule};
+ghost use Rattle.store_command_line.specs.CommandLine.{value_rule, flag_rule, sum_line, run_line, serve_line, serving_line, upload_line, check_line, audit_line, migrate_line, storing_line, command_line, number_rule};
 
 use clap::{Arg, ArgAction, Command, value_parser};
 use std::alloc::{AllocError, Global};
@@ -55,6 +55,15 @@ fn run_command<'a>(alloc: Global) -> Command<'a>
 {
     Command::new(alloc, "run").about(
         "Read a script of commands for a store, and write each one's answer when it was read",
+    )
+}
+
+fn serve_command<'a>(alloc: Global) -> Command<'a>
+    ensures shape { app_of result ≡ serve_line }
+    ensures local { (fields_of result).has_globals ≡ false }
+{
+    Command::new(alloc, "serve").about(
+        "Answer a program's commands for a store line by line, with raw bytes behind them",
     )
 }
 
@@ -141,12 +150,21 @@ fn storing_program<'a>(alloc: Global) -> Result<Command<'a>, AllocError>
     program.subcommand(upload)
 }
 
+// And with that which serves.
+fn serving_program<'a>(alloc: Global) -> Result<Command<'a>, AllocError>
+    ensures shape { IfOk result (λ c. app_of c ≡ serving_line) }
+    ensures local { IfOk result (λ c. (fields_of c).has_globals ≡ false) }
+{
+    let program = storing_program(alloc)?;
+    program.subcommand(serve_command(alloc))
+}
+
 /// The command line of the program.
 pub(crate) fn program<'a>(alloc: Global) -> Result<Command<'a>, AllocError>
     ensures shape { IfOk result (λ c. app_of c ≡ command_line) }
     ensures local { IfOk result (λ c. (fields_of c).has_globals ≡ false) }
 {
-    let program = storing_program(alloc)?;
+    let program = serving_program(alloc)?;
     let check = check_command(alloc)?;
     program
         .subcommand(check)?

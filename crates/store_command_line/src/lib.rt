@@ -7,6 +7,7 @@
 //! |---|---|
 //! | `sum` | `--name NAME`, `--key HEX64` or `--context TEXT`, `--length N` with N from 1 to 65536, `--threads T` with T from 1 to 16 |
 //! | `run` | |
+//! | `serve` | |
 //! | `upload` | `--workers W` from 1 to 16, else 4; `--part-chunks P` from 1 to 16384, else 64; `--journal` |
 //! | `check` | `--threads T` with T from 1 to 16 |
 //! | `audit` | |

@@ -54,6 +54,8 @@ pub enum Options<'a> {
     Sum(SumOptions<'a>),
     /// `run`.
     Run,
+    /// `serve`.
+    Serve,
     /// `upload`.
     Upload(UploadOptions),
     /// `check`.

@@ -40,9 +40,8 @@ fn error_text<S: AsStr>(alloc: Global, error: &Error, words: &[S]) -> Result<Str
         return Ok(text);
     };
     match words.get(1).map(|word| word.as_str()) {
-        Some(name @ ("sum" | "run" | "upload" | "check" | "audit" | "migrate")) => format!(in alloc;
-            "{front}'b3store {name} --help'.\n"
-        ),
+        Some(name @ ("sum" | "run" | "serve" | "upload" | "check" | "audit" | "migrate")) =>
+            format!(in alloc; "{front}'b3store {name} --help'.\n"),
         _ => format!(in alloc; "{front}'b3store --help'.\n"),
     }
 }
@@ -245,6 +244,7 @@ pub fn options<'a, S: AsStr>(alloc: Global, words: &'a [S]) -> Result<Options<'a
     match matches.subcommand() {
         Some(("sum", found)) => Ok(Options::Sum(sum_options(alloc, found)?)),
         Some(("run", _)) => Ok(Options::Run),
+        Some(("serve", _)) => Ok(Options::Serve),
         Some(("upload", found)) => Ok(Options::Upload(upload_options(alloc, found)?)),
         Some(("check", found)) => Ok(Options::Check(check_options(alloc, found)?)),
         Some(("audit", _)) => Ok(Options::Audit),

@@ -5,6 +5,7 @@
 //! | `sum` | bytes | their check line, or the first bytes of their extended output |
 //! | `check` | check lines | of each whether the content of its name has its hash |
 //! | `run` | a script | its answers, from a store of its own |
+//! | `serve` | a session of a program | its answers, from a store of its own |
 //! | `upload` | bytes | their check line and the accounts of an upload by several workers |
 //! | `audit` | a journal's text | the totals that it leaves and what it says was accepted |
 //! | `migrate` | a journal's text | the text of version 2 of its entries |
@@ -14,7 +15,7 @@
 //!
 //! Contracts know what a reader gives and what a writer took where their types tell it, as those of slices and of vectors do. The
 //! texts and verdicts are defined in `specs/`: `Sums`, `Checks`, `Uploads`, `Journals`, `Audits` and `Migrations`; those of a script
-//! in `store_script`.
+//! in `store_script`, and those of a session in `store_session`.
 #![tactic(auto)]
 
 mod auditing;
@@ -33,5 +34,6 @@ pub use files::SystemFiles;
 pub use migrating::migrate;
 pub use store_ledger::ALL_PARTS;
 pub use store_script::run;
+pub use store_session::serve;
 pub use summing::sum;
 pub use uploading::upload;

@@ -12,6 +12,15 @@ returns-in-Some-run-default-clause-says g c =
       entered_as _ (map g.S.AsStr.text c.args.words.now) c.in-Ok.matches is.field-0-0.now (codes "run") rows shape (c.in-Ok.ensures.matches (ap is_simple shape)).1 is.ensures.name is.ensures.rows is.is-run,
     )
 
+pub returns-in-Some-serve-default-clause-says : goal.returns-in-Some-serve-default-clause-says
+returns-in-Some-serve-default-clause-says g c =
+    let shape = c.in_ok-program.ensures.shape in
+    let is = c.in-Some-serve-default in
+    let rows = rows_of (found_of is.field-0-1.now) in (
+      rows,
+      entered_as _ (map g.S.AsStr.text c.args.words.now) c.in-Ok.matches is.field-0-0.now (codes "serve") rows shape (c.in-Ok.ensures.matches (ap is_simple shape)).1 is.ensures.name is.ensures.rows is.is-serve,
+    )
+
 pub returns-in-Some-audit-default-clause-says : goal.returns-in-Some-audit-default-clause-says
 returns-in-Some-audit-default-clause-says g c =
     let shape = c.in_ok-program.ensures.shape in
@@ -38,6 +47,9 @@ returns-in-Some-sum-default-clause-taken g c = taken _ (map g.S.AsStr.text c.arg
 
 pub returns-in-Some-run-default-clause-taken : goal.returns-in-Some-run-default-clause-taken
 returns-in-Some-run-default-clause-taken g c = taken _ (map g.S.AsStr.text c.args.words.now) c.in_ok-program.ensures.shape c.in-Ok.ensures.kinds
+
+pub returns-in-Some-serve-default-clause-taken : goal.returns-in-Some-serve-default-clause-taken
+returns-in-Some-serve-default-clause-taken g c = taken _ (map g.S.AsStr.text c.args.words.now) c.in_ok-program.ensures.shape c.in-Ok.ensures.kinds
 
 pub returns-in-Some-upload-default-clause-taken : goal.returns-in-Some-upload-default-clause-taken
 returns-in-Some-upload-default-clause-taken g c = taken _ (map g.S.AsStr.text c.args.words.now) c.in_ok-program.ensures.shape c.in-Ok.ensures.kinds
