@@ -3,7 +3,8 @@ of its memory each time: the first, the second, and so on, until a run meets non
 
 Where no growth is refused, the answer is the second reading's. Else each run must end by itself: with the same answer, or with
 status 3 and `b3store: out of memory`. Then an engine that writes at its end has written nothing; `upload` may have told its
-refusal; and `run` has answered as the model does, but for commands that it refused with S14, from whose state it went on.
+refusal; and `run` has answered as the model does, but for commands that it refused with S14, from whose state it went on. `serve`
+does so to its end, unless it had no memory to begin.
 
 Then the same is done to each test in a module `growths` of the repository's sources, by its built test program,
 crates/NAME/out/NAME_tests, where `rt ci` and `rt test` leave it: each run must pass. `--crates` names another folder for `crates`,
@@ -54,11 +55,14 @@ def is_answer(run, answer):
     return begins and (run.returncode, run.stdout) == (answer.status, answer.stdout)
 
 
-def may_end(run, whole, may_have_written):
+def may_end(run, whole, case):
     """Whether a run of which a growth was refused may end so, which without that ends as the whole does."""
     if ending(run) == whole:
         return True
-    return run.returncode == 3 and run.stderr == TELLS and may_have_written(run.stdout)
+    status, _, stderr = whole
+    if (run.returncode, run.stderr) == (status, stderr) and case.may_answer(run.stdout):
+        return True
+    return run.returncode == 3 and run.stderr == TELLS and case.may_have_written(run.stdout)
 
 
 def growths_of(refusing, case):
@@ -76,7 +80,7 @@ def growths_of(refusing, case):
             continue
         if growth == 1 and not met:
             return 0, 0, ["no growth was refused, as of a program that is linked statically"]
-        if may_end(run, whole, case.may_have_written):
+        if may_end(run, whole, case):
             passed += 1
             ended += run.returncode == 3
         else:

@@ -6,6 +6,7 @@ from blake3 import address_of, output_of
 from check_files import check_answer
 from journal import ANSWERS, HEADER
 from script import answers_of, call_of, pattern
+from session import requests_of, session_of, told
 from store import Refused, Store
 
 OBJECT = pattern(0, 2049)
@@ -41,6 +42,21 @@ stat
 journal
 """
 
+SESSION = f"""tenant 4096
+open 0 4096
+putb 0 0 2048
+{"a" * 2048}uploads 0
+put 0 2048 x:61
+{"f" * 3000}
+fix 0 2049
+seal 0
+has 0 {address_of(b"a" * 2049)}
+fetchb 0 {address_of(b"a" * 2049)} 1000 1040
+list 0
+tenants
+entries 3
+""".encode()
+
 
 class Answer(typing.NamedTuple):
     """The status, standard output, and how standard error begins, which is all of it where that is empty."""
@@ -51,13 +67,14 @@ class Answer(typing.NamedTuple):
 
 
 class Case(typing.NamedTuple):
-    """A run: its words and its input, its answer where no growth is refused, and what may stand on standard output where the run
-    ended for want of memory."""
+    """A run: its words and its input, its answer where no growth is refused, what may stand on standard output where the run
+    ended for want of memory, and what else where it went on."""
 
     words: list
     data: bytes
     answer: Answer
     may_have_written: typing.Callable
+    may_answer: typing.Callable = lambda answer: False
 
 
 def is_beginning_by_the_model(answer):
@@ -78,6 +95,20 @@ def is_beginning_by_the_model(answer):
             return False
         lines = lines[len(told) :]
     return not lines
+
+
+def is_by_the_model(answer):
+    """Whether these are the answers to the session, of which some were refused memory."""
+    store = Store()
+    for line, taken in requests_of(SESSION):
+        if answer.startswith(b"refused S14\n"):
+            answer = answer[len(b"refused S14\n") :]
+            continue
+        wanted = told(store, line, taken)
+        if not answer.startswith(wanted):
+            return False
+        answer = answer[len(wanted) :]
+    return not answer
 
 
 def wrote_nothing(answer):
@@ -120,6 +151,7 @@ def cases(program):
     yield Case([program, "audit"], journal, read(ANSWERS["audit"](journal)), wrote_nothing)
     yield Case([program, "migrate"], journal, read(ANSWERS["migrate"](journal)), wrote_nothing)
     yield Case([program, "run"], SCRIPT.encode(), script, is_beginning_by_the_model)
+    yield Case([program, "serve"], SESSION, read(session_of(SESSION)), wrote_nothing, is_by_the_model)
     for words, parts in (["--workers", "1"], 1), (["--workers", "3", "--part-chunks", "1"], 3):
-        told = good(f"{ADDRESS}  -\naccepted {len(OBJECT)} {parts}\n")
-        yield Case([program, "upload", *words], OBJECT, told, told_a_refusal)
+        accounts = good(f"{ADDRESS}  -\naccepted {len(OBJECT)} {parts}\n")
+        yield Case([program, "upload", *words], OBJECT, accounts, told_a_refusal)

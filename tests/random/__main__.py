@@ -1,5 +1,5 @@
-"""python3 tests/random PROGRAM [--cases N] [--seed S]: runs the program over random scripts, journals, check files, uploads
-and inputs of `sum`, and compares what it writes with the plain second reading of tests/second_reading, which was written from
+"""python3 tests/random PROGRAM [--cases N] [--seed S]: runs the program over random scripts, sessions, journals, check files,
+uploads and inputs of `sum`, and compares what it writes with the plain second reading of tests/second_reading, which was written from
 docs/COMMANDS.md.
 
 A case that differs is printed behind FAILED with its seed; `--cases 1 --seed S` runs it again. The last line is
@@ -18,11 +18,12 @@ sys.path[1:1] = [os.path.join(TESTS, "common"), os.path.join(TESTS, "second_read
 import checks
 import journals
 import scripts
+import sessions
 import sums
 import uploads
 from python_needed import end_where_older
 
-KINDS = (scripts, journals, checks, uploads, sums)
+KINDS = (scripts, sessions, journals, checks, uploads, sums)
 SECONDS = 60
 
 

@@ -7,7 +7,7 @@ use std::io::BufReader;
 use std::sync::Wait;
 use std::thread::Threads;
 use store_command_line::{SumMode, SumOptions, UploadOptions};
-use store_engines::{Cause, Verdict, audit, check, migrate, run, sum};
+use store_engines::{Cause, Verdict, audit, check, migrate, run, serve, sum};
 
 #[derive(Clone, Copy, Debug, PartialEq, Eq)]
 enum Engine {
@@ -15,15 +15,17 @@ enum Engine {
     Check,
     Migrate,
     Run,
+    Serve,
     Sum,
     Upload,
 }
 
-const ENGINES: [Engine; 6] = [
+const ENGINES: [Engine; 7] = [
     Engine::Audit,
     Engine::Check,
     Engine::Migrate,
     Engine::Run,
+    Engine::Serve,
     Engine::Sum,
     Engine::Upload,
 ];
@@ -34,6 +36,7 @@ fn input(engine: Engine) -> &'static [u8] {
         Engine::Audit | Engine::Migrate => b"tenant 0 5\n",
         Engine::Check => b"6437b3ac38465133ffb63b75273a8db548c558465d79db03fd359c6cd5bd9d85  f",
         Engine::Run => b"tenant 5\nbegin 0 1\n",
+        Engine::Serve => b"tenant 5\nopen 0 5\nputb 0 0 3\nabcuploads 0\n",
         Engine::Sum | Engine::Upload => b"abc",
     }
 }
@@ -45,6 +48,7 @@ fn output(engine: Engine) -> &'static [u8] {
         Engine::Check => b"missing f\ngood 0 bad 0 missing 1 unreadable 0 faults 0\n",
         Engine::Migrate => b"b3store-journal 2\ntenant 0 5\n",
         Engine::Run => b"tenant 0\nupload 0\n",
+        Engine::Serve => b"tenant 0\nupload 0\nheld 3 all\nuploads 1\n0 5 3 3\n",
         Engine::Sum => b"6437b3ac38465133ffb63b75273a8db548c558465d79db03fd359c6cd5bd9d85  -\n",
         Engine::Upload => {
             b"6437b3ac38465133ffb63b75273a8db548c558465d79db03fd359c6cd5bd9d85  -\naccepted 3 1\n"
@@ -52,22 +56,29 @@ fn output(engine: Engine) -> &'static [u8] {
     }
 }
 
-// How many calls of a writer that takes one byte a call that takes. A flush follows each answer of a script, and all else.
+// How many calls of a writer that takes one byte a call that takes. A flush follows each answer of a script and of a session, and
+// all else.
 fn writes(engine: Engine) -> u64 {
-    let flushes = if engine == Engine::Run { 2u64 } else { 1 };
+    let flushes = match engine {
+        Engine::Run => 2u64,
+        Engine::Serve => 4,
+        _ => 1,
+    };
     flushes.saturating_add(output(engine).len() as u64)
 }
 
-// What it writes where the read of this number fails, of one byte each. A script's line of 9 bytes is answered once it was
-// read, and then its line of 10.
+// What it writes where the read of this number fails, of one byte each. Lines are answered once they were read with the bytes behind
+// them: of a script these have 9 bytes and 10, of a session 9, 9, 14 and 10.
 fn answered(engine: Engine, fails_at: u64) -> &'static [u8] {
-    if engine != Engine::Run || fails_at < 9 {
-        return b"";
+    match engine {
+        Engine::Run | Engine::Serve if fails_at < 9 => b"",
+        Engine::Run if fails_at < 19 => b"tenant 0\n",
+        Engine::Serve if fails_at < 18 => b"tenant 0\n",
+        Engine::Serve if fails_at < 32 => b"tenant 0\nupload 0\n",
+        Engine::Serve if fails_at < 42 => b"tenant 0\nupload 0\nheld 3 all\n",
+        Engine::Run | Engine::Serve => output(engine),
+        _ => b"",
     }
-    if fails_at < 19 {
-        return b"tenant 0\n";
-    }
-    output(engine)
 }
 
 const PLAIN: SumOptions<'static> = SumOptions {
@@ -102,6 +113,12 @@ fn ended<R: Threads + Wait + Sync + AllocGlobal + Runtime>(
                 return Err(Cause::OutOfMemory);
             };
             run(alloc, &mut lines, writer, &mut work)
+        }
+        Engine::Serve => {
+            let Ok(mut lines) = BufReader::new(alloc, reader) else {
+                return Err(Cause::OutOfMemory);
+            };
+            serve(alloc, &mut lines, writer, &mut work)
         }
         Engine::Sum => match sum(rt, alloc, &PLAIN, reader, writer, &mut work) {
             Ok(()) => Ok(Verdict::Good),

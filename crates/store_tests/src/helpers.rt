@@ -10,8 +10,8 @@ use std::process::Abort;
 use std::sync::Arc;
 use std::test::Fail;
 use store_core::{
-    Address, Held, Limits, Object, PutRefused, ReadError, Refusal, ReplayError, Sealed, Store,
-    TenantId, UploadId, read_journal, replay, write_journal,
+    Address, Held, Limits, Object, OpenUpload, PutRefused, ReadError, Refusal, ReplayError, Sealed,
+    Store, TenantId, UploadId, Usage, read_journal, replay, write_journal,
 };
 
 // A store, the tenant of its commands, a part that came back for want of memory, the compressions of making parts, and the store's own.
@@ -64,6 +64,8 @@ impl Scripted {
             "tenant" => self.open_tenant(first),
             "forget" => self.forget(rest),
             "fetch" => self.fetch(rest),
+            "has" => self.has(rest),
+            "range" => self.range(first, second, cut(cut(rest).1).1),
             _ => self.told(word, first, second),
         }
     }
@@ -78,6 +80,8 @@ impl Scripted {
             "abort" => done_text(alloc, self.store.abort(upload).map(|_| ())),
             "usage" => self.usage(),
             "list" => self.list(),
+            "uploads" => self.uploads(),
+            "tenants" => self.tenants(),
             "read" => self.read(),
             "replay" => self.replay(),
             _ => self.state(),
@@ -212,6 +216,45 @@ impl Scripted {
         }
     }
 
+    fn has(&self, digits: &str) -> Result<String, AllocError> {
+        let Ok(bytes) = <[u8; 32]>::from_hex(digits) else {
+            return format!(in self.alloc; "no address");
+        };
+        match self.store.holds(self.tenant, Address::new(bytes)) {
+            Ok(len) => format!(in self.alloc; "{len}"),
+            Err(refusal) => format!(in self.alloc; "{refusal}"),
+        }
+    }
+
+    // How many bytes of an object were read from there on into room for so many, and what the room then holds; 255 where nothing came.
+    fn range(&self, from: u64, room: u64, digits: &str) -> Result<String, AllocError> {
+        let Ok(bytes) = <[u8; 32]>::from_hex(digits) else {
+            return format!(in self.alloc; "no address");
+        };
+        match self.store.fetch(self.tenant, Address::new(bytes)) {
+            Ok(object) => {
+                let mut room = vec![in self.alloc; 255u8; room as usize]?;
+                let count = object.read(from, room.as_mut_slice());
+                format!(in self.alloc; "{count} {room:?}")
+            }
+            Err(refusal) => format!(in self.alloc; "{refusal}"),
+        }
+    }
+
+    fn uploads(&self) -> Result<String, AllocError> {
+        match self.store.uploads(self.tenant) {
+            Ok(uploads) => uploads_text(self.alloc, uploads.as_slice()),
+            Err(refusal) => format!(in self.alloc; "{refusal}"),
+        }
+    }
+
+    fn tenants(&self) -> Result<String, AllocError> {
+        match self.store.tenants() {
+            Ok(usages) => usages_text(self.alloc, usages.as_slice()),
+            Err(refusal) => format!(in self.alloc; "{refusal}"),
+        }
+    }
+
     fn usage(&self) -> Result<String, AllocError> {
         match self.store.usage(self.tenant) {
             Ok(usage) => format!(in self.alloc;
@@ -277,6 +320,27 @@ fn objects_text(alloc: Global, objects: &[(Address, u64)]) -> Result<String, All
     let mut text = String::new(alloc);
     for (address, len) in objects {
         text.push_str(format!(in alloc; "[{address} {len}]")?.as_str())?;
+    }
+    Ok(text)
+}
+
+fn uploads_text(alloc: Global, uploads: &[OpenUpload]) -> Result<String, AllocError> {
+    let mut text = String::new(alloc);
+    for open in uploads {
+        let line = format!(in alloc;
+            "[{} {} {:?} {}]",
+            open.upload, open.bound, open.end, open.held
+        )?;
+        text.push_str(line.as_str())?;
+    }
+    Ok(text)
+}
+
+fn usages_text(alloc: Global, usages: &[Usage]) -> Result<String, AllocError> {
+    let mut text = String::new(alloc);
+    for usage in usages {
+        let line = format!(in alloc; "[{} {} {}]", usage.used, usage.reserved, usage.limit)?;
+        text.push_str(line.as_str())?;
     }
     Ok(text)
 }

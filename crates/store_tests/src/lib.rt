@@ -10,6 +10,8 @@ mod journal;
 #[cfg(test)]
 mod memory;
 #[cfg(test)]
+mod questions;
+#[cfg(test)]
 mod replay;
 #[cfg(test)]
 mod store;

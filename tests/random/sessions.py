@@ -1,0 +1,66 @@
+"""Random sessions: the lines of random scripts, and lines with raw bytes behind them, of which some are spoilt or cut off."""
+from scripts import LENGTHS, NUMBERS, Writer, spoilt
+from script import pattern
+from session import session_of
+from store import Refused
+
+
+class Session:
+    """Writes a session, and keeps the store that it leaves where no line is spoilt."""
+
+    def __init__(self, chance):
+        self.chance, self.writer, self.data = chance, Writer(chance), b""
+
+    def add_line(self, line):
+        self.writer.add(line)
+        self.data += line.encode() + b"\n"
+
+    def part(self):
+        """A part's line, and its bytes: those of a random put."""
+        chance, writer = self.chance, self.writer
+        number = writer.upload()
+        offset, length = writer.place_in(writer.store.uploads.get(number))
+        if chance.random() < 0.1:
+            offset, length = chance.randrange(4100), chance.choice(LENGTHS)
+        taken = chance.choice((pattern(offset, length), chance.randbytes(length), b"\n" * length))
+        line = f"putb {number} {offset} {length}"
+        if chance.random() < 0.03:
+            self.data += spoilt(chance, line).encode() + b"\n" + taken
+            return
+        self.data += line.encode() + b"\n" + taken
+        try:
+            writer.store.put(number, offset, taken)
+        except Refused:
+            pass
+
+    def question(self):
+        chance, writer = self.chance, self.writer
+        numbers = list(map(str, range(7))) + list(NUMBERS)
+        ranged = f" {chance.choice(LENGTHS)} {chance.choice(LENGTHS + (1 << 63,))}" if chance.random() < 0.6 else ""
+        line = chance.choice((
+            f"fetchb {writer.tenant()} {writer.address()}{ranged}", f"has {writer.tenant()} {writer.address()}",
+            f"uploads {writer.tenant()}", "tenants", f"entries {chance.choice(numbers)}",
+        ))
+        line = spoilt(chance, line) if chance.random() < 0.06 else line
+        self.data += line.encode() + b"\n"
+
+    def step(self):
+        kind = self.chance.random()
+        if not self.writer.lines or kind < 0.5:
+            self.add_line(self.writer.line())
+        elif kind < 0.75:
+            self.part()
+        else:
+            self.question()
+
+
+def case(chance):
+    """A session: the program's words, its input, its output and its exit status."""
+    session = Session(chance)
+    for _ in range(chance.randrange(1, 60)):
+        session.step()
+    data = session.data
+    if chance.random() < 0.3:
+        data = data[: chance.randrange(len(data) + 1)]
+    output, status = session_of(data)
+    return ["serve"], data, output, status
