@@ -2,8 +2,9 @@
 
 use crate::fakes::FailingWriter;
 use crate::helpers::{ABC, THREE_LINES, digest};
-use b3_check::{CheckFile, Line, NameFault, Names, ReadError, Report, read_line, verify, write};
+use b3_check::{CheckFile, Line, NameFault, Names, ReadError, Shown, read_line, verify, write};
 use std::alloc::{AllocError, Global};
+use std::io::Write;
 use std::test::Fail;
 
 // A line of the hash of `abc`.
@@ -77,18 +78,33 @@ impl Names for Table {
     }
 }
 
-fn report_on(
+// Whether the names answer for three lines, so many of them, and all lines are good.
+fn verified<W: Write>(
     alloc: Global,
+    shown: Shown,
     answer: Result<Option<[u8; 32]>, NameFault>,
     calls: u64,
-) -> Result<Option<Report>, Fail> {
+    writer: &mut W,
+) -> Result<Option<bool>, Fail> {
     let mut names = Table { answer, calls: 0 };
     let file = CheckFile::read(alloc, THREE_LINES)?;
-    let report = verify(alloc, &file, &mut names);
+    let counts = verify(&file, shown, &mut names, writer);
     if names.calls != calls {
         return Err(Fail::new("other calls"));
     }
-    Ok(report.ok())
+    match counts {
+        Ok(counts) => Ok(Some(counts.is_all_good())),
+        Err(_) => Ok(None),
+    }
+}
+
+// The report on three lines, of which the first is good.
+fn report_on(alloc: Global, shown: Shown) -> Result<Vec<u8>, Fail> {
+    let mut text = Vec::new(alloc);
+    match verified(alloc, shown, Ok(Some(digest(ABC)?)), 2, &mut text)? {
+        Some(false) => Ok(text),
+        _ => Err(Fail::new("another verdict")),
+    }
 }
 
 #[test]
@@ -135,22 +151,22 @@ fn a_line_is_written(rt: HostRuntime) -> Result<(), Fail> {
 #[test]
 fn a_file_is_verified(rt: HostRuntime) -> Result<(), Fail> {
     let alloc = rt.alloc();
-    let report = report_on(alloc, Ok(Some(digest(ABC)?)), 2)?.ok_or("no report")?;
-    assert_eq!(rt;
-        (report.verdicts().len(), report.counts().is_all_good()),
-        (3, false)
-    );
-    let mut text = Vec::new(alloc);
-    report.write(&mut text)?;
-    let wanted: &[u8] =
+    let all: &[u8] =
         b"good f\nfault 2 C2\nmissing g\ngood 1 bad 0 missing 1 unreadable 0 faults 1\n";
-    assert!(rt; text.as_slice() == wanted);
+    let behind_good: &[u8] =
+        b"fault 2 C2\nmissing g\ngood 1 bad 0 missing 1 unreadable 0 faults 1\n";
+    assert!(rt; report_on(alloc, Shown::All)?.as_slice() == all);
+    assert!(rt; report_on(alloc, Shown::AllButGood)?.as_slice() == behind_good);
+    assert!(rt; report_on(alloc, Shown::Nothing)?.is_empty());
     Ok(())
 }
 
 #[test]
 fn names_without_memory_end_it(rt: HostRuntime) -> Result<(), Fail> {
-    assert!(rt; report_on(rt.alloc(), Err(NameFault::NoMemory), 1)?.is_none());
+    let alloc = rt.alloc();
+    let mut text = Vec::new(alloc);
+    let ended = verified(alloc, Shown::All, Err(NameFault::NoMemory), 1, &mut text)?;
+    assert!(rt; ended.is_none() && text.is_empty());
     Ok(())
 }
 
@@ -163,10 +179,10 @@ fn a_failed_write_is_the_last(rt: HostRuntime) -> Result<(), Fail> {
         assert!(rt; write(lines.as_slice(), &mut writer).is_err());
         assert_eq!(rt; writer.calls, fails);
     }
-    let report = report_on(alloc, Ok(None), 2)?.ok_or("no report")?;
     for fails in 1..77u64 {
         let mut writer = FailingWriter { calls: 0, fails };
-        assert!(rt; report.write(&mut writer).is_err());
+        let calls = if fails < 22 { 1 } else { 2 };
+        assert!(rt; verified(alloc, Shown::All, Ok(None), calls, &mut writer)?.is_none());
         assert_eq!(rt; writer.calls, fails);
     }
     Ok(())

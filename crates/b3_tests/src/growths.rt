@@ -9,7 +9,7 @@
 use crate::fakes::pattern;
 use crate::helpers::THREE_LINES;
 use crate::{follows, forest_scripts};
-use b3_check::{CheckFile, NameFault, Names, verify};
+use b3_check::{CheckFile, NameFault, Names, Shown, verify};
 use std::alloc::{AllocError, Global};
 use std::test::Fail;
 
@@ -86,19 +86,19 @@ root > 015094013f57a5277b59d8475c0501042c0b642e531b0a1c8f58d2163229e969 by 1
 fn read_and_verify(rt: HostRuntime) -> Result<(), Fail> {
     let alloc = rt.alloc();
     let file = lines_of(alloc)?;
-    let report = match verify(alloc, &file, &mut NoNames) {
-        Ok(report) => report,
-        Err(_) => verify(alloc, &file, &mut NoNames)?,
+    let mut text = Vec::new(alloc);
+    let counts = match verify(&file, Shown::Nothing, &mut NoNames, &mut text) {
+        Ok(counts) => counts,
+        Err(_) => return Err(Fail::new("no counts")),
     };
-    let counts = report.counts();
     assert_eq!(rt;
         (
             file.lines().len(),
-            report.verdicts().len(),
+            text.len(),
             counts.missing,
             counts.faults
         ),
-        (3, 3, 2, 1)
+        (3, 0, 2, 1)
     );
     Ok(())
 }

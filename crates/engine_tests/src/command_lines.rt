@@ -3,30 +3,40 @@
 use std::alloc::{AllocError, Global};
 use std::test::Fail;
 use store_command_line::{
-    CheckOptions, Fault, Options, SumMode, SumOptions, UploadOptions, options,
+    AskedMode, CheckOptions, Fault, Options, SumInputs, SumMode, SumOptions, UploadOptions, options,
 };
 
-// What the options of `sum` are: the name, the mode, the length and the threads.
-fn sum_text(alloc: Global, said: SumOptions<'_>) -> Result<String, AllocError> {
-    let SumOptions {
-        name,
-        mode,
-        length,
-        threads,
-    } = said;
+// The mode that is asked for.
+fn mode_text(alloc: Global, mode: AskedMode<'_>) -> Result<String, AllocError> {
     match mode {
-        SumMode::Hash => format!(in alloc; "sum {name} hash {length:?} {threads:?}"),
-        SumMode::Keyed(key) => format!(in alloc; "sum {name} key {key:?} {length:?} {threads:?}"),
-        SumMode::Derive(text) => {
-            format!(in alloc; "sum {name} context {text} {length:?} {threads:?}")
-        }
+        AskedMode::Known(SumMode::Hash) => format!(in alloc; "hash"),
+        AskedMode::Known(SumMode::Keyed(key)) => format!(in alloc; "key {key:?}"),
+        AskedMode::Known(SumMode::Derive(text)) => format!(in alloc; "context {text}"),
+        AskedMode::KeyFile(path) => format!(in alloc; "key in {path}"),
     }
+}
+
+// What is hashed.
+fn inputs_text(alloc: Global, inputs: &SumInputs<'_>) -> Result<String, AllocError> {
+    match inputs {
+        SumInputs::Standard(name) => format!(in alloc; "{name}"),
+        SumInputs::Named(names) => format!(in alloc; "{names:?}"),
+        SumInputs::Listed(names) => format!(in alloc; "{:?} {}", names.list, names.has_nuls),
+    }
+}
+
+// What the options of `sum` are: what is hashed, the mode, the length and the threads.
+fn sum_text(alloc: Global, said: &SumOptions<'_>) -> Result<String, AllocError> {
+    let inputs = inputs_text(alloc, &said.inputs)?;
+    let mode = mode_text(alloc, said.mode)?;
+    let (length, threads) = (said.length, said.threads);
+    format!(in alloc; "sum {inputs} {mode} {length:?} {threads:?}")
 }
 
 // What the words say. A fault of usage has a text.
 fn said(alloc: Global, words: &[&str]) -> Result<String, AllocError> {
     match options(alloc, words) {
-        Ok(Options::Sum(said)) => sum_text(alloc, said),
+        Ok(Options::Sum(said)) => sum_text(alloc, &said),
         Ok(Options::Upload(said)) => {
             let UploadOptions {
                 workers,
@@ -36,8 +46,12 @@ fn said(alloc: Global, words: &[&str]) -> Result<String, AllocError> {
             format!(in alloc; "upload {workers} {part_chunks} {journal}")
         }
         Ok(Options::Check(said)) => {
-            let CheckOptions { threads } = said;
-            format!(in alloc; "check {threads:?}")
+            let CheckOptions {
+                list,
+                shown,
+                threads,
+            } = said;
+            format!(in alloc; "check {list:?} {shown:?} {threads:?}")
         }
         Ok(_) => String::from_str(alloc, "no options"),
         Err(Fault::Usage(text)) => {
@@ -45,6 +59,12 @@ fn said(alloc: Global, words: &[&str]) -> Result<String, AllocError> {
                 return String::from_str(alloc, "no text");
             }
             String::from_str(alloc, "usage")
+        }
+        Err(Fault::Version(text)) => {
+            if text.is_empty() {
+                return String::from_str(alloc, "no text");
+            }
+            String::from_str(alloc, "version")
         }
         Err(Fault::NoMemory) => Err(AllocError),
     }
@@ -62,8 +82,30 @@ const SAID: &[(&[&str], &str)] = &[
         &["b3store", "sum", "--threads", "16"],
         "sum - hash None Some(16)",
     ),
-    (&["b3store", "check"], "check None"),
-    (&["b3store", "check", "--threads", "1"], "check Some(1)"),
+    (
+        &["b3store", "sum", "a", "--key-file", "k", "-", "a"],
+        "sum [\"a\", \"-\", \"a\"] key in k None None",
+    ),
+    (
+        &["b3store", "sum", "--files-from", "l", "-0"],
+        "sum File(\"l\") true hash None None",
+    ),
+    (
+        &["b3store", "sum", "--files-from", "-"],
+        "sum Standard false hash None None",
+    ),
+    (&["b3store", "check"], "check Standard All None"),
+    (
+        &["b3store", "check", "--threads", "1", "--quiet", "l"],
+        "check File(\"l\") AllButGood Some(1)",
+    ),
+    (
+        &["b3store", "check", "--quiet", "--status", "-"],
+        "check Standard Nothing None",
+    ),
+    (&["b3store", "--version"], "version"),
+    (&["b3store", "sum", "a", ""], "usage"),
+    (&["b3store", "sum", "a\0b"], "usage"),
     (&["b3store", "upload"], "upload 4 64 false"),
     (
         &["b3store", "upload", "--journal", "--workers", "16"],

@@ -1,10 +1,12 @@
 //! A reader and a writer that give and take one byte a call, fail at a call or are interrupted, a writer that allocates nothing,
-//! and names that are not there.
+//! names that are not there, and sources of one name.
 
 use b3_check::{NameFault, Names};
+use b3_core::{Mode, Top, Work};
 use std::alloc::Global;
 use std::io;
 use std::io::{ErrorKind, Read, Write};
+use store_engines::{FileFault, Reason, Sources};
 
 /// Gives one byte a call. The call with the number `fails_at`, from 0, and all later ones fail. One that is interrupted answers
 /// `Interrupted` before each byte and before the end.
@@ -169,5 +171,46 @@ impl Names for NoNames {
         } else {
             Err(NameFault::NoMemory)
         }
+    }
+}
+
+/// Sources that have the bytes `abc` under that name, no memory for the name `full`, and nothing under others. They count the calls, and
+/// keep what they were told.
+#[derive(Drop)]
+pub struct AbcSources {
+    pub calls: u64,
+    pub told: Vec<u8>,
+    work: Work,
+}
+
+impl AbcSources {
+    pub fn new(alloc: Global, work: Work) -> AbcSources {
+        AbcSources {
+            calls: 0,
+            told: Vec::new(alloc),
+            work,
+        }
+    }
+}
+
+impl Sources for AbcSources {
+    ghost gives = { λ _ _ _ _. Unit {0} };
+
+    ghost tells = { λ _ _ _ _. Unit {0} };
+
+    fn root_of(&mut self, name: &[u8]) -> Result<Top, FileFault> {
+        self.calls = self.calls.saturating_add(1);
+        if name == b"full".as_slice() {
+            return Err(FileFault::NoMemory);
+        }
+        if name == b"abc".as_slice() {
+            return Ok(Top::of_input(&Mode::hash(), name, &mut self.work));
+        }
+        Err(FileFault::Failed(Reason::Missing))
+    }
+
+    fn tell(&mut self, name: &[u8], reason: Reason) {
+        let _ = self.told.extend_from_slice(name);
+        let _ = self.told.extend_from_slice(reason.text().as_bytes());
     }
 }

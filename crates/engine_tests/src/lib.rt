@@ -13,4 +13,6 @@ mod growths;
 #[cfg(test)]
 mod streams;
 #[cfg(test)]
+mod sums;
+#[cfg(test)]
 mod uploads;

@@ -2,12 +2,13 @@
 
 use crate::fakes::{ByteReader, ByteWriter, NoNames};
 use crate::uploads::uploaded;
+use b3_check::Shown;
 use b3_core::{Runtime, Work};
 use std::io::BufReader;
 use std::sync::Wait;
 use std::thread::Threads;
-use store_command_line::{SumMode, SumOptions, UploadOptions};
-use store_engines::{Cause, Verdict, audit, check, migrate, run, sum};
+use store_command_line::{SumMode, UploadOptions};
+use store_engines::{Cause, SumRequest, Verdict, audit, check, migrate, run, sum};
 
 #[derive(Clone, Copy, Debug, PartialEq, Eq)]
 enum Engine {
@@ -70,7 +71,7 @@ fn answered(engine: Engine, fails_at: u64) -> &'static [u8] {
     output(engine)
 }
 
-const PLAIN: SumOptions<'static> = SumOptions {
+const PLAIN: SumRequest<'static> = SumRequest {
     name: "-",
     mode: SumMode::Hash,
     length: None,
@@ -95,7 +96,7 @@ fn ended<R: Threads + Wait + Sync + AllocGlobal + Runtime>(
     let mut work = Work::new(rt);
     match engine {
         Engine::Audit => audit(alloc, reader, writer),
-        Engine::Check => check(alloc, names, reader, writer),
+        Engine::Check => check(alloc, Shown::All, names, reader, writer),
         Engine::Migrate => migrate(alloc, reader, writer),
         Engine::Run => {
             let Ok(mut lines) = BufReader::new(alloc, reader) else {

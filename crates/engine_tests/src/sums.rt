@@ -1,0 +1,96 @@
+//! The engine of `sum` over files, with sources of one name.
+
+use crate::fakes::{AbcSources, ByteWriter};
+use b3_check::Name;
+use b3_core::{Runtime, Work};
+use std::alloc::{AllocError, Global};
+use std::test::Fail;
+use store_engines::{Cause, Verdict, names_of, sum_files};
+
+// Names that a check line may have.
+fn names(alloc: Global, words: &[&str]) -> Result<Vec<Name>, AllocError> {
+    let mut names = Vec::new(alloc);
+    for word in words {
+        if let Ok(name) = Name::new(Vec::from_slice(alloc, word.as_bytes())?) {
+            names.push(name)?;
+        }
+    }
+    Ok(names)
+}
+
+// How the sum of some names ends, what it writes, which is cut off at a call, and what the sources tell: the calls, and the faults.
+fn summed<R: AllocGlobal + Runtime>(
+    rt: &R,
+    words: &[&str],
+    length: Option<u32>,
+    fails_at: u64,
+) -> Result<(Result<Verdict, Cause>, Vec<u8>, u64, Vec<u8>), Fail> {
+    let alloc = rt.alloc();
+    let names = names(alloc, words)?;
+    let mut sources = AbcSources::new(alloc, Work::new(rt));
+    let mut writer = ByteWriter::new(alloc, fails_at);
+    let mut work = Work::new(rt);
+    let ended = sum_files(
+        alloc,
+        length,
+        names.as_slice(),
+        &mut sources,
+        &mut writer,
+        &mut work,
+    );
+    let AbcSources { calls, told, .. } = sources;
+    let ByteWriter { taken, .. } = writer;
+    Ok((ended, taken, calls, told))
+}
+
+const LINE: &[u8] = b"6437b3ac38465133ffb63b75273a8db548c558465d79db03fd359c6cd5bd9d85  abc\n";
+
+#[test]
+fn names_are_answered_in_order(rt: HostRuntime) -> Result<(), Fail> {
+    let (ended, text, calls, told) = summed(&rt, &["x", "abc", "y", "abc"], None, u64::MAX)?;
+    assert_eq!(rt; (ended, calls), (Ok(Verdict::Refused), 4));
+    let mut wanted = Vec::from_slice(rt.alloc(), LINE)?;
+    wanted.extend_from_slice(LINE)?;
+    assert!(rt; text.as_slice() == wanted.as_slice());
+    let faults: &[u8] = b"xno such fileyno such file";
+    assert!(rt; told.as_slice() == faults);
+    Ok(())
+}
+
+#[test]
+fn a_length_leaves_names_out(rt: HostRuntime) -> Result<(), Fail> {
+    let (ended, text, _calls, told) = summed(&rt, &["abc", "abc"], Some(4), u64::MAX)?;
+    assert_eq!(rt; ended, Ok(Verdict::Good));
+    let wanted: &[u8] = b"6437b3ac\n6437b3ac\n";
+    assert!(rt; text.as_slice() == wanted && told.is_empty());
+    Ok(())
+}
+
+#[test]
+fn sources_without_memory_end_it(rt: HostRuntime) -> Result<(), Fail> {
+    let (ended, text, calls, told) = summed(&rt, &["abc", "full", "abc"], None, u64::MAX)?;
+    assert_eq!(rt; (ended, calls), (Err(Cause::OutOfMemory), 2));
+    assert!(rt; text.as_slice() == LINE && told.is_empty());
+    Ok(())
+}
+
+// A line has 70 bytes and a flush.
+#[test]
+fn a_failed_write_ends_it(rt: HostRuntime) -> Result<(), Fail> {
+    for fails_at in 0..142u64 {
+        let (ended, text, calls, _told) = summed(&rt, &["abc", "abc", "abc"], None, fails_at)?;
+        let wanted = if fails_at < 71 { 1u64 } else { 2 };
+        assert_eq!(rt; (ended, calls), (Err(Cause::CannotWrite), wanted));
+        assert!(rt; text.len() as u64 <= fails_at);
+    }
+    Ok(())
+}
+
+#[test]
+fn words_are_names(rt: HostRuntime) -> Result<(), Fail> {
+    let names = names_of(rt.alloc(), &["a\\b", "-"])?;
+    let first = names.first().map(|name| name.as_bytes());
+    assert_eq!(rt; names.len(), 2);
+    assert!(rt; first == Some(b"a\\b".as_slice()));
+    Ok(())
+}
