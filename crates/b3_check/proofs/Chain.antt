@@ -10,4 +10,3 @@ IsReport-push {S} gives old mid new [] [] line verdict h v = (new, subst (λ (s 
 IsReport-push gives old mid new (first ∷ lines) (first_verdict ∷ verdicts) line verdict h v = (h.0, h.1, IsReport-push gives h.0 mid new lines verdicts line verdict h.2 v)
 IsReport-push gives old mid new [] (first_verdict ∷ verdicts) line verdict h v = absurd h
 IsReport-push gives old mid new (first ∷ lines) [] line verdict h v = absurd h
-

@@ -152,11 +152,7 @@ fn write_fault_line<W: Write>(line: u64, fault: Fault, writer: &mut W) -> io::Re
 }
 
 /// Writes the line of the counts, where it is written.
-pub(crate) fn write_counts<W: Write>(
-    shown: Shown,
-    counts: Counts,
-    writer: &mut W,
-) -> io::Result<()>
+pub(crate) fn write_counts<W: Write>(shown: Shown, counts: Counts, writer: &mut W) -> io::Result<()>
     ensures written { OnOk result (Appends (W.contents writer.old) (W.contents writer.new) (shown_counts shown counts)) }
     ensures failed { OnErr result (IsCutOff (W.contents writer.old) (W.contents writer.new) (shown_counts shown counts)) }
 {
