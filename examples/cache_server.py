@@ -367,6 +367,14 @@ def users_of(options):
         return [User(name, token, int(limit)) for name, token, limit in map(str.split, lines)]
 
 
+def stop_signals():
+    """What is set when the process is asked to end."""
+    stopping = threading.Event()
+    for number in signal.SIGTERM, signal.SIGINT, signal.SIGHUP:
+        signal.signal(number, lambda *_: stopping.set())
+    return stopping
+
+
 def read_options():
     parser = argparse.ArgumentParser(description="An HTTP cache over a store, on a loopback address.")
     parser.add_argument("folder", metavar="FOLDER", help="where it saves what is cached, and begins from")
@@ -380,9 +388,7 @@ def read_options():
 
 def main():
     options = read_options()
-    stopping = threading.Event()
-    for number in signal.SIGTERM, signal.SIGINT, signal.SIGHUP:
-        signal.signal(number, lambda *_: stopping.set())
+    stopping = stop_signals()
     folder = Folder(options.folder, options.program)
     with Store(options.program) as store:
         cache = Cache(store, users_of(options), options.most)

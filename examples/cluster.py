@@ -8,10 +8,10 @@ keys stay where they are. The first line of output tells the port of nginx, the 
 """
 import argparse
 import os
-import signal
 import subprocess
 import sys
-import threading
+
+from cache_server import stop_signals
 
 NGINX = """\
 daemon off;
@@ -66,9 +66,7 @@ def read_options():
 
 def main():
     options = read_options()
-    stopping = threading.Event()
-    for number in signal.SIGTERM, signal.SIGINT, signal.SIGHUP:
-        signal.signal(number, lambda *_: stopping.set())
+    stopping = stop_signals()
     folder = os.path.abspath(options.folder)
     os.makedirs(folder, exist_ok=True)
     servers = [Server(os.path.join(folder, str(number)), options.program) for number in range(options.servers)]
