@@ -3,6 +3,7 @@
 ghost use Rattle.std.specs.Prelude.{◌≡◌, ℕ, ◌+◌, ◌*◌, ◌/◌, ◌%◌, ◌^◌, ◌<◌, List, take, slice_index};
 ghost use Rattle.b3_core.specs.Compression.{rounds, start_state, output_words, compress_of};
 ghost use Rattle.b3_core.specs.Rows.{IsRowOf, rows_state, rows_message, rows_value};
+ghost use Rattle.b3_core.specs.Tree.{start_flag};
 ghost use Rattle.b3_core.specs.Work.{counted};
 
 use crate::rows::{Quads, low_rows, seven_rounds};
@@ -177,4 +178,12 @@ pub(crate) fn compress_to_value(
 {
     let v = state_after(chaining_value, block_words, counter, block_len, flags, work);
     low_words(v)
+}
+
+/// The start flag of a chunk's block of this number: CHUNK_START at the first (section 2.4).
+#[inline(always)]
+pub(crate) fn start_flag(block: usize) -> u32
+    ensures { result ≡ start_flag block }
+{
+    if block == 0 { CHUNK_START } else { 0 }
 }

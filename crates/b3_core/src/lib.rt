@@ -18,17 +18,15 @@
 //! - `tree_laws` states the tree in the specification's own words.
 #![tactic(auto)]
 
-mod chunks;
 mod compression;
 mod counted_output;
+mod derive;
 mod hasher;
 mod hasher_state;
 mod kept;
-mod lanes;
 mod laws;
 mod mode;
 mod output;
-mod pairs;
 mod places;
 mod rows;
 mod top;

@@ -1,23 +1,20 @@
 //! The modes of the hash (section 2.3): the key words, and the flag of each compression.
 
-ghost use Rattle.std.specs.Prelude.{◌≡◌, ◌≤◌, MatchOption, Some, false, length, nat_lt, true};
-ghost use Rattle.b3_core.specs.Modes.{hash_mode, keyed_mode, derive_mode};
+ghost use Rattle.std.specs.Prelude.{◌≡◌, ◌≤◌, MatchOption, Some, false, nat_lt, true};
+ghost use Rattle.b3_core.specs.Modes.{hash_mode, keyed_mode};
 ghost use Rattle.b3_core.specs.Texts.{mode_name, mode_text};
 ghost use Rattle.b3_core.specs.Tree.{Keying};
-ghost use Rattle.b3_core.specs.Work.{counted, hash_work};
 
-use crate::compression::{DERIVE_KEY_CONTEXT, DERIVE_KEY_MATERIAL, IV, KEYED_HASH};
-use crate::tree::hash;
+use crate::compression::{DERIVE_KEY_MATERIAL, IV, KEYED_HASH};
 use crate::words::words_of_key;
-use crate::work::Work;
 use std::fmt;
 use std::marker::Model;
 
 /// One of the three modes (section 2.3), with its key.
 #[derive(Clone, Copy, PartialEq, Eq)]
 pub struct Mode {
-    key: [u32; 8],
-    flag: u32,
+    pub(crate) key: [u32; 8],
+    pub(crate) flag: u32,
 }
 
 impl Model for Mode {
@@ -45,22 +42,6 @@ impl Mode {
         Mode {
             key: words_of_key(key),
             flag: KEYED_HASH,
-        }
-    }
-
-    /// The mode `derive_key`, with a context. The context is hashed here, which counts as the hash of it does.
-    pub fn derive(context: &[u8], work: &mut Work) -> Mode
-        ensures mode { result ≡ derive_mode context.now }
-        ensures count { work.new ≡ counted work.old (hash_work (length context.now)) }
-    {
-        let context_mode = Mode {
-            key: IV,
-            flag: DERIVE_KEY_CONTEXT,
-        };
-        let key = hash(&context_mode, context, work);
-        Mode {
-            key: words_of_key(&key),
-            flag: DERIVE_KEY_MATERIAL,
         }
     }
 

@@ -2,21 +2,18 @@
 
 ghost use Rattle.std.specs.Prelude.{◌≡◌, ℕ, ◌+◌, ◌-◌, ◌*◌, ◌^◌, ◌<◌, ◌≤◌, Some, length, slice_index};
 ghost use Rattle.b3_core.specs.ExtendedOutput.{output_of, root_words_of};
-ghost use Rattle.b3_core.specs.Lanes.{lane, chunk_bytes, chunk_at, eight_chunks};
-ghost use Rattle.b3_core.specs.Tree.{Inputs, chain, chunk_top, parent_top, chaining_value_of, start_flag};
+ghost use Rattle.b3_core.specs.Tree.{Inputs, chunk_top, parent_top, chaining_value_of};
 ghost use Rattle.b3_core.specs.Texts.{top_text};
 ghost use Rattle.b3_core.specs.Work.{counted, block_count};
 
 use crate::compression::{
-    BLOCK_LEN, CHUNK_END, CHUNK_LEN, CHUNK_START, PARENT, ROOT, compress, compress_to_value,
+    BLOCK_LEN, CHUNK_END, PARENT, ROOT, compress, compress_to_value, start_flag,
 };
-use crate::lanes::{chains, lane_words};
 use crate::mode::Mode;
 use crate::words::{bytes_of, joined, words_of_block, words_of_short_block};
 use crate::work::Work;
 use std::fmt;
 use std::marker::Model;
-use std::simd::u32x8;
 
 /// A node of the tree: the inputs of its last compression, before it is known whether it is the root.
 ///
@@ -25,12 +22,12 @@ use std::simd::u32x8;
 #[derive(Clone, Copy, PartialEq, Eq)]
 #[repr(C)]
 pub struct Top {
-    chaining_value: [u32; 8],
-    block_words: [u32; 16],
-    counter: u64,
-    block_len: u32,
+    pub(crate) chaining_value: [u32; 8],
+    pub(crate) block_words: [u32; 16],
+    pub(crate) counter: u64,
+    pub(crate) block_len: u32,
     // Eight bits, so that ROOT can be added to any.
-    flags: u8,
+    pub(crate) flags: u8,
 }
 
 impl Model for Top {
@@ -76,43 +73,6 @@ impl Top {
             counter: number,
             block_len: tail.len() as u32,
             flags: (mode.flag() + start_flag(last) + CHUNK_END) as u8,
-        }
-    }
-
-    /// The nodes of eight whole chunks, the first with the given number: node i is `of_chunk` of chunk i with
-    /// `number + i`. It makes their 120 compressions in one pass, eight side by side.
-    pub fn of_eight(mode: &Mode, bytes: &[u8; 8192], number: u64, work: &mut Work) -> [Top; 8]
-        requires { number ≤ 2 ^ 64 - 8 }
-        ensures nodes { result ≡ eight_chunks bytes.now number mode.now }
-        ensures count { work.new ≡ counted work.old 120 }
-    {
-        let values = chains::<u32x8, 1>(mode, bytes, number, work);
-        let n0 = Top::of_lane(mode, bytes, number, &values, 0);
-        let n1 = Top::of_lane(mode, bytes, number, &values, 1);
-        let n2 = Top::of_lane(mode, bytes, number, &values, 2);
-        let n3 = Top::of_lane(mode, bytes, number, &values, 3);
-        let n4 = Top::of_lane(mode, bytes, number, &values, 4);
-        let n5 = Top::of_lane(mode, bytes, number, &values, 5);
-        let n6 = Top::of_lane(mode, bytes, number, &values, 6);
-        let n7 = Top::of_lane(mode, bytes, number, &values, 7);
-        [n0, n1, n2, n3, n4, n5, n6, n7]
-    }
-
-    // The node of chunk `i` of eight, from the chaining values before their last blocks.
-    fn of_lane(mode: &Mode, bytes: &[u8], number: u64, values: &[u32x8; 8], i: usize) -> Top
-        requires eight { length bytes.now ≡ 8192 }
-        requires index { i < 8 }
-        requires number { number ≤ 2 ^ 64 - 8 }
-        ensures { lane slice_index i values.now ≡ chain (chunk_bytes bytes.now i) (number + i) mode.now 15
-            → result ≡ chunk_at bytes.now number mode.now i }
-    {
-        let at = CHUNK_LEN * i + 960;
-        Top {
-            chaining_value: lane_words(values, i),
-            block_words: words_of_block(&bytes[at..at + BLOCK_LEN]),
-            counter: number + i as u64,
-            block_len: 64,
-            flags: (mode.flag() + CHUNK_END) as u8,
         }
     }
 
@@ -206,12 +166,4 @@ impl fmt::Debug for Top {
             "Top {{ counter: {counter}, block_len: {block_len}, flags: {flags} }}"
         )
     }
-}
-
-// CHUNK_START at a chunk's first block.
-#[inline(always)]
-pub(crate) fn start_flag(block: usize) -> u32
-    ensures { result ≡ start_flag block }
-{
-    if block == 0 { CHUNK_START } else { 0 }
 }

@@ -6,13 +6,18 @@ ghost use Rattle.b3_core.specs.Modes.{digest_of};
 ghost use Rattle.b3_core.specs.Tree.{Inputs, IsSubtree, chaining_value_of, parent_top, tree_top};
 ghost use Rattle.b3_core.specs.Work.{counted, hash_work};
 
+mod chunks;
+mod eight;
+mod lanes;
+mod pairs;
+
 use crate::compression::CHUNK_LEN;
-use crate::lanes::{chunk_values, lane_parents, lane_words, parent_values};
 use crate::mode::Mode;
-use crate::pairs::{pair_parents, pair_values};
 use crate::top::Top;
 use crate::tree::left_len;
 use crate::vectors::Words;
+use crate::wide::lanes::{chunk_values, lane_parents, lane_words, parent_values};
+use crate::wide::pairs::{pair_parents, pair_values};
 use crate::work::Work;
 use std::simd::{u32x4, u32x8};
 
