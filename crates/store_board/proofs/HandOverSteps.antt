@@ -10,7 +10,7 @@ use Rattle.crossbeam_queue.specs.Fifo.{Pushes, Pops, Forks, Merges, Learns, Held
 use Rattle.crossbeam_queue.proofs.Lists.{at_set, at_snoc}
 use Rattle.store_board.specs.declared.hand_over.taken.Taken.{Taken}
 use Rattle.store_board.specs.declared.hand_over.view.PassView.{PassView}
-use Rattle.store_board.specs.HandOverRule.{of_giver, pass_view, taker_view, first_view, giver_view, giving_view, taking_view, sum_view, from_on, cover, HandOverRule, With, Starts, KeepsGiving, KeepsTaking, KeepsJoining, IsSeenWith, Ended}
+use Rattle.store_board.specs.HandOverRule.{of_giver, taker_view, first_view, giver_view, parting_view, spent_view, giving_view, taking_view, sum_view, for_later, passes_of, HandOverRule, With, Starts, KeepsGiving, KeepsTaking, KeepsJoining, IsSeenWith, Ended}
 use Rattle.store_board.proofs.Sums.{pos_or_zero, hit, hit_self, sum_at, two_le, alone}
 
 -- where a fact holds of one new view and of all others, it holds of all
@@ -26,15 +26,15 @@ of_snoc_other g xs x n =
     filter-append (λ (y : Taken). nat_eq y.giver g) xs (x ∷ []) ∙ (ap (λ l. of_giver g xs ++ l) one ∙ append-nil (of_giver g xs))
 
 -- where one view only can be that of a giver
-apart : (items : List Taken) (views : List PassView) (id j g : ℕ) (v u : PassView) → HandOverRule items views → j ≢ id → get_elem? views id ≡ some v → get_elem? views j ≡ some u → 0 < cover g v → cover g u ≡ 0
-apart items views id j g v u h n at e p = omega (arith, h.covers g, p, two_le (cover g) views j id u v n e at)
+apart : (items : List Taken) (views : List PassView) (id j g : ℕ) (v u : PassView) → HandOverRule items views → j ≢ id → get_elem? views id ≡ some v → get_elem? views j ≡ some u → 0 < passes_of g v → passes_of g u ≡ 0
+apart items views id j g v u h n at e p = omega (arith, h.one_pass g, p, two_le (passes_of g) views j id u v n e at)
 
 -- a giver gives an item
 pub pushes : (n id : ℕ) (v : PassView) (x : Taken) → 0 < v.rights → v.taker ≡ 0 → v.givers ≡ x.giver ∷ [] → Pushes HandOverRule n id v x (λ w. w ≡ giving_view v x)
 pushes n id v x right no_root mine items views room h at =
     let w : PassView = giving_view v x in
     let sum = λ (f : PassView → ℕ). sum_at f views id v w at in
-    let here : 0 < cover x.giver v = let one : hit x.giver x.giver ≡ 1 = hit_self x.giver in let s : sum_by (hit x.giver) v.givers ≡ 0 + hit x.giver x.giver = ap (sum_by (hit x.giver)) mine in omega (arith, one, s) in
+    let here : 0 < passes_of x.giver v = let one : hit x.giver x.giver ≡ 1 = hit_self x.giver in let s : sum_by (hit x.giver) v.givers ≡ 0 + hit x.giver x.giver = ap (sum_by (hit x.giver)) mine in omega (arith, one, s) in
     let history : (g : ℕ) → of_giver g (h.taken ++ (items ++ x ∷ [])) ≡ of_giver g (h.taken ++ items) ++ of_giver g (x ∷ []) = λ g. ap (of_giver g) (sym (append_assoc h.taken items (x ∷ []))) ∙ filter-append (λ (y : Taken). nat_eq y.giver g) (h.taken ++ items) (x ∷ []) in
     let alike : (g : ℕ) → x.giver ≢ g → of_giver g (h.taken ++ (items ++ x ∷ [])) ≡ of_giver g (h.taken ++ items) = λ g no. ap (of_giver g) (sym (append_assoc h.taken items (x ∷ []))) ∙ of_snoc_other g (h.taken ++ items) x no in (
       w,
@@ -43,13 +43,13 @@ pushes n id v x right no_root mine items views room h at =
         rights = let q = sum (λ v. v.rights) in omega (arith, q, h.rights);
         takers = let q = sum (λ v. v.taker) in omega (arith, q, h.takers);
         count = let q = sum (λ v. length v.given) in omega (arith, q, h.count, length-append v.given (x ∷ []), length-append items (x ∷ []));
-        covers = λ g. let q = sum (cover g) in omega (arith, q, h.covers g);
-        gives = λ j u g e p. all_set (λ j u. 0 < cover g u → of_giver g u.given ≡ of_giver g (h.taken ++ (items ++ x ∷ []))) views id w
+        one_pass = λ g. let q = sum (passes_of g) in omega (arith, q, h.one_pass g);
+        gives = λ j u g e p. all_set (λ j u. 0 < passes_of g u → of_giver g u.given ≡ of_giver g (h.taken ++ (items ++ x ∷ []))) views id w
             (λ q. filter-append (λ (y : Taken). nat_eq y.giver g) v.given (x ∷ []) ∙ (ap (λ l. l ++ of_giver g (x ∷ [])) (h.gives id v g at q) ∙ sym (history g)))
-            (λ j u apart' d q. h.gives j u g d q ∙ sym (alike g (λ same. absurd (let z = apart items views id j x.giver v u h apart' at d here in let q' : 0 < cover x.giver u = subst (λ k. 0 < cover k u) (sym same) q in omega (arith, z, q')))))
+            (λ j u apart' d q. h.gives j u g d q ∙ sym (alike g (λ same. absurd (let z = apart items views id j x.giver v u h apart' at d here in let q' : 0 < passes_of x.giver u = subst (λ k. 0 < passes_of k u) (sym same) q in omega (arith, z, q')))))
             j u e p;
-        rest = λ j u g e z. all_set (λ j u. cover g u ≡ 0 → of_giver g u.given ≡ []) views id w
-            (λ q. of_snoc_other g v.given x (λ same. absurd (let q' : cover x.giver v ≡ 0 = subst (λ k. cover k v ≡ 0) (sym same) q in omega (arith, q', here))) ∙ h.rest id v g at q)
+        rest = λ j u g e z. all_set (λ j u. passes_of g u ≡ 0 → of_giver g u.given ≡ []) views id w
+            (λ q. of_snoc_other g v.given x (λ same. absurd (let q' : passes_of x.giver v ≡ 0 = subst (λ k. passes_of k v ≡ 0) (sym same) q in omega (arith, q', here))) ∙ h.rest id v g at q)
             (λ j u _ d q. h.rest j u g d q) j u e z;
         takes = all_set (λ j u. 0 < u.taker → u.taken ≡ h.taken) views id w (h.takes id v at) (λ j u _ d. h.takes j u d);
         idle = all_set (λ j u. u.rights ≡ 0 → (u.taker ≡ 0) × (u.givers ≡ []) × (u.given ≡ [])) views id w (λ z. absurd (omega (arith, z, right))) (λ j u _ d. h.idle j u d);
@@ -79,9 +79,9 @@ pops id v right root x items views h at =
         rights = let q = sum (λ v. v.rights) in omega (arith, q, h.rights);
         takers = let q = sum (λ v. v.taker) in omega (arith, q, h.takers);
         count = let q = sum (λ v. length v.given) in omega (arith, q, h.count, length-append h.taken (x ∷ []));
-        covers = λ g. let q = sum (cover g) in omega (arith, q, h.covers g);
-        gives = λ j u g e p. all_set (λ j u. 0 < cover g u → of_giver g u.given ≡ of_giver g (now ++ items)) views id w (λ q. h.gives id v g at q ∙ history g) (λ j u _ d q. h.gives j u g d q ∙ history g) j u e p;
-        rest = λ j u g e z. all_set (λ j u. cover g u ≡ 0 → of_giver g u.given ≡ []) views id w (λ q. h.rest id v g at q) (λ j u _ d q. h.rest j u g d q) j u e z;
+        one_pass = λ g. let q = sum (passes_of g) in omega (arith, q, h.one_pass g);
+        gives = λ j u g e p. all_set (λ j u. 0 < passes_of g u → of_giver g u.given ≡ of_giver g (now ++ items)) views id w (λ q. h.gives id v g at q ∙ history g) (λ j u _ d q. h.gives j u g d q ∙ history g) j u e p;
+        rest = λ j u g e z. all_set (λ j u. passes_of g u ≡ 0 → of_giver g u.given ≡ []) views id w (λ q. h.rest id v g at q) (λ j u _ d q. h.rest j u g d q) j u e z;
         takes = all_set (λ j u. 0 < u.taker → u.taken ≡ now) views id w (λ _. ap (λ l. l ++ x ∷ []) (h.takes id v at (omega (arith, root))))
             (λ j u apart' d p. absurd (let z = two_le (λ v. v.taker) views j id u v apart' d at in omega (arith, h.takers, root, p, z)));
         idle = all_set (λ j u. u.rights ≡ 0 → (u.taker ≡ 0) × (u.givers ≡ []) × (u.given ≡ [])) views id w (λ z. absurd (omega (arith, z, right))) (λ j u _ d. h.idle j u d);
@@ -90,11 +90,11 @@ pops id v right root x items views h at =
     )
 
 -- the next giver is one of those that have no pass yet
-begun : (g n r : ℕ) → r ≡ 1 → from_on n r g ≡ from_on (n + 1) r g + hit g n
+begun : (g n r : ℕ) → r ≡ 1 → for_later n r g ≡ for_later (n + 1) r g + hit g n
 begun g n r is = grind (arith, nat_tests)
 
 -- a pass that is not the taker's stands for no other giver
-nothing_on : (g n r : ℕ) → r ≡ 0 → from_on n r g ≡ 0
+nothing_on : (g n r : ℕ) → r ≡ 0 → for_later n r g ≡ 0
 nothing_on g n r is = grind (arith, nat_tests)
 
 -- the taker makes the pass of the next giver
@@ -112,10 +112,10 @@ forks id rights from some_left items views h at =
       rights = let q = sum (λ v. v.rights) in omega (arith, q, h.rights, some_left);
       takers = let q = sum (λ v. v.taker) in omega (arith, q, h.takers);
       count = let q = sum (λ v. length v.given) in omega (arith, q, h.count);
-      covers = λ g. let q = sum (cover g) in let b = begun g from 1 refl in let z = nothing_on g 0 0 refl in omega (arith, q, b, z, h.covers g);
-      gives = λ j u g e p. both (λ j u. 0 < cover g u → of_giver g u.given ≡ of_giver g (h.taken ++ items)) (λ j q. h.gives id v g at (let b = begun g from 1 refl in omega (arith, b, q)))
+      one_pass = λ g. let q = sum (passes_of g) in let b = begun g from 1 refl in let z = nothing_on g 0 0 refl in omega (arith, q, b, z, h.one_pass g);
+      gives = λ j u g e p. both (λ j u. 0 < passes_of g u → of_giver g u.given ≡ of_giver g (h.taken ++ items)) (λ j q. h.gives id v g at (let b = begun g from 1 refl in omega (arith, b, q)))
           (λ j q. h.gives id v g at (let b = begun g from 1 refl in let z = nothing_on g 0 0 refl in omega (arith, b, q, z))) (λ j u d. h.gives j u g d) j u e p;
-      rest = λ j u g e z. both (λ j u. cover g u ≡ 0 → of_giver g u.given ≡ []) (λ j q. refl) (λ j q. refl) (λ j u d. h.rest j u g d) j u e z;
+      rest = λ j u g e z. both (λ j u. passes_of g u ≡ 0 → of_giver g u.given ≡ []) (λ j q. refl) (λ j q. refl) (λ j u d. h.rest j u g d) j u e z;
       takes = both (λ j u. 0 < u.taker → u.taken ≡ h.taken) (λ j p. h.takes id v at p) (λ j p. absurd (omega (arith, p))) (λ j u d. h.takes j u d);
       idle = both (λ j u. u.rights ≡ 0 → (u.taker ≡ 0) × (u.givers ≡ []) × (u.given ≡ [])) (λ j z. absurd (omega (arith, z, some_left))) (λ j z. absurd (omega (arith, z))) (λ j u d. h.idle j u d);
     }
@@ -126,7 +126,7 @@ only F v mine zero u e = subst (F 0) (some-injective v u e) mine
 only F v mine (suc j) u e = absurd (some-ne-none u (sym e))
 
 -- at first the taker stands for every giver
-from_none : (g r : ℕ) → from_on 0 r g ≡ r
+from_none : (g r : ℕ) → for_later 0 r g ≡ r
 from_none g r = grind (arith, nat_tests)
 
 -- an empty queue, of which nobody has given or taken, keeps the rule
@@ -136,7 +136,7 @@ begins = let v : PassView = first_view in record {
   rights = refl;
   takers = refl;
   count = refl;
-  covers = λ g. let z = from_none g 1 in omega (arith, z);
+  one_pass = λ g. let z = from_none g 1 in omega (arith, z);
   gives = λ j u g e p. only (λ j u. of_giver g u.given ≡ []) v refl j u e;
   rest = λ j u g e z. only (λ j u. of_giver g u.given ≡ []) v refl j u e;
   takes = only (λ j u. 0 < u.taker → u.taken ≡ []) v (λ _. refl);
@@ -145,18 +145,18 @@ begins = let v : PassView = first_view in record {
 
 -- the taker takes in the pass of a giver
 pub merges : (id : ℕ) (v : PassView) (other : ℕ) (w : PassView) → v.taker ≡ 1 → 0 < v.rights → w.taker ≡ 0
-    → Merges HandOverRule id v other w (sum_view v w) (pass_view 0 0 0 [] [] [])
+    → Merges HandOverRule id v other w (sum_view v w) spent_view
 merges id v other w root right plain items views h at two at' =
     let b : PassView = sum_view v w in
-    let s : PassView = pass_view 0 0 0 [] [] [] in
+    let s : PassView = spent_view in
     let vs : List PassView = set (set views id b) other s in
     let was : get_elem? views other ≡ some w = ⊎_elim (λ x. absurd (two x.0)) (λ x. x.1) (at_set views id other b w at') in
     let sum : (f : PassView → ℕ) → sum_by f vs + (f v + f w) ≡ sum_by f views + (f b + f s) = λ f. omega (arith, sum_at f views id v b at, sum_at f (set views id b) other w s at') in
-    let blank : (g : ℕ) → cover g s ≡ 0 = λ g. let z = nothing_on g 0 0 refl in omega (arith, z) in
-    let covered : (g : ℕ) → cover g b ≡ cover g v + cover g w = λ g. let z = nothing_on g w.next_giver w.taker plain in let t = sum_by-append (hit g) w.givers v.givers in omega (arith, z, t) in
+    let blank : (g : ℕ) → passes_of g s ≡ 0 = λ g. let z = nothing_on g 0 0 refl in omega (arith, z) in
+    let covered : (g : ℕ) → passes_of g b ≡ passes_of g v + passes_of g w = λ g. let z = nothing_on g w.next_giver w.taker plain in let t = sum_by-append (hit g) w.givers v.givers in omega (arith, z, t) in
     let parts : (g : ℕ) → of_giver g (w.given ++ v.given) ≡ of_giver g w.given ++ of_giver g v.given = λ g. filter-append (λ (y : Taken). nat_eq y.giver g) w.given v.given in
-    let only_v : (g : ℕ) → cover g w ≡ 0 → of_giver g (w.given ++ v.given) ≡ of_giver g v.given = λ g z. parts g ∙ ap (λ l. l ++ of_giver g v.given) (h.rest other w g was z) in
-    let only_w : (g : ℕ) → cover g v ≡ 0 → of_giver g (w.given ++ v.given) ≡ of_giver g w.given = λ g z. parts g ∙ (ap (λ l. of_giver g w.given ++ l) (h.rest id v g at z) ∙ append-nil (of_giver g w.given)) in
+    let only_v : (g : ℕ) → passes_of g w ≡ 0 → of_giver g (w.given ++ v.given) ≡ of_giver g v.given = λ g z. parts g ∙ ap (λ l. l ++ of_giver g v.given) (h.rest other w g was z) in
+    let only_w : (g : ℕ) → passes_of g v ≡ 0 → of_giver g (w.given ++ v.given) ≡ of_giver g w.given = λ g z. parts g ∙ (ap (λ l. of_giver g w.given ++ l) (h.rest id v g at z) ∙ append-nil (of_giver g w.given)) in
     let each : (F : ℕ → PassView → Type 0) → F id b → F other s → ((j : ℕ) (u : PassView) → get_elem? views j ≡ some u → F j u) → (j : ℕ) (u : PassView) → get_elem? vs j ≡ some u → F j u =
     λ F mine theirs old. all_set F (set views id b) other s theirs (λ j u _ d. all_set F views id b mine (λ j u _ d. old j u d) j u d) in
     record {
@@ -164,11 +164,11 @@ merges id v other w root right plain items views h at two at' =
       rights = let q = sum (λ v. v.rights) in omega (arith, q, h.rights);
       takers = let q = sum (λ v. v.taker) in omega (arith, q, h.takers, plain);
       count = let q = sum (λ v. length v.given) in let l = length-append w.given v.given in omega (arith, q, l, h.count);
-      covers = λ g. let q = sum (cover g) in omega (arith, q, blank g, covered g, h.covers g);
-      gives = λ j u g e p. each (λ j u. 0 < cover g u → of_giver g u.given ≡ of_giver g (h.taken ++ items))
-          (λ q. ⊎_elim (λ (z : cover g v ≡ 0). only_w g z ∙ h.gives other w g was (omega (arith, z, q, covered g))) (λ (k : 0 < cover g v). only_v g (apart items views id other g v w h two at was k) ∙ h.gives id v g at k) (pos_or_zero (cover g v)))
+      one_pass = λ g. let q = sum (passes_of g) in omega (arith, q, blank g, covered g, h.one_pass g);
+      gives = λ j u g e p. each (λ j u. 0 < passes_of g u → of_giver g u.given ≡ of_giver g (h.taken ++ items))
+          (λ q. ⊎_elim (λ (z : passes_of g v ≡ 0). only_w g z ∙ h.gives other w g was (omega (arith, z, q, covered g))) (λ (k : 0 < passes_of g v). only_v g (apart items views id other g v w h two at was k) ∙ h.gives id v g at k) (pos_or_zero (passes_of g v)))
           (λ q. absurd (omega (arith, q, blank g))) (λ j u d. h.gives j u g d) j u e p;
-      rest = λ j u g e z. each (λ j u. cover g u ≡ 0 → of_giver g u.given ≡ []) (λ q. only_v g (omega (arith, q, covered g)) ∙ h.rest id v g at (omega (arith, q, covered g))) (λ _. refl) (λ j u d. h.rest j u g d) j u e z;
+      rest = λ j u g e z. each (λ j u. passes_of g u ≡ 0 → of_giver g u.given ≡ []) (λ q. only_v g (omega (arith, q, covered g)) ∙ h.rest id v g at (omega (arith, q, covered g))) (λ _. refl) (λ j u d. h.rest j u g d) j u e z;
       takes = each (λ j u. 0 < u.taker → u.taken ≡ h.taken) (h.takes id v at) (λ p. absurd (omega (arith, p))) (λ j u d. h.takes j u d);
       idle = each (λ j u. u.rights ≡ 0 → (u.taker ≡ 0) × (u.givers ≡ []) × (u.given ≡ [])) (λ z. absurd (omega (arith, z, right))) (λ _. (refl, refl, refl)) (λ j u d. h.idle j u d);
     }
@@ -178,16 +178,16 @@ pub ends : (id : ℕ) (v : PassView) → v.rights ≡ 2 ^ 64 → v.taker ≡ 1 �
 ends id v whole root items views h at =
     let all : sum_by (λ v. v.rights) views ≡ v.rights = h.rights ∙ sym whole in
     let mine = h.takes id v at (omega (arith, root)) in
-    let covers : (g : ℕ) → cover g v ≡ 1 = λ g. sym (alone (λ (v : PassView). v.rights) (cover g) views id v at all (λ i u e z.
-    let k = h.idle i u e z in let n = nothing_on g u.next_giver u.taker k.0 in let m : sum_by (hit g) u.givers ≡ 0 = ap (sum_by (hit g)) k.1 in omega (arith, n, m))) ∙ h.covers g in
+    let one_pass : (g : ℕ) → passes_of g v ≡ 1 = λ g. sym (alone (λ (v : PassView). v.rights) (passes_of g) views id v at all (λ i u e z.
+    let k = h.idle i u e z in let n = nothing_on g u.next_giver u.taker k.0 in let m : sum_by (hit g) u.givers ≡ 0 = ap (sum_by (hit g)) k.1 in omega (arith, n, m))) ∙ h.one_pass g in
     let count = alone (λ (v : PassView). v.rights) (λ v. length v.given) views id v at all (λ i u e z. ap length (h.idle i u e z).2) in (
-      (λ g. (covers g, h.gives id v g at (let c = covers g in omega (arith, c)) ∙ ap (λ l. of_giver g (l ++ items)) (sym mine))),
+      (λ g. (one_pass g, h.gives id v g at (let c = one_pass g in omega (arith, c)) ∙ ap (λ l. of_giver g (l ++ items)) (sym mine))),
       omega (arith, h.count, count, ap length mine),
     )
 
 -- the same for a view that is known to be the taker's
-pub forks_at : (id rights from : ℕ) (v : PassView) → v ≡ taker_view rights from → 1 < rights → Forks HandOverRule id v (pass_view (v.rights - 1) v.taker (v.next_giver + 1) v.givers v.given v.taken) (giver_view v.next_giver)
-forks_at id rights from v is some_left = subst (λ u. Forks HandOverRule id u (pass_view (u.rights - 1) u.taker (u.next_giver + 1) u.givers u.given u.taken) (giver_view u.next_giver)) (sym is) (forks id rights from some_left)
+pub forks_at : (id rights from : ℕ) (v : PassView) → v ≡ taker_view rights from → 1 < rights → Forks HandOverRule id v (parting_view v) (giver_view v.next_giver)
+forks_at id rights from v is some_left = subst (λ u. Forks HandOverRule id u (parting_view u) (giver_view u.next_giver)) (sym is) (forks id rights from some_left)
 
 -- the same steps, with a caller's rule
 
@@ -202,12 +202,12 @@ pops_with seen id v right root keeps x items views h at =
     (taking_view v x, (subst (λ u. HandOverRule items (set views id u)) p.2 p.1, keeps x items views h.0 h.1 at), refl)
 
 pub merges_with : (seen : List Taken → List PassView → Type 0) (id : ℕ) (v : PassView) (other : ℕ) (w : PassView) → v.taker ≡ 1 → 0 < v.rights → w.taker ≡ 0 → KeepsJoining seen
-    → Merges (With seen) id v other w (sum_view v w) (pass_view 0 0 0 [] [] [])
+    → Merges (With seen) id v other w (sum_view v w) spent_view
 merges_with seen id v other w root right plain keeps items views h at two at' =
     (merges id v other w root right plain items views h.0 at two at', keeps id other v w items views h.1 at at')
 
 pub forks_with : (seen : List Taken → List PassView → Type 0) (givers id from : ℕ) (v : PassView) → v ≡ taker_view (2 ^ 64 - from) from → 1 < 2 ^ 64 - from → from < givers → Starts seen givers
-    → Forks (With seen) id v (pass_view (v.rights - 1) v.taker (v.next_giver + 1) v.givers v.given v.taken) (giver_view v.next_giver)
+    → Forks (With seen) id v (parting_view v) (giver_view v.next_giver)
 forks_with seen givers id from v is some_left below starts items views h at =
     (forks_at id (2 ^ 64 - from) from v is some_left items views h.0 at, starts.next id from v items views below is h.1 at)
 
@@ -225,7 +225,7 @@ pub shy_kept : (id : ℕ) (v : PassView) (x : Taken) → v.givers ≡ x.giver �
 shy_kept id v x mine items views rule before at j now = ⊎_elim
     (λ (a : (j ≡ id) × (giving_view v x ≡ v)). absurd (let e = ap (λ (u : PassView). length u.given) a.1 in omega (arith, e, length-append v.given (x ∷ []))))
     (λ (b : (j ≢ id) × (get_elem? views j ≡ some v)).
-    let here : 0 < cover x.giver v = let one : hit x.giver x.giver ≡ 1 = hit_self x.giver in let s : sum_by (hit x.giver) v.givers ≡ 0 + hit x.giver x.giver = ap (sum_by (hit x.giver)) mine in omega (arith, one, s) in
+    let here : 0 < passes_of x.giver v = let one : hit x.giver x.giver ≡ 1 = hit_self x.giver in let s : sum_by (hit x.giver) v.givers ≡ 0 + hit x.giver x.giver = ap (sum_by (hit x.giver)) mine in omega (arith, one, s) in
     absurd (let z = apart items views id j x.giver v v rule b.0 at b.1 here in omega (arith, z, here)))
     (at_set views id j (giving_view v x) v now)
 

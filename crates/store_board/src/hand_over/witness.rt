@@ -1,11 +1,5 @@
 //! What a caller keeps of a hand-over, beside its own rule.
 
-ghost use Rattle.store_board.specs.Passes.{WasFull, WasEmpty};
-
-use crate::hand_over::HandOver;
-use crate::hand_over::give_pass::GivePass;
-use crate::hand_over::take_pass::TakePass;
-
 /// A rule of the caller's own over what the queue holds and what each pass has done. The caller owes at each call that
 /// the call's step keeps it, and a refusal tells that it held of a full queue, or of an empty one.
 pub trait Witness {
@@ -24,16 +18,3 @@ impl Witness for Unasked {
 
     ghost seen = { λ items views. ⊤ };
 }
-
-/// A rule that never holds: it shows what a refusal owes.
-pub struct Never;
-
-impl Witness for Never {
-    ghost seen = { λ items views. ⊥ };
-}
-
-/// Under a rule that never holds no refusal is true, though a caller may keep it.
-pub fn never_refuses(hand_over: &HandOver<Never>, giver: &GivePass, taker: &TakePass)
-    ensures giver { WasFull ⟦<Never as Witness>⟧.seen hand_over.now giver.now → ⊥ }
-    ensures taker { WasEmpty ⟦<Never as Witness>⟧.seen taker.now → ⊥ }
-{}
