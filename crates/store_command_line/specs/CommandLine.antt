@@ -39,13 +39,13 @@ with_list a = with_rule (with_rule a (value_rule (codes "files-from"))) (short_f
 abbrev pub with_mode : App → App
 with_mode a = with_rule (with_rule (with_rule a (value_rule (codes "key"))) (value_rule (codes "key-file"))) (value_rule (codes "context"))
 
--- `[--length N] [--threads T]`
-abbrev pub with_output : App → App
-with_output a = with_rule (with_rule a (number_rule (codes "length") 65536)) (number_rule (codes "threads") 16)
+-- `[--threads T] [--no-progress]`
+abbrev pub with_work : App → App
+with_work a = with_rule (with_rule a (number_rule (codes "threads") 16)) (flag_rule (codes "no-progress"))
 
--- `sum` with these
+-- `sum` with these, and `[--length N]`
 abbrev pub sum_line : App
-sum_line = with_output (with_mode (with_list (with_names (new_app (codes "sum")))))
+sum_line = with_work (with_rule (with_mode (with_list (with_names (new_app (codes "sum"))))) (number_rule (codes "length") 65536))
 
 -- `run`
 abbrev pub run_line : App
@@ -55,19 +55,21 @@ run_line = new_app (codes "run")
 abbrev pub serve_line : App
 serve_line = new_app (codes "serve")
 
--- `upload [--workers W] [--part-chunks P] [--journal]`
+-- `[--workers W] [--part-chunks P]`
+abbrev pub with_cut : App → App
+with_cut a = with_rule (with_rule a (number_rule (codes "workers") 16)) (number_rule (codes "part-chunks") 16384)
+
+-- `upload` with these, and `[--journal] [--no-progress]`
 abbrev pub upload_line : App
-upload_line =
-    with_rule (with_rule (with_rule (new_app (codes "upload")) (number_rule (codes "workers") 16)) (number_rule (codes "part-chunks") 16384))
-    (flag_rule (codes "journal"))
+upload_line = with_rule (with_rule (with_cut (new_app (codes "upload"))) (flag_rule (codes "journal"))) (flag_rule (codes "no-progress"))
 
 -- `[LIST] [--quiet] [--status]`
 abbrev pub with_shown : App → App
 with_shown a = with_rule (with_rule (with_rule a (word_rule (codes "list"))) (flag_rule (codes "quiet"))) (flag_rule (codes "status"))
 
--- `check` with these, and `[--threads T]`
+-- `check` with these
 abbrev pub check_line : App
-check_line = with_rule (with_shown (new_app (codes "check"))) (number_rule (codes "threads") 16)
+check_line = with_work (with_shown (new_app (codes "check")))
 
 -- `audit`
 abbrev pub audit_line : App

@@ -80,11 +80,13 @@ pub record SaysSum (o : SumOptions) (rows : List Row) : Type 0 where
   pub mode : SaysAsked o.mode (first_of (codes "key") rows) (first_of (codes "context") rows) (first_of (codes "key-file") rows)
   pub length : SaysNumber (first_of (codes "length") rows) o.length
   pub threads : SaysNumber (first_of (codes "threads") rows) o.threads
+  pub no_progress : SaysFlag (one_of (codes "no-progress") rows) o.no_progress
 
 pub record SaysUpload (o : UploadOptions) (rows : List Row) : Type 0 where
   pub workers : SpellsOr 4 (first_of (codes "workers") rows) o.workers
   pub part_chunks : SpellsOr 64 (first_of (codes "part-chunks") rows) o.part_chunks
   pub journal : SaysFlag (one_of (codes "journal") rows) o.journal
+  pub no_progress : SaysFlag (one_of (codes "no-progress") rows) o.no_progress
 
 -- which lines of a report are written, from `--quiet` and `--status`, which goes before it
 abbrev pub shown_by : Bool → Bool → Shown
@@ -103,6 +105,7 @@ pub record SaysCheck (o : CheckOptions) (rows : List Row) : Type 0 where
   pub list : SaysInput o.list (first_of (codes "list") rows)
   pub shown : SaysShown o.shown (one_of (codes "quiet") rows) (one_of (codes "status") rows)
   pub threads : SaysNumber (first_of (codes "threads") rows) o.threads
+  pub no_progress : SaysFlag (one_of (codes "no-progress") rows) o.no_progress
 
 -- the subcommand that was entered, and its rows, say these options
 abbrev pub Says : Options → Option (Text × List Row) → Type 0

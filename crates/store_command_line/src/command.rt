@@ -3,7 +3,7 @@
 ghost use Rattle.std.specs.Prelude.{◌≡◌, IfOk, codes, false};
 ghost use Rattle.clap.specs.Words.{app_of, new_app, rule_of};
 ghost use Rattle.clap.specs.declared.builder.command.Command.TheViews.{out-Command as fields_of};
-ghost use Rattle.store_command_line.specs.CommandLine.{value_rule, flag_rule, short_flag_rule, word_rule, words_rule, program_line, with_list, with_mode, with_names, with_output, with_shown, sum_line, run_line, serve_line, upload_line, check_line, audit_line, migrate_line, answering_line, storing_line, command_line, number_rule};
+ghost use Rattle.store_command_line.specs.CommandLine.{value_rule, flag_rule, short_flag_rule, word_rule, words_rule, program_line, with_list, with_cut, with_mode, with_names, with_shown, with_work, sum_line, run_line, serve_line, upload_line, check_line, audit_line, migrate_line, answering_line, storing_line, command_line, number_rule};
 
 use clap::{Arg, ArgAction, Command, value_parser};
 use std::alloc::{AllocError, Global};
@@ -87,15 +87,24 @@ fn with_mode<'a>(alloc: Global, command: Command<'a>) -> Result<Command<'a>, All
         .arg(value_argument(alloc, "context", "TEXT", context))
 }
 
-// What is written of a hash, and by how many threads it is made.
-fn with_output<'a>(alloc: Global, command: Command<'a>) -> Result<Command<'a>, AllocError>
+// The flag by which no progress is shown.
+fn progress_argument<'a>(alloc: Global) -> Arg<'a>
+    ensures rule { rule_of result ≡ flag_rule (codes "no-progress") }
+    ensures local { result.global ≡ false }
+{
+    let help = "Show no progress on standard error, where that is a terminal";
+    flag_argument(alloc, "no-progress", help)
+}
+
+// By how many threads is hashed, and whether progress is shown.
+fn with_work<'a>(alloc: Global, command: Command<'a>) -> Result<Command<'a>, AllocError>
     requires { (fields_of command).has_globals ≡ false }
-    ensures shape { IfOk result (λ c. app_of c ≡ with_output (app_of command.entry)) }
+    ensures shape { IfOk result (λ c. app_of c ≡ with_work (app_of command.entry)) }
     ensures local { IfOk result (λ c. (fields_of c).has_globals ≡ false) }
 {
     command
-        .arg(length_argument(alloc))?
-        .arg(threads_argument(alloc))
+        .arg(threads_argument(alloc))?
+        .arg(progress_argument(alloc))
 }
 
 // The length of the extended output.
@@ -124,7 +133,8 @@ fn sum_command<'a>(alloc: Global) -> Result<Command<'a>, AllocError>
     let command = with_names(alloc, bare_sum(alloc))?;
     let command = with_list(alloc, command)?;
     let command = with_mode(alloc, command)?;
-    with_output(alloc, command)
+    let command = command.arg(length_argument(alloc))?;
+    with_work(alloc, command)
 }
 
 // What stands at the end of the help of `run`.
@@ -163,24 +173,53 @@ fn flag_argument<'a>(alloc: Global, id: &'a str, help: &'a str) -> Arg<'a>
         .help(help)
 }
 
+// The option of how many workers an upload has.
+fn workers_argument<'a>(alloc: Global) -> Arg<'a>
+    ensures rule { rule_of result ≡ number_rule (codes "workers") 16 }
+    ensures local { result.global ≡ false }
+{
+    let help = "Hash parts by this many threads (1 to 16, 4 by default)";
+    value_argument(alloc, "workers", "W", help).value_parser(value_parser!(u32).range(1..17))
+}
+
+// The option of how many chunks a part has.
+fn part_chunks_argument<'a>(alloc: Global) -> Arg<'a>
+    ensures rule { rule_of result ≡ number_rule (codes "part-chunks") 16384 }
+    ensures local { result.global ≡ false }
+{
+    let help =
+        "Cut the input into parts of this many chunks of 1024 bytes (1 to 16384, 64 by default)";
+    value_argument(alloc, "part-chunks", "P", help).value_parser(value_parser!(u32).range(1..16385))
+}
+
+// How an upload is cut, and by how many workers.
+fn with_cut<'a>(alloc: Global, command: Command<'a>) -> Result<Command<'a>, AllocError>
+    requires { (fields_of command).has_globals ≡ false }
+    ensures shape { IfOk result (λ c. app_of c ≡ with_cut (app_of command.entry)) }
+    ensures local { IfOk result (λ c. (fields_of c).has_globals ≡ false) }
+{
+    command
+        .arg(workers_argument(alloc))?
+        .arg(part_chunks_argument(alloc))
+}
+
+// `upload` without options.
+fn bare_upload<'a>(alloc: Global) -> Command<'a>
+    ensures shape { app_of result ≡ new_app (codes "upload") }
+    ensures local { (fields_of result).has_globals ≡ false }
+{
+    Command::new(alloc, "upload").about(
+        "Read standard input, upload it in parts into a store, and write its check line and what was accepted",
+    )
+}
+
 fn upload_command<'a>(alloc: Global) -> Result<Command<'a>, AllocError>
     ensures shape { IfOk result (λ c. app_of c ≡ upload_line) }
     ensures local { IfOk result (λ c. (fields_of c).has_globals ≡ false) }
 {
-    let about =
-        "Read standard input, upload it in parts into a store, and write its check line and what was accepted";
-    let workers = "Hash parts by this many threads (1 to 16, 4 by default)";
-    let part_chunks =
-        "Cut the input into parts of this many chunks of 1024 bytes (1 to 16384, 64 by default)";
-    Command::new(alloc, "upload")
-        .about(about)
-        .arg(value_argument(alloc, "workers", "W", workers).value_parser(value_parser!(u32).range(
-            1..17,
-        )))?
-        .arg(value_argument(alloc, "part-chunks", "P", part_chunks).value_parser(value_parser!(
-            u32
-        ).range(1..16385)))?
-        .arg(flag_argument(alloc, "journal", "Write the journal's text too"))
+    with_cut(alloc, bare_upload(alloc))?
+        .arg(flag_argument(alloc, "journal", "Write the journal's text too"))?
+        .arg(progress_argument(alloc))
 }
 
 // What stands at the end of the help of `check`.
@@ -218,7 +257,7 @@ fn check_command<'a>(alloc: Global) -> Result<Command<'a>, AllocError>
     ensures local { IfOk result (λ c. (fields_of c).has_globals ≡ false) }
 {
     let command = with_shown(alloc, bare_check(alloc))?;
-    command.arg(threads_argument(alloc))
+    with_work(alloc, command)
 }
 
 // What stands at the end of the help of subcommands that read a journal.

@@ -5,11 +5,11 @@
 //!
 //! | Subcommand | Options |
 //! |---|---|
-//! | `sum` | `--key HEX64`, `--key-file FILE` or `--context TEXT`; `--length N` with N from 1 to 65536, `--threads T` with T from 1 to 16; `--name NAME`, or files' names, or `--files-from LIST` with or without `--null` |
+//! | `sum` | `--key HEX64`, `--key-file FILE` or `--context TEXT`; `--length N` with N from 1 to 65536, `--threads T` with T from 1 to 16, `--no-progress`; `--name NAME`, or files' names, or `--files-from LIST` with or without `--null` |
 //! | `run` | |
 //! | `serve` | |
-//! | `upload` | `--workers W` from 1 to 16, else 4; `--part-chunks P` from 1 to 16384, else 64; `--journal` |
-//! | `check` | a list's name, `--quiet`, `--status`, `--threads T` with T from 1 to 16 |
+//! | `upload` | `--workers W` from 1 to 16, else 4; `--part-chunks P` from 1 to 16384, else 64; `--journal`, `--no-progress` |
+//! | `check` | a list's name, `--quiet`, `--status`, `--threads T` with T from 1 to 16, `--no-progress` |
 //! | `audit` | |
 //! | `migrate` | |
 //!

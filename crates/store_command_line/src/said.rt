@@ -66,6 +66,8 @@ pub struct SumOptions<'a> {
     pub length: Option<u32>,
     /// By how many threads an input is hashed, at most; `None` for as many as there are processors.
     pub threads: Option<u32>,
+    /// Whether standard error shows no progress.
+    pub no_progress: bool,
 }
 
 /// The options of `upload`.
@@ -77,6 +79,8 @@ pub struct UploadOptions {
     pub part_chunks: u32,
     /// Whether the journal's text is written too.
     pub journal: bool,
+    /// Whether standard error shows no progress.
+    pub no_progress: bool,
 }
 
 /// The options of `check`.
@@ -88,6 +92,8 @@ pub struct CheckOptions<'a> {
     pub shown: Shown,
     /// By how many threads a file is hashed, at most; `None` for as many as there are processors.
     pub threads: Option<u32>,
+    /// Whether standard error shows no progress.
+    pub no_progress: bool,
 }
 
 /// A subcommand with its options.

@@ -269,6 +269,7 @@ fn sum_options<'a>(alloc: Global, found: &ArgMatches<'a>) -> Result<SumOptions<'
         mode,
         length,
         threads,
+        no_progress: flag(found, "no-progress"),
     })
 }
 
@@ -307,6 +308,7 @@ fn check_options<'a>(alloc: Global, found: &ArgMatches<'a>) -> Result<CheckOptio
         list: word_input(found, "list"),
         shown: shown(found),
         threads,
+        no_progress: flag(found, "no-progress"),
     })
 }
 
@@ -343,11 +345,11 @@ fn upload_options(alloc: Global, found: &ArgMatches<'_>) -> Result<UploadOptions
 {
     let workers = number_or(alloc, found, "workers", 16, 4)?;
     let part_chunks = number_or(alloc, found, "part-chunks", 16384, 64)?;
-    let journal = flag(found, "journal");
     Ok(UploadOptions {
         workers,
         part_chunks,
-        journal,
+        journal: flag(found, "journal"),
+        no_progress: flag(found, "no-progress"),
     })
 }
 
