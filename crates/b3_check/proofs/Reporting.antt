@@ -1,47 +1,40 @@
 -- Reports, one line longer, and where one ended.
 use Rattle.std.proofs.Common.{◌≡◌, ◌∙◌, ℕ, ◌+◌, ◌<◌, ◌≤◌, Bool, true, false, List, [], ◌∷◌, ◌++◌, Option, cond, length, take, drop, get_or, ap, sym, subst, refl, arith, append_assoc, append-nil, take-append-drop, take_all}
-use Rattle.std.specs.Prelude.{count_by}
 use Rattle.std.specs.List.{flat_map}
 use Rattle.std.specs.Io.KnownBytes.{Appends}
 use Rattle.std.proofs.KnownBytes.{Appends-trans}
 use Rattle.std.proofs.lemmas.Grind.{flat_map-append}
 use Rattle.std.proofs.lemmas.List.{drop_more, take_more}
-use Rattle.std.proofs.lemmas.List.Sums.{sum_by-append}
 use Rattle.edge.specs.declared.outcome.Cause.{Cause}
 use Rattle.edge.specs.declared.outcome.Cause.TheVariants.{CannotRead, CannotWrite, OutOfMemory}
 use Rattle.b3_check.specs.declared.file.NumberedLine.{NumberedLine}
 use Rattle.b3_check.specs.declared.report.Counts.{Counts}
+use Rattle.b3_check.specs.declared.report.Found.TheVariants.{Bad, Good, Missing, Unreadable}
 use Rattle.b3_check.specs.declared.report.Shown.{Shown}
 use Rattle.b3_check.specs.Output.{IsCutOff}
-use Rattle.b3_check.specs.Reports.{Answer, AreWithin, IsAsked, IsBroken, IsEnded, IsLineEnded, IsReport, Verdict, counted, counts_of, is_bad, is_fault, is_good, is_missing, is_unreadable, lines_text, one_more, report_text, shown_counts, shown_line}
+use Rattle.b3_check.specs.Reports.{Answer, AreWithin, IsAsked, IsBroken, IsEnded, IsLineEnded, IsReport, Verdict, all_counted, counted, counts_of, lines_text, report_text, shown_counts, shown_line}
+use Rattle.b3_check.specs.Reports.Verdict.{faulty, named}
 use Rattle.b3_check.proofs.Chain.{IsReport-push}
 use Rattle.b3_check.proofs.CutOffs.{cut_in_first, cut_in_second}
 
 -- ---- counts
 
-count_push : (p : Verdict → Bool) (verdicts : List Verdict) (verdict : Verdict) → count_by p (verdicts ++ verdict ∷ []) ≡ one_more (p verdict) (count_by p verdicts)
-count_push p verdicts verdict = sum_by-append (λ x. cond (p x) 1 0) verdicts (verdict ∷ []) ∙ go (p verdict) (count_by p verdicts)
-  where
-    go : (b : Bool) (n : ℕ) → n + (0 + cond b 1 0) ≡ one_more b n
-    go true n = omega arith
-    go false n = omega arith
+all_push : (verdicts : List Verdict) (verdict : Verdict) (counts : Counts) → all_counted (verdicts ++ verdict ∷ []) counts ≡ counted verdict (all_counted verdicts counts)
+all_push [] verdict counts = refl
+all_push (first ∷ verdicts) verdict counts = all_push verdicts verdict (counted first counts)
 
 counts_push : (verdicts : List Verdict) (verdict : Verdict) → counts_of (verdicts ++ verdict ∷ []) ≡ counted verdict (counts_of verdicts)
-counts_push verdicts verdict =
-    rw (count_push is_good verdicts verdict, count_push is_bad verdicts verdict, count_push is_missing verdicts verdict, count_push is_unreadable verdicts verdict, count_push is_fault verdicts verdict) refl
+counts_push verdicts verdict = all_push verdicts verdict _
+
+one_within : (n : ℕ) (verdict : Verdict) (counts : Counts) → AreWithin n counts → AreWithin (n + 1) (counted verdict counts)
+one_within n (named Good name) counts h = record { good = omega (arith, h.good); bad = omega (arith, h.bad); missing = omega (arith, h.missing); unreadable = omega (arith, h.unreadable); faults = omega (arith, h.faults) }
+one_within n (named Bad name) counts h = record { good = omega (arith, h.good); bad = omega (arith, h.bad); missing = omega (arith, h.missing); unreadable = omega (arith, h.unreadable); faults = omega (arith, h.faults) }
+one_within n (named Missing name) counts h = record { good = omega (arith, h.good); bad = omega (arith, h.bad); missing = omega (arith, h.missing); unreadable = omega (arith, h.unreadable); faults = omega (arith, h.faults) }
+one_within n (named Unreadable name) counts h = record { good = omega (arith, h.good); bad = omega (arith, h.bad); missing = omega (arith, h.missing); unreadable = omega (arith, h.unreadable); faults = omega (arith, h.faults) }
+one_within n (faulty line fault) counts h = record { good = omega (arith, h.good); bad = omega (arith, h.bad); missing = omega (arith, h.missing); unreadable = omega (arith, h.unreadable); faults = omega (arith, h.faults) }
 
 within_more : (n : ℕ) (verdict : Verdict) (before after : Counts) → after ≡ counted verdict before → AreWithin n before → AreWithin (n + 1) after
-within_more n verdict before after is h = subst (AreWithin (n + 1)) (sym is) (record {
-  good = more (is_good verdict) before.good h.good;
-  bad = more (is_bad verdict) before.bad h.bad;
-  missing = more (is_missing verdict) before.missing h.missing;
-  unreadable = more (is_unreadable verdict) before.unreadable h.unreadable;
-  faults = more (is_fault verdict) before.faults h.faults;
-})
-  where
-    more : (b : Bool) (m : ℕ) → m ≤ n → one_more b m ≤ n + 1
-    more true m le = omega arith
-    more false m le = omega arith
+within_more n verdict before after is h = subst (AreWithin (n + 1)) (sym is) (one_within n verdict before h)
 
 -- ---- one line more
 

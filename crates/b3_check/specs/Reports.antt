@@ -1,5 +1,5 @@
 -- Reports on check files: a verdict on each line, and their text.
-use Rattle.std.specs.Prelude.{◌≡◌, ◌≤◌, ◌+◌, ℕ, Bool, true, false, not, List, [], ◌∷◌, ◌++◌, Option, Some, None, Result, Ok, Err, codes, count_by, if◌then◌else◌}
+use Rattle.std.specs.Prelude.{◌≡◌, ◌≤◌, ◌+◌, ℕ, Bool, true, false, not, List, [], ◌∷◌, ◌++◌, Option, Some, None, Result, Ok, Err, codes, if◌then◌else◌}
 use Rattle.std.specs.Fmt.{decimal}
 use Rattle.std.specs.List.{flat_map}
 use Rattle.std.specs.Str.{bytes_eq}
@@ -65,6 +65,7 @@ IsRefusedFor gives old (Err fault) new = ⊥
 
 -- ---- counts
 
+-- what has the name has the line's digest
 abbrev pub is_good : Verdict → Bool
 is_good (named Good name) = true
 is_good (named Bad name) = false
@@ -72,58 +73,22 @@ is_good (named Missing name) = false
 is_good (named Unreadable name) = false
 is_good (faulty line fault) = false
 
-abbrev pub is_bad : Verdict → Bool
-is_bad (named Good name) = false
-is_bad (named Bad name) = true
-is_bad (named Missing name) = false
-is_bad (named Unreadable name) = false
-is_bad (faulty line fault) = false
+-- counts and one verdict more
+abbrev pub counted : Verdict → Counts → Counts
+counted (named Good name) counts = record counts { good = counts.good + 1 }
+counted (named Bad name) counts = record counts { bad = counts.bad + 1 }
+counted (named Missing name) counts = record counts { missing = counts.missing + 1 }
+counted (named Unreadable name) counts = record counts { unreadable = counts.unreadable + 1 }
+counted (faulty line fault) counts = record counts { faults = counts.faults + 1 }
 
-abbrev pub is_missing : Verdict → Bool
-is_missing (named Good name) = false
-is_missing (named Bad name) = false
-is_missing (named Missing name) = true
-is_missing (named Unreadable name) = false
-is_missing (faulty line fault) = false
-
-abbrev pub is_unreadable : Verdict → Bool
-is_unreadable (named Good name) = false
-is_unreadable (named Bad name) = false
-is_unreadable (named Missing name) = false
-is_unreadable (named Unreadable name) = true
-is_unreadable (faulty line fault) = false
-
-abbrev pub is_fault : Verdict → Bool
-is_fault (named Good name) = false
-is_fault (named Bad name) = false
-is_fault (named Missing name) = false
-is_fault (named Unreadable name) = false
-is_fault (faulty line fault) = true
+-- counts and more verdicts, one after another
+abbrev pub all_counted : List Verdict → Counts → Counts
+all_counted [] counts = counts
+all_counted (verdict ∷ verdicts) counts = all_counted verdicts (counted verdict counts)
 
 -- how many verdicts of each kind there are
 abbrev pub counts_of : List Verdict → Counts
-counts_of verdicts = record {
-  good = count_by is_good verdicts;
-  bad = count_by is_bad verdicts;
-  missing = count_by is_missing verdicts;
-  unreadable = count_by is_unreadable verdicts;
-  faults = count_by is_fault verdicts;
-}
-
--- a count, one more where that is so
-abbrev pub one_more : Bool → ℕ → ℕ
-one_more true n = n + 1
-one_more false n = n
-
--- counts and one verdict more
-abbrev pub counted : Verdict → Counts → Counts
-counted verdict counts = record {
-  good = one_more (is_good verdict) counts.good;
-  bad = one_more (is_bad verdict) counts.bad;
-  missing = one_more (is_missing verdict) counts.missing;
-  unreadable = one_more (is_unreadable verdict) counts.unreadable;
-  faults = one_more (is_fault verdict) counts.faults;
-}
+counts_of verdicts = all_counted verdicts (record { good = 0; bad = 0; missing = 0; unreadable = 0; faults = 0 })
 
 -- no count is above n
 pub record AreWithin (n : ℕ) (counts : Counts) : Type 0 where
