@@ -2,7 +2,7 @@
 
 ghost use Rattle.std.specs.Prelude.{◌≡◌, ◌≢◌, ◌↔◌, ℕ, ◌+◌, ◌-◌, ◌^◌, ◌<◌, ◌++◌, List, [], length};
 ghost use Rattle.b3_core.specs.ExtendedOutput.{blocks_touched, output_of};
-ghost use Rattle.b3_core.specs.Hashers.{Makes};
+ghost use Rattle.b3_core.specs.Hashers.{CountsRest};
 ghost use Rattle.b3_core.specs.HasherStates.{IsState};
 ghost use Rattle.b3_core.specs.Modes.{digest_of};
 ghost use Rattle.b3_core.specs.Tree.{Keying, tree_top};
@@ -47,7 +47,7 @@ pub extern "C" fn b3_hasher_update(hasher: &mut HasherState, bytes: &[u8], work:
     ensures bytes { (p : Keying) (x : List ℕ) → HoldsIn hasher.old p x → length x + length bytes.now < 2 ^ 64
         → HoldsIn hasher.new p (x ++ bytes.now) }
     ensures count { (p : Keying) (x : List ℕ) → HoldsIn hasher.old p x → length x + length bytes.now < 2 ^ 64
-        → Makes (kept_in hasher.old) (kept_in hasher.new) work.old work.new }
+        → CountsRest (kept_in hasher.old) (kept_in hasher.new) work.old work.new }
     ensures never_falls { NeverFalls work.old work.new }
     ensures refused { result ≢ 0 → (hasher.new ≡ hasher.old) × (work.new ≡ work.old) }
 {
@@ -65,7 +65,7 @@ pub extern "C" fn b3_hasher_finalize(hasher: &HasherState, out: &mut [u8], work:
     ensures why { result ≢ 0 → result ≡ finalize_refusal (length out.old) }
     ensures bytes { (p : Keying) (x : List ℕ) → HoldsIn hasher.now p x → result ≡ 0 → out.new ≡ digest_of x p }
     ensures count { (p : Keying) (x : List ℕ) → HoldsIn hasher.now p x → result ≡ 0
-        → Makes (kept_in hasher.now) (hash_work (length x)) work.old work.new }
+        → CountsRest (kept_in hasher.now) (hash_work (length x)) work.old work.new }
     ensures never_falls { NeverFalls work.old work.new }
     ensures refused { result ≢ 0 → (out.new ≡ out.old) × (work.new ≡ work.old) }
 {
@@ -94,7 +94,7 @@ pub extern "C" fn b3_hasher_extended(
     ensures bytes { (p : Keying) (x : List ℕ) → HoldsIn hasher.now p x → result ≡ 0
         → out.new ≡ output_of (tree_top x 0 p) position (length out.old) }
     ensures count { (p : Keying) (x : List ℕ) → HoldsIn hasher.now p x → result ≡ 0
-        → Makes (kept_in hasher.now) (hash_work (length x) - 1 + blocks_touched position (length out.old)) work.old work.new }
+        → CountsRest (kept_in hasher.now) (hash_work (length x) - 1 + blocks_touched position (length out.old)) work.old work.new }
     ensures never_falls { NeverFalls work.old work.new }
     ensures refused { result ≢ 0 → (out.new ≡ out.old) × (work.new ≡ work.old) }
 {

@@ -3,10 +3,11 @@ use Rattle.std.proofs.Common.{◌≡◌, ℕ, zero, suc, ◌<◌, ◌≤◌, ◌
 use Rattle.std.proofs.lemmas.Bool.Decides.{nat_tests}
 use Rattle.std.proofs.lemmas.List.{append-nil, length-map, length-drop, length-take-le, get_or-map, get_or-take, get_or-drop}
 use Rattle.std.proofs.Math.Nat.{mul-le-mul_left}
-use Rattle.b3_core.specs.Lanes.{lane, across, chunk_bytes}
+use Rattle.b3_core.specs.Lanes.{chunk_bytes}
+use Rattle.b3_core.specs.inner.Lanes.{lane, across}
 use Rattle.std.specs.Simd.Lanes.{Each1, zip2}
 use Rattle.std.proofs.lemmas.Simd.{below_from_Fits, Each1-get_or, get_or-zip2, get_or-replicate, length-replicate, length-zip2}
-use Rattle.b3_core.specs.Compression.{turned}
+use Rattle.b3_core.specs.inner.Compression.{turned}
 use Rattle.b3_core.specs.Tree.{word_at, block, block_words_of}
 use Rattle.b3_core.proofs.Nodes.{eight}
 

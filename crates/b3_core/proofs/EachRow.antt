@@ -1,6 +1,6 @@
 -- Facts of each of one or of two rows of four words, side by side.
 use Rattle.std.proofs.Common.{◌≡◌, ℕ, zero, suc, ◌<◌, ◌+◌, ◌*◌, List, [], ◌∷◌, length, slice_index, arith, ap, refl, ◌∙◌}
-use Rattle.b3_core.specs.Rows.{rows_words}
+use Rattle.b3_core.specs.inner.Rows.{rows_words}
 use Rattle.b3_core.specs.Tree.{word_at}
 use Rattle.b3_core.proofs.Nodes.{eight}
 

@@ -8,7 +8,8 @@ use Rattle.std.proofs.Math.Pow.{pow_mono}
 use Rattle.std.proofs.Math.Nat.{two-pow-succ}
 use Rattle.std.proofs.lemmas.Bool.{cases_lt}
 use Rattle.std.proofs.lemmas.Nat.{pow_pos}
-use Rattle.b3_core.specs.Hashers.{AreAbove, AreFrom, AreSubtrees, Hashing, Holds, IsNext, Makes, Subtrees, joined, kept_work}
+use Rattle.b3_core.specs.Hashers.{AreAbove, AreFrom, AreSubtrees, Hashing, Holds, CountsRest, Subtrees, kept_work}
+use Rattle.b3_core.specs.inner.Hashers.{IsNext, joined}
 use Rattle.b3_core.specs.Tree.{Inputs, Keying, chunk_top, parent_top, tree_top}
 use Rattle.b3_core.specs.Work.{block_count, counted, hash_work}
 use Rattle.b3_core.proofs.Nodes.{top_join, top_short}
@@ -146,14 +147,14 @@ joined_work p (s ∷ subtrees) x n (before, mine, cut, len, node, above, rest) s
     omega (arith, both, below, at, pos)
 
 -- more work
-pub makes_more : (k l m n w v made : ℕ) → Makes k l n w → m ≡ l + made → v ≡ counted w made → Makes k m n v
+pub makes_more : (k l m n w v made : ℕ) → CountsRest k l n w → m ≡ l + made → v ≡ counted w made → CountsRest k m n v
 makes_more k l m n w v made (first, up, at) more then = (first + made, omega (arith, up, more), omega (arith, then, at))
 
 -- a subtree that merges with the last of those before it
 pub merge_step : (p : Keying) (all rest : Subtrees) (last next : ℕ × Inputs) (x : List ℕ) (level : ℕ) (top : Inputs) (k n w v : ℕ)
     → all ≡ last ∷ rest → last.0 ≡ next.0 → level ≡ min (next.0 + 1) (2 ^ 32 - 1) → top ≡ parent_top last.1 next.1 p → v ≡ counted w 2 → length x < 2 ^ 64
-    → IsNext p all next x → Makes k (kept_work (next ∷ all)) n w
-    → IsNext p rest (level, top) x × Makes k (kept_work ((level, top) ∷ rest)) n v
+    → IsNext p all next x → CountsRest k (kept_work (next ∷ all)) n w
+    → IsNext p rest (level, top) x × CountsRest k (kept_work ((level, top) ∷ rest)) n v
 merge_step p all rest last next x level top k n w v cut same up node work few is makes =
     let low = level_fits p all next x is few in
     let above : level ≡ next.0 + 1 = omega (arith, up, low) in
@@ -189,7 +190,7 @@ has_room p items next x above is few =
 
 -- ---- what a hasher holds
 
-pub makes_then : (k l m n w v : ℕ) → Makes k l n w → Makes l m w v → Makes k m n v
+pub makes_then : (k l m n w v : ℕ) → CountsRest k l n w → CountsRest l m w v → CountsRest k m n v
 makes_then k l m n w v first (made, up, at) = makes_more k l m n w v made first up at
 
 -- the next subtree of a hasher that has no bytes behind the others

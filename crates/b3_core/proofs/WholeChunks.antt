@@ -7,7 +7,8 @@ use Rattle.std.proofs.Math.Nat.{two-pow-succ}
 use Rattle.std.proofs.Math.Pow.{pow_mono}
 use Rattle.std.proofs.Math.Seq.{take-add}
 use Rattle.b3_core.proofs.EachLane.{below_four}
-use Rattle.b3_core.specs.Lanes.{chunk_at, group_top}
+use Rattle.b3_core.specs.Lanes.{chunk_at}
+use Rattle.b3_core.specs.inner.Lanes.{group_top}
 use Rattle.b3_core.specs.Tree.{Keying, Inputs, chunk_top, parent_top, tree_top}
 use Rattle.b3_core.proofs.Nodes.{top_short, top_join}
 

@@ -1,6 +1,6 @@
 -- Bytes that come in pieces, and what is kept of them: one node for each whole subtree, and the bytes behind these.
 use Rattle.std.specs.Prelude.{◌≡◌, ℕ, ◌+◌, ◌-◌, ◌*◌, ◌/◌, ◌%◌, ◌^◌, ◌<◌, ◌≤◌, List, [], ◌∷◌, ◌++◌, length}
-use Rattle.b3_core.specs.Tree.{Inputs, Keying, parent_top, tree_top}
+use Rattle.b3_core.specs.Tree.{Inputs, Keying, tree_top}
 use Rattle.b3_core.specs.Work.{counted, hash_work}
 
 -- the nodes of whole subtrees with their levels, the last first
@@ -30,24 +30,18 @@ AreSubtrees p (s ∷ subtrees) x =
     (before : List ℕ) × (mine : List ℕ) × (x ≡ before ++ mine) × (length mine ≡ 1024 * 2 ^ s.0)
     × (s.1 ≡ tree_top mine (length before / 1024) p) × AreAbove s.0 subtrees × AreSubtrees p subtrees before
 
--- the subtrees and the next one, no greater than the last of them, are those of x
-abbrev pub IsNext : Keying → Subtrees → (ℕ × Inputs) → List ℕ → Type 0
-IsNext p subtrees s x =
-    (before : List ℕ) × (mine : List ℕ) × (x ≡ before ++ mine) × (length mine ≡ 1024 * 2 ^ s.0)
-    × (s.1 ≡ tree_top mine (length before / 1024) p) × AreFrom s.0 subtrees × AreSubtrees p subtrees before
-
 -- the hasher was given the bytes x
 abbrev pub Holds : Hashing → List ℕ → Type 0
 Holds h x = (before : List ℕ) × (x ≡ before ++ h.tail) × AreSubtrees h.mode h.subtrees before × (length before ≡ h.whole) × (length h.tail < 1024)
 
 -- a whole subtree of 2^k chunks can stand behind what the hasher was given
-abbrev pub Fits : ℕ → Hashing → Type 0
-Fits k h = (h.tail ≡ []) × AreFrom k h.subtrees
+abbrev pub HasRoomFor : ℕ → Hashing → Type 0
+HasRoomFor k h = (h.tail ≡ []) × AreFrom k h.subtrees
 
 -- it does: behind the bytes x that the hasher was given stand mine, 2^k whole chunks, of which t is the node
 abbrev pub IsBehind : Hashing → ℕ → Inputs → List ℕ → List ℕ → Type 0
 IsBehind h k t x mine =
-    Holds h x × Fits k h × (length mine ≡ 1024 * 2 ^ k) × (t ≡ tree_top mine (h.whole / 1024) h.mode) × (length x + length mine < 2 ^ 64)
+    Holds h x × HasRoomFor k h × (length mine ≡ 1024 * 2 ^ k) × (t ≡ tree_top mine (h.whole / 1024) h.mode) × (length x + length mine < 2 ^ 64)
 
 -- how many bytes a hasher was given, counted below 2 ^ 64
 abbrev pub count_of : Hashing → ℕ
@@ -58,17 +52,6 @@ abbrev pub kept_work : Subtrees → ℕ
 kept_work [] = 0
 kept_work (s ∷ subtrees) = kept_work subtrees + (hash_work (1024 * 2 ^ s.0) - 1)
 
--- a count of n compressions is m after those that lead from k of them to l
-abbrev pub Makes : ℕ → ℕ → ℕ → ℕ → Type 0
-Makes k l n m = (made : ℕ) × (l ≡ k + made) × (m ≡ counted n made)
-
--- of the bytes that a hasher gets, which was given x and has made n compressions, the rest is left where it is h and has made m
-abbrev pub IsLeft : Hashing → List ℕ → List ℕ → ℕ → Hashing → List ℕ → ℕ → Type 0
-IsLeft old x bytes n h rest m =
-    (front : List ℕ) × (bytes ≡ front ++ rest) × Holds h (x ++ front) × (0 < length rest → h.tail ≡ [])
-    × Makes (kept_work old.subtrees) (kept_work h.subtrees) n m
-
--- the node over all subtrees and what stands behind them, of which this is the node
-abbrev pub joined : Keying → Subtrees → Inputs → Inputs
-joined p [] right = right
-joined p (s ∷ subtrees) right = joined p subtrees (parent_top s.1 right p)
+-- of so many compressions in all some were made before, and the others are counted, from one count to another
+abbrev pub CountsRest : ℕ → ℕ → ℕ → ℕ → Type 0
+CountsRest before all old new = (made : ℕ) × (all ≡ before + made) × (new ≡ counted old made)

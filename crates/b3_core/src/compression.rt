@@ -2,7 +2,7 @@
 
 ghost use Rattle.std.specs.Prelude.{◌≡◌, ℕ, ◌+◌, ◌*◌, ◌/◌, ◌%◌, ◌^◌, ◌<◌, List, take, slice_index};
 ghost use Rattle.b3_core.specs.Compression.{rounds, start_state, output_words, compress_of};
-ghost use Rattle.b3_core.specs.Rows.{IsRowOf, rows_state, rows_message, rows_value};
+ghost use Rattle.b3_core.specs.inner.Rows.{IsRowOf, rows_state, rows_message, rows_value};
 ghost use Rattle.b3_core.specs.Tree.{start_flag};
 ghost use Rattle.b3_core.specs.Work.{counted};
 

@@ -1,7 +1,7 @@
 //! The hash of bytes that come in pieces.
 
 ghost use Rattle.std.specs.Prelude.{◌≡◌, ℕ, ◌+◌, ◌-◌, ◌/◌, ◌^◌, ◌<◌, ◌↔◌, ◌++◌, List, [], ◌∷◌, Some, length, true};
-ghost use Rattle.b3_core.specs.Hashers.{Fits, IsBehind, Holds, Makes, count_of, kept_work};
+ghost use Rattle.b3_core.specs.Hashers.{HasRoomFor, IsBehind, Holds, CountsRest, count_of, kept_work};
 ghost use Rattle.b3_core.specs.Modes.{digest_of};
 ghost use Rattle.b3_core.specs.Texts.{hasher_text};
 ghost use Rattle.b3_core.specs.Tree.{tree_top};
@@ -50,7 +50,7 @@ impl Hasher {
         ensures mode { self.new.mode ≡ self.old.mode }
         ensures bytes { (x : List ℕ) → Holds self.old x → length x + length bytes.now < 2 ^ 64 → Holds self.new (x ++ bytes.now) }
         ensures count { (x : List ℕ) → Holds self.old x → length x + length bytes.now < 2 ^ 64
-            → Makes (kept_work self.old.subtrees) (kept_work self.new.subtrees) work.old work.new }
+            → CountsRest (kept_work self.old.subtrees) (kept_work self.new.subtrees) work.old work.new }
         ensures never_falls { NeverFalls work.old work.new }
     {
         self.kept.update(&self.mode, bytes, work);
@@ -74,7 +74,7 @@ impl Hasher {
     /// Whether a whole subtree of 2^level chunks can stand next: no chunk was begun, and the last node that is kept is one of
     /// no fewer chunks.
     pub fn fits(&self, level: u32) -> bool
-        ensures { result ≡ true ↔ Fits level self.now }
+        ensures { result ≡ true ↔ HasRoomFor level self.now }
     {
         self.kept.fits(level)
     }
@@ -85,9 +85,9 @@ impl Hasher {
         requires { level < 54 }
         ensures mode { self.new.mode ≡ self.old.mode }
         ensures bytes { (x mine : List ℕ) → IsBehind self.old level top.now x mine → Holds self.new (x ++ mine) }
-        ensures fits { (x mine : List ℕ) → IsBehind self.old level top.now x mine → Fits level self.new }
+        ensures fits { (x mine : List ℕ) → IsBehind self.old level top.now x mine → HasRoomFor level self.new }
         ensures count { (x mine : List ℕ) → IsBehind self.old level top.now x mine
-            → Makes (kept_work ((level, top.now) ∷ self.old.subtrees)) (kept_work self.new.subtrees) work.old work.new }
+            → CountsRest (kept_work ((level, top.now) ∷ self.old.subtrees)) (kept_work self.new.subtrees) work.old work.new }
         ensures never_falls { NeverFalls work.old work.new }
     {
         self.kept.append(&self.mode, top, level, work);
@@ -105,7 +105,7 @@ impl Hasher {
     pub fn digest(&self, work: &mut Work) -> [u8; 32]
         ensures bytes { (x : List ℕ) → Holds self.now x → result ≡ digest_of x self.now.mode }
         ensures count { (x : List ℕ) → Holds self.now x
-            → Makes (kept_work self.now.subtrees) (hash_work (length x)) work.old work.new }
+            → CountsRest (kept_work self.now.subtrees) (hash_work (length x)) work.old work.new }
         ensures never_falls { NeverFalls work.old work.new }
     {
         self.top(work).root32(work)
@@ -116,7 +116,7 @@ impl Hasher {
     pub fn top(&self, work: &mut Work) -> Top
         ensures node { (x : List ℕ) → Holds self.now x → result ≡ tree_top x 0 self.now.mode }
         ensures count { (x : List ℕ) → Holds self.now x
-            → Makes (kept_work self.now.subtrees) (hash_work (length x) - 1) work.old work.new }
+            → CountsRest (kept_work self.now.subtrees) (hash_work (length x) - 1) work.old work.new }
         ensures never_falls { NeverFalls work.old work.new }
     {
         self.kept.top(&self.mode, work)

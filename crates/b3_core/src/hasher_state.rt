@@ -1,7 +1,7 @@
 //! A hasher as plain numbers, for other languages.
 
 ghost use Rattle.std.specs.Prelude.{◌≡◌, ℕ, ◌+◌, ◌-◌, ◌^◌, ◌<◌, ◌↔◌, ◌++◌, List, [], IfNone, IfSome, IsSome, false, length, true};
-ghost use Rattle.b3_core.specs.Hashers.{Holds, Makes, kept_work};
+ghost use Rattle.b3_core.specs.Hashers.{Holds, CountsRest, kept_work};
 ghost use Rattle.b3_core.specs.HasherStates.{IsState, hashing_of};
 ghost use Rattle.b3_core.specs.Tree.{tree_top};
 ghost use Rattle.b3_core.specs.Work.{NeverFalls, hash_work};
@@ -55,7 +55,7 @@ impl HasherState {
         ensures bytes { (x : List ℕ) → result ≡ true → Holds (hashing_of self.old) x → length x + length bytes.now < 2 ^ 64
             → Holds (hashing_of self.new) (x ++ bytes.now) }
         ensures count { (x : List ℕ) → result ≡ true → Holds (hashing_of self.old) x → length x + length bytes.now < 2 ^ 64
-            → Makes (kept_work (hashing_of self.old).subtrees) (kept_work (hashing_of self.new).subtrees) work.old work.new }
+            → CountsRest (kept_work (hashing_of self.old).subtrees) (kept_work (hashing_of self.new).subtrees) work.old work.new }
         ensures never_falls { NeverFalls work.old work.new }
         ensures none { result ≡ false → (self.new ≡ self.old) × (work.new ≡ work.old) }
     {
@@ -72,7 +72,7 @@ impl HasherState {
         ensures is { IsSome result ↔ IsState self.now }
         ensures node { IfSome result (λ top. (x : List ℕ) → Holds (hashing_of self.now) x → top ≡ tree_top x 0 (hashing_of self.now).mode) }
         ensures count { IfSome result (λ _. (x : List ℕ) → Holds (hashing_of self.now) x
-            → Makes (kept_work (hashing_of self.now).subtrees) (hash_work (length x) - 1) work.old work.new) }
+            → CountsRest (kept_work (hashing_of self.now).subtrees) (hash_work (length x) - 1) work.old work.new) }
         ensures never_falls { NeverFalls work.old work.new }
         ensures none { IfNone result (work.new ≡ work.old) }
     {

@@ -1,7 +1,8 @@
 //! What a hasher keeps, and what becomes of it as bytes come.
 
 ghost use Rattle.std.specs.Prelude.{◌≡◌, ℕ, ◌+◌, ◌-◌, ◌*◌, ◌/◌, ◌^◌, ◌<◌, ◌≤◌, ◌↔◌, ◌++◌, List, [], ◌∷◌, length, reverse, true};
-ghost use Rattle.b3_core.specs.Hashers.{AreFrom, AreSubtrees, Fits, IsBehind, IsLeft, IsNext, Holds, Makes, count_of, joined, kept_work};
+ghost use Rattle.b3_core.specs.Hashers.{AreFrom, AreSubtrees, HasRoomFor, IsBehind, Holds, CountsRest, count_of, kept_work};
+ghost use Rattle.b3_core.specs.inner.Hashers.{IsLeft, IsNext, joined};
 ghost use Rattle.b3_core.specs.Kept.{FitsItsPlaces, kept_of, nodes_of};
 ghost use Rattle.b3_core.specs.Tree.{Keying, tree_top};
 ghost use Rattle.b3_core.specs.Work.{NeverFalls, counted, hash_work};
@@ -61,7 +62,7 @@ impl Kept {
         ensures bytes { (x : List ℕ) → Holds (kept_of mode.now self.old) x → length x + length bytes.now < 2 ^ 64
             → Holds (kept_of mode.now self.new) (x ++ bytes.now) }
         ensures count { (x : List ℕ) → Holds (kept_of mode.now self.old) x → length x + length bytes.now < 2 ^ 64
-            → Makes (kept_work (kept_of mode.now self.old).subtrees) (kept_work (kept_of mode.now self.new).subtrees) work.old work.new }
+            → CountsRest (kept_work (kept_of mode.now self.old).subtrees) (kept_work (kept_of mode.now self.new).subtrees) work.old work.new }
         ensures never_falls { NeverFalls work.old work.new }
         ensures within { FitsItsPlaces self.old → FitsItsPlaces self.new }
     {
@@ -108,7 +109,7 @@ impl Kept {
     /// Whether a whole subtree of 2^level chunks can stand next: no chunk was begun, and the last node that is kept is one of
     /// no fewer chunks.
     pub(crate) fn fits(&self, level: u32) -> bool
-        ensures { (p : Keying) → result ≡ true ↔ Fits level (kept_of p self.now) }
+        ensures { (p : Keying) → result ≡ true ↔ HasRoomFor level (kept_of p self.now) }
     {
         if !self.tail.is_empty() {
             return false;
@@ -125,9 +126,9 @@ impl Kept {
         ensures bytes { (x mine : List ℕ) → IsBehind (kept_of mode.now self.old) level top.now x mine
             → Holds (kept_of mode.now self.new) (x ++ mine) }
         ensures fits { (x mine : List ℕ) → IsBehind (kept_of mode.now self.old) level top.now x mine
-            → Fits level (kept_of mode.now self.new) }
+            → HasRoomFor level (kept_of mode.now self.new) }
         ensures count { (x mine : List ℕ) → IsBehind (kept_of mode.now self.old) level top.now x mine
-            → Makes (kept_work ((level, top.now) ∷ (kept_of mode.now self.old).subtrees))
+            → CountsRest (kept_work ((level, top.now) ∷ (kept_of mode.now self.old).subtrees))
             (kept_work (kept_of mode.now self.new).subtrees) work.old work.new }
         ensures never_falls { NeverFalls work.old work.new }
     {
@@ -157,7 +158,7 @@ impl Kept {
         ensures from { (x : List ℕ) → IsNext mode.now (reverse (nodes_of self.old.subtrees)) next x → length x < 2 ^ 64
             → AreFrom next.0 (reverse (nodes_of self.new.subtrees)) }
         ensures count { (x : List ℕ) → IsNext mode.now (reverse (nodes_of self.old.subtrees)) next x → length x < 2 ^ 64
-            → Makes (kept_work (next ∷ reverse (nodes_of self.old.subtrees))) (kept_work (reverse (nodes_of self.new.subtrees))) work.old work.new }
+            → CountsRest (kept_work (next ∷ reverse (nodes_of self.old.subtrees))) (kept_work (reverse (nodes_of self.new.subtrees))) work.old work.new }
         ensures never_falls { NeverFalls work.old work.new }
         ensures fits { self.old.subtrees.len ≤ 54 → self.new.subtrees.len ≤ 54 }
     {
@@ -176,7 +177,7 @@ impl Kept {
     pub(crate) fn top(&self, mode: &Mode, work: &mut Work) -> Top
         ensures node { (x : List ℕ) → Holds (kept_of mode.now self.now) x → result ≡ tree_top x 0 mode.now }
         ensures count { (x : List ℕ) → Holds (kept_of mode.now self.now) x
-            → Makes (kept_work (kept_of mode.now self.now).subtrees) (hash_work (length x) - 1) work.old work.new }
+            → CountsRest (kept_work (kept_of mode.now self.now).subtrees) (hash_work (length x) - 1) work.old work.new }
         ensures never_falls { NeverFalls work.old work.new }
     {
         match self.subtrees.as_slice().split_last() {
@@ -196,7 +197,7 @@ fn push(mode: &Mode, subtrees: &mut Stack, next: Subtree, work: &mut Work)
     ensures from { (x : List ℕ) → IsNext mode.now (reverse (nodes_of subtrees.old)) next x → length x < 2 ^ 64
         → AreFrom next.0 (reverse (nodes_of subtrees.new)) }
     ensures count { (x : List ℕ) → IsNext mode.now (reverse (nodes_of subtrees.old)) next x → length x < 2 ^ 64
-        → Makes (kept_work (next ∷ reverse (nodes_of subtrees.old))) (kept_work (reverse (nodes_of subtrees.new))) work.old work.new }
+        → CountsRest (kept_work (next ∷ reverse (nodes_of subtrees.old))) (kept_work (reverse (nodes_of subtrees.new))) work.old work.new }
     ensures never_falls { NeverFalls work.old work.new }
     ensures fits { subtrees.old.len ≤ 54 → subtrees.new.len ≤ 54 }
 {

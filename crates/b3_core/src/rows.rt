@@ -3,7 +3,7 @@
 
 ghost use Rattle.std.specs.Prelude.{◌≡◌, ℕ, ◌+◌, ◌*◌, ◌/◌, ◌<◌, List, take, slice_index};
 ghost use Rattle.b3_core.specs.Compression.{columns, diagonals, round, permute, rounds, output_words};
-ghost use Rattle.b3_core.specs.Rows.{IsRowOf, rows_words, rows_state, rows_message, rows_value};
+ghost use Rattle.b3_core.specs.inner.Rows.{IsRowOf, rows_words, rows_state, rows_message, rows_value};
 ghost use Rattle.b3_core.specs.Work.{counted};
 
 use crate::vectors::{Words, mix};

@@ -2,7 +2,8 @@
 //! of some compressions side by side a lane for each.
 
 ghost use Rattle.std.specs.Prelude.{◌≡◌, ℕ, ◌^◌, ◌<◌, slice_index, bit_xor};
-ghost use Rattle.b3_core.specs.Compression.{add32, turned, xor_turn, mix};
+ghost use Rattle.b3_core.specs.Compression.{add32, xor_turn, mix};
+ghost use Rattle.b3_core.specs.inner.Compression.{turned};
 
 use std::simd::Simd;
 

@@ -1,7 +1,7 @@
 //! The hash by eight compressions at a time, of chunks and of parents, and by four chunks or two where no eight are left.
 
 ghost use Rattle.std.specs.Prelude.{◌≡◌, ℕ, ◌+◌, ◌-◌, ◌*◌, ◌/◌, ◌^◌, ◌<◌, ◌≤◌, ◌↔◌, true, IfSome, length, slice_index};
-ghost use Rattle.b3_core.specs.Lanes.{lane, group_top};
+ghost use Rattle.b3_core.specs.inner.Lanes.{lane, group_top};
 ghost use Rattle.b3_core.specs.Modes.{digest_of};
 ghost use Rattle.b3_core.specs.Tree.{Inputs, IsSubtree, chaining_value_of, parent_top, tree_top};
 ghost use Rattle.b3_core.specs.Work.{counted, hash_work};
@@ -29,7 +29,7 @@ fn lane_pairs<V: Words>(
     i: usize,
     work: &mut Work,
 ) -> ([u32; 8], [u32; 8])
-    requires few { i < 8 }
+    requires bounded { i < 8 }
     requires lanes { i + 3 < V.LANES }
     ensures first { (l r : Inputs) → lane V.word i values.now ≡ chaining_value_of l → lane V.word (i + 1) values.now ≡ chaining_value_of r
         → result.0 ≡ chaining_value_of (parent_top l r mode.now) }

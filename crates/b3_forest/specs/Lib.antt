@@ -1,8 +1,9 @@
-pub mod Followed
-pub mod Forests
-pub mod Gaps
-pub mod Subtrees
-pub mod Texts
+-- What a reader has to believe, each file behind those that it rests on.
 pub mod Parts
+pub mod Gaps
+pub mod Texts
 pub mod Pieces
+pub mod Forests
 pub mod Uploads
+pub mod Subtrees
+pub mod Followed

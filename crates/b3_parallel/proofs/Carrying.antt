@@ -1,12 +1,12 @@
 -- Blocks that threads hash, and the hasher before them.
 use Rattle.std.proofs.Common.{◌≡◌, ℕ, ◌+◌, ◌-◌, ◌*◌, ◌/◌, ◌^◌, ◌<◌, ◌++◌, List, [], ◌∷◌, length, arith, refl, ap, ap₂, sym, ◌∙◌, subst, append_assoc, length-append}
 use Rattle.std.proofs.lemmas.List.{append-nil}
-use Rattle.b3_core.specs.Hashers.{Fits, Hashing, Holds, IsBehind, Makes, Subtrees, kept_work}
+use Rattle.b3_core.specs.Hashers.{HasRoomFor, Hashing, Holds, IsBehind, CountsRest, Subtrees, kept_work}
 use Rattle.b3_core.specs.Tree.{Inputs, Keying, tree_top}
 use Rattle.b3_core.specs.Work.{counted, hash_work}
 use Rattle.b3_core.proofs.Hashings.{whole_chunks}
-use Rattle.b3_parallel.specs.Blocks.{IsGiven, IsHashed}
-use Rattle.b3_parallel.specs.Lines.{AreHashing, Carries, Thread}
+use Rattle.b3_parallel.specs.inner.Blocks.{IsGiven, IsHashed}
+use Rattle.b3_parallel.specs.inner.Lines.{AreHashing, Carries, Thread}
 use Rattle.b3_parallel.proofs.Standing.{bare_length, same_count}
 
 -- the bytes of a thread's block
@@ -14,12 +14,12 @@ abbrev pub bytes_of : Thread → List ℕ
 bytes_of t = t.promise.bytes.value.items
 
 -- a count goes on as the nodes that are kept do
-pub makes_given : (n k l v w : ℕ) → v ≡ counted n k → Makes k l v w → w ≡ counted n l
+pub makes_given : (n k l v w : ℕ) → v ≡ counted n k → CountsRest k l v w → w ≡ counted n l
 makes_given n k l v w before (made, sum, after) = omega (arith, before, sum, after)
 
 -- a block's own count is taken over before its node is put behind the others
 pub taken_over : (k : ℕ) (subtrees new : Subtrees) (top : Inputs) (mine : List ℕ) (n w own v u : ℕ) → length mine ≡ 1024 * 2 ^ k → own ≡ counted 0 (hash_work (length mine) - 1)
-    → v ≡ counted w own → Makes (kept_work ((k, top) ∷ subtrees)) (kept_work new) v u → w ≡ counted n (kept_work subtrees) → u ≡ counted n (kept_work new)
+    → v ≡ counted w own → CountsRest (kept_work ((k, top) ∷ subtrees)) (kept_work new) v u → w ≡ counted n (kept_work subtrees) → u ≡ counted n (kept_work new)
 taken_over k subtrees new top mine n w own v u len is added makes before =
     let size : own ≡ counted 0 (hash_work (1024 * 2 ^ k) - 1) = is ∙ ap (λ m. counted 0 (hash_work m - 1)) len in
     let here : v ≡ counted n (kept_work subtrees + (hash_work (1024 * 2 ^ k) - 1)) =
@@ -42,7 +42,7 @@ first_is_behind p k h t hs x n m top own (mode, before, z, cut, (held, count), f
 )
 
 pub first_settled : (p : Keying) (k : ℕ) (h new : Hashing) (t : Thread) (hs : List Thread) (x : List ℕ) (n m u : ℕ) → (is : Carries p k h (t ∷ hs) x n m)
-    → new.mode ≡ h.mode → Holds new (is.1 ++ bytes_of t) → Fits k new → u ≡ counted n (kept_work new.subtrees) → Carries p k new hs x n u
+    → new.mode ≡ h.mode → Holds new (is.1 ++ bytes_of t) → HasRoomFor k new → u ≡ counted n (kept_work new.subtrees) → Carries p k new hs x n u
 first_settled p k h new t hs x n m u (mode, before, z, cut, (held, count), fits, (rest, parts, len, number, moded, others)) same now now_fits counts =
     let first = bare_length h before fits.0 held in
     let all = bare_length new (before ++ bytes_of t) now_fits.0 now in
@@ -61,7 +61,7 @@ first_settled p k h new t hs x n m u (mode, before, z, cut, (held, count), fits,
 pub all_given : (p : Keying) (k : ℕ) (h : Hashing) (x : List ℕ) (n m : ℕ) → Carries p k h [] x n m → IsGiven h x n m
 all_given p k h x n m (mode, before, z, cut, (held, count), fits, none) = (subst (Holds h) (sym (cut ∙ ap (λ y. before ++ y) none ∙ append-nil before)) held, count)
 
-pub given_carries : (p : Keying) (k : ℕ) (h : Hashing) (x : List ℕ) (n m : ℕ) → h.mode ≡ p → IsGiven h x n m → Fits k h → Carries p k h [] x n m
+pub given_carries : (p : Keying) (k : ℕ) (h : Hashing) (x : List ℕ) (n m : ℕ) → h.mode ≡ p → IsGiven h x n m → HasRoomFor k h → Carries p k h [] x n m
 given_carries p k h x n m mode given fits = (mode, x, [], sym (append-nil x), given, fits, refl)
 
 -- a block behind all bytes

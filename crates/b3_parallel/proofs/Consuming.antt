@@ -3,10 +3,10 @@ use Rattle.std.proofs.Common.{◌≡◌, ℕ, ◌+◌, ◌-◌, ◌^◌, ◌<◌
 use Rattle.std.proofs.lemmas.List.{append-nil}
 use Rattle.std.specs.Io.KnownBytes.{Consumes, Keeps}
 use Rattle.std.proofs.KnownBytes.{Consumes-trans, Consumes-kept}
-use Rattle.b3_core.specs.Hashers.{Hashing, Holds, Makes, count_of, kept_work}
+use Rattle.b3_core.specs.Hashers.{Hashing, Holds, CountsRest, count_of, kept_work}
 use Rattle.b3_core.specs.Tree.{Inputs, Keying, tree_top}
 use Rattle.b3_core.specs.Work.{counted, hash_work}
-use Rattle.b3_parallel.specs.Blocks.{HasRead, IsGiven}
+use Rattle.b3_parallel.specs.inner.Blocks.{HasRead, IsGiven}
 use Rattle.b3_parallel.proofs.Carrying.{makes_given}
 
 pub nothing : (known : Option (List ℕ)) → Consumes known known []
@@ -26,7 +26,7 @@ none_read most h x n m known (held, count) few = ([], (subst (Holds h) (sym (app
 
 -- bytes that were read behind the others and given to the hasher
 pub read_more : (most : ℕ) (h new : Hashing) (x bytes : List ℕ) (n m u : ℕ) (old mid now : Option (List ℕ)) → (is : HasRead most h x n m old mid)
-    → Holds new ((x ++ is.0) ++ bytes) → Makes (kept_work h.subtrees) (kept_work new.subtrees) m u → Consumes mid now bytes → length (x ++ is.0) + length bytes ≤ most
+    → Holds new ((x ++ is.0) ++ bytes) → CountsRest (kept_work h.subtrees) (kept_work new.subtrees) m u → Consumes mid now bytes → length (x ++ is.0) + length bytes ≤ most
     → HasRead most new x n u old now
 read_more most h new x bytes n m u old mid now (y, (held, count), consumed, few) given makes then fits = (
   y ++ bytes,
@@ -53,7 +53,7 @@ both_read most more h new n m u old mid now (x, given, consumed, few) (y, held, 
 
 -- the node of all that was read, and its compressions
 pub top_of_read : (most : ℕ) (h : Hashing) (p : Keying) (top : Inputs) (n m u : ℕ) (old now : Option (List ℕ)) → HasRead most h [] n m old now → h.mode ≡ p
-    → ((z : List ℕ) → Holds h z → top ≡ tree_top z 0 h.mode) → ((z : List ℕ) → Holds h z → Makes (kept_work h.subtrees) (hash_work (length z) - 1) m u)
+    → ((z : List ℕ) → Holds h z → top ≡ tree_top z 0 h.mode) → ((z : List ℕ) → Holds h z → CountsRest (kept_work h.subtrees) (hash_work (length z) - 1) m u)
     → (x : List ℕ) × (top ≡ tree_top x 0 p) × Consumes old now x × (u ≡ counted n (hash_work (length x) - 1))
 top_of_read most h p top n m u old now (x, (held, count), consumed, few) mode node makes =
     (x, node x held ∙ ap (tree_top x 0) mode, consumed, makes_given n (kept_work h.subtrees) (hash_work (length x) - 1) m u count (makes x held))

@@ -3,10 +3,10 @@ use Rattle.std.proofs.Common.{◌≡◌, ℕ, ◌+◌, ◌-◌, ◌*◌, ◌^◌
 use Rattle.std.proofs.lemmas.List.{append-nil}
 use Rattle.std.specs.Io.KnownBytes.{Consumes}
 use Rattle.std.proofs.KnownBytes.{Consumes-trans}
-use Rattle.b3_core.specs.Hashers.{Hashing, Holds, Makes, kept_work}
+use Rattle.b3_core.specs.Hashers.{Hashing, Holds, CountsRest, kept_work}
 use Rattle.b3_core.specs.Tree.{Keying}
-use Rattle.b3_parallel.specs.Blocks.{HasRead}
-use Rattle.b3_parallel.specs.Lines.{Carries, Thread}
+use Rattle.b3_parallel.specs.inner.Blocks.{HasRead}
+use Rattle.b3_parallel.specs.inner.Lines.{Carries, Thread}
 use Rattle.b3_parallel.proofs.Carrying.{all_given, makes_given}
 use Rattle.b3_parallel.proofs.Consuming.{nothing}
 
@@ -63,7 +63,7 @@ line_settled p k h new hs x last n m u old now (y, carries, consumed, few) step 
 -- and the last bytes were given to the hasher
 pub line_given : (p : Keying) (k : ℕ) (h new : Hashing) (x last : List ℕ) (n m u : ℕ) (old now : Option (List ℕ)) → LineRead p k h [] x n m last old now → new.mode ≡ h.mode
     → ((z : List ℕ) → Holds h z → length z + length last < 2 ^ 64 → Holds new (z ++ last))
-    → ((z : List ℕ) → Holds h z → length z + length last < 2 ^ 64 → Makes (kept_work h.subtrees) (kept_work new.subtrees) m u)
+    → ((z : List ℕ) → Holds h z → length z + length last < 2 ^ 64 → CountsRest (kept_work h.subtrees) (kept_work new.subtrees) m u)
     → (new.mode ≡ p) × HasRead (2 ^ 64 - 1) new x n u old now
 line_given p k h new x last n m u old now (y, carries, consumed, few) mode holds makes =
     let given = all_given p k h (x ++ y) n m carries in

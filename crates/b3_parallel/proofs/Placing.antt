@@ -5,12 +5,13 @@ use Rattle.std.proofs.Math.Nat.{mul-le-mul_left}
 use Rattle.std.proofs.Math.Seq.{take-add, take-append_seam}
 use Rattle.std.specs.Global.{Vec}
 use Rattle.std.specs.Io.KnownBytes.{Consumes, IsAtEnd}
-use Rattle.b3_core.specs.Hashers.{Fits, Hashing, Holds, IsBehind, Makes, kept_work}
+use Rattle.b3_core.specs.Hashers.{HasRoomFor, Hashing, Holds, IsBehind, CountsRest, kept_work}
 use Rattle.b3_core.specs.Tree.{Inputs, Keying, tree_top}
 use Rattle.b3_core.specs.Work.{counted, hash_work}
-use Rattle.b3_parallel.specs.Blocks.{IsGiven, IsHashed}
-use Rattle.b3_parallel.specs.Lines.{Carries}
-use Rattle.b3_parallel.specs.Rounds.{AreAll, ArePlaced, AreSlots, AreTaken, HasFront, IsPlaced, StandsAt}
+use Rattle.b3_parallel.specs.inner.Blocks.{IsGiven, IsHashed}
+use Rattle.b3_parallel.specs.inner.Lines.{Carries}
+use Rattle.b3_parallel.specs.Rounds.{AreAll}
+use Rattle.b3_parallel.specs.inner.Rounds.{ArePlaced, AreSlots, AreTaken, HasFront, IsPlaced, StandsAt}
 use Rattle.b3_parallel.specs.Sources.{known_from}
 use Rattle.b3_parallel.specs.declared.taking.Placed.{Placed}
 use Rattle.b3_parallel.proofs.Carrying.{given_carries, is_behind_all, makes_given}
@@ -99,7 +100,7 @@ nothing_stands (Some all) = refl
 -- a hasher that was given nothing
 pub front_begins : (p : Keying) (known : Option (List ℕ)) (k n : ℕ) (h : Hashing) → h ≡ record { mode = p; subtrees = []; whole = 0; tail = [] } → HasFront p known k h 0 n n
 front_begins p known k n h is =
-    let fits : Fits k h = rw is (refl, tt) in
+    let fits : HasRoomFor k h = rw is (refl, tt) in
     ([], given_carries p k h [] n n (ap (λ (h : Hashing). h.mode) is) (nothing_given p h n is) fits, omega arith, nothing_stands known)
 
 -- so many blocks, of which the last ends within 2^53 chunks
@@ -109,7 +110,7 @@ all_within (suc n) limit size few within = let last : (n + 1) * size ≤ 2 ^ 53 
 
 -- the node of all bytes, and their compressions with those of before
 pub top_of_all : (p : Keying) (known : Option (List ℕ)) (h : Hashing) (top : Inputs) (x : List ℕ) (m u w v : ℕ) → h.mode ≡ p → IsGiven h x 0 m → AreAll known x
-    → ((z : List ℕ) → Holds h z → top ≡ tree_top z 0 h.mode) → ((z : List ℕ) → Holds h z → Makes (kept_work h.subtrees) (hash_work (length z) - 1) m u) → v ≡ counted w u
+    → ((z : List ℕ) → Holds h z → top ≡ tree_top z 0 h.mode) → ((z : List ℕ) → Holds h z → CountsRest (kept_work h.subtrees) (hash_work (length z) - 1) m u) → v ≡ counted w u
     → (x : List ℕ) × (top ≡ tree_top x 0 p) × AreAll known x × (v ≡ counted w (hash_work (length x) - 1))
 top_of_all p known h top x m u w v mode (held, count) are node makes added =
     let own = makes_given 0 (kept_work h.subtrees) (hash_work (length x) - 1) m u count (makes x held) in

@@ -6,11 +6,11 @@ use Rattle.std.proofs.lemmas.Nat.{pow-add, pow_pos}
 use Rattle.std.proofs.Math.Pow.{pow_mono}
 use Rattle.std.proofs.Math.Nat.{div-add-mod, mul-le-mul_left, mul-mod_right}
 use Rattle.std.proofs.Math.Seq.{take-add}
-use Rattle.b3_core.specs.Hashers.{Fits, Hashing, Holds, IsBehind, Makes, kept_work}
+use Rattle.b3_core.specs.Hashers.{HasRoomFor, Hashing, Holds, IsBehind, CountsRest, kept_work}
 use Rattle.b3_core.specs.Tree.{IsSubtree, tree_top}
 use Rattle.b3_core.specs.Work.{counted, hash_work}
 use Rattle.b3_core.proofs.Hashings.{makes_more, makes_then}
-use Rattle.b3_parallel.specs.Parts.{StandBehind, part_at}
+use Rattle.b3_parallel.specs.inner.Parts.{StandBehind, stretch_at}
 use Rattle.b3_parallel.specs.declared.parts.Part.{Part}
 
 -- part i of n lies within them
@@ -25,7 +25,7 @@ bare_length h x none (before, cut, are, size, few) = omega (arith, ap length cut
 abbrev pub before_part : List ℕ → ℕ → ℕ → List ℕ
 before_part x k i = take (i * (1024 * 2 ^ k)) x
 
-pub part_length : (x : List ℕ) (k n i : ℕ) → length x ≡ 1024 * 2 ^ k * n → i < n → length (part_at x k i) ≡ 1024 * 2 ^ k
+pub part_length : (x : List ℕ) (k n i : ℕ) → length x ≡ 1024 * 2 ^ k * n → i < n → length (stretch_at x k i) ≡ 1024 * 2 ^ k
 part_length x k n i len below =
     let inside = within (1024 * 2 ^ k) n i below in
     length-take-le (1024 * 2 ^ k) (drop (i * (1024 * 2 ^ k)) x) (omega (arith, inside, len, length-drop (i * (1024 * 2 ^ k)) x))
@@ -36,10 +36,10 @@ front_length x k n i len below =
     length-take-le (i * (1024 * 2 ^ k)) x (omega (arith, inside, len))
 
 -- with the part the bytes before the next one
-pub next_part : (x bytes : List ℕ) (k i : ℕ) → (x ++ before_part bytes k i) ++ part_at bytes k i ≡ x ++ before_part bytes k (i + 1)
+pub next_part : (x bytes : List ℕ) (k i : ℕ) → (x ++ before_part bytes k i) ++ stretch_at bytes k i ≡ x ++ before_part bytes k (i + 1)
 next_part x bytes k i =
     let more : (i + 1) * (1024 * 2 ^ k) ≡ i * (1024 * 2 ^ k) + 1024 * 2 ^ k = omega arith in
-    append_assoc x (before_part bytes k i) (part_at bytes k i)
+    append_assoc x (before_part bytes k i) (stretch_at bytes k i)
     ∙ ap (λ y. x ++ y) (sym (take-add (i * (1024 * 2 ^ k)) (1024 * 2 ^ k) bytes) ∙ ap (λ n. take n bytes) (sym more))
 
 -- the number of a part's first chunk
@@ -47,8 +47,8 @@ number_of : (w v i p : ℕ) → v ≡ w + i * (1024 * p) → w / 1024 + p * i �
 number_of w v i p is = let all : i * (1024 * p) ≡ 1024 * (p * i) = omega arith in omega (arith, is, all)
 
 pub part_is_behind : (old h : Hashing) (k i : ℕ) (parts : List Part) (part : Part) (x bytes : List ℕ) → StandBehind old k parts x bytes → i < length parts
-    → part ≡ slice_index_or parts i part → h.mode ≡ old.mode → Holds h (x ++ before_part bytes k i) → Fits k h
-    → IsBehind h k part.top (x ++ before_part bytes k i) (part_at bytes k i)
+    → part ≡ slice_index_or parts i part → h.mode ≡ old.mode → Holds h (x ++ before_part bytes k i) → HasRoomFor k h
+    → IsBehind h k part.top (x ++ before_part bytes k i) (stretch_at bytes k i)
 part_is_behind old h k i parts part x bytes (held, fits, few, (len, each)) below is mode now now_fits =
     let size = part_length bytes k (length parts) i len below in
     let front = front_length bytes k (length parts) i len below in
@@ -57,11 +57,11 @@ part_is_behind old h k i parts part x bytes (held, fits, few, (len, each)) below
     let all = bare_length h (x ++ before_part bytes k i) now_fits.0 now in
     let sum = length-append x (before_part bytes k i) in
     let number = number_of old.whole h.whole i (2 ^ k) (omega (arith, first, all, sum, front)) in
-    let node : part.top ≡ tree_top (part_at bytes k i) (old.whole / 1024 + 2 ^ k * i) old.mode = subst (λ (q : Part). q.top ≡ tree_top (part_at bytes k i) (old.whole / 1024 + 2 ^ k * i) old.mode) (sym is) (each i part below).0 in (
+    let node : part.top ≡ tree_top (stretch_at bytes k i) (old.whole / 1024 + 2 ^ k * i) old.mode = subst (λ (q : Part). q.top ≡ tree_top (stretch_at bytes k i) (old.whole / 1024 + 2 ^ k * i) old.mode) (sym is) (each i part below).0 in (
       now,
       now_fits,
       size,
-      node ∙ ap₂ (λ n p. tree_top (part_at bytes k i) n p) number (sym mode),
+      node ∙ ap₂ (λ n p. tree_top (stretch_at bytes k i) n p) number (sym mode),
       omega (arith, few, len, size, sum, front, inside),
     )
 
@@ -70,10 +70,10 @@ pub same_count : (w n : ℕ) → counted w (counted 0 n) ≡ counted w n
 same_count w n = omega arith
 
 pub part_made : (old h new : Hashing) (k i : ℕ) (parts : List Part) (part : Part) (x bytes : List ℕ) (n w v u : ℕ) → StandBehind old k parts x bytes → i < length parts
-    → part ≡ slice_index_or parts i part → v ≡ counted w part.work → Makes (kept_work old.subtrees) (kept_work h.subtrees) n w
-    → Makes (kept_work h.subtrees + (hash_work (1024 * 2 ^ k) - 1)) (kept_work new.subtrees) v u → Makes (kept_work old.subtrees) (kept_work new.subtrees) n u
+    → part ≡ slice_index_or parts i part → v ≡ counted w part.work → CountsRest (kept_work old.subtrees) (kept_work h.subtrees) n w
+    → CountsRest (kept_work h.subtrees + (hash_work (1024 * 2 ^ k) - 1)) (kept_work new.subtrees) v u → CountsRest (kept_work old.subtrees) (kept_work new.subtrees) n u
 part_made old h new k i parts part x bytes n w v u (held, fits, few, (len, each)) below is added makes then =
-    let work : part.work ≡ counted 0 (hash_work (1024 * 2 ^ k) - 1) = subst (λ (q : Part). q.work ≡ counted 0 (hash_work (length (part_at bytes k i)) - 1)) (sym is) (each i part below).1 ∙ ap (λ m. counted 0 (hash_work m - 1)) (part_length bytes k (length parts) i len below) in
+    let work : part.work ≡ counted 0 (hash_work (1024 * 2 ^ k) - 1) = subst (λ (q : Part). q.work ≡ counted 0 (hash_work (length (stretch_at bytes k i)) - 1)) (sym is) (each i part below).1 ∙ ap (λ m. counted 0 (hash_work m - 1)) (part_length bytes k (length parts) i len below) in
     let here : v ≡ counted w (hash_work (1024 * 2 ^ k) - 1) = added ∙ ap (counted w) work ∙ same_count w (hash_work (1024 * 2 ^ k) - 1) in
     makes_then _ _ _ _ _ _ (makes_more _ _ (kept_work h.subtrees + (hash_work (1024 * 2 ^ k) - 1)) _ _ _ (hash_work (1024 * 2 ^ k) - 1) makes refl here) then
 
@@ -140,5 +140,5 @@ pub before_first : (x bytes : List ℕ) (k : ℕ) → x ++ before_part bytes k 0
 before_first x bytes k = let none : 0 * (1024 * 2 ^ k) ≡ 0 = omega arith in ap (λ n. x ++ take n bytes) none ∙ append-nil x
 
 -- no compression was made yet
-pub none_made : (k n : ℕ) → Makes k k n n
+pub none_made : (k n : ℕ) → CountsRest k k n n
 none_made k n = (0, omega arith, omega arith)

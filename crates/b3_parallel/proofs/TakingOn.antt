@@ -3,7 +3,7 @@ use Rattle.std.proofs.Common.{ℕ, ◌++◌, List, [], ◌∷◌, Option}
 use Rattle.std.specs.Global.{Vec}
 use Rattle.std.specs.declared.thread.PromisedHandle.{PromisedHandle}
 use Rattle.b3_core.specs.Tree.{Keying}
-use Rattle.b3_parallel.specs.Takers.{AreTaking, IsTaking}
+use Rattle.b3_parallel.specs.inner.Takers.{AreTaking, IsTaking}
 use Rattle.b3_parallel.specs.declared.promised.TakenOf.{TakenOf}
 use Rattle.b3_parallel.specs.declared.taking.Placed.{Placed}
 

@@ -1,6 +1,4 @@
-pub mod Blocks
-pub mod Lines
-pub mod Parts
+-- What a reader has to believe, each file behind those that it rests on; inner is what only proofs and functions within use.
 pub mod Rounds
 pub mod Sources
-pub mod Takers
+pub mod inner

@@ -2,7 +2,7 @@
 
 ghost use Rattle.std.specs.Prelude.{◌≡◌, ◌+◌, ◌-◌, ◌/◌, ◌^◌, ◌<◌, IfOk, IfErr, length};
 ghost use Rattle.b3_core.specs.Tree.{IsSubtree};
-ghost use Rattle.b3_parallel.specs.Blocks.{IsHashed};
+ghost use Rattle.b3_parallel.specs.inner.Blocks.{IsHashed};
 
 use b3_core::{Mode, Top, Work};
 use std::snapshot::Snapshot;

@@ -2,8 +2,8 @@
 
 ghost use Rattle.std.specs.Prelude.{◌≡◌, ℕ, ◌+◌, ◌*◌, ◌/◌, ◌^◌, ◌<◌, ◌≤◌, ◌++◌, List, [], ◌∷◌, IfSome, length};
 ghost use Rattle.b3_core.specs.Tree.{Keying};
-ghost use Rattle.b3_parallel.specs.Blocks.{IsHashed};
-ghost use Rattle.b3_parallel.specs.Lines.{Carries, Thread};
+ghost use Rattle.b3_parallel.specs.inner.Blocks.{IsHashed};
+ghost use Rattle.b3_parallel.specs.inner.Lines.{Carries, Thread};
 
 use crate::blocks::{Block, Handle, hash_block, start};
 use crate::sizes::{BlockPlan, bytes_of, chunks_of};

@@ -1,11 +1,11 @@
 //! Some bytes in parts, each of which a thread hashes.
 
 ghost use Rattle.std.specs.Prelude.{◌≡◌, ℕ, ◌+◌, ◌*◌, ◌/◌, ◌%◌, ◌^◌, ◌<◌, ◌++◌, IfOk, List, length};
-ghost use Rattle.b3_core.specs.Hashers.{Makes, Holds, kept_work};
+ghost use Rattle.b3_core.specs.Hashers.{CountsRest, Holds, kept_work};
 ghost use Rattle.b3_core.specs.Tree.{IsSubtree};
 ghost use Rattle.b3_core.specs.Work.{NeverFalls};
-ghost use Rattle.b3_parallel.specs.Blocks.{IsHashed};
-ghost use Rattle.b3_parallel.specs.Parts.{ArePartsOf, StandBehind};
+ghost use Rattle.b3_parallel.specs.inner.Blocks.{IsHashed};
+ghost use Rattle.b3_parallel.specs.inner.Parts.{AreHashedParts, StandBehind};
 
 use crate::sizes::bytes_of;
 use b3_core::{CHUNK_LEN, Hasher, Mode, Runtime, Top, Work};
@@ -55,7 +55,7 @@ pub(crate) fn parts_of<T: Threads + Sync + Runtime>(
     requires whole { length bytes.now % (1024 * 2 ^ level) ≡ 0 }
     requires subtree { IsSubtree (1024 * 2 ^ level) number }
     requires number { number < 2 ^ 54 }
-    ensures { IfOk result (λ parts. ArePartsOf mode.now bytes.now level number parts.items) }
+    ensures { IfOk result (λ parts. AreHashedParts mode.now bytes.now level number parts.items) }
 {
     thread::map_chunks(
         rt,
@@ -72,7 +72,7 @@ pub(crate) fn append_all(hasher: &mut Hasher, parts: Vec<Part>, level: u32, work
     ensures mode { hasher.new.mode ≡ hasher.old.mode }
     ensures bytes { (x bytes : List ℕ) → StandBehind hasher.old level parts.items x bytes → Holds hasher.new (x ++ bytes) }
     ensures count { (x bytes : List ℕ) → StandBehind hasher.old level parts.items x bytes
-        → Makes (kept_work hasher.old.subtrees) (kept_work hasher.new.subtrees) work.old work.new }
+        → CountsRest (kept_work hasher.old.subtrees) (kept_work hasher.new.subtrees) work.old work.new }
     ensures never_falls { NeverFalls work.old work.new }
 {
     let mut rest = parts.into_iter();

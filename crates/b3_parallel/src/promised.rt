@@ -1,6 +1,6 @@
 //! What a thread promises of the blocks that it takes.
 
-ghost use Rattle.b3_parallel.specs.Rounds.{ArePlaced};
+ghost use Rattle.b3_parallel.specs.inner.Rounds.{ArePlaced};
 
 use crate::source::Source;
 use crate::taking::Placed;

@@ -5,8 +5,8 @@ ghost use Rattle.std.specs.Io.KnownBytes.{Consumes, IsAtEnd, Keeps};
 ghost use Rattle.b3_core.specs.Hashers.{count_of};
 ghost use Rattle.b3_core.specs.Tree.{Keying, tree_top};
 ghost use Rattle.b3_core.specs.Work.{counted, hash_work};
-ghost use Rattle.b3_parallel.specs.Blocks.{HasRead, IsGiven};
-ghost use Rattle.b3_parallel.specs.Lines.{Carries, last_of};
+ghost use Rattle.b3_parallel.specs.inner.Blocks.{HasRead, IsGiven};
+ghost use Rattle.b3_parallel.specs.inner.Lines.{Carries, last_of};
 
 use crate::blocks::Handle;
 use crate::line::{next_place, put, settle_all};

@@ -2,7 +2,7 @@
 
 ghost use Rattle.std.specs.Prelude.{◌≡◌, ℕ, ◌+◌, ◌*◌, ◌^◌, ◌<◌, ◌≤◌, IfSome, IfOk, Option, List, true, length};
 ghost use Rattle.b3_core.specs.Tree.{Keying};
-ghost use Rattle.b3_parallel.specs.Rounds.{ArePlaced, AreSlots, AreTaken, HasFront, IsPlaced};
+ghost use Rattle.b3_parallel.specs.inner.Rounds.{ArePlaced, AreSlots, AreTaken, HasFront, IsPlaced};
 
 use crate::source::Source;
 use crate::takers::take_all;

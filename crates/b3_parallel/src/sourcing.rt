@@ -3,8 +3,9 @@
 ghost use Rattle.std.specs.Prelude.{◌≡◌, ℕ, ◌+◌, ◌-◌, ◌*◌, ◌^◌, ◌<◌, ◌≤◌, IfSome, List, None, length, true};
 ghost use Rattle.b3_core.specs.Tree.{Keying, tree_top};
 ghost use Rattle.b3_core.specs.Work.{counted, hash_work};
-ghost use Rattle.b3_parallel.specs.Blocks.{IsGiven};
-ghost use Rattle.b3_parallel.specs.Rounds.{AreAll, HasFront};
+ghost use Rattle.b3_parallel.specs.inner.Blocks.{IsGiven};
+ghost use Rattle.b3_parallel.specs.Rounds.{AreAll};
+ghost use Rattle.b3_parallel.specs.inner.Rounds.{HasFront};
 
 use crate::reading::hash_until;
 use crate::rounds::hash_round;

@@ -2,8 +2,8 @@
 
 ghost use Rattle.std.specs.Prelude.{◌≡◌, ℕ, ◌*◌, ◌^◌, ◌<◌, ◌≤◌, [], IfOk, IfSome, List, Option};
 ghost use Rattle.b3_core.specs.Tree.{Keying};
-ghost use Rattle.b3_parallel.specs.Rounds.{ArePlaced, AreTaken};
-ghost use Rattle.b3_parallel.specs.Takers.{AreTaking, IsTaking};
+ghost use Rattle.b3_parallel.specs.inner.Rounds.{ArePlaced, AreTaken};
+ghost use Rattle.b3_parallel.specs.inner.Takers.{AreTaking, IsTaking};
 
 use crate::promised::TakenOf;
 use crate::source::Source;

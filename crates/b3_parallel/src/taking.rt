@@ -2,7 +2,7 @@
 
 ghost use Rattle.std.specs.Prelude.{◌≡◌, ℕ, ◌+◌, ◌*◌, ◌^◌, ◌<◌, ◌≤◌, IfSome, List, Option, length};
 ghost use Rattle.b3_core.specs.Tree.{Keying};
-ghost use Rattle.b3_parallel.specs.Rounds.{ArePlaced, IsPlaced};
+ghost use Rattle.b3_parallel.specs.inner.Rounds.{ArePlaced, IsPlaced};
 
 use crate::reading::fill_block;
 use crate::sizes::{bytes_of, chunks_of};

@@ -1,7 +1,7 @@
 //! A hasher's next bytes, by several threads.
 
 ghost use Rattle.std.specs.Prelude.{◌≡◌, ℕ, ◌+◌, ◌*◌, ◌/◌, ◌^◌, ◌<◌, ◌++◌, IfSome, List, length};
-ghost use Rattle.b3_core.specs.Hashers.{Fits, Holds, Makes, kept_work};
+ghost use Rattle.b3_core.specs.Hashers.{HasRoomFor, Holds, CountsRest, kept_work};
 ghost use Rattle.b3_core.specs.Tree.{IsSubtree};
 ghost use Rattle.b3_core.specs.Work.{NeverFalls};
 
@@ -42,7 +42,7 @@ pub fn update<T: Threads + Sync + Runtime>(
     ensures mode { hasher.new.mode ≡ hasher.old.mode }
     ensures bytes { (x : List ℕ) → Holds hasher.old x → length x + length bytes.now < 2 ^ 64 → Holds hasher.new (x ++ bytes.now) }
     ensures count { (x : List ℕ) → Holds hasher.old x → length x + length bytes.now < 2 ^ 64
-        → Makes (kept_work hasher.old.subtrees) (kept_work hasher.new.subtrees) work.old work.new }
+        → CountsRest (kept_work hasher.old.subtrees) (kept_work hasher.new.subtrees) work.old work.new }
     ensures never_falls { NeverFalls work.old work.new }
 {
     let chunks = bytes.len() / CHUNK_LEN;
@@ -68,12 +68,12 @@ fn update_in_parts<T: Threads + Sync + Runtime>(
     work: &mut Work,
 )
     requires level { level < 53 }
-    requires fits { Fits level hasher.old }
+    requires fits { HasRoomFor level hasher.old }
     requires subtree { IsSubtree (1024 * 2 ^ level) (hasher.old.whole / 1024) }
     ensures mode { hasher.new.mode ≡ hasher.old.mode }
     ensures bytes { (x : List ℕ) → Holds hasher.old x → length x + length bytes.now < 2 ^ 64 → Holds hasher.new (x ++ bytes.now) }
     ensures count { (x : List ℕ) → Holds hasher.old x → length x + length bytes.now < 2 ^ 64
-        → Makes (kept_work hasher.old.subtrees) (kept_work hasher.new.subtrees) work.old work.new }
+        → CountsRest (kept_work hasher.old.subtrees) (kept_work hasher.new.subtrees) work.old work.new }
     ensures never_falls { NeverFalls work.old work.new }
 {
     let size = bytes_of(level);

@@ -10,7 +10,8 @@ use Rattle.crossbeam_queue.specs.Fifo.{Pushes, Pops, Forks, Merges, Learns, Held
 use Rattle.crossbeam_queue.proofs.Lists.{at_set, at_snoc}
 use Rattle.store_board.specs.declared.hand_over.taken.Taken.{Taken}
 use Rattle.store_board.specs.declared.hand_over.view.PassView.{PassView}
-use Rattle.store_board.specs.HandOverRule.{of_giver, taker_view, first_view, giver_view, parting_view, spent_view, giving_view, taking_view, sum_view, for_later, passes_of, HandOverRule, With, Starts, KeepsGiving, KeepsTaking, KeepsJoining, IsSeenWith, Ended}
+use Rattle.store_board.specs.HandOverRule.{of_giver, taker_view, first_view, giver_view, parting_view, spent_view, giving_view, taking_view, sum_view, for_later, passes_of, HandOverRule, With, Starts, KeepsGiving, KeepsTaking, KeepsJoining, IsSeenWith}
+use Rattle.store_board.specs.inner.HandOverRule.{Ended}
 use Rattle.store_board.proofs.Sums.{pos_or_zero, hit, hit_self, sum_at, two_le, alone}
 
 -- where a fact holds of one new view and of all others, it holds of all

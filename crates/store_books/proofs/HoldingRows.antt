@@ -14,7 +14,7 @@ use Rattle.std.proofs.lemmas.Bool.{cases_eq, cases_lt, eq-eqb, eqb-true, le-ltb,
 use Rattle.std.proofs.lemmas.List.Kept.{IsStrictlySortedBy-filter}
 use Rattle.std.proofs.lemmas.Map.Keys.{sorted_head, sorted_tail}
 use Rattle.store_books.specs.Books.{Filed, IsRisingFrom, is_held_by}
-use Rattle.store_books.specs.Catalog.{AreHoldings, is_holding, pair_cmp}
+use Rattle.store_books.specs.inner.Catalog.{AreHoldings, is_holding, pair_cmp}
 use Rattle.store_books.specs.Questions.{listed}
 use Rattle.store_books.proofs.Catalogs.{shown}
 use Rattle.store_books.proofs.Holdings.{Held, and_false, at_pair}

@@ -9,7 +9,7 @@ use Rattle.std.specs.Map.{lookup}
 use Rattle.std.specs.Ordering.{nat_cmp}
 use Rattle.std.proofs.lemmas.Bool.{cases_eq, cases_lt, eq-eqb, le-ltb, lt-ltb, ne_eqb}
 use Rattle.store_books.specs.Books.{Filed}
-use Rattle.store_books.specs.Catalog.{AreHoldings, is_holding, pair_cmp}
+use Rattle.store_books.specs.inner.Catalog.{AreHoldings, is_holding, pair_cmp}
 use Rattle.store_books.specs.Commands.{with_holder, without_holder}
 use Rattle.store_books.proofs.Numbers.{at_is}
 use Rattle.store_books.proofs.RisingHolders.{has, has_with, other_alone, other_without}

@@ -10,7 +10,8 @@ use Rattle.store_books.specs.declared.limits.Limits.{Limits}
 use Rattle.store_books.specs.declared.tenant.Change.{Change}
 use Rattle.store_books.specs.declared.tenant.Tenant.{Tenant}
 use Rattle.store_books.specs.Books.{AreDistinct, AreSound, Begun, Books, Filed, IsBegunUpload, IsFiledAmong, IsRisingFrom, addresses, held_bytes_of, in_use, limit_of, most_limit, object_bytes_of, parts_of, reserved_of, use_of}
-use Rattle.store_books.specs.Kept.{AreKept, HasRoom, IsSummed, books_of, changed, changed_sums, limits_of, no_tenant, tenant_at, with_sums}
+use Rattle.store_books.specs.Kept.{AreKept, IsSummed, books_of, limits_of, no_tenant, tenant_at}
+use Rattle.store_books.specs.inner.Kept.{HasRoom, changed, changed_sums, with_sums}
 
 -- ---- tenants
 

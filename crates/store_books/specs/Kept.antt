@@ -1,8 +1,7 @@
 -- The books as the code keeps them: with running sums.
-use Rattle.std.specs.Prelude.{◌≡◌, ◌+◌, ◌-◌, ◌^◌, ◌<◌, ◌≤◌, ℕ, List, length, map, slice_set}
+use Rattle.std.specs.Prelude.{◌≡◌, ◌<◌, ◌≤◌, ℕ, List, length, map}
 use Rattle.std.specs.List.{slice_index_or}
 use Rattle.store_books.specs.declared.limits.Limits.{Limits}
-use Rattle.store_books.specs.declared.tenant.Change.{Change}
 use Rattle.store_books.specs.declared.tenant.Tenant.{Tenant}
 use Rattle.store_books.specs.Books.{AreSound, Begun, Books, Filed, held_bytes_of, object_bytes_of, parts_of, reserved_of, use_of}
 
@@ -14,26 +13,6 @@ no_tenant = record { limit = 0; used = 0; reserved = 0 }
 
 abbrev pub tenant_at : List Tenant → ℕ → Tenant
 tenant_at tenants n = slice_index_or tenants n no_tenant
-
--- tenants of which one has other sums
-abbrev pub with_sums : List Tenant → ℕ → ℕ → ℕ → List Tenant
-with_sums tenants n used reserved = slice_set tenants n (record { limit = (tenant_at tenants n).limit; used = used; reserved = reserved })
-
--- a sum that changes
-abbrev pub changed : ℕ → Change → ℕ
-changed n c = n - c.less + c.more
-
--- tenants of which the sums of one change
-abbrev pub changed_sums : List Tenant → ℕ → Change → Change → List Tenant
-changed_sums tenants n used reserved = with_sums tenants n (changed (tenant_at tenants n).used used) (changed (tenant_at tenants n).reserved reserved)
-
--- the sums fall by no more than they are, and rise to less than 2 ^ 64
-pub record HasRoom (tenants : List Tenant) (n : ℕ) (used reserved : Change) : Type 0 where
-  pub there : n < length tenants
-  pub used_low : used.less ≤ (tenant_at tenants n).used
-  pub used_most : changed (tenant_at tenants n).used used < 2 ^ 64
-  pub reserved_low : reserved.less ≤ (tenant_at tenants n).reserved
-  pub reserved_most : changed (tenant_at tenants n).reserved reserved < 2 ^ 64
 
 abbrev pub books_of : {P O : Type 0} → Limits → List Tenant → ℕ → List (ℕ × Begun P) → List (Filed O) → ℕ → Books P O
 books_of most tenants begun uploads objects accepted = record {

@@ -6,7 +6,7 @@ ghost use Rattle.std.specs.Map.{values_of};
 ghost use Rattle.std.specs.Option.{option_map};
 ghost use Rattle.std.specs.Ordering.{nat_cmp};
 ghost use Rattle.store_books.specs.Books.{Filed as Item, is_held_by, most_entries, object_among};
-ghost use Rattle.store_books.specs.Catalog.{IsKnown};
+ghost use Rattle.store_books.specs.inner.Catalog.{IsKnown};
 ghost use Rattle.store_books.specs.Commands.{with_holder, with_holders, without_holder};
 ghost use Rattle.store_books.specs.Questions.{listed};
 
@@ -33,7 +33,7 @@ pub(crate) struct Catalog<O: Content, I: AddressIndex> {
 // Contracts see it as the objects in filing order, and how many filings there were.
 impl<O: Content, I: AddressIndex> Model for Catalog<O, I> {
     ghost use Rattle.std.specs.Map.{values_of};
-    ghost use Rattle.store_books.specs.Catalog.{AreCatalogued, AreHoldings, Catalogued};
+    ghost use Rattle.store_books.specs.inner.Catalog.{AreCatalogued, AreHoldings, Catalogued};
 
     ghost Value = { Catalogued O };
 
@@ -96,7 +96,7 @@ impl<O: Content, I: AddressIndex> Catalog<O, I> {
 
     /// The object of the address.
     pub(crate) fn content(&self, address: Address) -> Option<&O>
-        ensures some { IfSome result (λ content. (o : Item O) × (object_among O.address self.now.objects address ≡ Some o) × (content.now ≡ o.content)) }
+        ensures found { IfSome result (λ content. (o : Item O) × (object_among O.address self.now.objects address ≡ Some o) × (content.now ≡ o.content)) }
         ensures none { IfNone result (object_among O.address self.now.objects address ≡ None) }
     {
         match self.find(address) {

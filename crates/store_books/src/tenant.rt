@@ -1,7 +1,8 @@
 //! Tenants.
 
 ghost use Rattle.std.specs.Prelude.{◌≡◌, ◌<◌, length, slice_set};
-ghost use Rattle.store_books.specs.Kept.{HasRoom, changed_sums, limits_of, tenant_at};
+ghost use Rattle.store_books.specs.Kept.{limits_of, tenant_at};
+ghost use Rattle.store_books.specs.inner.Kept.{HasRoom, changed_sums};
 
 // A tenant's limit, with its use and its reservation as running sums, in bytes.
 #[derive(Clone, Copy, Debug)]

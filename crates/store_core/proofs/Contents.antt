@@ -13,7 +13,8 @@ use Rattle.store_books.specs.Books.{AreSound, upload_at}
 use Rattle.store_books.specs.Commands.{finish_refused, ready_refusal}
 use Rattle.store_books.proofs.Commands.{found_among, none_mapped}
 use Rattle.store_core.specs.Commands.{content_in, opened}
-use Rattle.store_core.specs.Model.{AreJoined, ModelStore, ModelUpload, content}
+use Rattle.store_core.specs.Model.{AreJoined, ModelStore}
+use Rattle.store_core.specs.inner.Model.{ModelUpload, content}
 use Rattle.store_upload.specs.Uploads.{ArePlaced, Upload, end_of, finish_refusal, first_gap, last_end, length_of}
 use Rattle.store_upload.proofs.Complete.{gap_here, gap_stops}
 

@@ -6,7 +6,8 @@ use Rattle.store_books.specs.declared.refusal.Refusal.TheVariants.{NoUpload, Wro
 use Rattle.store_books.specs.Books.{upload_at}
 use Rattle.store_books.specs.Commands.{put_refusal}
 use Rattle.store_core.specs.Commands.{part_refused}
-use Rattle.store_core.specs.Model.{ModelStore, ModelUpload}
+use Rattle.store_core.specs.Model.{ModelStore}
+use Rattle.store_core.specs.inner.Model.{ModelUpload}
 use Rattle.store_upload.specs.Uploads.{same_plan}
 use Rattle.store_upload.proofs.Places.{not_some}
 

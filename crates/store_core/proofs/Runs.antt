@@ -10,7 +10,8 @@ use Rattle.store_books.specs.Commands.{abort_refusal, begin_refusal, end_refusal
 use Rattle.b3_forest.proofs.Ends.{same_plan_is}
 use Rattle.store_core.specs.Carried.{IsCarried}
 use Rattle.store_core.specs.Commands.{Acceptance, ModelSealed, StepsAs, address_in, address_refused, advanced, and_then, as_is, content_in, filed_in, part_refused, sealed_by, unless}
-use Rattle.store_core.specs.Model.{ModelObject, ModelStore, ModelUpload, Shown}
+use Rattle.store_core.specs.Model.{ModelObject, ModelStore, Shown}
+use Rattle.store_core.specs.inner.Model.{ModelUpload}
 use Rattle.store_core.specs.Runs.{Command, FitsItsPlan, Reply, Run, RunsCarry, Step, abort, begin, begin_open, fetch, fix, forget, holds, journal, list, open_tenant, plan, put, replied, seal, seal_as, set_limit, tenants, totals, uploads, usage}
 use Rattle.store_core.proofs.Carried.{abort_carried, begun_carried, fix_carried, forget_carried, known_carried, limit_carried, new_carried, put_carried, tenant_carried}
 use Rattle.store_core.proofs.Contents.{long_found}

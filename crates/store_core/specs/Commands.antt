@@ -15,7 +15,8 @@ use Rattle.store_books.specs.Commands.{abort_refusal, begin_refusal, end_refusal
 use Rattle.store_books.specs.Questions as books
 use Rattle.store_core.specs.declared.refusal.PutRefused.{PutRefused}
 use Rattle.store_core.specs.declared.store.Held.{Held}
-use Rattle.store_core.specs.Model.{ModelObject, ModelStore, ModelUpload, Shown, content}
+use Rattle.store_core.specs.Model.{ModelObject, ModelStore, Shown}
+use Rattle.store_core.specs.inner.Model.{ModelUpload, content}
 use Rattle.store_journal.specs.declared.entry.Entry.{Entry}
 use Rattle.store_journal.specs.declared.entry.Entry.TheVariants as entry
 use Rattle.store_upload.specs.Uploads.{Upload, UploadPlan, closed_plan, first_missing, held_bytes, new_upload, open_plan, same_plan}

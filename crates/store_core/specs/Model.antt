@@ -2,15 +2,10 @@
 -- kept in it: an object's address is the hash of its bytes.
 use Rattle.std.specs.Prelude.{◌≡◌, ◌<◌, ℕ, List, [], ◌∷◌, length}
 use Rattle.b3_forest.specs.Parts.{HeldPart}
-use Rattle.b3_forest.specs.Uploads.{content_of}
-use Rattle.store_books.specs.Books.{Begun, Books, Filed, empty_books}
+use Rattle.store_books.specs.Books.{Books, Filed, empty_books}
 use Rattle.store_books.specs.declared.limits.Limits.{Limits}
 use Rattle.store_journal.specs.declared.entry.Entry.{Entry}
 use Rattle.store_upload.specs.Uploads.{end_of}
-
--- an open upload of bytes, and an object of bytes, with their tenants
-abbrev pub ModelUpload : Type 0
-ModelUpload = Begun (List ℕ)
 
 abbrev pub ModelObject : Type 0
 ModelObject = Filed (List ℕ)
@@ -26,10 +21,6 @@ pub record Shown : Type 0 where
 -- an empty store
 abbrev pub start : Limits → Shown
 start l = record { state = empty_books l.tenants l.entries l.workers; journal = [] }
-
--- an upload's parts, joined by offset
-abbrev pub content : ModelUpload → List ℕ
-content u = content_of u.upload.parts
 
 -- parts with bytes of which the first begins at offset a, and each other where the one before it ends
 abbrev pub AreJoined : ℕ → List HeldPart → Type 0

@@ -1,6 +1,7 @@
-pub mod Audits
+-- What a reader has to believe, each file behind those that it rests on.
 pub mod Checks
 pub mod Journals
+pub mod Audits
 pub mod Keys
 pub mod Lists
 pub mod Migrations

@@ -1,2 +1,3 @@
+-- What a reader has to believe, each file behind those that it rests on.
 pub mod Refusals
 pub mod Shares

@@ -53,7 +53,7 @@ impl<L: Ledgers> Share<L> {
 
     /// A new share of the same book, which takes over that many parts and has recorded nothing.
     pub fn split(&mut self, parts: u64) -> Share<L>
-        requires some { 0 < parts }
+        requires positive { 0 < parts }
         requires some_left { parts < self.old.parts }
         ensures new { result ≡ record { parts = parts; bytes = 0; calls = 0 } }
         ensures left { self.new ≡ record self.old { parts = self.old.parts - parts } }

@@ -4,7 +4,7 @@ use Rattle.std.specs.Arc.{arc_value}
 use Rattle.b3_forest.specs.declared.segment.Segment.{Segment}
 use Rattle.b3_forest.specs.Uploads.{content_of, part_of}
 use Rattle.edge.proofs.Encoding.{digits_append}
-use Rattle.store_script.specs.Digits.{digits_of}
+use Rattle.store_script.specs.inner.Digits.{digits_of}
 use Rattle.store_script.specs.Texts.{digits_text}
 use Rattle.hex.specs.Hex.{encode_lower, encode_with, lower_digits}
 

@@ -20,7 +20,8 @@ use Rattle.store_core.specs.Model.{Shown, start}
 use Rattle.store_core.specs.Runs.{Command, Run, Step, plan}
 use Rattle.store_script.specs.Grammar.{ScriptCommand, asks, command_at, puts}
 use Rattle.store_script.specs.Lines.{AnswersRead, IsReadLine}
-use Rattle.store_script.specs.Script.{AllPlay, AreAnswered, Does, IsScriptBegun, MakesPart, Plays, Puts, PutsBy, Ran, RanOut, RanSome, Takes, Turn, bad, commands_of, ended_as, ending_of, failed_write, first_cause, ran_all, ran_some, replies_of, skipped, took, turn_ending, turn_text, unmade, verdict_ending, widest_start, worse}
+use Rattle.store_script.specs.Script.{AllPlay, AreAnswered, Does, IsScriptBegun, MakesPart, Plays, Puts, PutsBy, Ran, RanOut, RanSome, Takes, Turn, bad, commands_of, ending_of, failed_write, ran_all, ran_some, replies_of, skipped, took, turn_ending, turn_text, unmade, verdict_ending, widest_start, worse}
+use Rattle.store_script.specs.inner.Script.{ended_as, first_cause}
 use Rattle.store_script.specs.declared.ending.Ending.{Ending}
 use Rattle.store_script.specs.declared.ending.Ending.TheVariants as endings
 use Rattle.edge.specs.declared.outcome.Cause.{Cause}

@@ -5,11 +5,8 @@ use Rattle.store_core.specs.Model.{Shown}
 use Rattle.store_core.specs.Runs.{Command, Reply, abort, begin, begin_open, begun_upload, done, fetch, fix, forget, holds, journal, list, now_held, now_sealed, open_tenant, opened_tenant, seal, seal_as, set_limit, tenants, the_bytes, the_journal, the_length, the_list, the_tenants, the_totals, the_uploads, the_usage, totals, uploads, usage}
 use Rattle.store_script.specs.declared.command.Command.{Command as CodeCommand}
 use Rattle.store_script.specs.declared.command.Command.TheVariants as code
-use Rattle.store_script.specs.declared.command.ScriptCommand.{ScriptCommand as CodeScriptCommand}
-use Rattle.store_script.specs.declared.command.ScriptCommand.TheVariants as script
 use Rattle.store_script.specs.declared.reply.Reply.{Reply as CodeReply}
 use Rattle.store_script.specs.declared.reply.Reply.TheVariants as replies
-use Rattle.store_script.specs.Grammar.{ScriptCommand, asks, puts}
 
 -- the command of the store
 abbrev pub command_seen : CodeCommand → Command
@@ -30,11 +27,6 @@ command_seen (code.Uploads tenant) = uploads tenant
 command_seen code.Tenants = tenants
 command_seen code.Totals = totals
 command_seen code.Journal = journal
-
--- what a line asks for
-abbrev pub script_seen : CodeScriptCommand → ScriptCommand
-script_seen (script.Asks command) = asks (command_seen command)
-script_seen (script.Puts upload offset bytes) = puts upload offset bytes.items
 
 -- the reply of a store; the journal stays in the store
 abbrev pub reply_of : Shown → CodeReply → Reply

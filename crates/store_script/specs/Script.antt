@@ -18,8 +18,6 @@ use Rattle.store_script.specs.Grammar.{ScriptCommand, asks, command_at, puts}
 use Rattle.store_script.specs.Texts.{answer_text, unmade_text, refused_text}
 use Rattle.store_script.specs.declared.ending.Ending.{Ending}
 use Rattle.store_script.specs.declared.ending.Ending.TheVariants as endings
-use Rattle.edge.specs.declared.outcome.Cause.{Cause}
-use Rattle.edge.specs.declared.outcome.Cause.TheVariants as causes
 use Rattle.edge.specs.declared.outcome.Verdict.{Verdict}
 use Rattle.edge.specs.declared.outcome.Verdict.TheVariants as verdicts
 
@@ -128,17 +126,6 @@ worse endings.OutOfMemory other = endings.OutOfMemory
 abbrev pub ending_of : List Turn → Ending
 ending_of [] = endings.Good
 ending_of (turn ∷ turns) = worse (turn_ending turn) (ending_of turns)
-
--- what stops a run whose answers so far end so: want of memory where one of them told it, else what came now
-abbrev pub first_cause : Ending → Cause → Cause
-first_cause endings.OutOfMemory cause = causes.OutOfMemory
-first_cause _ cause = cause
-
--- how a script ends that was answered to its end, by its answers
-abbrev pub ended_as : Ending → Result Verdict Cause
-ended_as endings.Good = Ok verdicts.Good
-ended_as endings.Refused = Ok verdicts.Refused
-ended_as endings.OutOfMemory = Err causes.OutOfMemory
 
 -- the ending of answers with this verdict
 abbrev pub verdict_ending : Verdict → Ending

@@ -60,12 +60,12 @@ end_text None = codes "-"
 end_text (Some end) = decimal end
 
 -- an open upload's number, its bound, its end and how many bytes it holds, in a line
-abbrev pub upload_line : OpenUpload → List ℕ
-upload_line u = decimal u.upload ++ (codes " " ++ (decimal u.bound ++ (codes " " ++ (end_text u.end ++ (codes " " ++ (decimal u.held ++ codes "\n"))))))
+abbrev pub open_upload_line : OpenUpload → List ℕ
+open_upload_line u = decimal u.upload ++ (codes " " ++ (decimal u.bound ++ (codes " " ++ (end_text u.end ++ (codes " " ++ (decimal u.held ++ codes "\n"))))))
 
 -- how many open uploads there are, and the line of each
 abbrev pub uploads_text : List OpenUpload → List ℕ
-uploads_text uploads = codes "uploads " ++ (decimal (length uploads) ++ (codes "\n" ++ flat_map upload_line uploads))
+uploads_text uploads = codes "uploads " ++ (decimal (length uploads) ++ (codes "\n" ++ flat_map open_upload_line uploads))
 
 -- a tenant's number, its use, its reservation and its limit, in a line
 abbrev pub tenant_line : ℕ → Usage → List ℕ

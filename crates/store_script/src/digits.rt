@@ -2,7 +2,7 @@
 
 ghost use Rattle.std.specs.Prelude.{◌≡◌, ◌≤◌, ◌++◌, codes, length, IfErr, OnOk};
 ghost use Rattle.std.specs.Io.KnownBytes.{Appends};
-ghost use Rattle.store_script.specs.Digits.{digits_of};
+ghost use Rattle.store_script.specs.inner.Digits.{digits_of};
 
 use b3_forest::Segment;
 use edge::{Cause, write_bytes, write_encoded};

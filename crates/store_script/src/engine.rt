@@ -5,7 +5,8 @@ ghost use Rattle.std.specs.Io.BufRead.{DropsThrough, take_through};
 ghost use Rattle.std.specs.Io.KnownBytes.{Appends, IsAtEnd};
 ghost use Rattle.store_script.specs.Answers.{told_ending, told_text};
 ghost use Rattle.store_script.specs.Lines.{IsReadLine};
-ghost use Rattle.store_script.specs.Script.{Ran, RanOut, RanSome, ended_as, first_cause, verdict_ending, widest_start, worse};
+ghost use Rattle.store_script.specs.Script.{Ran, RanOut, RanSome, verdict_ending, widest_start, worse};
+ghost use Rattle.store_script.specs.inner.Script.{ended_as, first_cause};
 ghost use Rattle.store_script.specs.declared.ending.Ending.TheVariants as endings;
 
 use crate::answer::{Answer, MOST_LINE, answer_read};

@@ -6,9 +6,11 @@ use Rattle.std.specs.Io.Iter.{u64_saturate}
 use Rattle.std.proofs.lemmas.Bool.{cases_lt, le-ltb, lt-ltb}
 use Rattle.std.proofs.lemmas.List.{length-take}
 use Rattle.edge.proofs.LineParts.{kept_more, nothing_added}
-use Rattle.store_session.specs.Inner.{KeepsPart}
-use Rattle.store_session.specs.Reads.{IsLineRead, most_request}
-use Rattle.store_session.specs.Requests.{AsksFor, request_at, request_in}
+use Rattle.store_session.specs.inner.Lines.{KeepsPart}
+use Rattle.store_session.specs.Reads.{most_request}
+use Rattle.store_session.specs.inner.Reads.{IsLineRead}
+use Rattle.store_session.specs.Requests.{request_at, request_in}
+use Rattle.store_session.specs.inner.Requests.{AsksFor}
 use Rattle.store_session.specs.declared.reading.LineRead.{LineRead}
 use Rattle.store_session.specs.declared.request.Request.{Request}
 

@@ -3,7 +3,7 @@ use Rattle.std.proofs.Common.{◌≡◌, ◌∙◌, ◌<◌, ◌≤◌, ◌++◌
 use Rattle.std.proofs.Math.Seq.{drop-append_seam, take-append_seam}
 use Rattle.std.specs.Prelude.{IfSome, OnSome, Option}
 use Rattle.std.specs.Io.KnownBytes.{Consumes, IsAtEnd}
-use Rattle.store_session.specs.Reads.{Copied, Skipped}
+use Rattle.store_session.specs.inner.Reads.{Copied, Skipped}
 
 pub skipped_all : (old now : Option (List ℕ)) (done : List ℕ) (len : ℕ) → Consumes old now done → length done ≡ len → IfSome old (λ input. Skipped true len input now)
 skipped_all None now done len took is = tt

@@ -10,16 +10,17 @@ use Rattle.store_core.specs.Commands.{Tells, as_is, fetch_in}
 use Rattle.store_core.specs.Model.{Shown}
 use Rattle.store_core.specs.Runs.{Reply, Step, fetch, the_bytes, the_journal, told}
 use Rattle.store_script.specs.Texts.{entries_text, refused_text}
-use Rattle.store_session.specs.Session.{Gives, TellsFrom, Told, gave, ranged, raw_text, told_from}
+use Rattle.store_session.specs.Session.{GivesRange, TellsFrom, gave, ranged, raw_text, told_from}
+use Rattle.store_session.specs.inner.Session.{Told}
 use Rattle.store_session.specs.declared.request.Range.{Range}
 
 -- a fetch that is told as the bytes it found, or as its refusal
 pub fetched : (shown : Shown) (tenant : ℕ) (address bytes : List ℕ) (range : Option Range) (was is : Option (List ℕ)) → Tells as_is (told the_bytes (fetch_in shown.state tenant address)) (Ok (the_bytes bytes))
-    → Appends was is (raw_text (ranged range bytes)) → Told (λ turn. Gives shown range (fetch tenant address) turn shown) was is
+    → Appends was is (raw_text (ranged range bytes)) → Told (λ turn. GivesRange shown range (fetch tenant address) turn shown) was is
 fetched shown tenant address bytes range was is found wrote = record { turn = gave range (fetch tenant address) (Ok (the_bytes bytes)); is = (refl, refl, (found, refl)); wrote = wrote }
 
 pub refused : (shown : Shown) (tenant : ℕ) (address : List ℕ) (refusal : Refusal) (range : Option Range) (was is : Option (List ℕ)) → Tells as_is (told the_bytes (fetch_in shown.state tenant address)) (Err refusal)
-    → Appends was is (refused_text (refusal_text refusal)) → Told (λ turn. Gives shown range (fetch tenant address) turn shown) was is
+    → Appends was is (refused_text (refusal_text refusal)) → Told (λ turn. GivesRange shown range (fetch tenant address) turn shown) was is
 refused shown tenant address refusal range was is found wrote = record { turn = gave range (fetch tenant address) (Err refusal); is = (refl, refl, (found, refl)); wrote = wrote }
 
 -- what the store tells of a fetch, as a reply

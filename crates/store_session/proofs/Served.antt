@@ -19,16 +19,18 @@ use Rattle.store_script.proofs.LineOutcomes.{PutTurn}
 use Rattle.store_upload.specs.Uploads.{UploadPlan, part_refusal}
 use Rattle.store_upload.specs.declared.refusal.PartFault.{PartFault}
 use Rattle.store_upload.specs.declared.refusal.PartFault.TheVariants as faults
-use Rattle.store_session.specs.Reads.{Copied, Dropped, IsLineRead}
-use Rattle.store_session.specs.Requests.{AsksFor, request_in}
-use Rattle.store_session.specs.Session.{AnswersLine, Does, InScript, IsShort, PutsRaw, Receives, Replies, Serves, ServesPut, ServesRead, ServesRequest, Told, Turn, as_script, no_memory, turn_text}
+use Rattle.store_session.specs.inner.Reads.{Copied, Dropped, IsLineRead}
+use Rattle.store_session.specs.Requests.{request_in}
+use Rattle.store_session.specs.inner.Requests.{AsksFor}
+use Rattle.store_session.specs.Session.{MeetsRequest, InScript, IsShort, PutsRaw, Replies, SessionTurn, as_script, no_memory, session_turn_text}
+use Rattle.store_session.specs.inner.Session.{AnswersLine, Receives, Serves, ServesPut, ServesRead, ServesRequest, Told}
 use Rattle.store_session.specs.declared.reading.LineRead.{LineRead}
 use Rattle.store_session.specs.declared.request.Request.{Request}
 use Rattle.store_session.specs.declared.request.Request.TheVariants.{Put}
 
 -- ---- a line of a script
 
-pub lost_line : (old : Shown) (read : LineRead) (kept : List ℕ) (was is : Option (List ℕ)) → Appends was is (turn_text no_memory) → AnswersLine old old read kept was is
+pub lost_line : (old : Shown) (read : LineRead) (kept : List ℕ) (was is : Option (List ℕ)) → Appends was is (session_turn_text no_memory) → AnswersLine old old read kept was is
 lost_line old read kept was is wrote = record { answers = λ whole h. record { turn = no_memory; is = refl; wrote = wrote } }
 
 -- all of its bytes were kept that a command's line may have
@@ -94,7 +96,7 @@ served_script (Some behind) was is old new read kept request same asks h = recor
   serves = λ whole r.
       let told = h.answers whole r in
       let none : None ≡ request_in whole = sym same ∙ asks.asks whole r in
-      (behind, refl, record { turn = told.turn; is = subst (λ (q : Option Request). Does old q whole behind told.turn new behind) none (told.is, refl); wrote = told.wrote });
+      (behind, refl, record { turn = told.turn; is = subst (λ (q : Option Request). MeetsRequest old q whole behind told.turn new behind) none (told.is, refl); wrote = told.wrote });
 }
 
 served_known : (is_whole : Bool) (now left was is : Option (List ℕ)) (old new : Shown) (read : LineRead) (kept : List ℕ) (got : Option Request) (request : Request) → got ≡ Some request → AsksFor read kept got
@@ -109,7 +111,7 @@ pub served_request : {E : Type 0} (r : Result Bool E) (now left was is : Option 
 served_request (Err e) now left was is old new read kept got request same asks h = tt
 served_request (Ok is_whole) now left was is old new read kept got request same asks h = served_known is_whole now left was is old new read kept got request same asks h
 
-pub served_by : (now was is : Option (List ℕ)) (old new : Shown) (request : Request) (Is : Turn → Type 0) → ((whole behind : List ℕ) (turn : Turn) → Is turn → Does old (Some request) whole behind turn new behind) → Told Is was is
+pub served_by : (now was is : Option (List ℕ)) (old new : Shown) (request : Request) (Is : SessionTurn → Type 0) → ((whole behind : List ℕ) (turn : SessionTurn) → Is turn → MeetsRequest old (Some request) whole behind turn new behind) → Told Is was is
     → IfSome now (λ behind. ServesRequest true old request behind new now was is)
 served_by None was is old new request Is does told = tt
 served_by (Some behind) was is old new request Is does told = record {

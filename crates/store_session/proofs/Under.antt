@@ -20,9 +20,10 @@ use Rattle.store_script.specs.Commands.{command_seen}
 use Rattle.store_script.specs.Script.{widest_start}
 use Rattle.store_script.specs.Script as script
 use Rattle.store_script.proofs.ScriptSteps.{Came, came, came_put, came_takes}
-use Rattle.store_session.specs.Reads.{IsLineRead}
+use Rattle.store_session.specs.inner.Reads.{IsLineRead}
 use Rattle.store_session.specs.Requests.{request_in}
-use Rattle.store_session.specs.Session.{AllPlay, AreAnswered, Does, Gives, InScript, IsShort, Plays, PutsRaw, Ran, RanSome, Replies, Serves, ServesRead, TellsFrom, Turn, as_script, commands_of, gave, no_memory, replies_of, told_from, turn_text}
+use Rattle.store_session.specs.Session.{MeetLines, AreServed, MeetsRequest, GivesRange, InScript, IsShort, MeetsLine, PutsRaw, ServedAll, ServedSome, Replies, TellsFrom, SessionTurn, as_script, session_commands, gave, no_memory, session_replies, told_from, session_turn_text}
+use Rattle.store_session.specs.inner.Session.{Serves, ServesRead}
 use Rattle.store_session.specs.declared.reading.LineRead.{LineRead}
 use Rattle.store_session.specs.declared.request.Request.{Request}
 use Rattle.store_session.specs.declared.request.Request.TheVariants.{Asks, Entries, Fetch, Put}
@@ -30,75 +31,75 @@ use Rattle.store_session.specs.declared.request.Request.TheVariants.{Asks, Entri
 -- ---- the steps are a run
 
 -- a step, or nothing
-abbrev CameTo : Shown → Turn → Shown → Type 0
+abbrev CameTo : Shown → SessionTurn → Shown → Type 0
 CameTo old (as_script turn) new = Came old turn new
 CameTo old no_memory new = new ≡ old
 CameTo old (gave range command reply) new = Step old command reply new
 CameTo old (told_from from reply) new = Step old journal reply new
 
-in_script : (old new : Shown) (line : List ℕ) (turn : Turn) → InScript old line turn new → CameTo old turn new
+in_script : (old new : Shown) (line : List ℕ) (turn : SessionTurn) → InScript old line turn new → CameTo old turn new
 in_script old new line (as_script turn) h = came old new line turn h
 in_script old new line no_memory h = h
 in_script old new line (gave range command reply) h = absurd h
 in_script old new line (told_from from reply) h = absurd h
 
-puts_raw : (old new : Shown) (upload offset : ℕ) (bytes : List ℕ) (turn : Turn) → PutsRaw old upload offset bytes turn new → CameTo old turn new
+puts_raw : (old new : Shown) (upload offset : ℕ) (bytes : List ℕ) (turn : SessionTurn) → PutsRaw old upload offset bytes turn new → CameTo old turn new
 puts_raw old new upload offset bytes (as_script turn) h = came_put old new upload offset bytes (plan_in old.state upload) turn h
 puts_raw old new upload offset bytes no_memory h = absurd h
 puts_raw old new upload offset bytes (gave range command reply) h = absurd h
 puts_raw old new upload offset bytes (told_from from reply) h = absurd h
 
-replies : (old new : Shown) (command : Command) (turn : Turn) → Replies old command turn new → CameTo old turn new
+replies : (old new : Shown) (command : Command) (turn : SessionTurn) → Replies old command turn new → CameTo old turn new
 replies old new command (as_script turn) h = came_takes old new command turn h
 replies old new command no_memory h = absurd h
 replies old new command (gave range asked reply) h = absurd h
 replies old new command (told_from from reply) h = absurd h
 
-gives : (old new : Shown) (range : Option _) (command : Command) (turn : Turn) → Gives old range command turn new → CameTo old turn new
+gives : (old new : Shown) (range : Option _) (command : Command) (turn : SessionTurn) → GivesRange old range command turn new → CameTo old turn new
 gives old new range command (as_script turn) h = absurd h
 gives old new range command no_memory h = absurd h
 gives old new range command (gave given asked reply) h = subst (λ (c : Command). Step old c reply new) (sym h.1) h.2
 gives old new range command (told_from from reply) h = absurd h
 
-tells_from : (old new : Shown) (from : ℕ) (turn : Turn) → TellsFrom old from turn new → CameTo old turn new
+tells_from : (old new : Shown) (from : ℕ) (turn : SessionTurn) → TellsFrom old from turn new → CameTo old turn new
 tells_from old new from (as_script turn) h = absurd h
 tells_from old new from no_memory h = absurd h
 tells_from old new from (gave given asked reply) h = absurd h
 tells_from old new from (told_from start reply) h = h.1
 
-came_does : (old new : Shown) (request : Option Request) (whole behind : List ℕ) (turn : Turn) (rest : List ℕ) → Does old request whole behind turn new rest → CameTo old turn new
+came_does : (old new : Shown) (request : Option Request) (whole behind : List ℕ) (turn : SessionTurn) (rest : List ℕ) → MeetsRequest old request whole behind turn new rest → CameTo old turn new
 came_does old new None whole behind turn rest h = in_script old new (strip_last 10 whole) turn h.0
 came_does old new (Some (Put upload offset len)) whole behind turn rest h = puts_raw old new upload offset (take len behind) turn h.0
 came_does old new (Some (Fetch wanted)) whole behind turn rest h = gives old new wanted.range (fetch wanted.tenant wanted.address) turn h.0
 came_does old new (Some (Asks command)) whole behind turn rest h = replies old new (command_seen command) turn h.0
 came_does old new (Some (Entries from)) whole behind turn rest h = tells_from old new from turn h.0
 
-script_on : (old mid new : Shown) (turn : script.Turn) (turns : List Turn) → Came old turn mid → Run mid (commands_of turns) (replies_of turns) new → Run old (commands_of (as_script turn ∷ turns)) (replies_of (as_script turn ∷ turns)) new
-script_on old mid new script.skipped turns h r = subst (λ (s : Shown). Run s (commands_of turns) (replies_of turns) new) h r
-script_on old mid new script.bad turns h r = subst (λ (s : Shown). Run s (commands_of turns) (replies_of turns) new) h r
-script_on old mid new (script.unmade fault) turns h r = subst (λ (s : Shown). Run s (commands_of turns) (replies_of turns) new) h r
+script_on : (old mid new : Shown) (turn : script.Turn) (turns : List SessionTurn) → Came old turn mid → Run mid (session_commands turns) (session_replies turns) new → Run old (session_commands (as_script turn ∷ turns)) (session_replies (as_script turn ∷ turns)) new
+script_on old mid new script.skipped turns h r = subst (λ (s : Shown). Run s (session_commands turns) (session_replies turns) new) h r
+script_on old mid new script.bad turns h r = subst (λ (s : Shown). Run s (session_commands turns) (session_replies turns) new) h r
+script_on old mid new (script.unmade fault) turns h r = subst (λ (s : Shown). Run s (session_commands turns) (session_replies turns) new) h r
 script_on old mid new (script.took command reply) turns h r = (mid, h, r)
 
-run_on : (old mid new : Shown) (turn : Turn) (turns : List Turn) → CameTo old turn mid → Run mid (commands_of turns) (replies_of turns) new → Run old (commands_of (turn ∷ turns)) (replies_of (turn ∷ turns)) new
+run_on : (old mid new : Shown) (turn : SessionTurn) (turns : List SessionTurn) → CameTo old turn mid → Run mid (session_commands turns) (session_replies turns) new → Run old (session_commands (turn ∷ turns)) (session_replies (turn ∷ turns)) new
 run_on old mid new (as_script turn) turns h r = script_on old mid new turn turns h r
-run_on old mid new no_memory turns h r = subst (λ (s : Shown). Run s (commands_of turns) (replies_of turns) new) h r
+run_on old mid new no_memory turns h r = subst (λ (s : Shown). Run s (session_commands turns) (session_replies turns) new) h r
 run_on old mid new (gave range command reply) turns h r = (mid, h, r)
 run_on old mid new (told_from from reply) turns h r = (mid, h, r)
 
-runs : (old new : Shown) (input rest : List ℕ) (turns : List Turn) → AllPlay old input turns new rest → Run old (commands_of turns) (replies_of turns) new
+runs : (old new : Shown) (input rest : List ℕ) (turns : List SessionTurn) → MeetLines old input turns new rest → Run old (session_commands turns) (session_replies turns) new
 runs old new input rest [] h = h.0
 runs old new input rest (turn ∷ turns) h = run_on old h.0 new turn turns (came_does old h.0 (request_in (take_through 10 input)) (take_through 10 input) (drop_through 10 input) turn h.1 h.2.1) (runs h.0 new h.1 rest turns h.3)
 
 -- ---- a line more
 
-more_play : (old mid new : Shown) (input behind rest : List ℕ) (turns : List Turn) (turn : Turn) → AllPlay old input turns mid behind → Plays mid behind turn new rest → AllPlay old input (turns ++ turn ∷ []) new rest
+more_play : (old mid new : Shown) (input behind rest : List ℕ) (turns : List SessionTurn) (turn : SessionTurn) → MeetLines old input turns mid behind → MeetsLine mid behind turn new rest → MeetLines old input (turns ++ turn ∷ []) new rest
 more_play old mid new input behind rest [] turn h p =
-    let from : Plays old input turn new rest = subst (λ (k : Shown). Plays k input turn new rest) h.0 (subst (λ (b : List ℕ). Plays mid b turn new rest) h.1 p) in
+    let from : MeetsLine old input turn new rest = subst (λ (k : Shown). MeetsLine k input turn new rest) h.0 (subst (λ (b : List ℕ). MeetsLine mid b turn new rest) h.1 p) in
     (new, rest, from, (refl, refl))
 more_play old mid new input behind rest (t ∷ turns) turn h p = (h.0, h.1, h.2, more_play h.0 mid new h.1 behind rest turns turn h.3 p)
 
-text_more : (turns : List Turn) (turn : Turn) → flat_map turn_text (turns ++ turn ∷ []) ≡ flat_map turn_text turns ++ turn_text turn
-text_more turns turn = flat_map-append turn_text turns (turn ∷ []) ∙ ap (λ xs. flat_map turn_text turns ++ xs) (append-nil (turn_text turn))
+text_more : (turns : List SessionTurn) (turn : SessionTurn) → flat_map session_turn_text (turns ++ turn ∷ []) ≡ flat_map session_turn_text turns ++ session_turn_text turn
+text_more turns turn = flat_map-append session_turn_text turns (turn ∷ []) ∙ ap (λ xs. flat_map session_turn_text turns ++ xs) (append-nil (session_turn_text turn))
 
 -- ---- a session under way
 
@@ -106,15 +107,15 @@ text_more turns turn = flat_map-append turn_text turns (turn ∷ []) ∙ ap (λ 
 pub record IsUnder (now was is : Option (List ℕ)) (store : Shown) (input : List ℕ) : Type 0 where
   pub rest : List ℕ
   pub left : now ≡ Some rest
-  pub turns : List Turn
-  pub plays : AllPlay widest_start input turns store rest
-  pub wrote : Appends was is (flat_map turn_text turns)
+  pub turns : List SessionTurn
+  pub plays : MeetLines widest_start input turns store rest
+  pub wrote : Appends was is (flat_map session_turn_text turns)
 
 pub begun : (old was : Option (List ℕ)) (store : Shown) → store ≡ widest_start → IfSome old (IsUnder old was was store)
 begun None was store is = tt
 begun (Some input) was store is = record { rest = input; left = refl; turns = []; plays = (is, refl); wrote = Appends-nil was }
 
-are_answered : (input rest : List ℕ) (turns : List Turn) (store : Shown) → AllPlay widest_start input turns store rest → AreAnswered input (flat_map turn_text turns) rest
+are_answered : (input rest : List ℕ) (turns : List SessionTurn) (store : Shown) → MeetLines widest_start input turns store rest → AreServed input (flat_map session_turn_text turns) rest
 are_answered input rest turns store plays =
     let run = runs widest_start store input rest turns plays in
     record {
@@ -122,21 +123,21 @@ are_answered input rest turns store plays =
       end = store;
       plays = plays;
       run = run;
-      law = (runs_carry widest_start store (commands_of turns) (replies_of turns) (empty_carried most_tenants most_entries most_workers (omega arith) (omega arith)) run).0;
+      law = (runs_carry widest_start store (session_commands turns) (session_replies turns) (empty_carried most_tenants most_entries most_workers (omega arith) (omega arith)) run).0;
       text_is = refl;
     }
 
-pub stopped : (old now was is : Option (List ℕ)) (store : Shown) → IfSome old (IsUnder now was is store) → IfSome old (λ input. RanSome input was is)
+pub stopped : (old now was is : Option (List ℕ)) (store : Shown) → IfSome old (IsUnder now was is store) → IfSome old (λ input. ServedSome input was is)
 stopped None now was is store h = tt
-stopped (Some input) now was is store h = record { output = flat_map turn_text h.turns; rest = h.rest; answered = are_answered input h.rest h.turns store h.plays; wrote = h.wrote }
+stopped (Some input) now was is store h = record { output = flat_map session_turn_text h.turns; rest = h.rest; answered = are_answered input h.rest h.turns store h.plays; wrote = h.wrote }
 
 pub at_end : (old now was is : Option (List ℕ)) (store : Shown) (read : LineRead) (kept : List ℕ) → IfSome old (IsUnder now was is store) → IfSome now (λ left. IsLineRead (take_through 10 left) read kept) → read.count ≡ 0
-    → IfSome old (λ input. Ran input was is verdicts.Good)
+    → IfSome old (λ input. ServedAll input was is verdicts.Good)
 at_end None now was is store read kept h r none = tt
 at_end (Some input) now was is store read kept h r none =
     let read2 : IsLineRead (take_through 10 h.rest) read kept = subst (λ (o : Option (List ℕ)). IfSome o (λ left. IsLineRead (take_through 10 left) read kept)) h.left r in
     let nothing : h.rest ≡ [] = take_through-nil 10 h.rest (omega (arith, read2.count_is, none)) in
-    record { output = flat_map turn_text h.turns; rest = h.rest; answered = are_answered input h.rest h.turns store h.plays; ends = nothing; wrote = h.wrote }
+    record { output = flat_map session_turn_text h.turns; rest = h.rest; answered = are_answered input h.rest h.turns store h.plays; ends = nothing; wrote = h.wrote }
 
 some_left : (rest : List ℕ) (read : LineRead) (kept : List ℕ) → IsLineRead (take_through 10 rest) read kept → 0 < read.count → 0 < length rest
 some_left rest read kept r some = take_through_nonempty 10 rest (omega (arith, r.count_is, some))
@@ -151,20 +152,20 @@ served_now now then left was is rest store new read kept is_whole at r drops ser
     served2.serves (take_through 10 rest) read2
 
 pub cut_off : (old now then left was is after : Option (List ℕ)) (store new : Shown) (read : LineRead) (kept : List ℕ) (is_whole : Bool) → is_whole ≡ false → IfSome old (IsUnder now was is store)
-    → IfSome now (λ left. IsLineRead (take_through 10 left) read kept) → DropsThrough now then 10 → IfSome then (λ behind. ServesRead is_whole store read kept behind new left is after) → IfSome old (λ input. Ran input was after verdicts.Refused)
+    → IfSome now (λ left. IsLineRead (take_through 10 left) read kept) → DropsThrough now then 10 → IfSome then (λ behind. ServesRead is_whole store read kept behind new left is after) → IfSome old (λ input. ServedAll input was after verdicts.Refused)
 cut_off None now then left was is after store new read kept is_whole none h r drops served = tt
 cut_off (Some input) now then left was is after store new read kept is_whole none h r drops served =
     let whole = take_through 10 h.rest in
     let behind = drop_through 10 h.rest in
     let served1 = served_now now then left is after h.rest store new read kept is_whole h.left r drops served in
     let served2 : Serves false store (request_in whole) whole behind new left is after = subst (λ (w : Bool). Serves w store (request_in whole) whole behind new left is after) none served1 in
-    let text : flat_map turn_text h.turns ++ [] ≡ flat_map turn_text h.turns = append-nil (flat_map turn_text h.turns) in
+    let text : flat_map session_turn_text h.turns ++ [] ≡ flat_map session_turn_text h.turns = append-nil (flat_map session_turn_text h.turns) in
     record {
-      output = flat_map turn_text h.turns;
+      output = flat_map session_turn_text h.turns;
       rest = h.rest;
       answered = are_answered input h.rest h.turns store h.plays;
       ends = served2.0;
-      wrote = subst (λ (t : List ℕ). Appends was after t) text (Appends-trans was is after (flat_map turn_text h.turns) [] h.wrote served2.1);
+      wrote = subst (λ (t : List ℕ). Appends was after t) text (Appends-trans was is after (flat_map session_turn_text h.turns) [] h.wrote served2.1);
     }
 
 pub turned : (old now then left was is after : Option (List ℕ)) (store new : Shown) (read : LineRead) (kept : List ℕ) (is_whole : Bool) → is_whole ≡ true → IfSome old (IsUnder now was is store)
@@ -182,5 +183,5 @@ turned (Some input) now then left was is after store new read kept is_whole all 
       left = left_is;
       turns = h.turns ++ told.turn ∷ [];
       plays = more_play widest_start store new input h.rest rest h.turns told.turn h.plays (some_left h.rest read kept read2 some, told.is);
-      wrote = subst (λ (t : List ℕ). Appends was after t) (sym (text_more h.turns told.turn)) (Appends-trans was is after (flat_map turn_text h.turns) (turn_text told.turn) h.wrote told.wrote);
+      wrote = subst (λ (t : List ℕ). Appends was after t) (sym (text_more h.turns told.turn)) (Appends-trans was is after (flat_map session_turn_text h.turns) (session_turn_text told.turn) h.wrote told.wrote);
     }

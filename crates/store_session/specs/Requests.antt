@@ -1,18 +1,16 @@
 -- What a line of a session asks for that a script's lines don't.
-use Rattle.std.specs.Prelude.{◌≡◌, ℕ, Bool, List, Option, Some, None, if◌then◌else◌, codes, length, nat_lt}
+use Rattle.std.specs.Prelude.{ℕ, List, Option, Some, None, if◌then◌else◌, codes, length, nat_lt}
 use Rattle.std.specs.Io.BufRead.{strip_last}
 use Rattle.std.specs.Str.{bytes_eq}
-use Rattle.edge.specs.Fields.{◌>>=◌, cut_at, number_at, space, three_numbers_at, two_numbers_at}
+use Rattle.edge.specs.Fields.{cut_at, number_at, space, three_numbers_at, two_numbers_at}
 use Rattle.store_script.specs.Grammar.{address_of_digits, held_at}
 use Rattle.store_script.specs.declared.command.Command.TheVariants.{Holds, Tenants, Uploads}
-use Rattle.store_session.specs.Reads.{IsLineRead, most_request}
-use Rattle.store_session.specs.declared.reading.LineRead.{LineRead}
-use Rattle.store_session.specs.declared.request.Range.{Range}
+use Rattle.store_session.specs.Reads.{most_request}
 use Rattle.store_session.specs.declared.request.Request.{Request}
 use Rattle.store_session.specs.declared.request.Request.TheVariants.{Asks, Entries, Fetch, Put}
 
-abbrev pub put_at : List ℕ → Option Request
-put_at fields = do
+abbrev pub raw_put_at : List ℕ → Option Request
+raw_put_at fields = do
   numbers ← three_numbers_at fields
   Some (Put numbers.0 numbers.1 numbers.2)
 
@@ -50,7 +48,7 @@ entries_at fields = do
 -- the request of a word and the fields behind it
 unfoldable pub request_of_kind : List ℕ → List ℕ → Option Request
 request_of_kind kind fields =
-    if bytes_eq kind (codes "putb") then put_at fields
+    if bytes_eq kind (codes "putb") then raw_put_at fields
     else if bytes_eq kind (codes "fetchb") then fetch_at fields
     else if bytes_eq kind (codes "has") then holds_at fields
     else if bytes_eq kind (codes "uploads") then uploads_at fields
@@ -69,7 +67,3 @@ request_at line = cut_request_at line (cut_at space line)
 -- the request of a line with its line feed, which the last line may lack; none in a line of a script
 abbrev pub request_in : List ℕ → Option Request
 request_in whole = if nat_lt most_request (length whole) then None else request_at (strip_last 10 whole)
-
--- it is the request of the line that was read
-pub record AsksFor (read : LineRead) (kept : List ℕ) (request : Option Request) : Type 0 where
-  pub asks : (whole : List ℕ) → IsLineRead whole read kept → request ≡ request_in whole

@@ -1,5 +1,5 @@
 -- A session: lines, some with so many raw bytes behind them as they say, and their answers.
-use Rattle.std.specs.Prelude.{◌≡◌, ◌<◌, ◌≤◌, ℕ, Bool, true, false, List, [], ◌∷◌, ◌++◌, Option, Some, None, Result, Ok, Err, codes, drop, length, take}
+use Rattle.std.specs.Prelude.{◌≡◌, ◌<◌, ◌≤◌, ℕ, List, [], ◌∷◌, ◌++◌, Option, Some, None, Result, Ok, Err, codes, drop, length, take}
 use Rattle.std.specs.Fmt.{decimal}
 use Rattle.std.specs.List.{flat_map}
 use Rattle.std.specs.Io.BufRead.{drop_through, strip_last, take_through}
@@ -13,15 +13,11 @@ use Rattle.store_core.specs.Carried.{IsCarried}
 use Rattle.store_core.specs.Commands.{plan_in}
 use Rattle.store_core.specs.Model.{Shown}
 use Rattle.store_core.specs.Runs.{Command, Reply, Run, Step, fetch, journal, the_bytes, the_journal}
-use Rattle.store_script.specs.Answers.{told_ending, told_text}
 use Rattle.store_script.specs.Commands.{command_seen}
-use Rattle.store_script.specs.Script.{Answered, PutsBy, widest_start}
+use Rattle.store_script.specs.Script.{PutsBy, widest_start}
 use Rattle.store_script.specs.Script as script
 use Rattle.store_script.specs.Texts.{entries_text, refused_text, reply_text}
-use Rattle.store_script.specs.declared.answer.Answer.{Answer}
-use Rattle.store_session.specs.Reads.{IsLineRead}
 use Rattle.store_session.specs.Requests.{request_in}
-use Rattle.store_session.specs.declared.reading.LineRead.{LineRead}
 use Rattle.store_session.specs.declared.request.Range.{Range}
 use Rattle.store_session.specs.declared.request.Request.{Request}
 use Rattle.store_session.specs.declared.request.Request.TheVariants.{Asks, Entries, Fetch, Put}
@@ -30,11 +26,11 @@ use Rattle.store_session.specs.declared.request.Request.TheVariants.{Asks, Entri
 
 -- What a line comes to: what it comes to in a script; want of memory for the line; a fetch of which a range is given; or the journal,
 -- of which the entries from a number on are told.
-pub data Turn : Type 0 where
-  as_script : script.Turn → Turn
-  no_memory : Turn
-  gave : Option Range → Command → Result Reply Refusal → Turn
-  told_from : ℕ → Result Reply Refusal → Turn
+pub data SessionTurn : Type 0 where
+  as_script : script.Turn → SessionTurn
+  no_memory : SessionTurn
+  gave : Option Range → Command → Result Reply Refusal → SessionTurn
+  told_from : ℕ → Result Reply Refusal → SessionTurn
 
 -- those of an object's bytes that are asked for, cut at its end
 abbrev pub ranged : Option Range → List ℕ → List ℕ
@@ -58,48 +54,48 @@ abbrev pub told_by : (Reply → List ℕ) → Result Reply Refusal → List ℕ
 told_by text (Ok reply) = text reply
 told_by text (Err refusal) = refused_text (refusal_text refusal)
 
-abbrev pub turn_text : Turn → List ℕ
-turn_text (as_script turn) = script.turn_text turn
-turn_text no_memory = refused_text (refusal_text refusals.NoMemory)
-turn_text (gave range command reply) = told_by (range_text range) reply
-turn_text (told_from from reply) = told_by (later_text from) reply
+abbrev pub session_turn_text : SessionTurn → List ℕ
+session_turn_text (as_script turn) = script.turn_text turn
+session_turn_text no_memory = refused_text (refusal_text refusals.NoMemory)
+session_turn_text (gave range command reply) = told_by (range_text range) reply
+session_turn_text (told_from from reply) = told_by (later_text from) reply
 
 -- ---- one line
 
 -- a line of a script comes to what it comes to there, unless memory is refused for it
-abbrev pub InScript : Shown → List ℕ → Turn → Shown → Type 0
+abbrev pub InScript : Shown → List ℕ → SessionTurn → Shown → Type 0
 InScript old line no_memory new = new ≡ old
 InScript old line (as_script turn) new = script.Plays old line turn new
 InScript old line _ new = ⊥
 
 -- a part's bytes are put as a script's are
-abbrev pub PutsRaw : Shown → ℕ → ℕ → List ℕ → Turn → Shown → Type 0
+abbrev pub PutsRaw : Shown → ℕ → ℕ → List ℕ → SessionTurn → Shown → Type 0
 PutsRaw old upload offset bytes (as_script turn) new = PutsBy old upload offset bytes (plan_in old.state upload) turn new
 PutsRaw old upload offset bytes _ new = ⊥
 
 -- a question
-abbrev pub Replies : Shown → Command → Turn → Shown → Type 0
+abbrev pub Replies : Shown → Command → SessionTurn → Shown → Type 0
 Replies old command (as_script turn) new = script.Takes old command turn new
 Replies old command _ new = ⊥
 
 -- a fetch, of which a range is given
-abbrev pub Gives : Shown → Option Range → Command → Turn → Shown → Type 0
-Gives old range command (gave given asked reply) new = (given ≡ range) × (asked ≡ command) × Step old command reply new
-Gives old range command _ new = ⊥
+abbrev pub GivesRange : Shown → Option Range → Command → SessionTurn → Shown → Type 0
+GivesRange old range command (gave given asked reply) new = (given ≡ range) × (asked ≡ command) × Step old command reply new
+GivesRange old range command _ new = ⊥
 
 -- the journal, from an entry on
-abbrev pub TellsFrom : Shown → ℕ → Turn → Shown → Type 0
+abbrev pub TellsFrom : Shown → ℕ → SessionTurn → Shown → Type 0
 TellsFrom old from (told_from start reply) new = (start ≡ from) × Step old journal reply new
 TellsFrom old from _ new = ⊥
 
 -- What a line with this request comes to, what it leaves, and the bytes that are left of those behind it. A part takes its bytes, whatever
 -- it comes to.
-abbrev pub Does : Shown → Option Request → List ℕ → List ℕ → Turn → Shown → List ℕ → Type 0
-Does old None whole behind turn new rest = InScript old (strip_last 10 whole) turn new × (rest ≡ behind)
-Does old (Some (Put upload offset len)) whole behind turn new rest = PutsRaw old upload offset (take len behind) turn new × (len ≤ length behind) × (rest ≡ drop len behind)
-Does old (Some (Fetch wanted)) whole behind turn new rest = Gives old wanted.range (fetch wanted.tenant wanted.address) turn new × (rest ≡ behind)
-Does old (Some (Asks command)) whole behind turn new rest = Replies old (command_seen command) turn new × (rest ≡ behind)
-Does old (Some (Entries from)) whole behind turn new rest = TellsFrom old from turn new × (rest ≡ behind)
+abbrev pub MeetsRequest : Shown → Option Request → List ℕ → List ℕ → SessionTurn → Shown → List ℕ → Type 0
+MeetsRequest old None whole behind turn new rest = InScript old (strip_last 10 whole) turn new × (rest ≡ behind)
+MeetsRequest old (Some (Put upload offset len)) whole behind turn new rest = PutsRaw old upload offset (take len behind) turn new × (len ≤ length behind) × (rest ≡ drop len behind)
+MeetsRequest old (Some (Fetch wanted)) whole behind turn new rest = GivesRange old wanted.range (fetch wanted.tenant wanted.address) turn new × (rest ≡ behind)
+MeetsRequest old (Some (Asks command)) whole behind turn new rest = Replies old (command_seen command) turn new × (rest ≡ behind)
+MeetsRequest old (Some (Entries from)) whole behind turn new rest = TellsFrom old from turn new × (rest ≡ behind)
 
 -- the request's bytes are cut off
 abbrev pub IsShort : Option Request → List ℕ → Type 0
@@ -107,40 +103,40 @@ IsShort (Some (Put upload offset len)) behind = length behind < len
 IsShort _ behind = ⊥
 
 -- what the first line of the input comes to
-abbrev pub Plays : Shown → List ℕ → Turn → Shown → List ℕ → Type 0
-Plays old input turn new rest = (0 < length input) × Does old (request_in (take_through 10 input)) (take_through 10 input) (drop_through 10 input) turn new rest
+abbrev pub MeetsLine : Shown → List ℕ → SessionTurn → Shown → List ℕ → Type 0
+MeetsLine old input turn new rest = (0 < length input) × MeetsRequest old (request_in (take_through 10 input)) (take_through 10 input) (drop_through 10 input) turn new rest
 
 -- ---- a session
 
 -- lines in order, each with its turn, and the bytes that are left behind them
-abbrev pub AllPlay : Shown → List ℕ → List Turn → Shown → List ℕ → Type 0
-AllPlay old input [] new rest = (new ≡ old) × (rest ≡ input)
-AllPlay old input (turn ∷ turns) new rest = (mid : Shown) × (behind : List ℕ) × Plays old input turn mid behind × AllPlay mid behind turns new rest
+abbrev pub MeetLines : Shown → List ℕ → List SessionTurn → Shown → List ℕ → Type 0
+MeetLines old input [] new rest = (new ≡ old) × (rest ≡ input)
+MeetLines old input (turn ∷ turns) new rest = (mid : Shown) × (behind : List ℕ) × MeetsLine old input turn mid behind × MeetLines mid behind turns new rest
 
 -- the steps among turns, and their replies
-abbrev pub commands_of : List Turn → List Command
-commands_of [] = []
-commands_of (as_script turn ∷ turns) = script.commands_of (turn ∷ []) ++ commands_of turns
-commands_of (no_memory ∷ turns) = commands_of turns
-commands_of (gave range command reply ∷ turns) = command ∷ commands_of turns
-commands_of (told_from from reply ∷ turns) = journal ∷ commands_of turns
+abbrev pub session_commands : List SessionTurn → List Command
+session_commands [] = []
+session_commands (as_script turn ∷ turns) = script.commands_of (turn ∷ []) ++ session_commands turns
+session_commands (no_memory ∷ turns) = session_commands turns
+session_commands (gave range command reply ∷ turns) = command ∷ session_commands turns
+session_commands (told_from from reply ∷ turns) = journal ∷ session_commands turns
 
-abbrev pub replies_of : List Turn → List (Result Reply Refusal)
-replies_of [] = []
-replies_of (as_script turn ∷ turns) = script.replies_of (turn ∷ []) ++ replies_of turns
-replies_of (no_memory ∷ turns) = replies_of turns
-replies_of (gave range command reply ∷ turns) = reply ∷ replies_of turns
-replies_of (told_from from reply ∷ turns) = reply ∷ replies_of turns
+abbrev pub session_replies : List SessionTurn → List (Result Reply Refusal)
+session_replies [] = []
+session_replies (as_script turn ∷ turns) = script.replies_of (turn ∷ []) ++ session_replies turns
+session_replies (no_memory ∷ turns) = session_replies turns
+session_replies (gave range command reply ∷ turns) = reply ∷ session_replies turns
+session_replies (told_from from reply ∷ turns) = reply ∷ session_replies turns
 
 -- Lines of a beginning of the input were answered in order, from the empty store: what they came to, and what is left behind them. The
 -- steps among them are a run of the store, and the law of a store holds behind it.
-pub record AreAnswered (input output rest : List ℕ) : Type 0 where
-  pub turns : List Turn
+pub record AreServed (input output rest : List ℕ) : Type 0 where
+  pub turns : List SessionTurn
   pub end : Shown
-  pub plays : AllPlay widest_start input turns end rest
-  pub run : Run widest_start (commands_of turns) (replies_of turns) end
+  pub plays : MeetLines widest_start input turns end rest
+  pub run : Run widest_start (session_commands turns) (session_replies turns) end
   pub law : IsCarried end
-  pub text_is : output ≡ flat_map turn_text turns
+  pub text_is : output ≡ flat_map session_turn_text turns
 
 -- nothing is left; or else a part whose bytes are cut off
 abbrev pub Ends : Verdict → List ℕ → Type 0
@@ -148,59 +144,23 @@ Ends verdicts.Good rest = rest ≡ []
 Ends verdicts.Refused rest = IsShort (request_in (take_through 10 rest)) (drop_through 10 rest)
 
 -- the writer grew by the answers to the lines of a beginning of the input
-pub record RanSome (input : List ℕ) (old new : Option (List ℕ)) : Type 0 where
+pub record ServedSome (input : List ℕ) (old new : Option (List ℕ)) : Type 0 where
   pub output : List ℕ
   pub rest : List ℕ
-  pub answered : AreAnswered input output rest
+  pub answered : AreServed input output rest
   pub wrote : Appends old new output
 
 -- and the session came to its end
-pub record Ran (input : List ℕ) (old new : Option (List ℕ)) (verdict : Verdict) : Type 0 where
+pub record ServedAll (input : List ℕ) (old new : Option (List ℕ)) (verdict : Verdict) : Type 0 where
   pub output : List ℕ
   pub rest : List ℕ
-  pub answered : AreAnswered input output rest
+  pub answered : AreServed input output rest
   pub ends : Ends verdict rest
   pub wrote : Appends old new output
-
--- ---- what the code's calls do
-
--- a turn of which this holds was told
-pub record Told (Is : Turn → Type 0) (old new : Option (List ℕ)) : Type 0 where
-  pub turn : Turn
-  pub is : Is turn
-  pub wrote : Appends old new (turn_text turn)
-
--- a line of a script was answered, which was read so
-pub record AnswersLine (old new : Shown) (read : LineRead) (kept : List ℕ) (was is : Option (List ℕ)) : Type 0 where
-  pub answers : (whole : List ℕ) → IsLineRead whole read kept → Told (λ turn. InScript old (strip_last 10 whole) turn new) was is
-
--- one line was served, or its bytes are cut off
-abbrev pub Serves : Bool → Shown → Option Request → List ℕ → List ℕ → Shown → Option (List ℕ) → Option (List ℕ) → Option (List ℕ) → Type 0
-Serves true old request whole behind new left was is = (rest : List ℕ) × (left ≡ Some rest) × Told (λ turn. Does old request whole behind turn new rest) was is
-Serves false old request whole behind new left was is = IsShort request behind × Appends was is []
-
--- the same of a request, whatever line spelled it
-pub record ServesRequest (is_whole : Bool) (old : Shown) (request : Request) (behind : List ℕ) (new : Shown) (left was is : Option (List ℕ)) : Type 0 where
-  pub serves : (whole : List ℕ) → Serves is_whole old (Some request) whole behind new left was is
-
--- the same of a line that was read so
-pub record ServesRead (is_whole : Bool) (old : Shown) (read : LineRead) (kept behind : List ℕ) (new : Shown) (left was is : Option (List ℕ)) : Type 0 where
-  pub serves : (whole : List ℕ) → IsLineRead whole read kept → Serves is_whole old (request_in whole) whole behind new left was is
-
--- a part was served, or its bytes are cut off
-abbrev pub ServesPut : Bool → Shown → ℕ → ℕ → ℕ → List ℕ → Shown → Option (List ℕ) → Option (List ℕ) → Option (List ℕ) → Type 0
-ServesPut true old upload offset len behind new left was is = (len ≤ length behind) × (left ≡ Some (drop len behind)) × Told (λ turn. PutsRaw old upload offset (take len behind) turn new) was is
-ServesPut false old upload offset len behind new left was is = (length behind < len) × Appends was is []
-
--- the bytes behind a put were taken, and what it came to
-abbrev pub Receives : Option Answer → Shown → ℕ → ℕ → ℕ → List ℕ → Shown → Option (List ℕ) → Type 0
-Receives None old upload offset len behind new left = length behind < len
-Receives (Some answer) old upload offset len behind new left =
-    (len ≤ length behind) × (left ≡ Some (drop len behind)) × Answered (λ turn. PutsBy old upload offset (take len behind) (plan_in old.state upload) turn new) (told_text new answer) (told_ending answer)
 
 -- ---- a law
 
 -- what the lines of an input take of it hangs on the input alone, and not on what is kept or on refusals of memory
 abbrev pub FramesAlike : Type 0
-FramesAlike = (old new old2 new2 : Shown) (input : List ℕ) (turns turns2 : List Turn) (rest rest2 : List ℕ)
-    → AllPlay old input turns new rest → AllPlay old2 input turns2 new2 rest2 → length turns ≡ length turns2 → rest ≡ rest2
+FramesAlike = (old new old2 new2 : Shown) (input : List ℕ) (turns turns2 : List SessionTurn) (rest rest2 : List ℕ)
+    → MeetLines old input turns new rest → MeetLines old2 input turns2 new2 rest2 → length turns ≡ length turns2 → rest ≡ rest2

@@ -3,7 +3,8 @@
 ghost use Rattle.std.specs.Prelude.{◌≡◌, ◌≢◌, ◌<◌, IfErr, IfOk, IfSome, Err, OnOk};
 ghost use Rattle.store_script.specs.Commands.{command_seen};
 ghost use Rattle.store_script.specs.Script.{widest_start};
-ghost use Rattle.store_session.specs.Session.{AnswersLine, Ran, RanSome, Replies, ServesPut, ServesRead, ServesRequest, Told};
+ghost use Rattle.store_session.specs.Session.{ServedAll, ServedSome, Replies};
+ghost use Rattle.store_session.specs.inner.Session.{AnswersLine, ServesPut, ServesRead, ServesRequest, Told};
 
 use crate::giving::{give, refuse, tell, tell_from};
 use crate::reading::{LineRead, read_line};
@@ -29,9 +30,9 @@ pub fn serve<R: BufRead, W: Write>(
     work: &mut Work,
 ) -> Result<Verdict, Cause>
     // The writer grew by the answers to all lines, but for a `putb` that is cut off by the end of the input.
-    ensures written { IfOk result (λ verdict. IfSome (R.Read.remaining reader.old) (λ input. Ran input (W.contents writer.old) (W.contents writer.new) verdict)) }
+    ensures written { IfOk result (λ verdict. IfSome (R.Read.remaining reader.old) (λ input. ServedAll input (W.contents writer.old) (W.contents writer.new) verdict)) }
     // After a failed read it grew by the answers to a beginning of the lines.
-    ensures read { result ≡ Err Cause.CannotRead → IfSome (R.Read.remaining reader.old) (λ input. RanSome input (W.contents writer.old) (W.contents writer.new)) }
+    ensures read { result ≡ Err Cause.CannotRead → IfSome (R.Read.remaining reader.old) (λ input. ServedSome input (W.contents writer.old) (W.contents writer.new)) }
     // Want of memory stops no session that has begun.
     ensures memory { result ≡ Err Cause.OutOfMemory → (reader.new ≡ reader.old) × (writer.new ≡ writer.old) }
 {
@@ -48,8 +49,8 @@ fn serve_lines<R: BufRead, W: Write>(
     work: &mut Work,
 ) -> Result<Verdict, Cause>
     requires { store.old ≡ widest_start }
-    ensures written { IfOk result (λ verdict. IfSome (R.Read.remaining reader.old) (λ input. Ran input (W.contents writer.old) (W.contents writer.new) verdict)) }
-    ensures read { result ≡ Err Cause.CannotRead → IfSome (R.Read.remaining reader.old) (λ input. RanSome input (W.contents writer.old) (W.contents writer.new)) }
+    ensures written { IfOk result (λ verdict. IfSome (R.Read.remaining reader.old) (λ input. ServedAll input (W.contents writer.old) (W.contents writer.new) verdict)) }
+    ensures read { result ≡ Err Cause.CannotRead → IfSome (R.Read.remaining reader.old) (λ input. ServedSome input (W.contents writer.old) (W.contents writer.new)) }
     ensures memory { result ≡ Err Cause.OutOfMemory → (reader.new ≡ reader.old) × (writer.new ≡ writer.old) }
 {
     let mut line = Vec::with_capacity(alloc, MOST_REQUEST)?;

@@ -2,9 +2,10 @@
 
 ghost use Rattle.std.specs.Prelude.{◌≡◌, ◌+◌, ◌-◌, ◌<◌, ◌≤◌, ◌++◌, ℕ, List, [], IfErr, IfOk, IfSome, OnOk, false, length, take, true, vec_capacity, vec_len};
 ghost use Rattle.std.specs.Io.BufRead.{DropsThrough, take_through};
-ghost use Rattle.edge.specs.Reads.{TakesPart};
-ghost use Rattle.store_session.specs.Inner.{KeepsPart};
-ghost use Rattle.store_session.specs.Reads.{Copied, IsLineRead, Skipped, TakesSome, most_request};
+ghost use Rattle.edge.specs.inner.Reads.{TakesPart};
+ghost use Rattle.store_session.specs.inner.Lines.{KeepsPart};
+ghost use Rattle.store_session.specs.Reads.{most_request};
+ghost use Rattle.store_session.specs.inner.Reads.{Copied, IsLineRead, Skipped, TakesSome};
 
 use edge::{Cause, len_through};
 use std::io::{BufRead, ErrorKind};
@@ -109,7 +110,7 @@ pub(crate) fn skip<R: BufRead>(reader: &mut R, len: u64) -> Result<bool, Cause>
 
 // Drops what the reader holds, at most so many bytes.
 fn skip_part<R: BufRead>(reader: &mut R, most: u64) -> Result<Option<u64>, Cause>
-    ensures some { IfOk result (λ count. (bytes : List ℕ) × TakesSome (R.Read.remaining reader.old) (R.Read.remaining reader.new) most count bytes) }
+    ensures taken { IfOk result (λ count. (bytes : List ℕ) × TakesSome (R.Read.remaining reader.old) (R.Read.remaining reader.new) most count bytes) }
     ensures cause { IfErr result (λ cause. cause ≡ Cause.CannotRead) }
 {
     let available = match reader.fill_buf() {
@@ -158,7 +159,7 @@ fn copy_part<R: BufRead>(
     most: usize,
 ) -> Result<Option<usize>, Cause>
     requires { vec_len bytes.old + most ≤ vec_capacity bytes.old }
-    ensures some { IfOk result (λ count. (more : List ℕ) × TakesSome (R.Read.remaining reader.old) (R.Read.remaining reader.new) most count more × (bytes.new.items ≡ bytes.old.items ++ more)) }
+    ensures taken { IfOk result (λ count. (more : List ℕ) × TakesSome (R.Read.remaining reader.old) (R.Read.remaining reader.new) most count more × (bytes.new.items ≡ bytes.old.items ++ more)) }
     ensures room { vec_capacity bytes.old ≤ vec_capacity bytes.new }
     ensures cause { IfErr result (λ cause. cause ≡ Cause.CannotRead) }
 {

@@ -1,8 +1,8 @@
 //! The bytes of a part.
 
 ghost use Rattle.std.specs.Prelude.{◌≡◌, IfErr, IfOk, IfSome};
-ghost use Rattle.store_session.specs.Reads.{Dropped};
-ghost use Rattle.store_session.specs.Session.{Receives};
+ghost use Rattle.store_session.specs.inner.Reads.{Dropped};
+ghost use Rattle.store_session.specs.inner.Session.{Receives};
 
 use crate::reading::{copy, skip};
 use b3_core::Work;

@@ -3,7 +3,8 @@
 ghost use Rattle.std.specs.Prelude.{◌≡◌};
 ghost use Rattle.edge.specs.Fields.{cut_at};
 ghost use Rattle.store_script.specs.Grammar.{held_at};
-ghost use Rattle.store_session.specs.Requests.{AsksFor, entries_at, fetch_at, fetch_of, holds_at, put_at, request_at, request_of_kind, uploads_at};
+ghost use Rattle.store_session.specs.Requests.{entries_at, fetch_at, fetch_of, holds_at, raw_put_at, request_at, request_of_kind, uploads_at};
+ghost use Rattle.store_session.specs.inner.Requests.{AsksFor};
 
 use crate::reading::LineRead;
 use edge::{cut_at, number, three_numbers, two_numbers};
@@ -87,7 +88,7 @@ fn request_of_kind(kind: &[u8], fields: &[u8]) -> Option<Request>
 }
 
 fn put(fields: &[u8]) -> Option<Request>
-    ensures { result ≡ put_at fields.now }
+    ensures { result ≡ raw_put_at fields.now }
 {
     let (upload, offset, len) = three_numbers(fields)?;
     Some(Request::Put {

@@ -9,7 +9,7 @@ use Rattle.std.proofs.lemmas.Bool.{cases_Bool, cases_eq, cases_lt, eq-eqb, le-lt
 use Rattle.std.proofs.lemmas.Bool.Decides.{nat_tests}
 use Rattle.store_upload.specs.declared.refusal.AddFault.TheVariants.{Overlap, PastLast}
 use Rattle.store_upload.specs.declared.refusal.FixFault.TheVariants as fix
-use Rattle.store_upload.specs.Inner.{AreApart}
+use Rattle.store_upload.specs.inner.Places.{AreApart}
 use Rattle.store_upload.specs.Uploads.{ArePartsOfSome, ArePlaced, Fits, IsUpload, MayTake, Upload, UploadPlan, closed_plan, end_of, end_with, ends_elsewhere, first_end, fix_refusal, fixed_at, held_bytes, is_ragged, last_end, length_of, most_bytes, overlap_at, past_last, place_refusal, reached, with_more}
 use Rattle.store_upload.proofs.Places.{IsWith, at, begins_behind, bytes_within, clear_parts, end-cons, ends_before, is_with, none_at, put-behind, put-front}
 

@@ -6,7 +6,7 @@ use Rattle.std.specs.Map.{lookup, values_of}
 use Rattle.std.specs.Ordering.{nat_cmp}
 use Rattle.std.proofs.lemmas.Bool.{and_from, and_left, and_parts, cases_Bool, cases_eq, cases_lt, eq-eqb, false≢true, le-leb, le-ltb, lt-ltb, ltb-true, leb-true, ne_eqb, or_from, or_parts}
 use Rattle.std.proofs.lemmas.List.Sums.{sum_by-cons}
-use Rattle.store_upload.specs.Inner.{AreApart, holds}
+use Rattle.store_upload.specs.inner.Places.{AreApart, holds}
 use Rattle.store_upload.specs.Uploads.{held_bytes, last_end, overlap_at, overlaps}
 
 pub some_is : {X : Type 0} (x y : X) → ◌≡◌ {A = Option X} (Some x) (Some y) → x ≡ y

@@ -1,4 +1,5 @@
+-- What a reader has to believe, each file behind those that it rests on; inner is what only proofs and functions within use.
 pub mod Uploads
 pub mod Laws
 pub mod Texts
-pub mod Inner
+pub mod inner

@@ -44,7 +44,7 @@ pub trait HeldParts: Drop {
 
     /// The least of so many offsets that is held.
     fn overlap(&self, offset: u64, len: u64) -> Option<u64>
-        requires some { 0 < len }
+        requires positive { 0 < len }
         requires aligned { offset % 1024 ≡ 0 }
         requires within { offset + len ≤ most_bytes }
         requires short { len ≤ most_part_bytes }

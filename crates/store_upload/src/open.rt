@@ -93,7 +93,7 @@ impl<H: HeldParts> Open<H> {
     /// What holds the parts. They fit an upload of this length.
     pub fn parts(&self) -> &H
         ensures parts { H.parts result.now ≡ self.now.parts }
-        ensures most { length_of self.now ≤ most_bytes }
+        ensures bounded { length_of self.now ≤ most_bytes }
         ensures placed { ArePlaced H.Part.len (length_of self.now) 0 (H.parts result.now) }
     {
         &self.parts

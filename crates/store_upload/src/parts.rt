@@ -2,14 +2,14 @@
 
 ghost use Rattle.std.specs.Prelude.{◌≡◌, ◌+◌, ◌^◌, ◌<◌, ℕ};
 ghost use Rattle.store_upload.specs.Uploads.{first_gap as first_gap_of, last_end as last_end_of, overlap_at};
-ghost use Rattle.store_upload.specs.Inner.{AreApart, holds};
+ghost use Rattle.store_upload.specs.inner.Places.{AreApart, holds};
 
 use crate::length::Length;
 use std::collections::BTreeMap;
 
 /// The least of so many offsets that parts hold.
 pub(crate) fn overlap<P: Length>(parts: &BTreeMap<u64, P>, offset: u64, len: u64) -> Option<u64>
-    requires some { 0 < len }
+    requires positive { 0 < len }
     requires fits { offset + len < 2 ^ 64 }
     requires apart { (n : ℕ) × (n < 2 ^ 64) × AreApart P.len 0 n parts.now.entries }
     ensures { result ≡ overlap_at P.len offset len parts.now.entries }

@@ -95,7 +95,7 @@ impl Plan {
     /// The most bytes that the upload may have; of a plan that is not open, its length.
     pub fn bound(&self) -> u64
         ensures value { result ≡ self.now.bound }
-        ensures most { result ≤ most_bytes }
+        ensures bounded { result ≤ most_bytes }
     {
         self.bound
     }
@@ -136,7 +136,7 @@ impl Plan {
     pub fn part_fault(&self, offset: u64, len: u64) -> Option<PartFault>
         ensures fault { result ≡ part_refusal self.now offset len }
         ensures fits { IfNone result (Fits self.now offset len) }
-        ensures most { self.now.bound ≤ most_bytes }
+        ensures bounded { self.now.bound ≤ most_bytes }
     {
         let most = self.bound();
         if len == 0 {

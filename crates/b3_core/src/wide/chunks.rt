@@ -3,7 +3,7 @@
 ghost use Rattle.std.specs.Prelude.{◌≡◌, ℕ, ◌+◌, ◌*◌, ◌/◌, ◌%◌, ◌^◌, ◌<◌, ◌≤◌, ◌++◌, length, slice_index};
 ghost use Rattle.std.proofs.Common.{rules};
 ghost use Rattle.std.specs.Mem.{type_size};
-ghost use Rattle.b3_core.specs.Lanes.{across};
+ghost use Rattle.b3_core.specs.inner.Lanes.{across};
 ghost use Rattle.b3_core.specs.Tree.{word_at};
 
 use crate::compression::{high, low};

@@ -1,7 +1,8 @@
 //! Eight chunks at a time.
 
 ghost use Rattle.std.specs.Prelude.{◌≡◌, ◌+◌, ◌-◌, ◌^◌, ◌<◌, ◌≤◌, length, slice_index};
-ghost use Rattle.b3_core.specs.Lanes.{lane, chunk_bytes, chunk_at, eight_chunks};
+ghost use Rattle.b3_core.specs.Lanes.{chunk_bytes, chunk_at, eight_chunks};
+ghost use Rattle.b3_core.specs.inner.Lanes.{lane};
 ghost use Rattle.b3_core.specs.Tree.{chain};
 ghost use Rattle.b3_core.specs.Work.{counted};
 

@@ -3,7 +3,8 @@
 
 ghost use Rattle.std.specs.Prelude.{◌≡◌, ℕ, ◌+◌, ◌*◌, ◌/◌, ◌%◌, ◌^◌, ◌<◌, ◌≤◌, ◌++◌, List, length, take, slice_index};
 ghost use Rattle.b3_core.specs.Compression.{columns, diagonals, round, permute, start_state, compress_of, output_words};
-ghost use Rattle.b3_core.specs.Lanes.{lane, state_lane, chunk_bytes, chunk_at};
+ghost use Rattle.b3_core.specs.Lanes.{chunk_bytes, chunk_at};
+ghost use Rattle.b3_core.specs.inner.Lanes.{lane, state_lane};
 ghost use Rattle.b3_core.specs.Tree.{Inputs, chaining_value_of, parent_top, block, block_words_of, chain};
 ghost use Rattle.b3_core.specs.Work.{counted};
 

@@ -2,7 +2,7 @@
 
 ghost use Rattle.std.specs.Prelude.{◌≡◌, ℕ, ◌+◌, ◌*◌, ◌/◌, ◌%◌, ◌^◌, ◌<◌, ◌≤◌, ◌++◌, length, slice_index};
 ghost use Rattle.b3_core.specs.Lanes.{chunk_bytes, chunk_at};
-ghost use Rattle.b3_core.specs.Rows.{IsRowOf, rows_message, rows_value};
+ghost use Rattle.b3_core.specs.inner.Rows.{IsRowOf, rows_message, rows_value};
 ghost use Rattle.b3_core.specs.Tree.{Inputs, block, block_words_of, chaining_value_of, parent_top};
 ghost use Rattle.b3_core.specs.Work.{counted};
 

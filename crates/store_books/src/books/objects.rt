@@ -50,7 +50,7 @@ impl<H: HeldParts, O: Content, I: AddressIndex> Books<H, O, I> {
 
     /// The object of the address.
     pub fn object(&self, address: Address) -> Option<&O>
-        ensures some { IfSome result (λ content. (o : Filed O) × (object_at O.address self.now address ≡ Some o) × (content.now ≡ o.content)) }
+        ensures found { IfSome result (λ content. (o : Filed O) × (object_at O.address self.now address ≡ Some o) × (content.now ≡ o.content)) }
         ensures none { IfNone result (object_at O.address self.now address ≡ None) }
     {
         self.catalog.content(address)

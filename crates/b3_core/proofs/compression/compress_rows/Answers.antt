@@ -1,6 +1,7 @@
 use Rattle.std.proofs.Common.{◌≡◌, ◌∙◌, ◌+◌, ◌*◌, ◌/◌, ◌%◌, ◌^◌, List, ℕ, arith, ap, refl, take}
-use Rattle.b3_core.specs.Compression.{compress_of, output_words, rounds, start_state, turned}
-use Rattle.b3_core.specs.Rows.{rows_message, rows_state, rows_value}
+use Rattle.b3_core.specs.Compression.{compress_of, output_words, rounds, start_state}
+use Rattle.b3_core.specs.inner.Compression.{turned}
+use Rattle.b3_core.specs.inner.Rows.{rows_message, rows_state, rows_value}
 use Rattle.b3_core.proofs.WordTurns.{turned_whole}
 use Rattle.b3_core.proofs.compression.compress_rows.Goals as goal
 

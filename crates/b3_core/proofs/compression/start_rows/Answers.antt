@@ -1,5 +1,5 @@
 use Rattle.std.proofs.Common.{◌≡◌, ◌∙◌, ◌/◌, ◌%◌, ◌^◌, arith, refl, ap, slice_index}
-use Rattle.b3_core.specs.Compression.{turned}
+use Rattle.b3_core.specs.inner.Compression.{turned}
 use Rattle.b3_core.proofs.WordTurns.{turned_whole}
 use Rattle.b3_core.proofs.compression.start_rows.Goals as goal
 

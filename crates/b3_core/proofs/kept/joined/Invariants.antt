@@ -1,5 +1,5 @@
 use Rattle.std.proofs.Common.{◌≡◌, ◌*◌, length, reverse}
-use Rattle.b3_core.specs.Hashers.{joined}
+use Rattle.b3_core.specs.inner.Hashers.{joined}
 use Rattle.b3_core.specs.Work.{counted}
 use Rattle.b3_core.proofs.kept.joined.Given as goal
 

@@ -1,7 +1,8 @@
 use Rattle.std.proofs.Common.{◌≡◌, ◌≤◌, ◌-◌, ℕ, List, Some, length, reverse, arith, rules}
 use Rattle.std.specs.List.{slice_get}
 use Rattle.std.proofs.lemmas.Option.{slice_get_within}
-use Rattle.b3_core.specs.Hashers.{AreAbove, IsNext}
+use Rattle.b3_core.specs.Hashers.{AreAbove}
+use Rattle.b3_core.specs.inner.Hashers.{IsNext}
 use Rattle.b3_core.specs.Kept.{nodes_of}
 use Rattle.b3_core.specs.Tree.{Inputs}
 use Rattle.b3_core.proofs.Hashings.{above_next, has_room, merge_step, none_above, put_last}

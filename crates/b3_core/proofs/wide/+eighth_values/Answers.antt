@@ -1,7 +1,8 @@
 use Rattle.std.proofs.Common.{◌≡◌, ℕ, ◌+◌, ◌-◌, ◌*◌, ◌/◌, ◌^◌, ◌<◌, List, length, take, drop, slice_index, arith, ap, ap₂, sym, subst, ◌∙◌}
 use Rattle.std.proofs.lemmas.List.{length-drop, length-take-le}
 use Rattle.std.proofs.lemmas.Nat.{pow_pos}
-use Rattle.b3_core.specs.Lanes.{lane, chunk_at, group_top}
+use Rattle.b3_core.specs.Lanes.{chunk_at}
+use Rattle.b3_core.specs.inner.Lanes.{lane, group_top}
 use Rattle.b3_core.specs.Tree.{chaining_value_of}
 use Rattle.b3_core.proofs.EachLane.{below_eight}
 use Rattle.b3_core.proofs.WholeChunks.{eighth_one, front_pair, back_pair, level_up}

@@ -1,5 +1,5 @@
 use Rattle.std.proofs.Common.{ℕ, ◌^◌, ◌∙◌, arith}
-use Rattle.b3_core.specs.Lanes.{group_top}
+use Rattle.b3_core.specs.inner.Lanes.{group_top}
 use Rattle.b3_core.specs.Tree.{Inputs}
 use Rattle.b3_core.proofs.WholeChunks.{eighths_join}
 use Rattle.b3_core.proofs.wide.whole_top.Goals as goal

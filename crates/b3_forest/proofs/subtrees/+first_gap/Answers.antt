@@ -31,4 +31,4 @@ returns-in-Some-clause-most t c x forest most =
     let n = c.in-Some.subtree.now in
     let here = sym c.in-Some.ensures.value in
     let within = forest.pieces.within c.args.next n here in
-    c.first_gap.ensures.most x forest (omega (arith, c.width.ensures, within))
+    c.first_gap.ensures.bounded x forest (omega (arith, c.width.ensures, within))

@@ -1,7 +1,7 @@
 use Rattle.std.proofs.Common.{◌≡◌, ◌*◌, ◌+◌, ◌/◌, ◌^◌, ◌<◌, ◌≤◌, ◌++◌, ◌∷◌, ◌∙◌, List, [], length, arith, ap, ap₂, subst, sym, rules, ℕ}
 use Rattle.b3_core.specs.Tree.{Inputs, Keying, tree_top}
-use Rattle.b3_parallel.specs.Blocks.{IsHashed}
-use Rattle.b3_parallel.specs.Lines.{Carries, Thread}
+use Rattle.b3_parallel.specs.inner.Blocks.{IsHashed}
+use Rattle.b3_parallel.specs.inner.Lines.{Carries, Thread}
 use Rattle.b3_parallel.proofs.Carrying.{thread_carries}
 use Rattle.b3_parallel.proofs.line.put.Goals as goal
 

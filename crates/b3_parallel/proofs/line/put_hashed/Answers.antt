@@ -1,5 +1,5 @@
 use Rattle.std.proofs.Common.{◌++◌, ◌∙◌, ◌<◌, ◌^◌, [], length, arith}
-use Rattle.b3_parallel.specs.Lines.{Carries}
+use Rattle.b3_parallel.specs.inner.Lines.{Carries}
 use Rattle.b3_parallel.proofs.Carrying.{all_given, given_carries, is_behind_all, taken_over}
 use Rattle.b3_parallel.proofs.line.put_hashed.Goals as goal
 

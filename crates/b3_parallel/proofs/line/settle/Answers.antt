@@ -1,5 +1,5 @@
 use Rattle.std.proofs.Common.{◌∷◌}
-use Rattle.b3_parallel.specs.Lines.{Carries}
+use Rattle.b3_parallel.specs.inner.Lines.{Carries}
 use Rattle.b3_parallel.proofs.Carrying.{bytes_of, first_is_behind, first_settled, taken_over}
 use Rattle.b3_parallel.proofs.line.settle.Goals as goal
 

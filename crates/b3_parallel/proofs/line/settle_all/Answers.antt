@@ -1,5 +1,5 @@
 use Rattle.std.proofs.Common.{◌≡◌, ◌∷◌, List, [], subst, rules}
-use Rattle.b3_parallel.specs.Lines.{Carries, Thread}
+use Rattle.b3_parallel.specs.inner.Lines.{Carries, Thread}
 use Rattle.b3_parallel.proofs.line.settle_all.Goals as goal
 
 pub loop-handle-preserved : goal.loop-handle-preserved

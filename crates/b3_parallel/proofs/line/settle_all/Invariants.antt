@@ -1,6 +1,6 @@
 use Rattle.std.proofs.Common.{ℕ, ◌^◌, ◌<◌, List, length}
 use Rattle.b3_core.specs.Tree.{Keying}
-use Rattle.b3_parallel.specs.Lines.{Carries}
+use Rattle.b3_parallel.specs.inner.Lines.{Carries}
 use Rattle.b3_parallel.proofs.line.settle_all.Given as goal
 
 abbrev pub invariant-loop-handle : goal.invariant-loop-handle

@@ -1,5 +1,5 @@
 use Rattle.std.proofs.Common.{◌≡◌, ◌∷◌, List, subst, rules}
-use Rattle.b3_parallel.specs.Lines.{Carries, Thread}
+use Rattle.b3_parallel.specs.inner.Lines.{Carries, Thread}
 use Rattle.b3_parallel.proofs.line.settle_first.Goals as goal
 
 pub returns-in-Some : goal.returns-in-Some

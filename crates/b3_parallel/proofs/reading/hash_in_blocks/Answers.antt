@@ -1,7 +1,7 @@
 use Rattle.std.proofs.Common.{◌-◌, ◌^◌, ◌<◌, ◌≤◌, ℕ, [], arith, ap, ◌∙◌}
 use Rattle.std.proofs.Math.Pow.{pow_mono}
 use Rattle.b3_core.specs.Hashers.{Hashing}
-use Rattle.b3_parallel.specs.Blocks.{HasRead}
+use Rattle.b3_parallel.specs.inner.Blocks.{HasRead}
 use Rattle.b3_parallel.proofs.Consuming.{all_of_them, both_read, most_of, nothing_given, top_of_read}
 use Rattle.b3_parallel.proofs.reading.hash_in_blocks.Goals as goal
 use Rattle.b3_parallel.proofs.reading.hash_in_blocks.Goals.{After-hash_in_line}

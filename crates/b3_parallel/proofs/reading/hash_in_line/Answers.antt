@@ -1,8 +1,8 @@
 use Rattle.std.proofs.Common.{◌≡◌, ◌-◌, ◌*◌, ◌^◌, ◌<◌, ◌≤◌, ℕ, List, [], length, arith, ap, refl, sym, ◌∙◌, subst}
 use Rattle.std.proofs.Math.Pow.{pow_mono}
-use Rattle.b3_core.specs.Hashers.{Fits}
-use Rattle.b3_parallel.specs.Blocks.{IsGiven}
-use Rattle.b3_parallel.specs.Lines.{Carries, last_of}
+use Rattle.b3_core.specs.Hashers.{HasRoomFor}
+use Rattle.b3_parallel.specs.inner.Blocks.{IsGiven}
+use Rattle.b3_parallel.specs.inner.Lines.{Carries, last_of}
 use Rattle.b3_parallel.proofs.Carrying.{given_carries}
 use Rattle.b3_parallel.proofs.Consuming.{none_read}
 use Rattle.b3_parallel.proofs.Fitting.{whole_fits}
@@ -23,7 +23,7 @@ begun : (g : _) (c : After-new-line g) (x : List ℕ) (n : ℕ) → IsGiven c.ar
     → Carries c.args.hasher.now.mode c.args.level c.args.hasher.now c.new-line.result.items x n c.args.work.now
 begun g c x n is len =
     let h = c.args.hasher.now in
-    let fits : Fits c.args.level h = whole_fits h x c.args.level 1 is.0 (omega (arith, len)) in
+    let fits : HasRoomFor c.args.level h = whole_fits h x c.args.level 1 is.0 (omega (arith, len)) in
     rw c.new-line.ensures.items (given_carries h.mode c.args.level h x n c.args.work.now refl is fits)
 
 pub returns-in-Some-clause-given : goal.returns-in-Some-clause-given

@@ -1,6 +1,6 @@
 use Rattle.std.proofs.Common.{◌≡◌, ◌+◌, ◌<◌, ◌≤◌, ◌^◌, ◌++◌, ℕ, length, take, arith, rules, ap, ◌∙◌, subst, sym, length-take-le}
 use Rattle.b3_core.specs.Hashers.{Hashing}
-use Rattle.b3_parallel.specs.Blocks.{HasRead}
+use Rattle.b3_parallel.specs.inner.Blocks.{HasRead}
 use Rattle.b3_parallel.proofs.Consuming.{held_of, most_of, none_read, read_more, read_none}
 use Rattle.b3_parallel.proofs.reading.hash_until.Goals as goal
 use Rattle.b3_parallel.proofs.reading.hash_until.Goals.{in-Ok, in-Err}

@@ -1,5 +1,5 @@
 use Rattle.std.proofs.Common.{◌≡◌, ◌≤◌, ℕ, List, length}
-use Rattle.b3_parallel.specs.Blocks.{HasRead, IsGiven}
+use Rattle.b3_parallel.specs.inner.Blocks.{HasRead, IsGiven}
 use Rattle.b3_parallel.proofs.reading.hash_until.Given as goal
 
 abbrev pub invariant-loop : goal.invariant-loop

@@ -2,7 +2,7 @@ use Rattle.std.proofs.Common.{◌≡◌, ℕ, ◌+◌, ◌*◌, ◌^◌, ◌<◌
 use Rattle.std.proofs.lemmas.List.{take_all}
 use Rattle.std.proofs.Math.Pow.{pow_mono}
 use Rattle.std.specs.Io.KnownBytes.{Consumes}
-use Rattle.b3_parallel.specs.Lines.{Carries}
+use Rattle.b3_parallel.specs.inner.Lines.{Carries}
 use Rattle.b3_parallel.proofs.Lining.{LineHas, line_begins, line_ends, line_kept, line_more, line_stops}
 use Rattle.b3_parallel.proofs.reading.read_in_line.Goals as goal
 use Rattle.b3_parallel.proofs.reading.read_in_line.Goals.{After-next_place, After-put}

@@ -1,5 +1,5 @@
 use Rattle.std.proofs.Common.{◌≡◌, ℕ, ◌*◌, ◌^◌, List, length}
-use Rattle.b3_parallel.specs.Lines.{Carries}
+use Rattle.b3_parallel.specs.inner.Lines.{Carries}
 use Rattle.b3_parallel.proofs.Lining.{LineHas}
 use Rattle.b3_parallel.proofs.reading.read_in_line.Given as goal
 

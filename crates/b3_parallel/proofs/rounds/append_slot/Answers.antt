@@ -1,5 +1,5 @@
 use Rattle.std.proofs.Common.{◌≡◌, ◌++◌, ◌∙◌, IfSome, Option, rules, subst}
-use Rattle.b3_parallel.specs.Rounds.{IsPlaced}
+use Rattle.b3_parallel.specs.inner.Rounds.{IsPlaced}
 use Rattle.b3_parallel.specs.declared.taking.Placed.{Placed}
 use Rattle.b3_parallel.proofs.Carrying.{all_given, given_carries, taken_over}
 use Rattle.b3_parallel.proofs.Placing.{front_grows, placed_is_behind}

@@ -1,6 +1,6 @@
 use Rattle.std.proofs.Common.{◌≡◌, ◌+◌, ◌∷◌, ℕ, arith, ap, length, rules, subst}
 use Rattle.std.specs.Vec.Iter.{into_iter_items, into_iter_len}
-use Rattle.b3_parallel.specs.Rounds.{AreSlots, HasFront}
+use Rattle.b3_parallel.specs.inner.Rounds.{AreSlots, HasFront}
 use Rattle.b3_parallel.proofs.rounds.append_slots.Goals as goal
 
 pub loop-slot-preserved : goal.loop-slot-preserved

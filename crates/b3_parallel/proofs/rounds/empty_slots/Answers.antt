@@ -1,5 +1,5 @@
 use Rattle.std.proofs.Common.{◌≡◌, ◌∷◌, ◌++◌, [], None, rules, subst, sym}
-use Rattle.b3_parallel.specs.Rounds.{AreSlots}
+use Rattle.b3_parallel.specs.inner.Rounds.{AreSlots}
 use Rattle.b3_parallel.proofs.Placing.{slots_more}
 use Rattle.b3_parallel.proofs.rounds.empty_slots.Goals as goal
 

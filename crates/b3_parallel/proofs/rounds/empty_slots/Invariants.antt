@@ -1,6 +1,6 @@
 use Rattle.std.proofs.Common.{ℕ, List, Option}
 use Rattle.b3_core.specs.Tree.{Keying}
-use Rattle.b3_parallel.specs.Rounds.{AreSlots}
+use Rattle.b3_parallel.specs.inner.Rounds.{AreSlots}
 use Rattle.b3_parallel.proofs.rounds.empty_slots.Given as goal
 
 abbrev pub invariant-loop : goal.invariant-loop

@@ -1,6 +1,6 @@
 use Rattle.std.proofs.Common.{◌≡◌, ◌∙◌, rules, subst}
 use Rattle.b3_core.specs.Tree.{Keying}
-use Rattle.b3_parallel.specs.Rounds.{AreSlots, AreTaken}
+use Rattle.b3_parallel.specs.inner.Rounds.{AreSlots, AreTaken}
 use Rattle.b3_parallel.proofs.rounds.hash_round.Goals as goal
 
 pub returns-in-Ok-slots_of : goal.returns-in-Ok-slots_of

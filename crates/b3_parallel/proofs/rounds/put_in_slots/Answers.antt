@@ -1,6 +1,6 @@
 use Rattle.std.proofs.Common.{◌≡◌, ◌+◌, ◌∷◌, Some, arith, ap, length, rules, subst}
 use Rattle.std.specs.Vec.Iter.{into_iter_items, into_iter_len}
-use Rattle.b3_parallel.specs.Rounds.{ArePlaced}
+use Rattle.b3_parallel.specs.inner.Rounds.{ArePlaced}
 use Rattle.b3_parallel.proofs.Placing.{slots_set}
 use Rattle.b3_parallel.proofs.rounds.put_in_slots.Goals as goal
 

@@ -1,7 +1,7 @@
 use Rattle.std.proofs.Common.{◌≡◌, ℕ, List, Option, length}
 use Rattle.std.specs.Vec.Iter.{into_iter_items, into_iter_len}
 use Rattle.b3_core.specs.Tree.{Keying}
-use Rattle.b3_parallel.specs.Rounds.{ArePlaced, AreSlots}
+use Rattle.b3_parallel.specs.inner.Rounds.{ArePlaced, AreSlots}
 use Rattle.b3_parallel.proofs.rounds.put_in_slots.Given as goal
 
 abbrev pub invariant-loop-placed : goal.invariant-loop-placed

@@ -1,6 +1,6 @@
 use Rattle.std.proofs.Common.{◌≡◌, ◌+◌, ◌∷◌, arith, ap, length, rules, subst}
 use Rattle.std.specs.Vec.Iter.{into_iter_items, into_iter_len}
-use Rattle.b3_parallel.specs.Rounds.{AreTaken}
+use Rattle.b3_parallel.specs.inner.Rounds.{AreTaken}
 use Rattle.b3_parallel.proofs.rounds.slots_of.Goals as goal
 
 pub loop-list-init : goal.loop-list-init

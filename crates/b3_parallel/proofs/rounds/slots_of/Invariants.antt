@@ -1,7 +1,7 @@
 use Rattle.std.proofs.Common.{◌≡◌, ℕ, List, Option, length}
 use Rattle.std.specs.Vec.Iter.{into_iter_items, into_iter_len}
 use Rattle.b3_core.specs.Tree.{Keying}
-use Rattle.b3_parallel.specs.Rounds.{AreSlots, AreTaken}
+use Rattle.b3_parallel.specs.inner.Rounds.{AreSlots, AreTaken}
 use Rattle.b3_parallel.proofs.rounds.slots_of.Given as goal
 
 abbrev pub invariant-loop-list : goal.invariant-loop-list

@@ -1,5 +1,5 @@
 use Rattle.std.proofs.Common.{◌≤◌, ◌*◌, ◌^◌, ℕ, rules, subst, sym}
-use Rattle.b3_parallel.specs.Rounds.{HasFront}
+use Rattle.b3_parallel.specs.inner.Rounds.{HasFront}
 use Rattle.b3_parallel.proofs.Placing.{all_within, front_begins, top_of_all}
 use Rattle.b3_parallel.proofs.sourcing.hash_by_blocks.Goals as goal
 

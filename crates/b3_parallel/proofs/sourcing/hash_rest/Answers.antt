@@ -1,6 +1,6 @@
 use Rattle.std.proofs.Common.{◌≡◌, ◌-◌, ◌<◌, ◌^◌, ◌++◌, ◌∙◌, ℕ, Option, List, arith, ap, length, subst}
 use Rattle.std.specs.Io.KnownBytes.{IsAtEnd}
-use Rattle.b3_parallel.specs.Blocks.{HasRead}
+use Rattle.b3_parallel.specs.inner.Blocks.{HasRead}
 use Rattle.b3_parallel.specs.Sources.{known_from}
 use Rattle.b3_parallel.proofs.Carrying.{all_given}
 use Rattle.b3_parallel.proofs.Placing.{front_all}

@@ -1,5 +1,5 @@
 use Rattle.std.proofs.Common.{◌≡◌, ℕ, arith, subst}
-use Rattle.b3_parallel.specs.Rounds.{HasFront}
+use Rattle.b3_parallel.specs.inner.Rounds.{HasFront}
 use Rattle.b3_parallel.proofs.sourcing.hash_rounds.Goals as goal
 
 pub returns : goal.returns

@@ -1,6 +1,6 @@
 use Rattle.std.proofs.Common.{◌-◌, ◌≤◌, ℕ}
 use Rattle.b3_core.specs.Tree.{Keying}
-use Rattle.b3_parallel.specs.Rounds.{HasFront}
+use Rattle.b3_parallel.specs.inner.Rounds.{HasFront}
 use Rattle.b3_parallel.proofs.sourcing.hash_rounds.Given as goal
 
 abbrev pub invariant-loop-first : goal.invariant-loop-first

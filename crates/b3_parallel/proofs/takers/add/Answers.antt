@@ -1,5 +1,5 @@
 use Rattle.std.proofs.Common.{◌≡◌, ◌∷◌, ◌++◌, [], rules, subst, sym}
-use Rattle.b3_parallel.specs.Rounds.{AreTaken}
+use Rattle.b3_parallel.specs.inner.Rounds.{AreTaken}
 use Rattle.b3_parallel.proofs.Placing.{taken_more}
 use Rattle.b3_parallel.proofs.takers.add.Goals as goal
 use Rattle.b3_parallel.proofs.takers.add.Goals.{in-Ok, in-Err}

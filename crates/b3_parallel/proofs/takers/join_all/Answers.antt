@@ -1,8 +1,8 @@
 use Rattle.std.proofs.Common.{◌≡◌, ◌+◌, ◌∷◌, ℕ, List, Option, arith, ap, length, rules, subst}
 use Rattle.std.specs.Vec.Iter.{into_iter_items, into_iter_len}
 use Rattle.b3_core.specs.Tree.{Keying}
-use Rattle.b3_parallel.specs.Rounds.{ArePlaced}
-use Rattle.b3_parallel.specs.Takers.{AreTaking}
+use Rattle.b3_parallel.specs.inner.Rounds.{ArePlaced}
+use Rattle.b3_parallel.specs.inner.Takers.{AreTaking}
 use Rattle.b3_parallel.proofs.takers.join_all.Goals as goal
 
 pub loop-handle-preserved : goal.loop-handle-preserved

@@ -1,8 +1,8 @@
 use Rattle.std.proofs.Common.{◌≡◌, ℕ, List, Option, length}
 use Rattle.std.specs.Vec.Iter.{into_iter_items, into_iter_len}
 use Rattle.b3_core.specs.Tree.{Keying}
-use Rattle.b3_parallel.specs.Rounds.{AreTaken}
-use Rattle.b3_parallel.specs.Takers.{AreTaking}
+use Rattle.b3_parallel.specs.inner.Rounds.{AreTaken}
+use Rattle.b3_parallel.specs.inner.Takers.{AreTaking}
 use Rattle.b3_parallel.proofs.takers.join_all.Given as goal
 
 abbrev pub invariant-loop-handle : goal.invariant-loop-handle

@@ -1,5 +1,5 @@
 use Rattle.std.proofs.Common.{◌≡◌, ◌∷◌, ◌++◌, [], rules, subst, sym}
-use Rattle.b3_parallel.specs.Takers.{AreTaking}
+use Rattle.b3_parallel.specs.inner.Takers.{AreTaking}
 use Rattle.b3_parallel.proofs.TakingOn.{taking_more}
 use Rattle.b3_parallel.proofs.takers.start_all.Goals as goal
 

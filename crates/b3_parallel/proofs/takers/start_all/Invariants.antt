@@ -1,4 +1,4 @@
-use Rattle.b3_parallel.specs.Takers.{AreTaking}
+use Rattle.b3_parallel.specs.inner.Takers.{AreTaking}
 use Rattle.b3_parallel.proofs.takers.start_all.Given as goal
 
 abbrev pub invariant-loop : goal.invariant-loop

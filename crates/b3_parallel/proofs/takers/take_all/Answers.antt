@@ -1,5 +1,5 @@
 use Rattle.std.proofs.Common.{rules}
-use Rattle.b3_parallel.specs.Rounds.{AreTaken}
+use Rattle.b3_parallel.specs.inner.Rounds.{AreTaken}
 use Rattle.b3_parallel.proofs.takers.take_all.Goals as goal
 
 pub returns : goal.returns

@@ -1,5 +1,5 @@
 use Rattle.std.proofs.Common.{◌≡◌, ◌∷◌, ◌++◌, [], IfSome, Option, rules, subst, sym}
-use Rattle.b3_parallel.specs.Rounds.{ArePlaced, IsPlaced}
+use Rattle.b3_parallel.specs.inner.Rounds.{ArePlaced, IsPlaced}
 use Rattle.b3_parallel.specs.declared.taking.Placed.{Placed}
 use Rattle.b3_parallel.proofs.Placing.{placed_more}
 use Rattle.b3_parallel.proofs.taking.keep.Goals as goal

@@ -1,7 +1,7 @@
 use Rattle.std.proofs.Common.{◌≡◌, ◌*◌, ◌^◌, ◌≤◌, ℕ, List, Option, arith, ap, length, rules, subst, take}
 use Rattle.std.proofs.lemmas.List.{take_all}
 use Rattle.std.specs.Io.KnownBytes.{Consumes}
-use Rattle.b3_parallel.specs.Blocks.{IsHashed}
+use Rattle.b3_parallel.specs.inner.Blocks.{IsHashed}
 use Rattle.b3_parallel.specs.Sources.{known_from}
 use Rattle.b3_parallel.proofs.Placing.{read_stands}
 use Rattle.b3_parallel.proofs.taking.place_block.Goals as goal

@@ -1,5 +1,5 @@
 use Rattle.std.proofs.Common.{◌≡◌, ◌*◌, ◌^◌, length}
-use Rattle.b3_parallel.specs.Rounds.{ArePlaced}
+use Rattle.b3_parallel.specs.inner.Rounds.{ArePlaced}
 use Rattle.b3_parallel.proofs.taking.take_blocks.Given as goal
 
 abbrev pub invariant-loop : goal.invariant-loop

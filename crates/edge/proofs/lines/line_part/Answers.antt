@@ -47,7 +47,7 @@ returns-clause-part g c =
           | else-end-eq0 w ↦ ap (λ n. get_or (take end.result shown) (n - 1) 0) long
               ∙ get_or-take end.result shown (end.result - 1) 0 (omega arith) ∙ eqb-true _ _ (sym w.is_done-is ∙ done)
         ];
-        none = λ _ none. moved.1 (zero_unless_positive _ _ end.ensures.some (sym long ∙ none));
+        none = λ _ none. moved.1 (zero_unless_positive _ _ end.ensures.positive (sym long ∙ none));
       },
       added ∙ ap (λ l. c.args.line.now.items ++ l) (kept_part c.args.most shown c.args.line.now.items room end.result (search rules)),
     )

@@ -1,7 +1,8 @@
 use Rattle.std.proofs.Common.{rules, ◌≡◌, ◌<◌, None, Some, length, refl}
 use Rattle.store_core.specs.Commands.{reply_seen}
 use Rattle.store_script.specs.Answers.{told_ending, told_text}
-use Rattle.store_script.specs.Commands.{command_seen, reply_of, script_seen}
+use Rattle.store_script.specs.Commands.{command_seen, reply_of}
+use Rattle.store_script.specs.inner.Commands.{script_seen}
 use Rattle.store_script.specs.Grammar.{asks, command_at, puts}
 use Rattle.store_script.proofs.LineOutcomes.{asked, no_command, nothing, put_asked, says}
 use Rattle.store_script.proofs.answer.answer_line.Goals as goal

@@ -2,7 +2,8 @@ use Rattle.std.proofs.Common.{rules, arith, ◌≡◌, ◌∙◌, ◌<◌, Err, 
 use Rattle.std.specs.Io.KnownBytes.{Appends}
 use Rattle.store_script.specs.Answers.{told_ending, told_text}
 use Rattle.store_script.specs.Lines.{AnswersRead}
-use Rattle.store_script.specs.Script.{first_cause, worse}
+use Rattle.store_script.specs.Script.{worse}
+use Rattle.store_script.specs.inner.Script.{first_cause}
 use Rattle.store_script.specs.declared.ending.Ending.TheVariants as endings
 use Rattle.edge.specs.declared.outcome.Cause.TheVariants as causes
 use Rattle.store_script.proofs.ScriptSteps.{at_end, at_failed_write, at_refusal, at_stop, begun, ended_reader, has_memory, if_ended, is_out, is_verdict, line_left, no_failed_read, no_failed_tell, nothing_read, told_left, told_memory, told_memory_read, turned, whatever_written}

@@ -1,6 +1,6 @@
 use Rattle.std.proofs.Common.{rules, ◌≡◌, Some, subst, ℕ}
 use Rattle.std.specs.Prelude.{IfSome}
-use Rattle.store_session.specs.Session.{Receives}
+use Rattle.store_session.specs.inner.Session.{Receives}
 use Rattle.store_session.proofs.Served.{served_put}
 use Rattle.store_session.proofs.engine.put.Goals as goal
 

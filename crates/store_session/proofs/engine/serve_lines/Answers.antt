@@ -2,7 +2,8 @@ use Rattle.std.proofs.Common.{rules, ◌≡◌, ◌≤◌, ◌<◌, arith, false
 use Rattle.std.specs.Prelude.{IfSome}
 use Rattle.edge.specs.declared.outcome.Cause.TheVariants as causes
 use Rattle.store_session.specs.Reads.{most_request}
-use Rattle.store_session.specs.Session.{RanSome, ServesRead}
+use Rattle.store_session.specs.Session.{ServedSome}
+use Rattle.store_session.specs.inner.Session.{ServesRead}
 use Rattle.store_session.proofs.Under.{at_end, begun, cut_off, stopped, turned}
 use Rattle.store_session.proofs.engine.serve_lines.Goals as goal
 
@@ -23,7 +24,7 @@ returns-in_err-serve_line-clause-read g c = λ is.
     let cause : c.in_err-serve_line.field-0.0 ≡ causes.CannotRead = search rules in
     let same : c.serve_line.new.writer ≡ c.loop.writer = search rules in
     let before = stopped (g.R.Read.remaining c.args.reader.now) (g.R.Read.remaining c.loop.reader) (g.W.Write.contents c.args.writer.now) (g.W.Write.contents c.loop.writer) c.loop.store c.loop.invariant.0 in
-    subst (λ w. IfSome (g.R.Read.remaining c.args.reader.now) (λ input. RanSome input (g.W.Write.contents c.args.writer.now) (g.W.Write.contents w))) (sym same) before
+    subst (λ w. IfSome (g.R.Read.remaining c.args.reader.now) (λ input. ServedSome input (g.W.Write.contents c.args.writer.now) (g.W.Write.contents w))) (sym same) before
 
 pub returns-then-not-branch-clause-written : goal.returns-then-not-branch-clause-written
 returns-then-not-branch-clause-written g c =

@@ -3,8 +3,8 @@ use Rattle.std.specs.Io.BufRead.{FillKeeps}
 use Rattle.std.proofs.BufReadLemmas.{Consumes_shown}
 use Rattle.store_session.proofs.reading.copy_part.Goals as goal
 
-pub returns-then-len-eq0-clause-some : goal.returns-then-len-eq0-clause-some
-returns-then-len-eq0-clause-some g c =
+pub returns-then-len-eq0-clause-taken : goal.returns-then-len-eq0-clause-taken
+returns-then-len-eq0-clause-taken g c =
     let shown = c.in-Ok.available.now in
     let count = c.min-count.result in
     let within : count ≤ length shown = search rules in

@@ -4,7 +4,7 @@ use Rattle.std.proofs.BufReadLemmas.{Consumes_shown, zero_unless_positive}
 use Rattle.std.proofs.KnownBytes.{Consumes-kept, Consumes-nil}
 use Rattle.std.proofs.Transfers.{StopsAt-take}
 use Rattle.std.proofs.lemmas.List.Elements.{All-more, All-nil}
-use Rattle.store_session.specs.Inner.{KeepsPart}
+use Rattle.store_session.specs.inner.Lines.{KeepsPart}
 use Rattle.store_session.proofs.Lines.{kept_none}
 use Rattle.store_session.proofs.reading.line_part.Goals.{then-end-eq0, else-end-eq0}
 use Rattle.store_session.proofs.reading.line_part.Goals as goal
@@ -47,7 +47,7 @@ returns-clause-part g c =
           | else-end-eq0 w ↦ ap (λ n. get_or (take end.result shown) (n - 1) 0) long
               ∙ get_or-take end.result shown (end.result - 1) 0 (omega arith) ∙ eqb-true _ _ (sym w.is_done-is ∙ done)
         ];
-        none = λ _ none. moved.1 (zero_unless_positive _ _ end.ensures.some (sym long ∙ none));
+        none = λ _ none. moved.1 (zero_unless_positive _ _ end.ensures.positive (sym long ∙ none));
       },
       held,
     )

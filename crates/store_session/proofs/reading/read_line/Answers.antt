@@ -5,7 +5,8 @@ use Rattle.std.specs.Io.BufRead.{take_through}
 use Rattle.std.proofs.KnownBytes.{Consumes-trans}
 use Rattle.std.proofs.BufReadLemmas.{Consumes_through}
 use Rattle.edge.proofs.LineParts.{if_some_weaken}
-use Rattle.store_session.specs.Reads.{IsLineRead, most_request}
+use Rattle.store_session.specs.Reads.{most_request}
+use Rattle.store_session.specs.inner.Reads.{IsLineRead}
 use Rattle.store_session.proofs.Lines.{is_read, kept_on}
 use Rattle.store_session.proofs.reading.read_line.Goals as goal
 

@@ -3,8 +3,8 @@ use Rattle.std.specs.Io.BufRead.{FillKeeps}
 use Rattle.std.proofs.BufReadLemmas.{Consumes_shown}
 use Rattle.store_session.proofs.reading.skip_part.Goals as goal
 
-pub returns-then-len-eq0-clause-some : goal.returns-then-len-eq0-clause-some
-returns-then-len-eq0-clause-some g c =
+pub returns-then-len-eq0-clause-taken : goal.returns-then-len-eq0-clause-taken
+returns-then-len-eq0-clause-taken g c =
     let shown = c.in-Ok.available.now in
     let count = c.min-count.result in
     let within : count ≤ length shown = search rules in
@@ -15,8 +15,8 @@ returns-then-len-eq0-clause-some g c =
     let nothing : count ≡ 0 = omega arith in
     (take count shown, (moved.0, length-take-le count shown within ∙ nothing, moved.1 none))
 
-pub returns-else-len-eq0-clause-some : goal.returns-else-len-eq0-clause-some
-returns-else-len-eq0-clause-some g c =
+pub returns-else-len-eq0-clause-taken : goal.returns-else-len-eq0-clause-taken
+returns-else-len-eq0-clause-taken g c =
     let shown = c.in-Ok.available.now in
     let count = c.min-count.result in
     let within : count ≤ length shown = search rules in

@@ -1,6 +1,6 @@
 use Rattle.std.proofs.Common.{◌≡◌, ◌∙◌, ◌+◌, ◌≤◌, ℕ, List, [], ◌∷◌, arith, ap, refl, sym, subst}
 use Rattle.std.proofs.lemmas.Bool.{eq-eqb, ne_eqb}
-use Rattle.store_upload.specs.Inner.{AreApart}
+use Rattle.store_upload.specs.inner.Places.{AreApart}
 use Rattle.store_upload.specs.Uploads.{end_of, first_gap}
 use Rattle.store_upload.proofs.parts.first_gap.Goals as goal
 

@@ -1,5 +1,5 @@
 use Rattle.std.proofs.Common.{◌≡◌, ◌^◌, ◌<◌, ℕ}
-use Rattle.store_upload.specs.Inner.{AreApart}
+use Rattle.store_upload.specs.inner.Places.{AreApart}
 use Rattle.store_upload.specs.Uploads.{first_gap}
 use Rattle.store_upload.proofs.parts.first_gap.Given as goal
 

@@ -4,7 +4,7 @@ use Rattle.store_upload.proofs.Ranges.{next_from, no_next}
 use Rattle.store_upload.proofs.parts.overlap.Goals as goal
 
 pub returns-then-is_held : goal.returns-then-is_held
-returns-then-is_held g c = sym (overlap_held g.P.Length.len c.args.offset 0 c.requires.apart.0 c.args.len c.args.parts.now.entries c.requires.apart.2 c.requires.some (sym c.is_held.ensures ∙ c.if-is_held.true))
+returns-then-is_held g c = sym (overlap_held g.P.Length.len c.args.offset 0 c.requires.apart.0 c.args.len c.args.parts.now.entries c.requires.apart.2 c.requires.positive (sym c.is_held.ensures ∙ c.if-is_held.true))
 
 pub returns-in-Some : goal.returns-in-Some
 returns-in-Some g c =

@@ -1,5 +1,6 @@
 use Rattle.std.proofs.Common.{◌*◌, ◌+◌, ◌^◌, ◌<◌, ℕ, ◌++◌, List, length, arith, ap, refl, ◌∙◌, length-append}
-use Rattle.b3_core.specs.Hashers.{Hashing, IsBehind, IsNext}
+use Rattle.b3_core.specs.Hashers.{Hashing, IsBehind}
+use Rattle.b3_core.specs.inner.Hashers.{IsNext}
 use Rattle.b3_core.specs.Kept.{kept_of, tail_of}
 use Rattle.b3_core.specs.Tree.{Inputs}
 use Rattle.b3_core.proofs.Hashings.{holds_next, next_of}

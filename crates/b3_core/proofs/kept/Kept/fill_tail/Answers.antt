@@ -1,5 +1,5 @@
 use Rattle.std.proofs.Common.{◌≡◌, ◌^◌, ◌/◌, ◌<◌, ℕ, ◌∷◌, ◌++◌, List, [], length, arith, refl, ap, sym, ◌∙◌, rules, length-append}
-use Rattle.b3_core.specs.Hashers.{Hashing, Makes, kept_work}
+use Rattle.b3_core.specs.Hashers.{Hashing, CountsRest, kept_work}
 use Rattle.b3_core.specs.Kept.{kept_of, tail_of}
 use Rattle.b3_core.specs.Tree.{chunk_top}
 use Rattle.b3_core.proofs.Hashings.{holds_filled, makes_then, next_filled}
@@ -36,7 +36,7 @@ returns-then-is_full-clause-bytes c x is less =
     let empty : (new c).tail ≡ [] = ap tail_of c.put.ensures.tail ∙ c.clear.ensures.bytes in
     let made = c.put.ensures.count (x ++ front c) next few in
     let are = c.put.ensures.nodes (x ++ front c) next few in
-    let count : Makes (kept_work (old c).subtrees) (kept_work ((0, top) ∷ (old c).subtrees)) c.args.work.now c.of_chunk-top.new.work = (15, refl, omega (arith, c.of_chunk-top.ensures.count, whole_chunk c)) in (
+    let count : CountsRest (kept_work (old c).subtrees) (kept_work ((0, top) ∷ (old c).subtrees)) c.args.work.now c.of_chunk-top.new.work = (15, refl, omega (arith, c.of_chunk-top.ensures.count, whole_chunk c)) in (
       front c,
       same,
       holds_filled (old c) (new c) top x (front c) is len refl empty c.put.ensures.whole few are,

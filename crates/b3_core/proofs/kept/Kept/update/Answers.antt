@@ -1,6 +1,7 @@
 use Rattle.std.proofs.Common.{◌≡◌, ◌*◌, ◌-◌, ◌+◌, ◌/◌, ◌^◌, ◌<◌, ℕ, ◌∷◌, ◌++◌, List, [], length, arith, refl, ap, sym, ◌∙◌, rules, subst, append_assoc, length-append, reverse, inl, inr}
 use Rattle.std.proofs.lemmas.Bool.{cases_lt}
-use Rattle.b3_core.specs.Hashers.{Hashing, Holds, IsLeft, kept_work}
+use Rattle.b3_core.specs.Hashers.{Hashing, Holds, kept_work}
+use Rattle.b3_core.specs.inner.Hashers.{IsLeft}
 use Rattle.b3_core.specs.Kept.{kept_of, nodes_of, tail_of}
 use Rattle.b3_core.specs.Tree.{Inputs, tree_top}
 use Rattle.b3_core.specs.Work.{counted, hash_work}

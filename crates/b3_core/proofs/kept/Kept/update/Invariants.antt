@@ -1,5 +1,6 @@
 use Rattle.std.proofs.Common.{ℕ, ◌+◌, ◌^◌, ◌<◌, List, length}
-use Rattle.b3_core.specs.Hashers.{Holds, IsLeft}
+use Rattle.b3_core.specs.Hashers.{Holds}
+use Rattle.b3_core.specs.inner.Hashers.{IsLeft}
 use Rattle.b3_core.specs.Kept.{FitsItsPlaces, kept_of}
 use Rattle.b3_core.specs.Work.{NeverFalls}
 use Rattle.b3_core.proofs.kept.Kept.update.Given as goal

@@ -1,6 +1,7 @@
 use Rattle.std.proofs.Common.{◌≡◌, ℕ, ◌<◌, ◌+◌, ◌*◌}
 use Rattle.b3_core.specs.Tree.{chain}
-use Rattle.b3_core.specs.Lanes.{lane, chunk_bytes}
+use Rattle.b3_core.specs.Lanes.{chunk_bytes}
+use Rattle.b3_core.specs.inner.Lanes.{lane}
 use Rattle.b3_core.specs.Work.{counted}
 use Rattle.b3_core.proofs.wide.lanes.chains.Given as goal
 

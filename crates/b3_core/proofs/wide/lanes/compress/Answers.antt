@@ -1,6 +1,6 @@
 use Rattle.std.proofs.Common.{◌∙◌, ap, ap₂, take}
 use Rattle.b3_core.specs.Compression.{compress_of, rounds, round, permute, message, output_words}
-use Rattle.b3_core.specs.Lanes.{lane}
+use Rattle.b3_core.specs.inner.Lanes.{lane}
 use Rattle.b3_core.proofs.wide.lanes.compress.Goals as goal
 
 pub returns-clause-values : goal.returns-clause-values

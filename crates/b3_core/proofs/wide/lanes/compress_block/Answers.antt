@@ -1,6 +1,6 @@
 use Rattle.std.proofs.Common.{List, ℕ, ◌∙◌, ap, take, arith}
 use Rattle.b3_core.specs.Compression.{compress_of}
-use Rattle.b3_core.specs.Lanes.{lane}
+use Rattle.b3_core.specs.inner.Lanes.{lane}
 use Rattle.b3_core.proofs.wide.lanes.compress_block.Goals as goal
 
 pub returns-clause-values : goal.returns-clause-values

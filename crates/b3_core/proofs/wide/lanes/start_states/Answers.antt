@@ -1,5 +1,5 @@
 use Rattle.std.proofs.Common.{◌≡◌, ◌∙◌, ◌/◌, ◌%◌, ◌^◌, arith, ap}
-use Rattle.b3_core.specs.Compression.{turned}
+use Rattle.b3_core.specs.inner.Compression.{turned}
 use Rattle.b3_core.proofs.EachLane.{lane_word}
 use Rattle.b3_core.proofs.WordTurns.{turned_whole}
 use Rattle.b3_core.proofs.wide.lanes.start_states.Goals as goal

@@ -2,7 +2,7 @@ use Rattle.std.proofs.Common.{◌≡◌, ℕ, ◌+◌, ◌-◌, ◌*◌, ◌<◌
 use Rattle.std.proofs.lemmas.List.{length-drop, length-take-le}
 use Rattle.b3_core.specs.Tree.{chain, chaining_value_of}
 use Rattle.b3_core.specs.Lanes.{chunk_at, chunk_bytes}
-use Rattle.b3_core.specs.Rows.{rows_value}
+use Rattle.b3_core.specs.inner.Rows.{rows_value}
 use Rattle.b3_core.proofs.Nodes.{chain_step, whole_chunk_value}
 use Rattle.b3_core.proofs.wide.pairs.pair_values.Goals as goal
 

@@ -1,6 +1,6 @@
 use Rattle.std.proofs.Common.{◌≡◌, ℕ, ◌<◌, ◌+◌, ◌*◌, slice_index}
 use Rattle.b3_core.specs.Lanes.{chunk_bytes}
-use Rattle.b3_core.specs.Rows.{rows_value}
+use Rattle.b3_core.specs.inner.Rows.{rows_value}
 use Rattle.b3_core.specs.Tree.{chain}
 use Rattle.b3_core.specs.Work.{counted}
 use Rattle.b3_core.proofs.wide.pairs.pair_values.Given as goal

@@ -9,12 +9,12 @@ pub returns-clause-no_pieces : goal.returns-clause-no_pieces
 returns-clause-no_pieces c =
     let b = c.args.bytes.now in
     let es = c.new-subtrees.result.entries in
-    let keeps : Keeps (length b) [] es = keeps_nothing (length b) [] es (omega (arith, c.bound-most.ensures.value, c.bound-most.ensures.most, ap (λ (q : UploadPlan). q.bound) c.in_ok-plan.ensures.plan)) refl c.new-subtrees.ensures.empty in
+    let keeps : Keeps (length b) [] es = keeps_nothing (length b) [] es (omega (arith, c.bound-most.ensures.value, c.bound-most.ensures.bounded, ap (λ (q : UploadPlan). q.bound) c.in_ok-plan.ensures.plan)) refl c.new-subtrees.ensures.empty in
     nothing_noted b es keeps c.new-subtrees.ensures.empty
 
 pub invariant_of-result : goal.invariant_of-result
 invariant_of-result c = record {
   parts = [];
-  keeps = keeps_nothing (length c.args.bytes.now) [] c.new-subtrees.result.entries (omega (arith, c.bound-most.ensures.value, c.bound-most.ensures.most, ap (λ (q : UploadPlan). q.bound) c.in_ok-plan.ensures.plan)) refl c.new-subtrees.ensures.empty;
+  keeps = keeps_nothing (length c.args.bytes.now) [] c.new-subtrees.result.entries (omega (arith, c.bound-most.ensures.value, c.bound-most.ensures.bounded, ap (λ (q : UploadPlan). q.bound) c.in_ok-plan.ensures.plan)) refl c.new-subtrees.ensures.empty;
   same = tt;
 }

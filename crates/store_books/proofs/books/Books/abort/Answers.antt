@@ -2,7 +2,8 @@ use Rattle.std.proofs.Common.{◌≡◌, ◌∙◌, ◌+◌, ◌-◌, ℕ, arith
 use Rattle.store_books.specs.declared.tenant.Change.{Change}
 use Rattle.store_books.specs.Books.{Books}
 use Rattle.store_books.specs.Commands.{abort_refusal, without_upload}
-use Rattle.store_books.specs.Kept.{HasRoom, books_of, changed_sums}
+use Rattle.store_books.specs.Kept.{books_of}
+use Rattle.store_books.specs.inner.Kept.{HasRoom, changed_sums}
 use Rattle.store_upload.specs.Uploads.{Upload, held_bytes, length_of}
 use Rattle.store_books.proofs.Commands.{falls, goes, none, room}
 use Rattle.store_books.proofs.Sums.{change_is, kept_after, kept_as, room_for}

@@ -1,7 +1,8 @@
 use Rattle.std.proofs.Common.{◌∙◌, ◌+◌, ◌<◌, ◌++◌, ◌∷◌, [], ℕ, arith, ap, refl, sym}
 use Rattle.store_books.specs.Books.{Begun, Books, IsBegunUpload}
 use Rattle.store_books.specs.Commands.{begin_refusal, with_begun}
-use Rattle.store_books.specs.Kept.{books_of, changed_sums}
+use Rattle.store_books.specs.Kept.{books_of}
+use Rattle.store_books.specs.inner.Kept.{changed_sums}
 use Rattle.store_upload.specs.Uploads.{Upload}
 use Rattle.store_books.proofs.Commands.{begins, none, rises}
 use Rattle.store_books.proofs.Lists.{all_weaker}

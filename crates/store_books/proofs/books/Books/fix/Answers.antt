@@ -2,7 +2,8 @@ use Rattle.std.proofs.Common.{◌≡◌, ◌∙◌, ◌+◌, ℕ, arith, ap, ref
 use Rattle.store_books.specs.declared.tenant.Change.{Change}
 use Rattle.store_books.specs.Books.{Begun, Books}
 use Rattle.store_books.specs.Commands.{end_refusal, with_upload}
-use Rattle.store_books.specs.Kept.{HasRoom, books_of, changed_sums}
+use Rattle.store_books.specs.Kept.{books_of}
+use Rattle.store_books.specs.inner.Kept.{HasRoom, changed_sums}
 use Rattle.store_upload.specs.Uploads.{Upload, fixed_at, length_of}
 use Rattle.store_books.proofs.Commands.{ends, none}
 use Rattle.store_books.proofs.Sums.{change_is, kept_after, kept_as, room_for}

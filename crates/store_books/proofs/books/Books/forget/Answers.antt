@@ -3,9 +3,10 @@ use Rattle.std.specs.Prelude.{nat_le}
 use Rattle.std.proofs.lemmas.Bool.{leb-false}
 use Rattle.store_books.specs.declared.refusal.Refusal.TheVariants.{NoTenant}
 use Rattle.store_books.specs.Books.{Books, is_absent, is_held_by}
-use Rattle.store_books.specs.Catalog.{Catalogued}
+use Rattle.store_books.specs.inner.Catalog.{Catalogued}
 use Rattle.store_books.specs.Commands.{forget_refusal, full_refusal, holding_refusal, with_left}
-use Rattle.store_books.specs.Kept.{HasRoom, books_of, changed_sums}
+use Rattle.store_books.specs.Kept.{books_of}
+use Rattle.store_books.specs.inner.Kept.{HasRoom, changed_sums}
 use Rattle.store_books.proofs.Commands.{both, falls, none, passed, room}
 use Rattle.store_books.proofs.Objects.{is_held, leaves, where_so}
 use Rattle.store_books.proofs.Sums.{kept_after, kept_as, room_for}

@@ -1,9 +1,10 @@
 use Rattle.std.proofs.Common.{◌≡◌, ◌∙◌, ◌+◌, ◌-◌, ℕ, Some, arith, Bool, ap, ap₂, length, refl, subst, sym}
 use Rattle.std.specs.Prelude.{not}
 use Rattle.store_books.specs.Books.{Begun, Books, is_held_by}
-use Rattle.store_books.specs.Catalog.{Catalogued}
+use Rattle.store_books.specs.inner.Catalog.{Catalogued}
 use Rattle.store_books.specs.Commands.{file_refusal, full_refusal, is_over, with_holder, with_holders, with_known}
-use Rattle.store_books.specs.Kept.{HasRoom, books_of, changed_sums}
+use Rattle.store_books.specs.Kept.{books_of}
+use Rattle.store_books.specs.inner.Kept.{HasRoom, changed_sums}
 use Rattle.store_upload.specs.Uploads.{Upload, held_bytes, length_of}
 use Rattle.store_upload.proofs.Places.{some_is}
 use Rattle.store_books.proofs.Commands.{falls, passed, rises, room}

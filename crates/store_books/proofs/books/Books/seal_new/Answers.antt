@@ -1,8 +1,9 @@
 use Rattle.std.proofs.Common.{◌≡◌, ◌∙◌, ◌+◌, ◌-◌, ◌++◌, ◌∷◌, [], ℕ, Some, arith, ap, length, refl, subst, sym}
 use Rattle.store_books.specs.Books.{Begun, Books, object_at, upload_at}
-use Rattle.store_books.specs.Catalog.{Catalogued}
+use Rattle.store_books.specs.inner.Catalog.{Catalogued}
 use Rattle.store_books.specs.Commands.{file_refusal, finish_refused, ready_refusal, with_new}
-use Rattle.store_books.specs.Kept.{HasRoom, books_of, changed_sums}
+use Rattle.store_books.specs.Kept.{books_of}
+use Rattle.store_books.specs.inner.Kept.{HasRoom, changed_sums}
 use Rattle.store_upload.specs.Uploads.{Upload, finish_refusal, held_bytes, length_of}
 use Rattle.store_upload.proofs.Places.{some_is}
 use Rattle.store_books.proofs.Commands.{falls, none_mapped, rises, room}

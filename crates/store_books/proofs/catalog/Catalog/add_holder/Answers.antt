@@ -1,6 +1,6 @@
 use Rattle.std.proofs.Common.{refl, sym}
 use Rattle.std.specs.BTreeSet.{contains}
-use Rattle.store_books.specs.Catalog.{pair_cmp}
+use Rattle.store_books.specs.inner.Catalog.{pair_cmp}
 use Rattle.store_books.specs.Commands.{with_holder}
 use Rattle.store_books.proofs.Catalogs.{catalog_after, catalogued_after, catalogued_still, is_numbered}
 use Rattle.store_books.proofs.Holdings.{holdings_still, holdings_with, on_false, same_pairs, undone, was_absent}

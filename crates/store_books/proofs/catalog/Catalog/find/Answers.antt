@@ -1,7 +1,7 @@
 use Rattle.std.proofs.Common.{◌∙◌, ap, sym}
 use Rattle.std.specs.Option.{option_map}
 use Rattle.store_books.specs.Books.{object_among}
-use Rattle.store_books.specs.Catalog.{Catalogued}
+use Rattle.store_books.specs.inner.Catalog.{Catalogued}
 use Rattle.store_books.proofs.Catalogs.{numbered, unnumbered}
 use Rattle.store_books.proofs.ObjectsByNumber.{lent}
 use Rattle.store_books.proofs.catalog.Catalog.find.Goals as goal

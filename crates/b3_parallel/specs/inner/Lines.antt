@@ -2,9 +2,9 @@
 use Rattle.std.specs.Prelude.{◌≡◌, ℕ, ◌+◌, ◌*◌, ◌/◌, ◌^◌, List, [], ◌∷◌, ◌++◌, length, Option, Some, None}
 use Rattle.std.specs.Global.{Vec}
 use Rattle.std.specs.declared.thread.PromisedHandle.{PromisedHandle}
-use Rattle.b3_core.specs.Hashers.{Hashing, Fits}
+use Rattle.b3_core.specs.Hashers.{Hashing, HasRoomFor}
 use Rattle.b3_core.specs.Tree.{Keying}
-use Rattle.b3_parallel.specs.Blocks.{IsGiven}
+use Rattle.b3_parallel.specs.inner.Blocks.{IsGiven}
 use Rattle.b3_parallel.specs.declared.blocks.Block.{Block}
 use Rattle.b3_parallel.specs.declared.blocks.BlockOf.{BlockOf}
 
@@ -23,7 +23,7 @@ AreHashing p k c (h ∷ hs) z =
 -- them, is m, without what the threads count
 abbrev pub Carries : Keying → ℕ → Hashing → List Thread → List ℕ → ℕ → ℕ → Type 0
 Carries p k h hs x n m =
-    (h.mode ≡ p) × (before : List ℕ) × (z : List ℕ) × (x ≡ before ++ z) × IsGiven h before n m × Fits k h × AreHashing p k (h.whole / 1024) hs z
+    (h.mode ≡ p) × (before : List ℕ) × (z : List ℕ) × (x ≡ before ++ z) × IsGiven h before n m × HasRoomFor k h × AreHashing p k (h.whole / 1024) hs z
 
 -- the bytes behind the last block, where they were read
 abbrev pub last_of : Option (Vec ℕ) → List ℕ

@@ -2,7 +2,7 @@
 -- lanes of a vector are a row of one of them. G ends by turning its last word by 8 bits and begins by turning it by 16 more. So the
 -- last row is kept as it was before that turn by 8.
 use Rattle.std.specs.Prelude.{◌≡◌, ℕ, ◌+◌, ◌*◌, List, [], ◌∷◌}
-use Rattle.b3_core.specs.Compression.{turned}
+use Rattle.b3_core.specs.inner.Compression.{turned}
 
 -- row i of a vector has these words, where `word` tells the word of a vector's lane
 abbrev pub IsRowOf : {V : Type 0} → (V → ℕ → ℕ) → ℕ → V → ℕ → ℕ → ℕ → ℕ → Type 0
