@@ -1,7 +1,6 @@
 -- Reports, one line longer, and where one ended.
 use Rattle.std.proofs.Common.{◌≡◌, ◌∙◌, ℕ, ◌+◌, ◌<◌, ◌≤◌, Bool, true, false, List, [], ◌∷◌, ◌++◌, Option, cond, length, take, drop, get_or, ap, sym, subst, refl, arith, append_assoc, append-nil, take-append-drop, take_all}
 use Rattle.std.specs.Prelude.{count_by}
-use Rattle.std.specs.List.{flat_map}
 use Rattle.std.specs.Io.KnownBytes.{Appends}
 use Rattle.std.proofs.KnownBytes.{Appends-trans}
 use Rattle.std.proofs.lemmas.Grind.{flat_map-append}
@@ -13,7 +12,7 @@ use Rattle.b3_check.specs.declared.file.NumberedLine.{NumberedLine}
 use Rattle.b3_check.specs.declared.report.Counts.{Counts}
 use Rattle.b3_check.specs.declared.report.Shown.{Shown}
 use Rattle.b3_check.specs.Output.{IsCutOff}
-use Rattle.b3_check.specs.Reports.{Answer, AreWithin, IsAsked, IsBroken, IsEnded, IsLineEnded, IsReport, Verdict, counted, counts_of, is_bad, is_fault, is_good, is_missing, is_unreadable, lines_text, one_more, report_text, shown_counts, shown_line}
+use Rattle.b3_check.specs.Reports.{Answer, AreWithin, IsAsked, IsBroken, IsEnded, IsLineEnded, IsReport, Verdict, counted, counts_of, is_bad, is_fault, is_good, is_missing, is_unreadable, lines_text, one_more, shown_counts, shown_line}
 use Rattle.b3_check.proofs.Chain.{IsReport-push}
 use Rattle.b3_check.proofs.CutOffs.{cut_in_first, cut_in_second}
 
