@@ -1,5 +1,6 @@
 pub mod Audits
 pub mod Checks
+pub mod Files
 pub mod Journals
 pub mod Keys
 pub mod Lists
