@@ -17,7 +17,7 @@ use std::{fs, thread};
 const LIMIT: u64 = 1 << 20;
 
 // How many names are looked up ahead at a time.
-const STRETCH: usize = 256;
+const STRETCH: usize = 1024;
 
 /// A name, and the root of its file, where that is known.
 #[derive(Drop)]
@@ -170,7 +170,7 @@ fn push_name(known: &mut Vec<Known>, alloc: Global, name: &[u8]) -> Result<(), A
     Ok(())
 }
 
-/// The next names, up to 256, of which nothing is known.
+/// The next names, up to 1024, of which nothing is known.
 pub(crate) fn next_names(alloc: Global, names: &[Name]) -> Result<Vec<Known>, AllocError> {
     let mut known = Vec::new(alloc);
     for name in &names[..names.len().min(STRETCH)] {
@@ -179,7 +179,7 @@ pub(crate) fn next_names(alloc: Global, names: &[Name]) -> Result<Vec<Known>, Al
     Ok(known)
 }
 
-/// The names in the next lines, up to 256, of which nothing is known.
+/// The names in the next lines, up to 1024, of which nothing is known.
 pub(crate) fn names_of_lines(
     alloc: Global,
     lines: &[NumberedLine],

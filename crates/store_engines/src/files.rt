@@ -129,7 +129,7 @@ impl<T: Threads + Runtime> FileHasher<'_, T> {
 
 /// The files of the system. A name is a path, `-` too. Contracts see the mode that they are hashed in, and by how many threads.
 ///
-/// Names that are expected are looked up ahead, 256 at a time: several threads hash the regular files among them that are neither empty nor
+/// Names that are expected are looked up ahead, 1024 at a time: several threads hash the regular files among them that are neither empty nor
 /// have 1 MiB or more. Nothing else is opened before it is asked for, and whatever fails ahead is asked for again in its turn.
 #[derive(Drop)]
 pub struct SystemFiles<'a, T> {
