@@ -1,6 +1,5 @@
 -- Reports, one line longer, and where one ended.
-use Rattle.std.proofs.Common.{◌≡◌, ◌∙◌, ℕ, ◌+◌, ◌<◌, ◌≤◌, Bool, true, false, List, [], ◌∷◌, ◌++◌, Option, cond, length, take, drop, get_or, ap, sym, subst, refl, arith, append_assoc, append-nil, take-append-drop, take_all}
-use Rattle.std.specs.List.{flat_map}
+use Rattle.std.proofs.Common.{◌≡◌, ◌∙◌, ℕ, ◌+◌, ◌<◌, ◌≤◌, Bool, true, false, List, [], ◌∷◌, ◌++◌, Option, length, take, drop, get_or, ap, sym, subst, refl, arith, append_assoc, append-nil, take-append-drop, take_all}
 use Rattle.std.specs.Io.KnownBytes.{Appends}
 use Rattle.std.proofs.KnownBytes.{Appends-trans}
 use Rattle.std.proofs.lemmas.Grind.{flat_map-append}
@@ -12,7 +11,7 @@ use Rattle.b3_check.specs.declared.report.Counts.{Counts}
 use Rattle.b3_check.specs.declared.report.Found.TheVariants.{Bad, Good, Missing, Unreadable}
 use Rattle.b3_check.specs.declared.report.Shown.{Shown}
 use Rattle.b3_check.specs.Output.{IsCutOff}
-use Rattle.b3_check.specs.Reports.{Answer, AreWithin, IsAsked, IsBroken, IsEnded, IsLineEnded, IsReport, Verdict, all_counted, counted, counts_of, lines_text, report_text, shown_counts, shown_line}
+use Rattle.b3_check.specs.Reports.{Answer, AreWithin, IsAsked, IsBroken, IsEnded, IsLineEnded, IsReport, Verdict, all_counted, counted, counts_of, lines_text, shown_counts, shown_line}
 use Rattle.b3_check.specs.Reports.Verdict.{faulty, named}
 use Rattle.b3_check.proofs.Chain.{IsReport-push}
 use Rattle.b3_check.proofs.CutOffs.{cut_in_first, cut_in_second}

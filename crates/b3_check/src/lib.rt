@@ -10,7 +10,8 @@
 //! - `CheckFile` is the numbered lines of a file, each read or with its fault; one bad line doesn't stop the others.
 //! - `write` writes lines, and what it writes is read back as the same lines.
 //! - `Names` gives the digests of what has a name, as files do; `verify` asks it once for each line without a fault,
-//!   in file order, and writes the lines of the report that are `Shown`, each before it asks for the next. It gives their `Counts`.
+//!   in file order, and writes the lines of the report that are `Shown`, each before it asks for the next. It gives their `Counts`. Before
+//!   each line it tells the names which lines come next, so that they can look names up ahead.
 //! - `check_file_laws` states what holds of the definitions that these contracts name.
 //!
 //! Want of memory is an error of its own wherever memory is taken, and comes in place of any other answer.

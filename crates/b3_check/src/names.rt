@@ -1,9 +1,10 @@
 //! Where the digests of named files come from.
 
-ghost use Rattle.std.specs.Prelude.{ℕ, List, Option, Result, Some};
+ghost use Rattle.std.specs.Prelude.{◌≡◌, ℕ, List, Option, Result, Some};
 ghost use Rattle.b3_check.specs.Faults.{name_fault_text};
 ghost use Rattle.b3_check.specs.declared.names.NameFault.{NameFault as Refusal};
 
+use crate::file::NumberedLine;
 use std::error::Error;
 use std::fmt;
 
@@ -35,6 +36,12 @@ pub trait Names {
     // A call on the state before, with this name, may give this answer and leave the state after. Where nothing can be
     // said, as of files, it is `λ _ _ _ _. Unit {0}`.
     ghost gives: { Self → List ℕ → Result (Option (List ℕ)) Refusal → Self → Type 0 };
+
+    /// Tells which lines come next, in their order, so that the names of those without a fault can be looked up ahead. It is a hint: no
+    /// answer hangs on it, and any other name may be asked for.
+    fn expect(&mut self, _lines: &[NumberedLine])
+        ensures { self.new ≡ self.old }
+    {}
 
     /// The digest of what has the name, or `None` where nothing has it.
     fn digest_of(&mut self, name: &[u8]) -> Result<Option<[u8; 32]>, NameFault>

@@ -13,7 +13,7 @@ use std::alloc::AllocError;
 use std::io::Write;
 
 /// Asks the names for the digest of each line without a fault, in file order, and writes of each line what is shown, before it asks for
-/// the next; and then what is shown of the counts.
+/// the next; and then what is shown of the counts. Before each line it tells the names which lines come next.
 ///
 /// It takes no memory. It stops at the first write that fails, or where the names answer want of memory.
 pub fn verify<N: Names, W: Write>(
@@ -27,7 +27,9 @@ pub fn verify<N: Names, W: Write>(
     ensures stopped { IfErr result (λ cause. IsEnded N.gives shown names.old file.now cause names.new (W.contents writer.old) (W.contents writer.new)) }
 {
     let mut counts = Counts::default();
-    for line in file.lines() {
+    let lines = file.lines();
+    for (index, line) in lines.iter().enumerate() {
+        names.expect(&lines[index..]);
         verify_line(line, shown, names, &mut counts, writer)?;
     }
     match write_counts(shown, counts, writer) {

@@ -54,7 +54,7 @@ pub(crate) fn block_limit(level: u32) -> u64
 }
 
 /// How many threads hash: as many as are asked for, or as the processor has, and no more than 16.
-pub(crate) fn thread_count<T: Threads>(rt: &T, asked: Option<u32>) -> usize {
+pub fn thread_count<T: Threads>(rt: &T, asked: Option<u32>) -> usize {
     let count = match asked {
         Some(count) => count as usize,
         None => match available_parallelism(rt) {

@@ -7,10 +7,8 @@ ghost use Rattle.store_command_line.specs.Ranges.{IsSumInRange};
 use crate::telling::{misused, opened, status, stopped};
 use b3_check::Name;
 use b3_core::{Runtime, Work};
-use std::fs::File;
 use std::io;
 use std::io::{LineWriter, Read};
-use std::rt::Files;
 use std::thread::Threads;
 use store_command_line::{
     AskedMode, CheckOptions, Input, NameList, SumInputs, SumMode, SumOptions,
@@ -79,7 +77,7 @@ fn sum_standard<T: Threads + Runtime>(
 }
 
 // Writes the hash of what has each name.
-fn sum_named<T: Threads + Runtime + Files<File = File> + AllocGlobal>(
+fn sum_named<T: Threads + Runtime>(
     rt: &HostRuntime,
     threads: &T,
     mode: SumMode<'_>,
@@ -89,7 +87,7 @@ fn sum_named<T: Threads + Runtime + Files<File = File> + AllocGlobal>(
     let Ok(mut writer) = LineWriter::new(rt.alloc(), io::writer(rt)) else {
         return Err(Cause::OutOfMemory);
     };
-    let files = SystemFiles::new(threads, mode, options.threads);
+    let files = SystemFiles::new(rt, threads, mode, options.threads);
     let mut inputs = SystemInputs::new(files, rt.stdin(), rt.stderr());
     let mut work = Work::new(rt);
     sum_files(
@@ -103,7 +101,7 @@ fn sum_named<T: Threads + Runtime + Files<File = File> + AllocGlobal>(
 }
 
 // The status of `sum`, or that of what it needs and can't have.
-fn summed<T: Threads + Runtime + Files<File = File> + AllocGlobal>(
+fn summed<T: Threads + Runtime>(
     rt: &HostRuntime,
     threads: &T,
     options: &SumOptions<'_>,
@@ -131,7 +129,7 @@ fn summed<T: Threads + Runtime + Files<File = File> + AllocGlobal>(
 }
 
 /// The status of `sum`.
-pub(crate) fn sum_status<T: Threads + Runtime + Files<File = File> + AllocGlobal>(
+pub(crate) fn sum_status<T: Threads + Runtime>(
     rt: &HostRuntime,
     threads: &T,
     options: &SumOptions<'_>,
@@ -145,7 +143,7 @@ pub(crate) fn sum_status<T: Threads + Runtime + Files<File = File> + AllocGlobal
 }
 
 // Verifies the check lines that a reader gives.
-fn checked<T: Threads + Runtime + Files<File = File> + AllocGlobal, R: Read>(
+fn checked<T: Threads + Runtime, R: Read>(
     rt: &HostRuntime,
     threads: &T,
     options: &CheckOptions<'_>,
@@ -154,12 +152,12 @@ fn checked<T: Threads + Runtime + Files<File = File> + AllocGlobal, R: Read>(
     let Ok(mut writer) = LineWriter::new(rt.alloc(), io::writer(rt)) else {
         return Err(Cause::OutOfMemory);
     };
-    let mut names = SystemFiles::new(threads, SumMode::Hash, options.threads);
+    let mut names = SystemFiles::new(rt, threads, SumMode::Hash, options.threads);
     check(rt.alloc(), options.shown, &mut names, reader, &mut writer)
 }
 
 /// The status of `check`.
-pub(crate) fn check_status<T: Threads + Runtime + Files<File = File> + AllocGlobal>(
+pub(crate) fn check_status<T: Threads + Runtime>(
     rt: &HostRuntime,
     threads: &T,
     options: &CheckOptions<'_>,

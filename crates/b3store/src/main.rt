@@ -8,12 +8,10 @@ mod telling;
 
 use b3_core::{Runtime, Work};
 use inputs::{check_status, sum_status};
-use std::fs::File;
 use std::io;
 use std::io::{BufReader, BufWriter, ErrorKind};
 use std::marker::Brand;
 use std::process::ExitCode;
-use std::rt::Files;
 use std::sync::Wait;
 use std::sync::ledger::Blank;
 use std::thread::Threads;
@@ -63,7 +61,7 @@ fn served(rt: &HostRuntime) -> Result<Verdict, Cause> {
 }
 
 // Uploads standard input.
-fn uploaded<T: Threads + Wait + Sync + Runtime + AllocGlobal>(
+fn uploaded<T: Threads + Wait + Sync + Runtime>(
     rt: &HostRuntime,
     threads: &T,
     options: UploadOptions,
@@ -82,7 +80,7 @@ fn uploaded<T: Threads + Wait + Sync + Runtime + AllocGlobal>(
 }
 
 // Does what is asked for, and answers the status.
-fn perform<T: Threads + Wait + Sync + Runtime + Files<File = File> + AllocGlobal>(
+fn perform<T: Threads + Wait + Sync + Runtime>(
     rt: &HostRuntime,
     threads: &T,
     options: &Options<'_>,

@@ -1,11 +1,10 @@
 -- What is known of an input that was read, and of an output that was flushed.
-use Rattle.std.proofs.Common.{◌≡◌, ◌∙◌, ℕ, List, [], ◌++◌, Option, Some, None, append-nil, subst, sym}
+use Rattle.std.proofs.Common.{◌≡◌, ◌∙◌, ℕ, List, [], Option, Some, None, append-nil, subst, sym}
 use Rattle.std.specs.Prelude.{IfSome}
 use Rattle.std.specs.Io.KnownBytes.{Appends, Keeps}
 use Rattle.b3_check.specs.declared.file.NumberedLine.{NumberedLine}
-use Rattle.b3_check.specs.declared.report.Counts.{Counts}
 use Rattle.b3_check.specs.declared.report.Shown.{Shown}
-use Rattle.b3_check.specs.Reports.{Answer, IsReport, Verdict, counts_of, report_text}
+use Rattle.b3_check.specs.Reports.{Answer, IsReport, Verdict, report_text}
 use Rattle.store_engines.specs.Checks.{IsCut}
 
 -- what holds of the bytes that were read holds of the input, where that is known

@@ -1,5 +1,5 @@
 -- What `check` writes, and its verdict.
-use Rattle.std.specs.Prelude.{◌≡◌, ◌↔◌, ◌⊎◌, ℕ, List, ◌++◌, Option, Result, Ok, Err, Some, None}
+use Rattle.std.specs.Prelude.{◌≡◌, ◌↔◌, ◌⊎◌, ℕ, List, ◌++◌, Option, Ok, Err, Some, None}
 use Rattle.std.specs.Io.KnownBytes.{Appends}
 use Rattle.std.specs.Str.{IsUtf8}
 use Rattle.b3_check.specs.declared.file.NumberedLine.{NumberedLine}
@@ -10,7 +10,7 @@ use Rattle.b3_check.specs.Files.{file_at}
 use Rattle.b3_check.specs.Output.{AllBut}
 use Rattle.b3_check.specs.Reports.{Answer, IsRefused, IsReport, Verdict as LineVerdict, counts_of, report_text}
 use Rattle.b3_core.specs.Modes.{digest_of}
-use Rattle.b3_core.specs.Tree.{Inputs, Keying, tree_top}
+use Rattle.b3_core.specs.Tree.{Keying}
 use Rattle.edge.specs.declared.outcome.Cause.{Cause}
 use Rattle.edge.specs.declared.outcome.Cause.TheVariants.{CannotRead, CannotWrite, OutOfMemory}
 use Rattle.edge.specs.declared.outcome.Verdict.{Verdict}

@@ -1,5 +1,6 @@
 -- What a reader has to believe, each file behind those that it rests on.
 pub mod Checks
+pub mod Files
 pub mod Journals
 pub mod Audits
 pub mod Keys

@@ -1,5 +1,5 @@
 -- Names in lists.
-use Rattle.std.specs.Prelude.{◌==◌, ℕ, Bool, true, false, List, [], ◌∷◌, ◌++◌, Option, Some, None, length, option_map, if◌then◌else◌}
+use Rattle.std.specs.Prelude.{◌==◌, ℕ, Bool, List, [], ◌∷◌, ◌++◌, Option, Some, None, length, option_map, if◌then◌else◌}
 use Rattle.edge.specs.Lines.{line_feed}
 use Rattle.b3_check.specs.Names.{has_nul}
 

@@ -15,6 +15,7 @@ use Rattle.store_command_line.specs.declared.said.SumMode.{SumMode}
 use Rattle.store_command_line.specs.declared.said.SumMode.TheVariants.{Hash, Keyed, Derive}
 use Rattle.store_engines.specs.declared.sources.FileFault.{FileFault}
 use Rattle.store_engines.specs.declared.sources.Reason.{Reason}
+use Rattle.store_engines.specs.declared.sources.Reason.TheVariants.{IsFolder, Missing, NoPermission, NotUtf8, Unreadable}
 use Rattle.store_engines.specs.declared.sources.FileFault.TheVariants.{Failed, NoMemory}
 
 -- the mode that the options say
@@ -34,6 +35,14 @@ abbrev pub sum_text : Option ℕ → List ℕ → Keying → List ℕ → List �
 sum_text length name mode input = root_text length name (tree_top input 0 mode)
 
 -- ---- files
+
+-- a reason as it is told
+abbrev pub reason_text : Reason → List ℕ
+reason_text Missing = codes "no such file"
+reason_text IsFolder = codes "it is a folder"
+reason_text NoPermission = codes "no permission"
+reason_text NotUtf8 = codes "the name is not UTF-8"
+reason_text Unreadable = codes "it can't be read"
 
 -- what a source answers for a name that it doesn't end at: the root of what has it, or why there is none
 abbrev pub Answer : Type 0

@@ -3,20 +3,23 @@
 ghost use Rattle.std.specs.Prelude.{◌≡◌, ◌⊎◌, ℕ, List, None, Err, IfOk, IfSome};
 ghost use Rattle.std.specs.Str.{IsUtf8};
 ghost use Rattle.b3_core.specs.Tree.{tree_top};
+ghost use Rattle.store_engines.specs.Files.{IsSomeRoot};
 ghost use Rattle.store_engines.specs.Sums.{IsRootOfSome, mode_of};
 ghost use Rattle.store_engines.specs.declared.sources.FileFault.TheVariants.{Failed};
 ghost use Rattle.store_engines.specs.declared.sources.Reason.TheVariants.{NotUtf8};
 
+use crate::ahead::{Known, hash_runs, names_of_lines, next_names, small_root};
 use crate::sources::{FileFault, Reason, Sources};
 use crate::summing::mode_of;
-use b3_check::{NameFault, Names};
+use b3_check::{Name, NameFault, Names, NumberedLine};
 use b3_core::{Mode, Runtime, Top, Work};
-use b3_parallel::{Source, hash_all, hash_source};
+use b3_parallel::{Source, hash_all, hash_source, thread_count};
 use std::fs::File;
 use std::io;
 use std::io::{ErrorKind, Read, Write};
+use std::marker::Model;
 use std::os::unix::fs::FileExt;
-use std::rt::Files;
+use std::rt::HostRuntime;
 use std::thread::Threads;
 use store_command_line::SumMode;
 
@@ -36,30 +39,15 @@ impl Source for FileBytes {
     }
 }
 
-/// The files of the system. A name is a path, `-` too.
+// Hashes files, one at a time.
 #[derive(Drop)]
-pub struct SystemFiles<'a, R> {
-    rt: &'a R,
+struct FileHasher<'a, T> {
+    rt: &'a HostRuntime,
+    starter: &'a T,
     mode: Mode,
     threads: Option<u32>,
+    room: Vec<u8>,
     work: Work,
-}
-
-impl<'a, R: Files + AllocGlobal + Runtime> SystemFiles<'a, R> {
-    /// The files that `rt` reaches, hashed in a mode. A file is hashed by at most so many threads, and with `None` by as
-    /// many as there are processors.
-    pub fn new(rt: &'a R, mode: SumMode<'_>, threads: Option<u32>) -> SystemFiles<'a, R>
-        ensures mode { result.mode ≡ mode_of mode.entry }
-        ensures threads { result.threads ≡ threads }
-    {
-        let mut work = Work::new(rt);
-        SystemFiles {
-            rt,
-            mode: mode_of(mode, &mut work),
-            threads,
-            work,
-        }
-    }
 }
 
 /// Why an open or a read failed.
@@ -75,15 +63,15 @@ pub fn fault_of(error: &io::Error) -> FileFault
     }
 }
 
-impl<R: AllocGlobal + Threads + Runtime> SystemFiles<'_, R> {
-    // The root of what is read, by this thread.
+impl<T: Threads + Runtime> FileHasher<'_, T> {
+    // The root of what is read.
     fn stream_root<I: Read>(&mut self, input: &mut I) -> Result<Top, FileFault>
         ensures root { IsRootOfSome self.old.mode result }
         ensures mode { self.new.mode ≡ self.old.mode }
         ensures read { result ≡ Err (Failed NotUtf8) → ⊥ }
     {
-        let (rt, mode) = (self.rt, self.mode);
-        match hash_all(rt, rt.alloc(), &mode, input, self.threads, &mut self.work) {
+        let (starter, alloc, mode) = (self.starter, self.rt.alloc(), self.mode);
+        match hash_all(starter, alloc, &mode, input, self.threads, &mut self.work) {
             Ok(root) => Ok(root),
             Err(error) => Err(fault_of(&error)),
         }
@@ -100,10 +88,10 @@ impl<R: AllocGlobal + Threads + Runtime> SystemFiles<'_, R> {
         if !found.is_file() {
             return None;
         }
-        let (rt, mode) = (self.rt, self.mode);
+        let mode = self.mode;
         hash_source(
-            rt,
-            rt.alloc(),
+            self.starter,
+            self.rt.alloc(),
             &mode,
             file,
             found.len(),
@@ -111,13 +99,11 @@ impl<R: AllocGlobal + Threads + Runtime> SystemFiles<'_, R> {
             &mut self.work,
         )
     }
-}
 
-impl<R: Files<File = File> + AllocGlobal + Threads + Runtime> SystemFiles<'_, R> {
     // The root of all bytes of the file of a name.
     //
-    // Threads read a regular file of 16 MiB and more from any place, each the blocks that it takes. Where they can't, or it is shorter
-    // by then, this thread reads it from its beginning, and it is hashed as `sum` hashes its input.
+    // A small one is read whole. Threads read a regular file of 16 MiB and more from any place, each the blocks that it takes. Where they
+    // can't, or it is shorter by then, this thread reads it from its beginning, and it is hashed as `sum` hashes its input.
     fn file_root(&mut self, name: &[u8]) -> Result<Top, FileFault>
         ensures root { IsRootOfSome self.old.mode result }
         ensures mode { self.new.mode ≡ self.old.mode }
@@ -126,6 +112,10 @@ impl<R: Files<File = File> + AllocGlobal + Threads + Runtime> SystemFiles<'_, R>
         let Ok(path) = str::from_utf8(name) else {
             return Err(FileFault::Failed(Reason::NotUtf8));
         };
+        let mode = self.mode;
+        if let Some(root) = small_root(self.rt, &mode, name, &mut self.room, &mut self.work) {
+            return Ok(root);
+        }
         let mut file = match File::open(self.rt, path) {
             Ok(file) => FileBytes(file),
             Err(error) => return Err(fault_of(&error)),
@@ -137,17 +127,140 @@ impl<R: Files<File = File> + AllocGlobal + Threads + Runtime> SystemFiles<'_, R>
     }
 }
 
-impl<R: Files<File = File> + AllocGlobal + Threads + Runtime> Names for SystemFiles<'_, R> {
+/// The files of the system. A name is a path, `-` too. Contracts see the mode that they are hashed in, and by how many threads.
+///
+/// Names that are expected are looked up ahead, 1024 at a time: several threads hash the regular files among them that are neither empty nor
+/// have 1 MiB or more. Nothing else is opened before it is asked for, and whatever fails ahead is asked for again in its turn.
+#[derive(Drop)]
+pub struct SystemFiles<'a, T> {
+    hasher: FileHasher<'a, T>,
+    workers: usize,
+    known: Vec<Known>,
+    next: usize,
+}
+
+impl<'a, T> Model for SystemFiles<'a, T> {
+    ghost use Rattle.std.specs.Prelude.{All};
+    ghost use Rattle.store_engines.specs.Files.{IsKnown, Setting};
+
+    ghost Value = { Setting };
+
+    ghost view = { λ f. record { mode = f.hasher.mode; threads = f.hasher.threads } };
+
+    ghost invariant = { λ f. All (IsKnown f.hasher.mode) f.known.items };
+}
+
+impl<'a, T: Threads + Runtime> SystemFiles<'a, T> {
+    /// The files that `rt` reaches, hashed in a mode. A file is hashed by at most so many threads, which `starter` starts, and as many files
+    /// at a time; with `None` by as many as there are processors.
+    pub fn new(
+        rt: &'a HostRuntime,
+        starter: &'a T,
+        mode: SumMode<'_>,
+        threads: Option<u32>,
+    ) -> SystemFiles<'a, T>
+        ensures mode { result.mode ≡ mode_of mode.entry }
+        ensures threads { result.threads ≡ threads }
+    {
+        let mut work = Work::new(rt);
+        let hasher = FileHasher {
+            rt,
+            starter,
+            mode: mode_of(mode, &mut work),
+            threads,
+            room: Vec::new(rt.alloc()),
+            work,
+        };
+        SystemFiles {
+            hasher,
+            workers: thread_count(starter, threads),
+            known: Vec::new(rt.alloc()),
+            next: 0,
+        }
+    }
+
+    // Whether several names come next, several threads may hash, and nothing is left of what was looked up before.
+    fn looks_ahead(&self, coming: usize) -> bool {
+        1 < coming && 1 < self.workers && self.known.len() <= self.next
+    }
+
+    // Hashes files ahead, and keeps what is then known of them, in place of what was known.
+    fn look_up(&mut self, names: Vec<Known>)
+        ensures { self.new ≡ self.old }
+    {
+        let size = names.len().div_ceil(self.workers.max(1)).max(1);
+        let FileHasher {
+            rt,
+            starter,
+            mode,
+            ..
+        } = &self.hasher;
+        self.known = hash_runs(rt, starter, *mode, size, names);
+        self.next = 0;
+    }
+
+    // Looks up the next of some names ahead.
+    fn expect_names(&mut self, names: &[Name])
+        ensures { self.new ≡ self.old }
+    {
+        if !self.looks_ahead(names.len()) {
+            return;
+        }
+        if let Ok(names) = next_names(self.hasher.rt.alloc(), names) {
+            self.look_up(names);
+        }
+    }
+
+    // What is known of the next name, if it is this one. If it is another, nothing is known of any.
+    fn known_root(&mut self, name: &[u8]) -> Option<Top>
+        ensures root { IfSome result (IsSomeRoot self.old.mode name.now) }
+        ensures same { self.new ≡ self.old }
+    {
+        match self.known.get(self.next) {
+            Some(known) if known.name.as_slice() == name => {
+                self.next += 1;
+                known.root
+            }
+            _ => {
+                self.known.clear();
+                None
+            }
+        }
+    }
+
+    // The root of all bytes of the file of a name, as it was hashed ahead or as it is now.
+    fn root_of_file(&mut self, name: &[u8]) -> Result<Top, FileFault>
+        ensures root { IsRootOfSome self.old.mode result }
+        ensures mode { self.new.mode ≡ self.old.mode }
+        ensures utf8 { IsUtf8 name.now ⊎ (result ≡ Err (Failed NotUtf8)) }
+    {
+        match self.known_root(name) {
+            Some(root) => Ok(root),
+            None => self.hasher.file_root(name),
+        }
+    }
+}
+
+impl<T: Threads + Runtime> Names for SystemFiles<'_, T> {
     ghost use Rattle.std.specs.Prelude.{◌≡◌};
     ghost use Rattle.store_engines.specs.Checks.{IsAnswerOfFiles};
 
     ghost gives = { λ old name answer new. IsAnswerOfFiles old.mode name answer × (new.mode ≡ old.mode) };
 
+    fn expect(&mut self, lines: &[NumberedLine]) {
+        if !self.looks_ahead(lines.len()) {
+            return;
+        }
+        if let Ok(names) = names_of_lines(self.hasher.rt.alloc(), lines) {
+            self.look_up(names);
+        }
+    }
+
     /// The hash of all bytes of the file. No file has the name where the system says so, as of a link to nothing;
     /// any other failure, as of a directory, is `Unreadable`.
     fn digest_of(&mut self, name: &[u8]) -> Result<Option<[u8; 32]>, NameFault> {
-        match self.file_root(name) {
-            Ok(root) => Ok(Some(root.root32(&mut self.work))),
+        match self.root_of_file(name) {
+            Ok(root) => Ok(Some(root.root32(&mut self.hasher.work))),
             Err(FileFault::NoMemory) => Err(NameFault::NoMemory),
             Err(FileFault::Failed(reason)) => {
                 if reason == Reason::Missing {
@@ -162,15 +275,15 @@ impl<R: Files<File = File> + AllocGlobal + Threads + Runtime> Names for SystemFi
 
 /// The files of the system, where `-` is another input, and what is told goes to a writer.
 #[derive(Drop)]
-pub struct SystemInputs<'a, R, I: Read + Drop, E: Write + Drop> {
-    files: SystemFiles<'a, R>,
+pub struct SystemInputs<'a, T, I: Read + Drop, E: Write + Drop> {
+    files: SystemFiles<'a, T>,
     input: I,
     told: E,
 }
 
-impl<'a, R, I: Read + Drop, E: Write + Drop> SystemInputs<'a, R, I, E> {
+impl<'a, T, I: Read + Drop, E: Write + Drop> SystemInputs<'a, T, I, E> {
     /// These files and this input; what is told is written to `told`.
-    pub fn new(files: SystemFiles<'a, R>, input: I, told: E) -> SystemInputs<'a, R, I, E>
+    pub fn new(files: SystemFiles<'a, T>, input: I, told: E) -> SystemInputs<'a, T, I, E>
         ensures { result.files ≡ files.entry }
     {
         SystemInputs { files, input, told }
@@ -187,11 +300,7 @@ fn write_reason<E: Write>(name: &[u8], reason: Reason, told: &mut E) -> io::Resu
     told.flush()
 }
 
-impl<
-    R: Files<File = File> + AllocGlobal + Threads + Runtime,
-    I: Read + Drop,
-    E: Write + Drop,
-> Sources for SystemInputs<'_, R, I, E> {
+impl<T: Threads + Runtime, I: Read + Drop, E: Write + Drop> Sources for SystemInputs<'_, T, I, E> {
     ghost use Rattle.std.specs.Prelude.{◌≡◌};
     ghost use Rattle.store_engines.specs.Sums.{IsRootOfSome};
 
@@ -199,11 +308,15 @@ impl<
 
     ghost tells = { λ old name reason new. new.files.mode ≡ old.files.mode };
 
+    fn expect(&mut self, names: &[Name]) {
+        self.files.expect_names(names);
+    }
+
     fn root_of(&mut self, name: &[u8]) -> Result<Top, FileFault> {
         if name == b"-".as_slice() {
-            self.files.stream_root(&mut self.input)
+            self.files.hasher.stream_root(&mut self.input)
         } else {
-            self.files.file_root(name)
+            self.files.root_of_file(name)
         }
     }
 

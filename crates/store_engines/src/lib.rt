@@ -12,13 +12,15 @@
 //! | `migrate` | a journal's text | the text of version 2 of its entries |
 //!
 //! An engine ends by its `Verdict`, or by the `Cause` that stopped it. `SystemFiles` are the names that `check` asks in the
-//! program, and `SystemInputs` the sources of `sum_files`. `read_key` and `read_names` read the key and the names that `sum` takes from files.
+//! program, and `SystemInputs` the sources of `sum_files`; several threads hash small files of both before they are asked for.
+//! `read_key` and `read_names` read the key and the names that `sum` takes from files.
 //!
 //! Contracts know what a reader gives and what a writer took where their types tell it, as those of slices and of vectors do. The
 //! texts and verdicts are defined in `specs/`: `Sums`, `Checks`, `Uploads`, `Journals`, `Audits` and `Migrations`; those of a script
 //! in `store_script`, and those of a session in `store_session`.
 #![tactic(auto)]
 
+mod ahead;
 mod auditing;
 mod checking;
 mod files;

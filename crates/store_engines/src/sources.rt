@@ -1,10 +1,12 @@
 //! Where the bytes come from that are hashed.
 
-ghost use Rattle.std.specs.Prelude.{ℕ, List, Result};
+ghost use Rattle.std.specs.Prelude.{◌≡◌, ℕ, List, Result};
 ghost use Rattle.b3_core.specs.Tree.{Inputs};
+ghost use Rattle.store_engines.specs.Sums.{reason_text};
 ghost use Rattle.store_engines.specs.declared.sources.FileFault.{FileFault as Refusal};
 ghost use Rattle.store_engines.specs.declared.sources.Reason.{Reason as Cause};
 
+use b3_check::Name;
 use b3_core::Top;
 
 /// Why the bytes of a name can't be had.
@@ -24,7 +26,9 @@ pub enum Reason {
 
 impl Reason {
     /// The reason as it is told.
-    pub fn text(self) -> &'static str {
+    pub fn text(self) -> &'static str
+        ensures { result.now ≡ reason_text self }
+    {
         match self {
             Reason::Missing => "no such file",
             Reason::IsFolder => "it is a folder",
@@ -51,6 +55,12 @@ pub trait Sources {
 
     // A call that tells why there is no root may leave the state after.
     ghost tells: { Self → List ℕ → Cause → Self → Type 0 };
+
+    /// Tells which names come next, in their order, so that they can be looked up ahead. It is a hint: no answer hangs on it, and any other
+    /// name may be asked for.
+    fn expect(&mut self, _names: &[Name])
+        ensures { self.new ≡ self.old }
+    {}
 
     /// The root of all bytes of what has the name.
     fn root_of(&mut self, name: &[u8]) -> Result<Top, FileFault>

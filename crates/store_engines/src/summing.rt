@@ -132,7 +132,7 @@ pub fn sum<T: Threads + Runtime, R: Read, W: Write>(
 
 /// Writes the hash of what has each of the names, in order, each when it is known: its check line, or with a length the digits of so many
 /// bytes of the extended output. Where there is no root for a name, the sources are told, nothing is written of it, and the next name is
-/// next. `Good` where there is a root for each.
+/// next. `Good` where there is a root for each. Before each name it tells the sources which names come next.
 ///
 /// It stops at the first write that fails, or where memory is refused, to the sources too.
 pub fn sum_files<S: Sources, W: Write>(
@@ -148,7 +148,8 @@ pub fn sum_files<S: Sources, W: Write>(
     ensures stopped { IfErr result (λ cause. IsSumStopped S.gives S.tells length sources.old names.now cause sources.new (W.contents writer.old) (W.contents writer.new)) }
 {
     let mut verdict = Verdict::Good;
-    for name in names {
+    for (index, name) in names.iter().enumerate() {
+        sources.expect(&names[index..]);
         let found = sum_file(alloc, length, name, sources, writer, work)?;
         verdict = both(verdict, found);
     }

@@ -1,5 +1,5 @@
 use Rattle.b3_check.proofs.Reporting.{IsUpTo}
 use Rattle.b3_check.proofs.verifying.verify.Given as goal
 
-abbrev pub invariant-loop-line : goal.invariant-loop-line
-invariant-loop-line g l = IsUpTo g.N.Names.gives l.fn.shown l.fn.names l.fn.file l.line-index l.names l.counts (g.W.Write.contents l.fn.writer) (g.W.Write.contents l.writer)
+abbrev pub invariant-loop-index : goal.invariant-loop-index
+invariant-loop-index g l = IsUpTo g.N.Names.gives l.fn.shown l.fn.names l.fn.file l.index l.names l.counts (g.W.Write.contents l.fn.writer) (g.W.Write.contents l.writer)

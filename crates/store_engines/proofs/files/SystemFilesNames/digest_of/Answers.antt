@@ -8,5 +8,5 @@ unfolding digest_of
 returns-in-Ok g c =
     let root = c.in-Ok.ensures.root in (
       (elim c.in-Ok.ensures.utf8 [ inl utf8 ↦ utf8 | inr other ↦ absurd (cc) ], (root.0, c.root32.ensures.bytes ∙ ap (λ top. output_of top 0 32) root.1)),
-      c.in-Ok.ensures.mode,
+      ap (λ setting. setting.mode) c.self.view_is ∙ c.in-Ok.ensures.mode,
     )

@@ -1,0 +1,194 @@
+//! Files that are hashed before they are asked for, by several threads.
+
+ghost use Rattle.std.specs.Prelude.{◌≡◌, ◌<◌, All, IfErr, IfOk, IfSome};
+ghost use Rattle.b3_core.specs.Tree.{Keying};
+ghost use Rattle.store_engines.specs.Files.{IsKnown, IsSomeRoot};
+
+use b3_check::{Name, NumberedLine};
+use b3_core::{Mode, Top, Work};
+use std::alloc::{AllocError, Global};
+use std::fs::File;
+use std::io::Read;
+use std::rt::HostRuntime;
+use std::thread::{Promise, PromisedHandle, Threads};
+use std::{fs, thread};
+
+// A file of so many bytes or more is not small.
+const LIMIT: u64 = 1 << 20;
+
+// How many names are looked up ahead at a time.
+const STRETCH: usize = 1024;
+
+/// A name, and the root of its file, where that is known.
+#[derive(Drop)]
+pub(crate) struct Known {
+    pub(crate) name: Vec<u8>,
+    pub(crate) root: Option<Top>,
+}
+
+// Whether a regular file of less than 1 MiB has the name. One that tells no length may be the system's, and reading it may wait.
+fn is_small(rt: &HostRuntime, path: &str) -> bool {
+    match fs::metadata(rt, path) {
+        Ok(found) => found.is_file() && 0 < found.len() && found.len() < LIMIT,
+        Err(_) => false,
+    }
+}
+
+// Reads all bytes of a file, and answers whether it could, and they are less than 1 MiB.
+fn read_small(rt: &HostRuntime, path: &str, room: &mut Vec<u8>) -> bool {
+    let Ok(file) = File::open(rt, path) else {
+        return false;
+    };
+    room.clear();
+    match file.take(LIMIT).read_to_end(room) {
+        Ok(count) => (count as u64) < LIMIT,
+        Err(_) => false,
+    }
+}
+
+/// The root of all bytes of a regular file of less than 1 MiB. There is none of another, or of an empty one, which is not opened, and none where
+/// the file can't be read: whoever asks for it reads it as any other, and learns why. `room` is memory for the bytes, and grows to fit them.
+pub(crate) fn small_root(
+    rt: &HostRuntime,
+    mode: &Mode,
+    name: &[u8],
+    room: &mut Vec<u8>,
+    work: &mut Work,
+) -> Option<Top>
+    ensures { IfSome result (IsSomeRoot mode.now name.now) }
+{
+    let Ok(path) = str::from_utf8(name) else {
+        return None;
+    };
+    if is_small(rt, path) && read_small(rt, path, room) {
+        Some(Top::of_input(mode, room.as_slice(), work))
+    } else {
+        None
+    }
+}
+
+// Hashes the small ones of some files, one after the other.
+fn hash_each(rt: &HostRuntime, mode: &Mode, names: &mut [Known], work: &mut Work)
+    ensures { All (IsKnown mode.now) names.new }
+{
+    let mut room = Vec::new(rt.alloc());
+    for i in 0..names.len() {
+        hash_known(rt, mode, &mut names[i], &mut room, work);
+    }
+}
+
+// Hashes a small file.
+fn hash_known(rt: &HostRuntime, mode: &Mode, known: &mut Known, room: &mut Vec<u8>, work: &mut Work)
+    ensures { IsKnown mode.now known.new }
+{
+    known.root = small_root(rt, mode, known.name.as_slice(), room, work);
+}
+
+// Hashes the small ones of some files by this thread.
+fn hash_run(rt: HostRuntime, mode: Mode, names: Vec<Known>, work: Work) -> Vec<Known>
+    ensures { All (IsKnown mode) result.items }
+{
+    let mut known = names;
+    let mut work = work;
+    hash_each(&rt, &mode, known.as_mut_slice(), &mut work);
+    known
+}
+
+// The promise that what is known holds in a mode.
+#[derive(Drop)]
+struct KnownIn(Mode);
+
+impl Promise<Vec<Known>> for KnownIn {
+    ghost kept_by = { λ p r. All (IsKnown p.0) r.items };
+}
+
+type Handle = PromisedHandle<Vec<Known>, KnownIn>;
+
+// Hashes the small ones of some files by a thread of its own, or by this one where none can be started.
+fn start<T: Threads>(
+    rt: &HostRuntime,
+    starter: &T,
+    mode: Mode,
+    names: Vec<Known>,
+    work: Work,
+) -> Result<Handle, Vec<Known>>
+    ensures started { IfOk result (λ h. h.promise.0 ≡ mode) }
+    ensures here { IfErr result (λ known. All (IsKnown mode) known.items) }
+{
+    let rt = *rt;
+    match thread::spawn_with(
+        starter,
+        KnownIn(mode),
+        move || hash_run(rt, mode, names, work),
+    ) {
+        Ok(handle) => Ok(handle),
+        Err(refused) => Err((refused.value)()),
+    }
+}
+
+// What is known of some names, and of others behind them, which are left out where memory is refused.
+fn joined(first: Vec<Known>, others: Vec<Known>) -> Vec<Known>
+    ensures { (mode : Keying) → All (IsKnown mode) first.items → All (IsKnown mode) others.items → All (IsKnown mode) result.items }
+{
+    let mut all = first;
+    let mut others = others;
+    let _ = all.append(&mut others);
+    all
+}
+
+/// Hashes the small ones of some files, by a thread for each run of so many, of which the last is this one. Where memory or a thread is refused,
+/// fewer threads hash.
+pub(crate) fn hash_runs<T: Threads>(
+    rt: &HostRuntime,
+    starter: &T,
+    mode: Mode,
+    size: usize,
+    names: Vec<Known>,
+) -> Vec<Known>
+    requires { 0 < size }
+    ensures { All (IsKnown mode) result.items }
+{
+    let mut mine = names;
+    if mine.len() <= size {
+        return hash_run(*rt, mode, mine, Work::new(rt));
+    }
+    let Ok(others) = mine.split_off(size) else {
+        return hash_run(*rt, mode, mine, Work::new(rt));
+    };
+    let started = start(rt, starter, mode, mine, Work::new(rt));
+    let others = hash_runs(rt, starter, mode, size, others);
+    match started {
+        Ok(handle) => joined(handle.join(starter), others),
+        Err(known) => joined(known, others),
+    }
+}
+
+// Adds a name of which nothing is known.
+fn push_name(known: &mut Vec<Known>, alloc: Global, name: &[u8]) -> Result<(), AllocError> {
+    let name = Vec::from_slice(alloc, name)?;
+    known.push(Known { name, root: None })?;
+    Ok(())
+}
+
+/// The next names, up to 1024, of which nothing is known.
+pub(crate) fn next_names(alloc: Global, names: &[Name]) -> Result<Vec<Known>, AllocError> {
+    let mut known = Vec::new(alloc);
+    for name in &names[..names.len().min(STRETCH)] {
+        push_name(&mut known, alloc, name.as_bytes())?;
+    }
+    Ok(known)
+}
+
+/// The names in the next lines, up to 1024, of which nothing is known.
+pub(crate) fn names_of_lines(
+    alloc: Global,
+    lines: &[NumberedLine],
+) -> Result<Vec<Known>, AllocError> {
+    let mut known = Vec::new(alloc);
+    for line in &lines[..lines.len().min(STRETCH)] {
+        if let Ok(line) = &line.line {
+            push_name(&mut known, alloc, line.name.as_bytes())?;
+        }
+    }
+    Ok(known)
+}
