@@ -4,6 +4,7 @@ ghost use Rattle.std.specs.Prelude.{All, IfOk};
 ghost use Rattle.b3_check.specs.Names.{IsName};
 ghost use Rattle.store_command_line.specs.Ranges.{IsSumInRange};
 
+use crate::standard::StandardInput;
 use crate::telling::{misused, opened, status, stopped};
 use b3_check::Name;
 use b3_core::{Runtime, Work};
@@ -15,7 +16,7 @@ use store_command_line::{
 };
 use store_engines::{
     Cause, SumRequest, SystemFiles, SystemInputs, Verdict, check, names_of, read_key, read_names,
-    sum, sum_files,
+    sum, sum_files, write_root,
 };
 
 // The mode that is asked for, or the status where its key can't be had.
@@ -64,12 +65,25 @@ fn sum_standard<T: Threads + Runtime>(
     requires { IsName request.now.name.now }
 {
     let mut work = Work::new(rt);
-    let (mut reader, mut writer) = (rt.stdin(), io::writer(rt));
+    let (mut input, mut writer) = (StandardInput::new(rt), io::writer(rt));
+    let mut files = SystemFiles::new(rt, threads, request.mode, request.threads);
+    if let Some(root) = files.root_of_file_input(&mut input) {
+        let name = request.name.as_bytes();
+        write_root(
+            rt.alloc(),
+            request.length,
+            name,
+            root,
+            &mut writer,
+            &mut work,
+        )?;
+        return Ok(Verdict::Good);
+    }
     sum(
         threads,
         rt.alloc(),
         request,
-        &mut reader,
+        &mut input,
         &mut writer,
         &mut work,
     )?;
@@ -88,7 +102,7 @@ fn sum_named<T: Threads + Runtime>(
         return Err(Cause::OutOfMemory);
     };
     let files = SystemFiles::new(rt, threads, mode, options.threads);
-    let mut inputs = SystemInputs::new(files, rt.stdin(), rt.stderr());
+    let mut inputs = SystemInputs::new(files, StandardInput::new(rt), rt.stderr());
     let mut work = Work::new(rt);
     sum_files(
         rt.alloc(),

@@ -4,6 +4,7 @@
 ghost use Rattle.store_command_line.specs.Ranges.{InRange};
 
 mod inputs;
+mod standard;
 mod telling;
 
 use b3_core::{Runtime, Work};

@@ -9,7 +9,7 @@ ghost use Rattle.store_engines.specs.declared.sources.FileFault.TheVariants.{Fai
 ghost use Rattle.store_engines.specs.declared.sources.Reason.TheVariants.{NotUtf8};
 
 use crate::ahead::{Known, hash_runs, names_of_lines, next_names, small_root};
-use crate::sources::{FileFault, Reason, Sources};
+use crate::sources::{FileFault, Reason, Sources, Standing};
 use crate::summing::mode_of;
 use b3_check::{Name, NameFault, Names, NumberedLine};
 use b3_core::{Mode, Runtime, Top, Work};
@@ -23,19 +23,28 @@ use std::rt::HostRuntime;
 use std::thread::Threads;
 use store_command_line::SumMode;
 
-// The bytes of an open file, which threads read without moving its position.
+// The bytes of an open file from a place on, which threads read without moving its position.
 #[derive(Drop)]
-struct FileBytes(File);
+struct FileBytes {
+    file: File,
+    start: u64,
+}
 
 impl Source for FileBytes {
     ghost bytes = { λ _. None };
 
     fn again(&self) -> io::Result<FileBytes> {
-        Ok(FileBytes(self.0.try_clone()?))
+        Ok(FileBytes {
+            file: self.file.try_clone()?,
+            start: self.start,
+        })
     }
 
     fn read_at(&self, buf: &mut [u8], start: u64) -> io::Result<usize> {
-        self.0.read_at(buf, start)
+        match self.start.checked_add(start) {
+            Some(place) => self.file.read_at(buf, place),
+            None => Err(io::Error::from(ErrorKind::FileTooLarge)),
+        }
     }
 }
 
@@ -82,7 +91,7 @@ impl<T: Threads + Runtime> FileHasher<'_, T> {
         ensures root { IfSome result (λ top. (bytes : List ℕ) × (top ≡ tree_top bytes 0 self.old.mode)) }
         ensures mode { self.new.mode ≡ self.old.mode }
     {
-        let Ok(found) = file.0.metadata() else {
+        let Ok(found) = file.file.metadata() else {
             return None;
         };
         if !found.is_file() {
@@ -94,7 +103,7 @@ impl<T: Threads + Runtime> FileHasher<'_, T> {
             self.rt.alloc(),
             &mode,
             file,
-            found.len(),
+            found.len().saturating_sub(file.start),
             self.threads,
             &mut self.work,
         )
@@ -117,13 +126,26 @@ impl<T: Threads + Runtime> FileHasher<'_, T> {
             return Ok(root);
         }
         let mut file = match File::open(self.rt, path) {
-            Ok(file) => FileBytes(file),
+            Ok(file) => FileBytes { file, start: 0 },
             Err(error) => return Err(fault_of(&error)),
         };
         if let Some(root) = self.root_from_places(&file) {
             return Ok(root);
         }
-        self.stream_root(&mut file.0)
+        self.stream_root(&mut file.file)
+    }
+
+    // The root of all bytes that an input has left, where it is an open file that threads can read from any place. It has none left then.
+    fn standing_root<I: Standing>(&mut self, input: &mut I) -> Option<Top>
+        ensures root { IfSome result (λ top. (bytes : List ℕ) × (top ≡ tree_top bytes 0 self.old.mode)) }
+        ensures mode { self.new.mode ≡ self.old.mode }
+    {
+        let Some((file, start)) = input.as_file() else {
+            return None;
+        };
+        let root = self.root_from_places(&FileBytes { file, start })?;
+        input.skip_all();
+        Some(root)
     }
 }
 
@@ -177,6 +199,15 @@ impl<'a, T: Threads + Runtime> SystemFiles<'a, T> {
             known: Vec::new(rt.alloc()),
             next: 0,
         }
+    }
+
+    /// The root of all bytes that an input has left, where it is an open file that several threads can read from any place: a regular one,
+    /// with 16 MiB and more. It has none left then.
+    pub fn root_of_file_input<I: Standing>(&mut self, input: &mut I) -> Option<Top>
+        ensures root { IfSome result (λ top. (bytes : List ℕ) × (top ≡ tree_top bytes 0 self.old.mode)) }
+        ensures mode { self.new.mode ≡ self.old.mode }
+    {
+        self.hasher.standing_root(input)
     }
 
     // Whether several names come next, several threads may hash, and nothing is left of what was looked up before.
@@ -275,13 +306,13 @@ impl<T: Threads + Runtime> Names for SystemFiles<'_, T> {
 
 /// The files of the system, where `-` is another input, and what is told goes to a writer.
 #[derive(Drop)]
-pub struct SystemInputs<'a, T, I: Read + Drop, E: Write + Drop> {
+pub struct SystemInputs<'a, T, I: Standing + Drop, E: Write + Drop> {
     files: SystemFiles<'a, T>,
     input: I,
     told: E,
 }
 
-impl<'a, T, I: Read + Drop, E: Write + Drop> SystemInputs<'a, T, I, E> {
+impl<'a, T, I: Standing + Drop, E: Write + Drop> SystemInputs<'a, T, I, E> {
     /// These files and this input; what is told is written to `told`.
     pub fn new(files: SystemFiles<'a, T>, input: I, told: E) -> SystemInputs<'a, T, I, E>
         ensures { result.files ≡ files.entry }
@@ -300,7 +331,8 @@ fn write_reason<E: Write>(name: &[u8], reason: Reason, told: &mut E) -> io::Resu
     told.flush()
 }
 
-impl<T: Threads + Runtime, I: Read + Drop, E: Write + Drop> Sources for SystemInputs<'_, T, I, E> {
+impl<T: Threads + Runtime, I: Standing + Drop, E: Write + Drop> Sources
+    for SystemInputs<'_, T, I, E> {
     ghost use Rattle.std.specs.Prelude.{◌≡◌};
     ghost use Rattle.store_engines.specs.Sums.{IsRootOfSome};
 
@@ -313,10 +345,12 @@ impl<T: Threads + Runtime, I: Read + Drop, E: Write + Drop> Sources for SystemIn
     }
 
     fn root_of(&mut self, name: &[u8]) -> Result<Top, FileFault> {
-        if name == b"-".as_slice() {
-            self.files.hasher.stream_root(&mut self.input)
-        } else {
-            self.files.root_of_file(name)
+        if name != b"-".as_slice() {
+            return self.files.root_of_file(name);
+        }
+        match self.files.hasher.standing_root(&mut self.input) {
+            Some(root) => Ok(root),
+            None => self.files.hasher.stream_root(&mut self.input),
         }
     }
 

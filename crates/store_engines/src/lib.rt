@@ -12,7 +12,8 @@
 //! | `migrate` | a journal's text | the text of version 2 of its entries |
 //!
 //! An engine ends by its `Verdict`, or by the `Cause` that stopped it. `SystemFiles` are the names that `check` asks in the
-//! program, and `SystemInputs` the sources of `sum_files`; several threads hash small files of both before they are asked for.
+//! program, and `SystemInputs` the sources of `sum_files`; several threads hash small files of both before they are asked for. Where the
+//! input of `sum` is an open file, `SystemFiles::root_of_file_input` gives its root, and `write_root` writes what `sum` does.
 //! `read_key` and `read_names` read the key and the names that `sum` takes from files.
 //!
 //! Contracts know what a reader gives and what a writer took where their types tell it, as those of slices and of vectors do. The
@@ -40,9 +41,9 @@ pub use files::{SystemFiles, SystemInputs, fault_of};
 pub use keys::read_key;
 pub use lists::{names_of, read_names};
 pub use migrating::migrate;
-pub use sources::{FileFault, Reason, Sources};
+pub use sources::{FileFault, Reason, Sources, Standing};
 pub use store_ledger::ALL_PARTS;
 pub use store_script::run;
 pub use store_session::serve;
-pub use summing::{SumRequest, sum, sum_files};
+pub use summing::{SumRequest, sum, sum_files, write_root};
 pub use uploading::upload;

@@ -8,6 +8,8 @@ ghost use Rattle.store_engines.specs.declared.sources.Reason.{Reason as Cause};
 
 use b3_check::Name;
 use b3_core::Top;
+use std::fs::File;
+use std::io::Read;
 
 /// Why the bytes of a name can't be had.
 #[derive(Clone, Copy, Debug, PartialEq, Eq)]
@@ -69,4 +71,13 @@ pub trait Sources {
     /// Tells the user why there is no root for a name.
     fn tell(&mut self, name: &[u8], reason: Reason)
         ensures { tells self.old name.now reason self.new };
+}
+
+/// An input that may be an open file, as standard input is where a file is redirected to it.
+pub trait Standing: Read {
+    /// The file, opened for reading, and the place in it where the input stands.
+    fn as_file(&self) -> Option<(File, u64)>;
+
+    /// Leaves out all that the file has from there on.
+    fn skip_all(&mut self);
 }

@@ -97,6 +97,27 @@ fn text_of(
     }
 }
 
+/// Writes what is written of the input of which this is the root: without a length the check line of its hash and the name, with one the
+/// digits of so many bytes of the extended output, and a line feed.
+///
+/// It stops where memory is refused, with nothing written, or where a write fails.
+pub fn write_root<W: Write>(
+    alloc: Global,
+    length: Option<u32>,
+    name: &[u8],
+    root: Top,
+    writer: &mut W,
+    work: &mut Work,
+) -> Result<(), Cause>
+    requires { IsName name.now }
+    ensures written { OnOk result (Appends (W.contents writer.old) (W.contents writer.new) (root_text length name.now root)) }
+    ensures cause { IfErr result (λ cause. cause ≢ Cause.CannotRead) }
+    ensures silent { IfErr result (λ cause. cause ≡ Cause.OutOfMemory → W.contents writer.new ≡ W.contents writer.old) }
+{
+    let text = text_of(alloc, length, name, root, work)?;
+    write_all(writer, &text)
+}
+
 /// Writes the hash of all its input, as it is asked for.
 ///
 /// Without a length that is the check line with the name that is asked for; with a length it is the digits of so many bytes of the
@@ -126,8 +147,8 @@ pub fn sum<T: Threads + Runtime, R: Read, W: Write>(
         Ok(root) => root,
         Err(error) => return Err(read_cause(&error)),
     };
-    let text = text_of(alloc, request.length, request.name.as_bytes(), root, work)?;
-    write_all(writer, &text)
+    let name = request.name.as_bytes();
+    write_root(alloc, request.length, name, root, writer, work)
 }
 
 /// Writes the hash of what has each of the names, in order, each when it is known: its check line, or with a length the digits of so many
@@ -182,8 +203,7 @@ fn sum_file<S: Sources, W: Write>(
     let bytes = name.as_bytes();
     match sources.root_of(bytes) {
         Ok(root) => {
-            let text = text_of(alloc, length, bytes, root, work)?;
-            write_all(writer, &text)?;
+            write_root(alloc, length, bytes, root, writer, work)?;
             Ok(Verdict::Good)
         }
         Err(FileFault::Failed(reason)) => {

@@ -5,10 +5,10 @@ use Rattle.store_engines.specs.Sums.{root_text}
 use Rattle.store_engines.specs.declared.sources.FileFault.TheVariants.{Failed}
 use Rattle.store_engines.proofs.summing.sum_file.Goals as goal
 
-pub returns-in_ok-write_all-in-Ok-clause-summed : goal.returns-in_ok-write_all-in-Ok-clause-summed
-returns-in_ok-write_all-in-Ok-clause-summed g c =
+pub returns-in_ok-write_root-in-Ok-clause-summed : goal.returns-in_ok-write_root-in-Ok-clause-summed
+returns-in_ok-write_root-in-Ok-clause-summed g c =
     let given : g.S.Sources.gives c.args.sources.now c.args.name.now (Ok c.in-Ok.root) c.root_of.new.self = search rules in
-    let wrote : Appends (g.W.Write.contents c.args.writer.now) (g.W.Write.contents c.write_all.new.writer) (root_text c.args.length c.args.name.now c.in-Ok.root) = search rules in
+    let wrote : Appends (g.W.Write.contents c.args.writer.now) (g.W.Write.contents c.write_root.new.writer) (root_text c.args.length c.args.name.now c.in-Ok.root) = search rules in
     record { answer = Ok c.in-Ok.root; answered = given; wrote = wrote; good = refl }
 
 pub returns-in-Err-Failed-clause-summed : goal.returns-in-Err-Failed-clause-summed
