@@ -4,7 +4,7 @@ ghost use Rattle.std.specs.Prelude.{All, IfOk};
 ghost use Rattle.b3_check.specs.Names.{IsName};
 ghost use Rattle.store_command_line.specs.Ranges.{IsSumInRange};
 
-use crate::standard::StandardInput;
+use crate::standard::{StandardError, StandardInput};
 use crate::telling::{misused, opened, status, stopped};
 use b3_check::Name;
 use b3_core::{Runtime, Work};
@@ -102,7 +102,7 @@ fn sum_named<T: Threads + Runtime>(
         return Err(Cause::OutOfMemory);
     };
     let files = SystemFiles::new(rt, threads, mode, options.threads);
-    let mut inputs = SystemInputs::new(files, StandardInput::new(rt), rt.stderr());
+    let mut inputs = SystemInputs::new(files, StandardInput::new(rt), StandardError::new(rt));
     let mut work = Work::new(rt);
     sum_files(
         rt.alloc(),

@@ -4,19 +4,21 @@
 ghost use Rattle.store_command_line.specs.Ranges.{InRange};
 
 mod inputs;
+mod progress;
 mod standard;
 mod telling;
 
 use b3_core::{Runtime, Work};
 use inputs::{check_status, sum_status};
+use progress::with_progress;
 use std::io;
-use std::io::{BufReader, BufWriter, ErrorKind};
+use std::io::{BufReader, BufWriter, ErrorKind, IsTerminal};
 use std::marker::Brand;
 use std::process::ExitCode;
 use std::sync::Wait;
 use std::sync::ledger::Blank;
 use std::thread::Threads;
-use store_command_line::{Fault, Options, UploadOptions, options};
+use store_command_line::{Fault, Options, SumInputs, UploadOptions, options};
 use store_engines::{ALL_PARTS, Cause, Verdict, audit, migrate, run, serve, upload};
 use telling::{GOOD, USAGE, status, stopped};
 
@@ -101,6 +103,40 @@ fn perform<T: Threads + Wait + Sync + Runtime>(
     }
 }
 
+// Whether progress is told: where it is not unwanted, standard error is a terminal, and no lines go to a terminal meanwhile.
+fn tells_progress(rt: &HostRuntime, options: &Options<'_>) -> bool {
+    let (is_unwanted, writes_lines) = match options {
+        Options::Sum(options) => (
+            options.no_progress,
+            !matches!(options.inputs, SumInputs::Standard(_)),
+        ),
+        Options::Check(options) => (options.no_progress, true),
+        Options::Upload(options) => (options.no_progress, false),
+        _ => return false,
+    };
+    !is_unwanted && rt.stderr().is_terminal() && !(writes_lines && rt.stdout().is_terminal())
+}
+
+// Does what is asked for, with progress told where it is wanted, and answers the status.
+fn perform_telling<T: Threads + Wait + Sync + Runtime>(
+    rt: &HostRuntime,
+    threads: &T,
+    options: &Options<'_>,
+) -> u8
+    requires { InRange options.now }
+{
+    if !tells_progress(rt, options) {
+        return perform(rt, threads, options);
+    }
+    with_progress(
+        rt,
+        threads,
+        move || -> u8
+            requires { InRange options.now }
+        { perform(rt, threads, options) },
+    )
+}
+
 // Tells why there are no options, and answers the status.
 fn unusable(rt: &HostRuntime, fault: Fault) -> u8 {
     match fault {
@@ -122,7 +158,7 @@ fn main(rt: HostRuntime) -> ExitCode {
         Err(fault) => return ExitCode::from(unusable(&rt, fault)),
     };
     let status = match options(rt.alloc(), words.as_slice()) {
-        Ok(options) => perform(&rt, &rt, &options),
+        Ok(options) => perform_telling(&rt, &rt, &options),
         Err(fault) => unusable(&rt, fault),
     };
     ExitCode::from(status)

@@ -1,7 +1,7 @@
-//! Standard input.
+//! The standard streams.
 
 use std::fs::File;
-use std::io::Read;
+use std::io::{IsTerminal, Read, Write};
 use std::rt::Stdin;
 use std::{fs, io};
 use store_engines::Standing;
@@ -45,5 +45,34 @@ impl Standing for StandardInput<'_> {
 
     fn skip_all(&mut self) {
         let _ = libc::lseek(libc::STDIN_FILENO, 0, libc::SEEK_END);
+    }
+}
+
+// What a terminal takes to empty the rest of the line that the cursor is in.
+const EMPTIED: &[u8] = b"\x1b[K";
+
+/// Standard error, where a line of progress may stand.
+#[derive(Drop)]
+pub(crate) struct StandardError<'a> {
+    rt: &'a HostRuntime,
+}
+
+impl<'a> StandardError<'a> {
+    pub(crate) fn new(rt: &'a HostRuntime) -> StandardError<'a> {
+        StandardError { rt }
+    }
+}
+
+impl Write for StandardError<'_> {
+    fn write(&mut self, buf: &[u8]) -> io::Result<usize> {
+        let mut stderr = self.rt.stderr();
+        if stderr.is_terminal() {
+            stderr.write_all(EMPTIED)?;
+        }
+        stderr.write(buf)
+    }
+
+    fn flush(&mut self) -> io::Result<()> {
+        Ok(())
     }
 }
