@@ -1,6 +1,8 @@
 pub mod Followed
 pub mod Forests
 pub mod Gaps
+pub mod Lent
+pub mod Stretches
 pub mod Subtrees
 pub mod Texts
 pub mod Parts
