@@ -1,4 +1,6 @@
 -- What a reader has to believe, each file behind those that it rests on.
+pub mod Lent
+pub mod Stretches
 pub mod Parts
 pub mod Gaps
 pub mod Texts

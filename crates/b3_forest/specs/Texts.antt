@@ -40,6 +40,9 @@ segment_text p = codes "Segment" ++ bytes_text p.0 (length p.1)
 abbrev pub part_refused_text : PartFault → ℕ → List ℕ
 part_refused_text fault len = codes "PartRefused { fault: " ++ (part_fault_text fault ++ (codes ", bytes: " ++ (decimal len ++ codes " }")))
 
+abbrev pub share_refused_text : PartFault → ℕ → List ℕ
+share_refused_text fault len = codes "ShareRefused { fault: " ++ (part_fault_text fault ++ (codes ", bytes: " ++ (decimal len ++ codes " }")))
+
 abbrev pub add_refused_text : AddFault → Part → List ℕ
 add_refused_text fault p = codes "AddRefused { fault: " ++ (add_fault_text fault ++ (codes ", part: " ++ (prepared_text p ++ codes " }")))
 

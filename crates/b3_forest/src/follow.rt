@@ -6,10 +6,12 @@ ghost use Rattle.b3_core.specs.Modes.{hash_mode};
 ghost use Rattle.b3_core.specs.Tree.{tree_top};
 ghost use Rattle.b3_core.specs.Work.{counted};
 ghost use Rattle.b3_forest.specs.Followed.{AllNoted, IsFirstUnnoted, IsNoted, IsNotedWith, IsRefused, MayNote, bytes_at, noting_merges, pieces_noted};
+ghost use Rattle.b3_forest.specs.Lent.{lent_bytes};
 ghost use Rattle.store_upload.specs.Uploads.{closed_plan, most_bytes};
 ghost use Rattle.b3_forest.specs.Texts.{follow_text};
 
 use crate::held;
+use crate::lent::Lent;
 use crate::piece::Subtree;
 use crate::prepared::Prepared;
 use crate::refusal::{Incomplete, NoteFault};
@@ -24,19 +26,20 @@ use store_upload::{Plan, TooLong, upload_laws};
 /// The parts of an upload whose bytes are lent: the pieces of those that were noted, without copies of their bytes.
 #[derive(Drop)]
 pub struct Follow<'a> {
-    bytes: &'a [u8],
+    lent: Lent<'a>,
     subtrees: BTreeMap<u64, Subtree>,
 }
 
 impl<'a> Model for Follow<'a> {
     ghost use Rattle.store_upload.specs.Uploads.{most_bytes};
     ghost use Rattle.b3_forest.specs.Followed.{Followed, Follows, followed};
+    ghost use Rattle.b3_forest.specs.Lent.{lent_bytes};
 
     ghost Value = { Followed };
 
-    ghost view = { λ f. followed f.bytes.now f.subtrees.entries };
+    ghost view = { λ f. followed (lent_bytes f.lent) f.subtrees.entries };
 
-    ghost invariant = { λ f. Follows f.bytes.now f.subtrees.entries };
+    ghost invariant = { λ f. Follows (lent_bytes f.lent) f.subtrees.entries };
 }
 
 impl<'a> Follow<'a> {
@@ -48,11 +51,21 @@ impl<'a> Follow<'a> {
         ensures no_pieces { IfOk result (λ f. pieces_noted f ≡ 0) }
         ensures too_long { IsErr result ↔ most_bytes < length bytes.now }
     {
-        let plan = Plan::new(bytes.len() as u64)?;
+        Follow::of(alloc, Lent::Slice(bytes))
+    }
+
+    /// Follows the parts of an upload of bytes that are lent in one slice or in stretches, as `new` does.
+    pub fn of(alloc: Global, lent: Lent<'a>) -> Result<Follow<'a>, TooLong>
+        ensures bytes { IfOk result (λ f. f.bytes ≡ lent_bytes lent.entry) }
+        ensures nothing { IfOk result (λ f. (i : ℕ) → IsNoted f i → ⊥) }
+        ensures no_pieces { IfOk result (λ f. pieces_noted f ≡ 0) }
+        ensures too_long { IsErr result ↔ most_bytes < length (lent_bytes lent.entry) }
+    {
+        let plan = Plan::new(lent.len())?;
         // For the proof alone: a plan says that its bound is at most 2^44.
         let _most = plan.bound();
         let subtrees = BTreeMap::new(alloc);
-        Ok(Follow { bytes, subtrees })
+        Ok(Follow { lent, subtrees })
     }
 
     /// Notes a part, and answers how many merges that took, of two compressions each.
@@ -71,14 +84,14 @@ impl<'a> Follow<'a> {
     {
         // For the proof alone: the laws of uploads.
         upload_laws::<SharedBytes>();
-        if !part.plan().is_of(self.bytes.len() as u64) {
+        if !part.plan().is_of(self.lent.len()) {
             return Err(NoteFault::WrongPlan);
         }
         let len = part.fitting().len() as u64;
         if let Some(at) = held::overlap(&self.subtrees, part.offset(), len) {
             return Err(NoteFault::Overlap { at });
         }
-        if !has_bytes(self.bytes, part) {
+        if !has_bytes(self.lent, part) {
             return Err(NoteFault::Stranger);
         }
         let Ok(merges) = held::add(&mut self.subtrees, part, work) else {
@@ -94,7 +107,7 @@ impl<'a> Follow<'a> {
     {
         // For the proof alone: the laws of uploads.
         upload_laws::<SharedBytes>();
-        let len = self.bytes.len() as u64;
+        let len = self.lent.len();
         let missing = held::least_missing(&self.subtrees, len);
         if missing < len { Some(missing) } else { None }
     }
@@ -110,7 +123,7 @@ impl<'a> Follow<'a> {
     {
         // For the proof alone: the laws of uploads.
         upload_laws::<SharedBytes>();
-        let len = self.bytes.len() as u64;
+        let len = self.lent.len();
         let missing = held::least_missing(&self.subtrees, len);
         if missing < len {
             return Err(Incomplete { missing });
@@ -124,18 +137,17 @@ impl fmt::Debug for Follow<'_> {
     ghost debug_output = { λ follow. Some (follow_text (length follow.bytes)) };
 
     fn fmt<W: fmt::Write>(&self, f: &mut fmt::Formatter<W>) -> fmt::Result {
-        let len = self.bytes.len();
+        let len = self.lent.len();
         write!(f, "Follow {{ bytes: {len} }}")
     }
 }
 
 // Whether a part has the bytes that stand where it is.
-fn has_bytes(bytes: &[u8], part: &Prepared) -> bool
-    requires plan { part.now.plan ≡ closed_plan (length bytes.now) }
-    ensures yes { result ≡ true → part.now.part.bytes ≡ bytes_at bytes.now part.now.part }
-    ensures no { result ≡ false → part.now.part.bytes ≢ bytes_at bytes.now part.now.part }
+fn has_bytes(lent: Lent<'_>, part: &Prepared) -> bool
+    requires plan { part.now.plan ≡ closed_plan (length (lent_bytes lent)) }
+    ensures yes { result ≡ true → part.now.part.bytes ≡ bytes_at (lent_bytes lent.entry) part.now.part }
+    ensures no { result ≡ false → part.now.part.bytes ≢ bytes_at (lent_bytes lent.entry) part.now.part }
 {
     let own = part.fitting();
-    let start = part.offset() as usize;
-    own == &bytes[start..start + own.len()]
+    lent.has(part.offset(), own)
 }

@@ -25,11 +25,13 @@ mod gap;
 mod hashed_parts;
 mod held;
 mod laws;
+mod lent;
 mod piece;
 mod prepared;
 mod refusal;
 mod segment;
 mod shared_bytes;
+mod stretches;
 mod subtrees;
 
 pub use follow::Follow;
@@ -37,10 +39,12 @@ pub use forest::{Forest, top_of};
 pub use gap::Gap;
 pub use hashed_parts::HashedParts;
 pub use laws::forest_laws;
+pub use lent::Lent;
 pub use prepared::Prepared;
-pub use refusal::{AddRefused, Incomplete, NoteFault, PartRefused};
+pub use refusal::{AddRefused, Incomplete, NoteFault, PartRefused, ShareRefused};
 pub use segment::Segment;
 pub use shared_bytes::SharedBytes;
 pub use store_upload::{
     AddFault, FinishFault, FixFault, MOST_BYTES, MOST_PART_BYTES, PartFault, Plan, TooLong,
 };
+pub use stretches::{Stretches, StretchesBuilder};

@@ -10,7 +10,7 @@ ghost use Rattle.b3_forest.specs.Pieces.{IsPrepared, part_work, piece_count, pie
 
 use crate::cutting::push_all;
 use crate::piece::Piece;
-use crate::refusal::PartRefused;
+use crate::refusal::{PartRefused, ShareRefused};
 use crate::shared_bytes::SharedBytes;
 use b3_core::Work;
 use std::alloc::Global;
@@ -62,14 +62,9 @@ impl Prepared {
         ensures uncounted { IfSome (part_refusal plan.now offset (vec_len bytes)) (λ _. work.new ≡ work.old) }
         ensures never_falls { NeverFalls work.old work.new }
     {
-        if let Some(fault) = plan.part_fault(offset, bytes.len() as u64) {
-            return Err(PartRefused { fault, bytes });
-        }
-        let mut pieces = Vec::new(alloc);
-        let start = offset / 1024;
-        let Ok(()) = push_all(start, bytes.as_slice(), &mut pieces, work) else {
-            let fault = PartFault::NoMemory;
-            return Err(PartRefused { fault, bytes });
+        let pieces = match hashed(alloc, plan, offset, bytes.as_slice(), work) {
+            Ok(pieces) => pieces,
+            Err(fault) => return Err(PartRefused { fault, bytes }),
         };
         match Arc::new(alloc, bytes) {
             Ok(bytes) => Ok(Prepared {
@@ -82,6 +77,34 @@ impl Prepared {
                 fault: PartFault::NoMemory,
                 bytes: refused.value,
             }),
+        }
+    }
+
+    /// Hashes a part of an upload, as `make` does, whose bytes others may hold too. It doesn't copy them.
+    pub fn share(
+        alloc: Global,
+        plan: &Plan,
+        offset: u64,
+        bytes: Arc<Vec<u8>>,
+        work: &mut Work,
+    ) -> Result<Prepared, ShareRefused>
+        ensures made { IfOk result (λ p. p ≡ planned plan.now offset (arc_value bytes).items) }
+        ensures fits { OnOk result (part_refusal plan.now offset (vec_len (arc_value bytes)) ≡ None) }
+        ensures fault { IfErr result (λ r. r.fault ≡ unwrap_or (part_refusal plan.now offset (vec_len (arc_value bytes))) PartFault.NoMemory) }
+        ensures back { IfErr result (λ r. (arc_value r.bytes).items ≡ (arc_value bytes).items) }
+        ensures count { OnOk result (work.new ≡ counted work.old (part_work (vec_len (arc_value bytes))
+            (piece_count (chunks_of (planned plan.now offset (arc_value bytes).items).part)))) }
+        ensures uncounted { IfSome (part_refusal plan.now offset (vec_len (arc_value bytes))) (λ _. work.new ≡ work.old) }
+        ensures never_falls { NeverFalls work.old work.new }
+    {
+        match hashed(alloc, plan, offset, bytes.as_slice(), work) {
+            Ok(pieces) => Ok(Prepared {
+                plan: *plan,
+                offset,
+                bytes,
+                pieces,
+            }),
+            Err(fault) => Err(ShareRefused { fault, bytes }),
         }
     }
 
@@ -169,6 +192,33 @@ impl Prepared {
         ensures { result ≡ piece_count (chunks_of self.now.part) }
     {
         self.pieces.len()
+    }
+}
+
+// The pieces of a part of an upload, or why it is none.
+fn hashed(
+    alloc: Global,
+    plan: &Plan,
+    offset: u64,
+    bytes: &[u8],
+    work: &mut Work,
+) -> Result<Vec<Piece>, PartFault>
+    ensures made { IfOk result (λ pieces. IsPrepared (planned plan.now offset bytes.now) pieces.items) }
+    ensures fits { OnOk result (part_refusal plan.now offset (length bytes.now) ≡ None) }
+    ensures fault { IfErr result (λ fault. fault ≡ unwrap_or (part_refusal plan.now offset (length bytes.now)) PartFault.NoMemory) }
+    ensures count { OnOk result (work.new ≡ counted work.old (part_work (length bytes.now)
+        (piece_count (chunks_of (planned plan.now offset bytes.now).part)))) }
+    ensures uncounted { IfSome (part_refusal plan.now offset (length bytes.now)) (λ _. work.new ≡ work.old) }
+    ensures never_falls { NeverFalls work.old work.new }
+{
+    if let Some(fault) = plan.part_fault(offset, bytes.len() as u64) {
+        return Err(fault);
+    }
+    let mut pieces = Vec::new(alloc);
+    let start = offset / 1024;
+    match push_all(start, bytes, &mut pieces, work) {
+        Ok(()) => Ok(pieces),
+        Err(_) => Err(PartFault::NoMemory),
     }
 }
 

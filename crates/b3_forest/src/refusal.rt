@@ -2,11 +2,13 @@
 
 ghost use Rattle.std.specs.Prelude.{◌≡◌, Some, vec_len};
 ghost use Rattle.store_upload.specs.Texts.{add_fault_text, incomplete_code, incomplete_text, part_fault_text};
-ghost use Rattle.b3_forest.specs.Texts.{add_refused_text, note_fault_code, note_fault_text, part_refused_text};
+ghost use Rattle.b3_forest.specs.Texts.{add_refused_text, note_fault_code, note_fault_text, part_refused_text, share_refused_text};
+ghost use Rattle.std.specs.Arc.{arc_value};
 
 use crate::prepared::Prepared;
 use std::error::Error;
 use std::fmt;
+use std::sync::Arc;
 use store_upload::{AddFault, PartFault};
 
 /// A refused part: its bytes, handed back.
@@ -36,6 +38,34 @@ impl fmt::Debug for PartRefused {
 }
 
 impl Error for PartRefused {}
+
+/// A refused part whose bytes others may hold: its bytes, handed back.
+#[derive(Drop)]
+pub struct ShareRefused {
+    pub fault: PartFault,
+    pub bytes: Arc<Vec<u8>>,
+}
+
+/// The refusal's number.
+impl fmt::Display for ShareRefused {
+    ghost output = { λ refused. Some (part_fault_text refused.fault) };
+
+    fn fmt<W: fmt::Write>(&self, f: &mut fmt::Formatter<W>) -> fmt::Result {
+        f.write_str(self.fault.code())
+    }
+}
+
+/// The refusal and how many bytes come back.
+impl fmt::Debug for ShareRefused {
+    ghost debug_output = { λ refused. Some (share_refused_text refused.fault (vec_len (arc_value refused.bytes))) };
+
+    fn fmt<W: fmt::Write>(&self, f: &mut fmt::Formatter<W>) -> fmt::Result {
+        let len = self.bytes.len();
+        write!(f, "ShareRefused {{ fault: {}, bytes: {len} }}", self.fault)
+    }
+}
+
+impl Error for ShareRefused {}
 
 /// A part that was not added, handed back.
 #[derive(Drop)]

@@ -1,9 +1,11 @@
 //! Parts of bytes that are lent.
 
+ghost use Rattle.std.specs.Prelude.{◌<◌};
+
 use crate::fakes::pattern;
 use crate::scripts::{Answers, cut, number, told, two_numbers};
 use b3_core::{Runtime, Work};
-use b3_forest::{Follow, NoteFault, PartFault, Plan, Prepared};
+use b3_forest::{Follow, NoteFault, PartFault, Plan, Prepared, Stretches, StretchesBuilder};
 use std::alloc::{AllocError, Global};
 use std::process::Abort;
 use std::test::Fail;
@@ -110,6 +112,59 @@ fn told_of<R: AllocGlobal + Runtime>(
     told(rt.alloc(), &mut lent, script)
 }
 
+/// These bytes in stretches of so many, gathered from pieces of at most 1500.
+pub(crate) fn in_stretches(
+    alloc: Global,
+    bytes: &[u8],
+    stretch_len: usize,
+) -> Result<Stretches, AllocError>
+    requires { 0 < stretch_len }
+{
+    let mut gathered = StretchesBuilder::new(alloc, stretch_len)?;
+    for piece in bytes.chunks(1500) {
+        gathered = gathered.with(alloc, piece)?;
+    }
+    gathered.finish(alloc)
+}
+
+// What is told of the script over these bytes in stretches.
+fn told_of_stretches<R: AllocGlobal + Runtime>(
+    rt: &R,
+    bytes: &[u8],
+    stretch_len: usize,
+    script: &str,
+) -> Result<String, AllocError>
+    requires { 0 < stretch_len }
+{
+    let stretches = in_stretches(rt.alloc(), bytes, stretch_len)?;
+    let Ok(follow) = Follow::of(rt.alloc(), b3_forest::Lent::Stretches(&stretches)) else {
+        return format!(in rt.alloc(); "F1");
+    };
+    let mut lent = Lent {
+        alloc: rt.alloc(),
+        follow,
+        work: Work::new(rt),
+    };
+    told(rt.alloc(), &mut lent, script)
+}
+
+/// As `holds`, over these bytes in stretches.
+pub(crate) fn holds_in_stretches<R: AllocGlobal + Runtime + Abort>(
+    rt: &R,
+    bytes: &[u8],
+    stretch_len: usize,
+    script: &str,
+) -> Result<(), Fail>
+    requires { 0 < stretch_len }
+{
+    let told = match told_of_stretches(rt, bytes, stretch_len, script) {
+        Ok(told) => told,
+        Err(_) => told_of_stretches(rt, bytes, stretch_len, script)?,
+    };
+    assert_eq!(rt; told.as_str(), script);
+    Ok(())
+}
+
 /// Over these bytes the script's lines are answered as they say. Where the test's own memory is refused, all is done again.
 pub(crate) fn holds<R: AllocGlobal + Runtime + Abort>(
     rt: &R,
@@ -162,4 +217,30 @@ note closed 2049 2048 1 > 0 merges by 0
 root > Incomplete { missing: 0 } by 0
 ",
     )
+}
+
+// Stretches that are shorter than a chunk, as long as one, and longer than all, which no border of a part heeds.
+#[test]
+fn parts_are_noted_over_stretches(rt: HostRuntime) -> Result<(), Fail> {
+    let mut bytes = pattern(rt.alloc(), 0, 2049)?;
+    let script = "missing > Some(0)
+note closed 2049 1024 1025 > 0 merges by 0
+note closed 2049 0 1024 > 1 merges by 2
+missing > None
+root > 5f4d72f40d7a5f82b15ca2b2e44b1de3c2ef86c426c95c1af0b6879522563030 by 3
+";
+    for stretch_len in [1usize, 1000, 1024, 2048, 2049, 4096] {
+        holds_in_stretches(&rt, bytes.as_slice(), stretch_len, script)?;
+    }
+    if let Some(byte) = bytes.get_mut(2048) {
+        *byte ^= 1;
+    }
+    let script = "note closed 2049 0 1024 > 0 merges by 0
+note closed 2049 1024 1025 > Stranger by 0
+missing > Some(1024)
+";
+    for stretch_len in [1usize, 1000, 1024, 2048, 2049, 4096] {
+        holds_in_stretches(&rt, bytes.as_slice(), stretch_len, script)?;
+    }
+    Ok(())
 }

@@ -27,6 +27,7 @@ mod parallel;
 #[cfg(test)]
 mod places;
 mod scripts;
+mod shared_parts;
 
 pub use fakes::{FailingWriter, is_pattern, pattern};
 pub use scripts::{Answers, cut, number, told, two_numbers};

@@ -4,6 +4,7 @@ ghost use Rattle.std.specs.Prelude.{◌≡◌, ◌^◌};
 
 use crate::hashing::{pattern, report};
 use b3_core::Runtime;
+use b3_forest::Lent;
 use std::io::ErrorKind;
 use std::marker::Brand;
 use std::rt::Clock;
@@ -69,7 +70,7 @@ fn time_one<L: Ledgers, G: Gate + Sync, T: Threads + Wait + Sync + Runtime>(
     };
     let request = UploadRequest {
         tenant,
-        bytes: &input.as_slice()[..most],
+        bytes: Lent::Slice(&input.as_slice()[..most]),
         part_chunks: load.part_chunks as u64,
         workers: load.workers as u64,
         gate,

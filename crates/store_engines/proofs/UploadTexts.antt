@@ -19,6 +19,8 @@ use Rattle.store_ledger.specs.declared.holding.Holding.{Holding}
 use Rattle.store_shared.specs.Cuts.{cut_of}
 use Rattle.store_shared.specs.declared.fault.UploadFaultKind.{UploadFaultKind}
 use Rattle.store_shared.specs.declared.fault.UploadFaultKind.TheVariants.{BadCut, Stopped}
+use Rattle.store_shared.specs.declared.fault.UploadFaultKind.TheVariants as kinds
+use Rattle.store_shared.specs.Gates.{IsOwnFault}
 use Rattle.store_engines.specs.Uploads.{HasObject, IsFiled, IsTold, MayFail, SomeRefusal, WroteRefusal, WroteUpload, is_memory, uploaded_text}
 use Rattle.edge.specs.declared.outcome.Cause.{Cause}
 use Rattle.edge.specs.declared.outcome.Cause.TheVariants.{OutOfMemory}
@@ -34,6 +36,15 @@ told o r kind old new may wrote memory is = go (is_memory kind) refl
     go : (b : Bool) → is_memory kind ≡ b → SomeRefusal o old new
     go true e = let stopped = memory e in absurd (cc)
     go false e = (kind, may, e, rw is at wrote)
+
+-- no cut is at fault
+pub own_may : (o : UploadOptions) (kind : UploadFaultKind) → IsOwnFault kind → MayFail o kind
+own_may o kinds.BadCut own = absurd own
+own_may o kinds.Stopped own = own
+own_may o (kinds.GateFault part code) own = own
+own_may o (kinds.Refused refusal) own = own
+own_may o kinds.NoMemory own = own
+own_may o kinds.StrangePart own = own
 
 -- what was written of an input that is known
 pub wrote : (o : UploadOptions) (known : Option (List ℕ)) (input text address : List ℕ) (share : Holding) (shown : Shown) (old new : Option (List ℕ))

@@ -1,6 +1,6 @@
 //! The engine of `upload`.
 
-ghost use Rattle.std.specs.Prelude.{◌≡◌, ◌≢◌, ◌++◌, codes, false, true, IfErr, IfOk, IfSome, OnOk, Err, Ok};
+ghost use Rattle.std.specs.Prelude.{◌≡◌, ◌≢◌, ◌<◌, ◌++◌, codes, false, true, IfErr, IfOk, IfSome, OnOk, Err, Ok};
 ghost use Rattle.std.specs.Io.KnownBytes.{Appends, IsAtEnd};
 ghost use Rattle.store_ledger.specs.Shares.{all_parts};
 ghost use Rattle.store_shared.specs.Cuts.{IsBadCut};
@@ -9,9 +9,10 @@ ghost use Rattle.store_engines.specs.Uploads.{IsFiled, IsTold, SomeRefusal, Wrot
 
 use crate::auditing::accepted_line;
 use crate::journals::text_of;
-use crate::streams::read_all;
+use crate::streams::read_stretches;
 use crate::summing::line_of;
-use b3_core::Runtime;
+use b3_core::{CHUNK_LEN, Runtime};
+use b3_forest::{Lent, MOST_PART_BYTES};
 use edge::{Cause, Verdict, write_all};
 use std::alloc::{AllocError, Global};
 use std::io::{Read, Write};
@@ -113,6 +114,14 @@ fn uploaded_text<L: Ledgers>(
     joined(line, accepted.as_bytes(), entries.as_slice())
 }
 
+// How many bytes are read in one stretch: those of a part, or of some part where none may have so many chunks.
+fn stretch_len(part_chunks: u32) -> usize
+    ensures { 0 < result }
+{
+    let len = part_chunks as usize * CHUNK_LEN;
+    len.clamp(CHUNK_LEN, MOST_PART_BYTES as usize)
+}
+
 /// Uploads all its input into a store of one tenant, and asks the store for it in the end.
 ///
 /// So many workers as the options say take parts of so many chunks. Then it writes the input's check line, what was accepted,
@@ -140,7 +149,7 @@ pub fn upload<L: Ledgers, T: Threads + Wait + Sync + Runtime, R: Read, W: Write>
     ensures end { OnOk result (IsAtEnd (R.remaining reader.new)) }
     ensures silent { result ≡ Err Cause.CannotRead → W.contents writer.new ≡ W.contents writer.old }
 {
-    let input = read_all(alloc, reader)?;
+    let input = read_stretches(alloc, reader, stretch_len(options.part_chunks))?;
     let (shared, share): (Shared<L>, Share<L>) = Shared::new(alloc, Limits::full(), bytes, calls);
     let tenant = match lent_open_tenant(&mut *shared.lock(rt), LIMIT) {
         Ok(tenant) => tenant,
@@ -148,7 +157,7 @@ pub fn upload<L: Ledgers, T: Threads + Wait + Sync + Runtime, R: Read, W: Write>
     };
     let request = UploadRequest {
         tenant,
-        bytes: input.as_slice(),
+        bytes: Lent::Stretches(&input),
         part_chunks: options.part_chunks as u64,
         workers: options.workers as u64,
         gate: &PassAll,
@@ -157,7 +166,7 @@ pub fn upload<L: Ledgers, T: Threads + Wait + Sync + Runtime, R: Read, W: Write>
     match uploaded {
         Ok(sealed) => {
             let locked = shared.close();
-            if let Err(kind) = held(&locked, tenant, sealed.address, input.len() as u64) {
+            if let Err(kind) = held(&locked, tenant, sealed.address, input.len()) {
                 return refuse(alloc, kind, writer);
             }
             let text = uploaded_text(alloc, options.journal, sealed.address, locked, share)?;

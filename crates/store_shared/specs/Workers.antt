@@ -2,6 +2,7 @@
 use Rattle.std.specs.Prelude.{◌≡◌, ℕ, List, [], ◌∷◌, Option, None, All, IfSome}
 use Rattle.std.specs.Option.{option_or}
 use Rattle.std.specs.declared.thread.PromisedHandle.{PromisedHandle}
+use Rattle.b3_forest.specs.Lent.{lent_bytes}
 use Rattle.store_board.specs.Passes.{IsGiverOf, given_of}
 use Rattle.store_board.specs.Seats.{IsSeatOf}
 use Rattle.store_board.specs.declared.hand_over.give_pass.GivePass.{GivePass}
@@ -40,7 +41,7 @@ IsReportOf exchange may_stop may_fault has_passed c report =
 
 -- the thread's promise is of this cut, gate and exchange
 abbrev pub IsThreadOf : {G : Type 0} → Cutting → G → Exchange → PromisedHandle Report (ReportOf G) → Type 0
-IsThreadOf c gate exchange h = (h.promise.bytes.now ≡ c.bytes) × (h.promise.part_chunks ≡ c.part_chunks) × (h.promise.gate.now ≡ gate) × (h.promise.exchange.now ≡ exchange)
+IsThreadOf c gate exchange h = (lent_bytes h.promise.lent ≡ c.bytes) × (h.promise.part_chunks ≡ c.part_chunks) × (h.promise.gate.now ≡ gate) × (h.promise.exchange.now ≡ exchange)
 
 -- the fault of the first worker that had one
 unfoldable pub fault_of_first : List Report → Option UploadFaultKind

@@ -14,6 +14,7 @@ use crate::gate::Gate;
 use crate::job::Job;
 use crate::worker::{Report, ReportOf, Worker, run};
 use b3_core::{Runtime, Work};
+use b3_forest::Lent;
 use std::alloc::{AllocError, Global};
 use std::sync::Wait;
 use std::thread::{PromisedHandle, Scope, Threads};
@@ -70,10 +71,6 @@ pub(crate) fn start_all<'s, E, G: Gate + Sync, R: Wait + Sync>(
     ensures room { (result.reports.items ≡ []) × (vec_len result.reports + vec_len result.handles ≤ vec_capacity result.reports) }
     ensures fault { IfSome result.unstarted IsOwnFault }
 {
-    let bytes = job.cut.bytes();
-    let part_chunks = job.cut.part_chunks();
-    let gate = job.gate;
-    let exchange = &job.exchange;
     let mut handles = Vec::new(alloc);
     let mut reports = Vec::new(alloc);
     if reports.reserve(workers.len()).is_err() {
@@ -84,19 +81,7 @@ pub(crate) fn start_all<'s, E, G: Gate + Sync, R: Wait + Sync>(
         if handles.reserve(1).is_err() {
             return broken_off(handles, reports);
         }
-        let started = scope.spawn_with(
-            ReportOf {
-                bytes,
-                part_chunks,
-                gate,
-                exchange,
-            },
-            move || -> Report
-                requires { IsWorkerOf exchange.now worker × (given_of worker.pass ≡ []) × (parts_of exchange.now.board ≡ part_count (length bytes.now) part_chunks) × (length bytes.now ≤ most_bytes) × (0 < part_chunks) × (part_chunks ≤ 16384) }
-                ensures { IsReportOf exchange.entry.now (G.may_stop gate.entry.now) (G.may_fault gate.entry.now) (G.has_passed gate.entry.now) (record { bytes = bytes.entry.now; part_chunks = part_chunks }) result }
-            { run(rt, alloc, bytes, part_chunks, gate, exchange, worker) },
-        );
-        match started {
+        match start_one(scope, rt, alloc, job, worker) {
             Ok(handle) => handles.push_reserved(handle),
             Err(_) => return broken_off(handles, reports),
         }
@@ -106,6 +91,50 @@ pub(crate) fn start_all<'s, E, G: Gate + Sync, R: Wait + Sync>(
         reports,
         unstarted: None,
     }
+}
+
+// Starts a thread for a worker. It is handed what is lent as a slice or as stretches, and not as either.
+fn start_one<'s, E, G: Gate + Sync, R: Wait + Sync>(
+    scope: &Scope<'s, E>,
+    rt: &'s R,
+    alloc: Global,
+    job: &'s Job<'s, G>,
+    worker: Worker,
+) -> Result<PromisedHandle<Report, ReportOf<'s, G>>, UploadFaultKind>
+    requires { IsWorkerOf job.now.exchange worker × (given_of worker.pass ≡ []) }
+    ensures { IfOk result (IsThreadOf job.now.cut job.now.gate.now job.now.exchange) }
+{
+    let lent = job.cut.lent();
+    let part_chunks = job.cut.part_chunks();
+    let gate = job.gate;
+    let exchange = &job.exchange;
+    let promise = ReportOf {
+        lent,
+        part_chunks,
+        gate,
+        exchange,
+    };
+    match lent {
+        Lent::Slice(bytes) => {
+            let runs = move || -> Report
+                requires { IsWorkerOf exchange.now worker × (given_of worker.pass ≡ []) × (parts_of exchange.now.board ≡ part_count (length bytes.now) part_chunks) × (length bytes.now ≤ most_bytes) × (0 < part_chunks) × (part_chunks ≤ 16384) }
+                ensures { IsReportOf exchange.entry.now (G.may_stop gate.entry.now) (G.may_fault gate.entry.now) (G.has_passed gate.entry.now) (record { bytes = bytes.entry.now; part_chunks = part_chunks }) result }
+            { run(rt, alloc, Lent::Slice(bytes), part_chunks, gate, exchange, worker) };
+            if let Ok(handle) = scope.spawn_with(promise, runs) {
+                return Ok(handle);
+            }
+        }
+        Lent::Stretches(bytes) => {
+            let runs = move || -> Report
+                requires { IsWorkerOf exchange.now worker × (given_of worker.pass ≡ []) × (parts_of exchange.now.board ≡ part_count (length bytes.now.bytes) part_chunks) × (length bytes.now.bytes ≤ most_bytes) × (0 < part_chunks) × (part_chunks ≤ 16384) }
+                ensures { IsReportOf exchange.entry.now (G.may_stop gate.entry.now) (G.may_fault gate.entry.now) (G.has_passed gate.entry.now) (record { bytes = bytes.entry.now.bytes; part_chunks = part_chunks }) result }
+            { run(rt, alloc, Lent::Stretches(bytes), part_chunks, gate, exchange, worker) };
+            if let Ok(handle) = scope.spawn_with(promise, runs) {
+                return Ok(handle);
+            }
+        }
+    }
+    Err(UploadFaultKind::NoMemory)
 }
 
 // A crew to which memory was refused for a thread more.

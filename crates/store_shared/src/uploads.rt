@@ -3,6 +3,7 @@
 ghost use Rattle.std.specs.Prelude.{◌≡◌, ◌+◌, ◌<◌, ◌≤◌, ℕ, [], All, IfErr, IfNone, IfOk, IfSome, OnOk, false, length, max, min, true, vec_capacity, vec_len};
 ghost use Rattle.std.specs.Arc.{arc_value};
 ghost use Rattle.b3_core.specs.Modes.{hash_of};
+ghost use Rattle.b3_forest.specs.Lent.{lent_bytes};
 ghost use Rattle.store_upload.specs.Uploads.{most_bytes};
 ghost use Rattle.store_board.specs.Passes.{IsTakerOf, givers_of, taken_of};
 ghost use Rattle.store_shared.specs.Cuts.{IsBadCut};
@@ -22,7 +23,7 @@ use crate::progress::Progress;
 use crate::shared::Shared;
 use crate::worker::Worker;
 use b3_core::{Runtime, Work};
-use b3_forest::Follow;
+use b3_forest::{Follow, Lent};
 use std::alloc::Global;
 use std::sync::Wait;
 use std::thread;
@@ -36,7 +37,7 @@ use store_ledger::{Ledgers, Share};
 #[derive(Drop)]
 pub struct UploadRequest<'a, G: Gate> {
     pub tenant: TenantId,
-    pub bytes: &'a [u8],
+    pub bytes: Lent<'a>,
     pub part_chunks: u64,
     pub workers: u64,
     pub gate: &'a G,
@@ -46,7 +47,7 @@ impl<'a, G: Gate + Sync> UploadRequest<'a, G> {
     /// Uploads the bytes for the tenant, and files them under their hash.
     ///
     /// Each of the workers runs in a thread of its own, and no more are started than there are parts: it draws the number of a
-    /// part, copies and hashes it, asks the gate, and hands it over. The calling thread notes what is handed over and puts it,
+    /// part, hashes it with a stretch of the bytes or a copy, asks the gate, and hands it over. The calling thread notes what is handed over and puts it,
     /// several parts at one taking of the lock, with the caller's share. Where nothing fails, it seals the upload under the
     /// address that it has computed itself; the gate has then passed each part.
     ///
@@ -62,7 +63,7 @@ impl<'a, G: Gate + Sync> UploadRequest<'a, G> {
         shared: &Shared<L>,
         share: Share<L>,
     ) -> (Share<L>, Result<Sealed, UploadFault>)
-        ensures { IsAnswered (G.may_stop self.now.gate.now) (G.may_fault self.now.gate.now) (G.has_passed self.now.gate.now) (record { bytes = self.now.bytes.now; part_chunks = self.now.part_chunks }) self.now.workers shared.now share result.0 result.1 }
+        ensures { IsAnswered (G.may_stop self.now.gate.now) (G.may_fault self.now.gate.now) (G.has_passed self.now.gate.now) (record { bytes = lent_bytes self.now.bytes; part_chunks = self.now.part_chunks }) self.now.workers shared.now share result.0 result.1 }
     {
         if self.has_bad_cut(shared.workers()) {
             let fault = UploadFault::unbegun(UploadFaultKind::BadCut);
@@ -99,7 +100,7 @@ pub fn upload<L: Ledgers, G: Gate + Sync, R: Threads + Wait + Sync + Runtime>(
 {
     let request = UploadRequest {
         tenant,
-        bytes,
+        bytes: Lent::Slice(bytes),
         part_chunks,
         workers,
         gate,
@@ -117,10 +118,10 @@ fn upload_parts<L: Ledgers, G: Gate + Sync, R: Threads + Wait + Sync + Runtime>(
 ) -> (Share<L>, Result<Sealed, UploadFault>)
     requires part_chunks { (0 < request.now.part_chunks) × (request.now.part_chunks ≤ 16384) }
     requires workers { request.now.workers ≤ 16 }
-    ensures passed { OnOk result.1 ((k : ℕ) → k < count_of (record { bytes = request.now.bytes.now; part_chunks = request.now.part_chunks }) → G.has_passed request.now.gate.now k) }
-    ensures uploaded { IsUploaded (G.may_stop request.now.gate.now) (G.may_fault request.now.gate.now) (record { bytes = request.now.bytes.now; part_chunks = request.now.part_chunks }) share result.0 result.1 }
+    ensures passed { OnOk result.1 ((k : ℕ) → k < count_of (record { bytes = lent_bytes request.now.bytes; part_chunks = request.now.part_chunks }) → G.has_passed request.now.gate.now k) }
+    ensures uploaded { IsUploaded (G.may_stop request.now.gate.now) (G.may_fault request.now.gate.now) (record { bytes = lent_bytes request.now.bytes; part_chunks = request.now.part_chunks }) share result.0 result.1 }
 {
-    let upload = match begin(rt, shared, request.tenant, request.bytes.len() as u64) {
+    let upload = match begin(rt, shared, request.tenant, request.bytes.len()) {
         Ok(upload) => upload,
         Err(kind) => return (share, Err(UploadFault::unbegun(kind))),
     };
@@ -199,11 +200,11 @@ fn put_parts<L: Ledgers, G: Gate + Sync, R: Threads + Wait + Sync + Runtime>(
     request: &UploadRequest<'_, G>,
     upload: UploadId,
 ) -> (Share<L>, Result<Address, UploadFaultKind>)
-    requires bytes { length request.now.bytes.now ≤ most_bytes }
+    requires bytes { length (lent_bytes request.now.bytes) ≤ most_bytes }
     requires part_chunks { (0 < request.now.part_chunks) × (request.now.part_chunks ≤ 16384) }
     requires workers { request.now.workers ≤ 16 }
-    ensures passed { OnOk result.1 ((k : ℕ) → k < count_of (record { bytes = request.now.bytes.now; part_chunks = request.now.part_chunks }) → G.has_passed request.now.gate.now k) }
-    ensures collected { IsCollected (G.may_stop request.now.gate.now) (G.may_fault request.now.gate.now) (record { bytes = request.now.bytes.now; part_chunks = request.now.part_chunks }) share result.0 result.1 }
+    ensures passed { OnOk result.1 ((k : ℕ) → k < count_of (record { bytes = lent_bytes request.now.bytes; part_chunks = request.now.part_chunks }) → G.has_passed request.now.gate.now k) }
+    ensures collected { IsCollected (G.may_stop request.now.gate.now) (G.may_fault request.now.gate.now) (record { bytes = lent_bytes request.now.bytes; part_chunks = request.now.part_chunks }) share result.0 result.1 }
 {
     let cut = Cut::new(request.bytes, request.part_chunks);
     let worker_count = workers_for(cut.parts(), request.workers);
@@ -218,7 +219,7 @@ fn put_parts<L: Ledgers, G: Gate + Sync, R: Threads + Wait + Sync + Runtime>(
     ) else {
         return (share, no_memory);
     };
-    let Ok(follow) = Follow::new(alloc, cut.bytes()) else {
+    let Ok(follow) = Follow::of(alloc, cut.lent()) else {
         return (share, no_memory);
     };
     let exchange = Exchange {

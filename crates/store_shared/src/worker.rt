@@ -1,6 +1,7 @@
 //! The workers of an upload.
 
 ghost use Rattle.std.specs.Prelude.{◌≡◌, ◌∷◌, ◌++◌, ◌<◌, ◌≤◌, ◌^◌, [], IfErr, IfSome, false, length, true};
+ghost use Rattle.b3_forest.specs.Lent.{lent_bytes};
 ghost use Rattle.store_upload.specs.Uploads.{most_bytes};
 ghost use Rattle.store_board.specs.Passes.{given_of, giver_of};
 ghost use Rattle.store_board.specs.Seats.{IsSeatOf, parts_of};
@@ -15,7 +16,7 @@ use crate::fault::UploadFaultKind;
 use crate::gate::{Gate, GateStop};
 use crate::job::Exchange;
 use b3_core::Work;
-use b3_forest::Prepared;
+use b3_forest::{Lent, Prepared};
 use std::alloc::Global;
 use std::sync::Wait;
 use std::thread::Promise;
@@ -40,14 +41,14 @@ pub(crate) struct Report {
 // gave is parts of the cut that have passed the gate.
 #[derive(Drop)]
 pub(crate) struct ReportOf<'a, G: Gate> {
-    pub(crate) bytes: &'a [u8],
+    pub(crate) lent: Lent<'a>,
     pub(crate) part_chunks: u64,
     pub(crate) gate: &'a G,
     pub(crate) exchange: &'a Exchange,
 }
 
 impl<'a, G: Gate> Promise<Report> for ReportOf<'a, G> {
-    ghost kept_by = { λ p report. IsReportOf p.exchange.now (G.may_stop p.gate.now) (G.may_fault p.gate.now) (G.has_passed p.gate.now) (record { bytes = p.bytes.now; part_chunks = p.part_chunks }) report };
+    ghost kept_by = { λ p report. IsReportOf p.exchange.now (G.may_stop p.gate.now) (G.may_fault p.gate.now) (G.has_passed p.gate.now) (record { bytes = lent_bytes p.lent; part_chunks = p.part_chunks }) report };
 }
 
 // The fault that a gate's answer for a part is.
@@ -129,7 +130,7 @@ fn make_parts<G: Gate, R: Wait>(
 pub(crate) fn run<G: Gate, R: Wait>(
     rt: &R,
     alloc: Global,
-    bytes: &[u8],
+    lent: Lent<'_>,
     part_chunks: u64,
     gate: &G,
     exchange: &Exchange,
@@ -137,16 +138,16 @@ pub(crate) fn run<G: Gate, R: Wait>(
 ) -> Report
     requires own { IsWorkerOf exchange.now worker }
     requires fresh { given_of worker.pass ≡ [] }
-    requires parts { parts_of exchange.now.board ≡ part_count (length bytes.now) part_chunks }
-    requires bytes { length bytes.now ≤ most_bytes }
+    requires parts { parts_of exchange.now.board ≡ part_count (length (lent_bytes lent)) part_chunks }
+    requires bytes { length (lent_bytes lent) ≤ most_bytes }
     requires some { 0 < part_chunks }
     requires most { part_chunks ≤ 16384 }
-    ensures fault { IfSome result.fault (IsFaultOf (G.may_stop gate.now) (G.may_fault gate.now) (part_count (length bytes.now) part_chunks)) }
+    ensures fault { IfSome result.fault (IsFaultOf (G.may_stop gate.now) (G.may_fault gate.now) (part_count (length (lent_bytes lent.entry)) part_chunks)) }
     ensures own { IsWorkerOf exchange.now result.worker }
-    ensures passed { AllPassed (G.has_passed gate.now) (record { bytes = bytes.now; part_chunks = part_chunks }) result.worker.pass }
+    ensures passed { AllPassed (G.has_passed gate.now) (record { bytes = lent_bytes lent.entry; part_chunks = part_chunks }) result.worker.pass }
 {
     // A thread is handed bytes and numbers, and makes the cut of them again.
-    let cut = Cut::new(bytes, part_chunks);
+    let cut = Cut::new(lent, part_chunks);
     let mut worker = worker;
     match make_parts(rt, alloc, &cut, gate, exchange, &mut worker) {
         Ok(()) => {

@@ -1,4 +1,4 @@
-use Rattle.std.proofs.Common.{◌≡◌, ◌∙◌, ℕ, List, ap, length, subst, sym}
+use Rattle.std.proofs.Common.{◌≡◌, ◌∙◌, List, ap, length, subst, sym}
 use Rattle.store_upload.specs.Uploads.{ArePlaced, first_gap, last_end, length_of}
 use Rattle.b3_forest.specs.Parts.{HeldPart}
 use Rattle.b3_forest.specs.Uploads.{content_of}

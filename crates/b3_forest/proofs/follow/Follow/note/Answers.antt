@@ -2,6 +2,7 @@ use Rattle.std.proofs.Common.{◌≡◌, length, refl, sym, subst, ap, ap₂, �
 use Rattle.std.specs.Prelude.{◌≢◌}
 use Rattle.store_upload.specs.Uploads.{closed_plan}
 use Rattle.store_upload.specs.Uploads as upload
+use Rattle.b3_forest.specs.Lent.{lent_bytes}
 use Rattle.b3_forest.specs.Followed.{Followed, IsFirstNoted, IsNotedWith, MayNote, NothingNoted, bytes_at, followed, noting_merges}
 use Rattle.b3_forest.specs.Uploads.{with_part}
 use Rattle.b3_forest.proofs.Following.{merges_noted, noted_with, parts_with, room_of, told_apart, told_overlap}
@@ -10,10 +11,10 @@ use Rattle.b3_forest.proofs.follow.Follow.note.Goals as goal
 pub returns-in-Some-clause-fault : goal.returns-in-Some-clause-fault
 returns-in-Some-clause-fault c =
     let w = c.self.invariant in
-    let b = c.self.inside.bytes.now in
+    let b = lent_bytes c.self.inside.lent in
     let es = c.self.inside.subtrees.entries in
     let p = c.args.part.now in
-    let plan = sym c.plan.ensures ∙ c.if-not-is_of.ensures.yes refl in
+    let plan = sym c.plan.ensures ∙ c.if-not-is_of.ensures.yes refl ∙ ap closed_plan c.len.ensures in
     let told = c.in-Some.ensures (length b) w.parts w.keeps ∙ ap₂ (λ (i n : ℕ). upload.overlap_at length i n w.parts) c.offset.ensures (ap length c.fitting.ensures.bytes) in
     subst (λ (f : Followed). (p.plan ≡ closed_plan (length f.bytes)) × IsFirstNoted f p.part c.in-Some.at) c.self.view_is
     (plan, told_overlap b w.parts es p.part c.in-Some.at c.upload_laws.ensures.overlap w.keeps c.fitting.ensures.fits.some (sym told))
@@ -21,10 +22,10 @@ returns-in-Some-clause-fault c =
 pub returns-then-not-has_bytes-clause-fault : goal.returns-then-not-has_bytes-clause-fault
 returns-then-not-has_bytes-clause-fault c =
     let w = c.self.invariant in
-    let b = c.self.inside.bytes.now in
+    let b = lent_bytes c.self.inside.lent in
     let es = c.self.inside.subtrees.entries in
     let p = c.args.part.now in
-    let plan = sym c.plan.ensures ∙ c.if-not-is_of.ensures.yes refl in
+    let plan = sym c.plan.ensures ∙ c.if-not-is_of.ensures.yes refl ∙ ap closed_plan c.len.ensures in
     let told = c.in_default.ensures (length b) w.parts w.keeps ∙ ap₂ (λ (i n : ℕ). upload.overlap_at length i n w.parts) c.offset.ensures (ap length c.fitting.ensures.bytes) in
     subst (λ (f : Followed). (p.plan ≡ closed_plan (length f.bytes)) × NothingNoted f p.part × (p.part.bytes ≢ bytes_at f.bytes p.part)) c.self.view_is
     (plan, told_apart b w.parts es p.part c.upload_laws.ensures.overlap w.keeps c.fitting.ensures.fits.some (sym told), c.if-not-has_bytes.ensures.no refl)
@@ -32,10 +33,10 @@ returns-then-not-has_bytes-clause-fault c =
 pub returns-in_default-add-clause-fault : goal.returns-in_default-add-clause-fault
 returns-in_default-add-clause-fault c =
     let w = c.self.invariant in
-    let b = c.self.inside.bytes.now in
+    let b = lent_bytes c.self.inside.lent in
     let es = c.self.inside.subtrees.entries in
     let p = c.args.part.now in
-    let plan = sym c.plan.ensures ∙ c.if-not-is_of.ensures.yes refl in
+    let plan = sym c.plan.ensures ∙ c.if-not-is_of.ensures.yes refl ∙ ap closed_plan c.len.ensures in
     let told = c.in_default.ensures (length b) w.parts w.keeps ∙ ap₂ (λ (i n : ℕ). upload.overlap_at length i n w.parts) c.offset.ensures (ap length c.fitting.ensures.bytes) in
     subst (λ (f : Followed). MayNote f p) c.self.view_is
     (record { plan = plan; apart = told_apart b w.parts es p.part c.upload_laws.ensures.overlap w.keeps c.fitting.ensures.fits.some (sym told); same = c.if-not-has_bytes.ensures.yes refl })
@@ -43,18 +44,18 @@ returns-in_default-add-clause-fault c =
 pub add-requires : goal.add-requires
 add-requires c =
     let w = c.self.invariant in
-    let b = c.self.inside.bytes.now in
-    let plan = sym c.plan.ensures ∙ c.if-not-is_of.ensures.yes refl in
+    let b = lent_bytes c.self.inside.lent in
+    let plan = sym c.plan.ensures ∙ c.if-not-is_of.ensures.yes refl ∙ ap closed_plan c.len.ensures in
     let told = c.in_default.ensures (length b) w.parts w.keeps ∙ ap₂ (λ (i n : ℕ). upload.overlap_at length i n w.parts) c.offset.ensures (ap length c.fitting.ensures.bytes) in
     (length b, w.parts, room_of b c.self.inside.subtrees.entries w c.args.part.now plan c.fitting.ensures.fits told)
 
 pub invariant_of-self-2 : goal.invariant_of-self-2
 invariant_of-self-2 c =
     let w = c.self.invariant in
-    let b = c.self.inside.bytes.now in
+    let b = lent_bytes c.self.inside.lent in
     let es = c.self.inside.subtrees.entries in
     let p = c.args.part.now in
-    let plan = sym c.plan.ensures ∙ c.if-not-is_of.ensures.yes refl in
+    let plan = sym c.plan.ensures ∙ c.if-not-is_of.ensures.yes refl ∙ ap closed_plan c.len.ensures in
     let told = c.in_default.ensures (length b) w.parts w.keeps ∙ ap₂ (λ (i n : ℕ). upload.overlap_at length i n w.parts) c.offset.ensures (ap length c.fitting.ensures.bytes) in
     let room = room_of b es w p plan c.fitting.ensures.fits told in
     record { parts = with_part p.part w.parts; keeps = c.in-Ok.ensures.kept (length b) w.parts room; same = parts_with b es p.part w.parts room (c.if-not-has_bytes.ensures.yes refl) w.same }
@@ -62,10 +63,10 @@ invariant_of-self-2 c =
 pub returns-clause-noted : goal.returns-clause-noted
 returns-clause-noted c =
     let w = c.self.invariant in
-    let b = c.self.inside.bytes.now in
+    let b = lent_bytes c.self.inside.lent in
     let es = c.self.inside.subtrees.entries in
     let p = c.args.part.now in
-    let plan = sym c.plan.ensures ∙ c.if-not-is_of.ensures.yes refl in
+    let plan = sym c.plan.ensures ∙ c.if-not-is_of.ensures.yes refl ∙ ap closed_plan c.len.ensures in
     let told = c.in_default.ensures (length b) w.parts w.keeps ∙ ap₂ (λ (i n : ℕ). upload.overlap_at length i n w.parts) c.offset.ensures (ap length c.fitting.ensures.bytes) in
     let room = room_of b es w p plan c.fitting.ensures.fits told in
     let kept = c.in-Ok.ensures.kept (length b) w.parts room in
@@ -74,10 +75,10 @@ returns-clause-noted c =
 pub returns-clause-allowed : goal.returns-clause-allowed
 returns-clause-allowed c =
     let w = c.self.invariant in
-    let b = c.self.inside.bytes.now in
+    let b = lent_bytes c.self.inside.lent in
     let es = c.self.inside.subtrees.entries in
     let p = c.args.part.now in
-    let plan = sym c.plan.ensures ∙ c.if-not-is_of.ensures.yes refl in
+    let plan = sym c.plan.ensures ∙ c.if-not-is_of.ensures.yes refl ∙ ap closed_plan c.len.ensures in
     let told = c.in_default.ensures (length b) w.parts w.keeps ∙ ap₂ (λ (i n : ℕ). upload.overlap_at length i n w.parts) c.offset.ensures (ap length c.fitting.ensures.bytes) in
     subst (λ (f : Followed). MayNote f p) c.self.view_is
     (record { plan = plan; apart = told_apart b w.parts es p.part c.upload_laws.ensures.overlap w.keeps c.fitting.ensures.fits.some (sym told); same = c.if-not-has_bytes.ensures.yes refl })
@@ -85,10 +86,10 @@ returns-clause-allowed c =
 pub returns-clause-merges : goal.returns-clause-merges
 returns-clause-merges c =
     let w = c.self.invariant in
-    let b = c.self.inside.bytes.now in
+    let b = lent_bytes c.self.inside.lent in
     let es = c.self.inside.subtrees.entries in
     let p = c.args.part.now in
-    let plan = sym c.plan.ensures ∙ c.if-not-is_of.ensures.yes refl in
+    let plan = sym c.plan.ensures ∙ c.if-not-is_of.ensures.yes refl ∙ ap closed_plan c.len.ensures in
     let told = c.in_default.ensures (length b) w.parts w.keeps ∙ ap₂ (λ (i n : ℕ). upload.overlap_at length i n w.parts) c.offset.ensures (ap length c.fitting.ensures.bytes) in
     let room = room_of b es w p plan c.fitting.ensures.fits told in
     let kept = c.in-Ok.ensures.kept (length b) w.parts room in

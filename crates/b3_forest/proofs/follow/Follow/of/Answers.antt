@@ -1,13 +1,14 @@
 use Rattle.std.proofs.Common.{[], ap, arith, refl, length}
+use Rattle.b3_forest.specs.Lent.{lent_bytes}
 use Rattle.b3_forest.specs.Subtrees.{Keeps}
 use Rattle.store_upload.specs.Uploads.{UploadPlan}
 use Rattle.b3_forest.proofs.Following.{nothing_noted}
 use Rattle.b3_forest.proofs.Holding.{keeps_nothing}
-use Rattle.b3_forest.proofs.follow.Follow.new.Goals as goal
+use Rattle.b3_forest.proofs.follow.Follow.of.Goals as goal
 
 pub returns-clause-no_pieces : goal.returns-clause-no_pieces
 returns-clause-no_pieces c =
-    let b = c.args.bytes.now in
+    let b = lent_bytes c.args.lent in
     let es = c.new-subtrees.result.entries in
     let keeps : Keeps (length b) [] es = keeps_nothing (length b) [] es (omega (arith, c.bound-most.ensures.value, c.bound-most.ensures.bounded, ap (λ (q : UploadPlan). q.bound) c.in_ok-plan.ensures.plan)) refl c.new-subtrees.ensures.empty in
     nothing_noted b es keeps c.new-subtrees.ensures.empty
@@ -15,6 +16,6 @@ returns-clause-no_pieces c =
 pub invariant_of-result : goal.invariant_of-result
 invariant_of-result c = record {
   parts = [];
-  keeps = keeps_nothing (length c.args.bytes.now) [] c.new-subtrees.result.entries (omega (arith, c.bound-most.ensures.value, c.bound-most.ensures.bounded, ap (λ (q : UploadPlan). q.bound) c.in_ok-plan.ensures.plan)) refl c.new-subtrees.ensures.empty;
+  keeps = keeps_nothing (length (lent_bytes c.args.lent)) [] c.new-subtrees.result.entries (omega (arith, c.bound-most.ensures.value, c.bound-most.ensures.bounded, ap (λ (q : UploadPlan). q.bound) c.in_ok-plan.ensures.plan)) refl c.new-subtrees.ensures.empty;
   same = tt;
 }

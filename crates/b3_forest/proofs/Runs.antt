@@ -1,0 +1,136 @@
+-- Where bytes stand that are kept in stretches of one length, and in runs.
+use Rattle.std.proofs.Common.{◌≡◌, ℕ, zero, suc, ◌+◌, ◌-◌, ◌*◌, ◌/◌, ◌%◌, ◌<◌, ◌≤◌, ◌++◌, List, [], ◌∷◌, length, take, drop, arith, ap, ap₂, subst, sym, ◌∙◌}
+use Rattle.std.specs.Prelude.{All, flat_map, get_or, ◌↔◌}
+use Rattle.std.proofs.lemmas.List.{append_assoc, flat_map_more, drop-append-le, drop-drop, drop-take, length-append, length-drop, length-take-le, take-take}
+use Rattle.std.proofs.lemmas.List.Concat.{flat_map-cons}
+use Rattle.std.proofs.lemmas.List.Elements.{All-get_or, All-head, All-tail}
+use Rattle.std.proofs.lemmas.Nat.{div-add-mod'}
+use Rattle.std.proofs.Math.Nat.{div-mul-le_self, mod-lt, mul-le-mul_right}
+use Rattle.std.proofs.Math.Seq.{drop-append-add, drop-append_seam, take-add, take-append_seam, take-length}
+use Rattle.b3_forest.specs.Stretches.{IsRun, StandsAt}
+
+-- ---- stretches of n bytes each, and some bytes behind them
+
+abbrev AreOf : {X : Type 0} → (X → List ℕ) → ℕ → List X → Type 0
+AreOf f n xs = All (λ x. length (f x) ≡ n) xs
+
+pub their_length : {X : Type 0} (f : X → List ℕ) (n : ℕ) (xs : List X) → AreOf f n xs → length (flat_map f xs) ≡ length xs * n
+their_length f n [] all = omega arith
+their_length f n (x ∷ xs) all =
+    let head = All-head (λ x. length (f x) ≡ n) x xs all in
+    let rest = their_length f n xs (All-tail (λ x. length (f x) ≡ n) x xs all) in
+    let split : length (flat_map f (x ∷ xs)) ≡ length (f x) + length (flat_map f xs) = ap length (flat_map-cons f x xs) ∙ length-append (f x) (flat_map f xs) in
+    omega (arith, split, head, rest)
+
+-- what stands from within stretch k on
+from_stretch : {X : Type 0} (f : X → List ℕ) (n k r : ℕ) (xs : List X) (last : List ℕ) (d : X) → AreOf f n xs → k < length xs → r ≤ n
+    → (behind : List ℕ) × (drop (k * n + r) (flat_map f xs ++ last) ≡ drop r (f (get_or xs k d)) ++ behind)
+from_stretch f n k r [] last d all low within = absurd (omega (arith, low))
+from_stretch f n zero r (x ∷ xs) last d all low within =
+    let head = All-head (λ x. length (f x) ≡ n) x xs all in
+    let whole : flat_map f (x ∷ xs) ++ last ≡ f x ++ (flat_map f xs ++ last) = ap (λ b. b ++ last) (flat_map-cons f x xs) ∙ append_assoc (f x) (flat_map f xs) last in
+    ((flat_map f xs ++ last), ap₂ drop (omega arith) whole ∙ drop-append-le r (f x) (flat_map f xs ++ last) (omega (arith, head, within)))
+from_stretch f n (suc k) r (x ∷ xs) last d all low within =
+    let head = All-head (λ x. length (f x) ≡ n) x xs all in
+    let whole : flat_map f (x ∷ xs) ++ last ≡ f x ++ (flat_map f xs ++ last) = ap (λ b. b ++ last) (flat_map-cons f x xs) ∙ append_assoc (f x) (flat_map f xs) last in
+    let later = from_stretch f n k r xs last d (All-tail (λ x. length (f x) ≡ n) x xs all) (omega (arith, low)) within in
+    let place : suc k * n + r ≡ length (f x) + (k * n + r) = omega (arith, head) in
+    (later.0, ap₂ drop place whole ∙ drop-append-add (f x) (flat_map f xs ++ last) (k * n + r) ∙ later.1)
+
+-- what bytes begin with stands at their front
+front_stands : (b : List ℕ) (at : ℕ) (run behind : List ℕ) → drop at b ≡ run ++ behind → StandsAt b at run
+front_stands b at run behind is = sym (ap (take (length run)) is ∙ take-append_seam run behind)
+
+-- the run from an offset in a full stretch on
+pub in_full : {X : Type 0} (f : X → List ℕ) (n at : ℕ) (xs : List X) (last : List ℕ) (d : X) → 0 < n → AreOf f n xs → at / n < length xs
+    → IsRun (flat_map f xs ++ last) at (drop (at % n) (f (get_or xs (at / n) d)))
+in_full f n at xs last d some all low =
+    let stretch = f (get_or xs (at / n) d) in
+    let less = mod-lt at some in
+    let (behind, is) = from_stretch f n (at / n) (at % n) xs last d all low (omega (arith, less)) in
+    let len = All-get_or (λ x. length (f x) ≡ n) xs (at / n) d low all in
+    let left = length-drop (at % n) stretch in
+    record {
+      same = front_stands (flat_map f xs ++ last) at (drop (at % n) stretch) behind (ap (λ i. drop i (flat_map f xs ++ last)) (sym (div-add-mod' at n)) ∙ is);
+      some = λ _. omega (arith, len, left, less);
+    }
+
+-- and the run from an offset behind them on
+pub in_last : {X : Type 0} (f : X → List ℕ) (n at : ℕ) (xs : List X) (last : List ℕ) → AreOf f n xs → length xs * n ≤ at
+    → IsRun (flat_map f xs ++ last) at (drop (at - length xs * n) last)
+in_last f n at xs last all low =
+    let len = their_length f n xs all in
+    let skip = at - length xs * n in
+    let place : at ≡ length (flat_map f xs) + skip = omega (arith, len, low) in
+    let is : drop at (flat_map f xs ++ last) ≡ drop skip last = ap (λ i. drop i (flat_map f xs ++ last)) place ∙ drop-append-add (flat_map f xs) last skip in
+    let sum = length-append (flat_map f xs) last in
+    let left = length-drop skip last in
+    record {
+      same = sym (ap (take (length (drop skip last))) is ∙ take-length (drop skip last));
+      some = λ below. omega (arith, below, sum, len, left, low);
+    }
+
+-- the stretch of a number, as far as they are full
+pub full_stands : {X : Type 0} (f : X → List ℕ) (n at : ℕ) (xs : List X) (last : List ℕ) (d : X) → 0 < n → AreOf f n xs → at / n < length xs → at % n ≡ 0
+    → StandsAt (flat_map f xs ++ last) at (f (get_or xs (at / n) d))
+full_stands f n at xs last d some all low aligned =
+    let run = in_full f n at xs last d some all low in
+    subst (λ i. StandsAt (flat_map f xs ++ last) at (drop i (f (get_or xs (at / n) d)))) aligned run.same
+
+pub last_stands : {X : Type 0} (f : X → List ℕ) (n at : ℕ) (xs : List X) (last : List ℕ) → AreOf f n xs → at / n ≡ length xs → at % n ≡ 0
+    → StandsAt (flat_map f xs ++ last) at last
+last_stands f n at xs last all number aligned =
+    let place : at ≡ length xs * n = sym (div-add-mod' at n) ∙ ap₂ (λ k r. k * n + r) number aligned ∙ omega arith in
+    let run = in_last f n at xs last all (omega (arith, place)) in
+    let none : at - length xs * n ≡ 0 = omega (arith, place) in
+    subst (λ i. StandsAt (flat_map f xs ++ last) at (drop i last)) none run.same
+
+-- a number of stretches that an offset is behind
+pub before : (n at k : ℕ) → k ≤ at / n → k * n ≤ at
+before n at k low = omega (arith, mul-le-mul_right n low, div-mul-le_self at n)
+
+-- ---- runs joined
+
+-- bytes stand where their front and the rest behind it do
+pub stands_in_two : (b : List ℕ) (at : ℕ) (front behind : List ℕ) → StandsAt b at (front ++ behind) ↔ (StandsAt b at front × StandsAt b (at + length front) behind)
+stands_in_two b at front behind =
+    let n = length front in
+    let m = length behind in
+    let len = length-append front behind in
+    let both : take (length (front ++ behind)) (drop at b) ≡ take n (drop at b) ++ take m (drop (at + n) b) =
+    ap (λ i. take i (drop at b)) len ∙ take-add n m (drop at b) ∙ ap (λ x. take n (drop at b) ++ take m x) (drop-drop n at b) in (
+      (λ stands.
+          let is : front ++ behind ≡ take (n + m) (drop at b) = stands ∙ ap (λ i. take i (drop at b)) len in (
+            sym (take-append_seam front behind) ∙ ap (take n) is ∙ take-take n (n + m) (drop at b) (omega arith),
+            sym (drop-append_seam front behind) ∙ ap (drop n) is ∙ drop-take n m (drop at b) ∙ ap (take m) (drop-drop n at b),
+          )),
+      (λ parts. ap₂ (λ x y. x ++ y) parts.0 parts.1 ∙ sym both),
+    )
+
+-- all that is left
+pub whole_rest : (i : ℕ) (b : List ℕ) → take (length b - i) (drop i b) ≡ drop i b
+whole_rest i b = ap (λ n. take n (drop i b)) (sym (length-drop i b)) ∙ take-length (drop i b)
+
+-- bytes with more behind them
+pub stands_more : (b : List ℕ) (at : ℕ) (front run : List ℕ) (m : ℕ) → StandsAt b at front → StandsAt b (at + length front) run → m ≤ length run → StandsAt b at (front ++ take m run)
+stands_more b at front run m first then_run short =
+    let taken : take m run ≡ take m (drop (at + length front) b) = ap (take m) then_run ∙ take-take m (length run) (drop (at + length front) b) short in
+    let len = length-take-le m run short in
+    (stands_in_two b at front (take m run)).1 (first, taken ∙ ap (λ i. take i (drop (at + length front) b)) (sym len))
+
+-- a beginning of a run that stands where it does
+pub stands_front : (b : List ℕ) (at : ℕ) (run : List ℕ) (m : ℕ) → StandsAt b at run → m ≤ length run → StandsAt b at (take m run)
+stands_front b at run m stands short =
+    ap (take m) stands ∙ take-take m (length run) (drop at b) short ∙ ap (λ i. take i (drop at b)) (sym (length-take-le m run short))
+
+-- ---- more stretches
+
+pub with_stretch : {X : Type 0} (f : X → List ℕ) (xs : List X) (x : X) → flat_map f (xs ++ x ∷ []) ≡ flat_map f xs ++ f x
+with_stretch f xs x = sym (flat_map_more f [] xs x)
+
+pub more_behind : (before last front behind : List ℕ) → (before ++ (last ++ front)) ++ behind ≡ (before ++ last) ++ (front ++ behind)
+more_behind before last front behind = ap (λ b. b ++ behind) (sym (append_assoc before last front)) ∙ append_assoc (before ++ last) front behind
+
+-- as many bytes at one place are the same
+pub same_place : (b : List ℕ) (at : ℕ) (x y : List ℕ) → StandsAt b at x → StandsAt b at y → length x ≡ length y → x ≡ y
+same_place b at x y left right len = left ∙ ap (λ i. take i (drop at b)) len ∙ sym right

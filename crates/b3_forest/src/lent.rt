@@ -1,0 +1,141 @@
+//! Bytes that are lent, in one slice or in stretches that are shared.
+
+ghost use Rattle.std.specs.Prelude.{◌≡◌, ◌+◌, ◌≤◌, IfErr, IfOk, IfSome, None, OnOk, length, take, drop, unwrap_or, vec_len, true, false};
+ghost use Rattle.std.specs.Arc.{arc_value};
+ghost use Rattle.b3_core.specs.Work.{NeverFalls, counted};
+ghost use Rattle.b3_forest.specs.Lent.{lent_bytes};
+ghost use Rattle.b3_forest.specs.Parts.{chunks_of, planned};
+ghost use Rattle.b3_forest.specs.Pieces.{part_work, piece_count};
+ghost use Rattle.b3_forest.specs.Stretches.{IsRun, StandsAt};
+ghost use Rattle.store_upload.specs.Uploads.{part_refusal};
+
+use crate::prepared::Prepared;
+use crate::stretches::Stretches;
+use b3_core::Work;
+use std::alloc::{AllocError, Global};
+use std::sync::Arc;
+use store_upload::{PartFault, Plan};
+
+/// Bytes that are lent.
+#[derive(Clone, Copy)]
+pub enum Lent<'a> {
+    /// These, of which parts are copied.
+    Slice(&'a [u8]),
+    /// These, whose stretches parts share.
+    Stretches(&'a Stretches),
+}
+
+impl<'a> Lent<'a> {
+    /// How many they are.
+    pub fn len(self) -> u64
+        ensures { result ≡ length (lent_bytes self.entry) }
+    {
+        match self {
+            Lent::Slice(bytes) => bytes.len() as u64,
+            Lent::Stretches(stretches) => stretches.len(),
+        }
+    }
+
+    // A run of them from an offset on; none where none stand there.
+    fn run(self, at: u64) -> &'a [u8]
+        ensures { IsRun (lent_bytes self.entry) at result.now }
+    {
+        match self {
+            Lent::Slice(bytes) if at < bytes.len() as u64 => &bytes[at as usize..],
+            Lent::Slice(_) => &[],
+            Lent::Stretches(stretches) => stretches.run(at),
+        }
+    }
+
+    /// Whether these bytes stand at an offset, from which on there are as many.
+    pub(crate) fn has(self, at: u64, bytes: &[u8]) -> bool
+        requires { at + length bytes.now ≤ length (lent_bytes self) }
+        ensures yes { result ≡ true → StandsAt (lent_bytes self.entry) at bytes.now }
+        ensures no { result ≡ false → StandsAt (lent_bytes self.entry) at bytes.now → ⊥ }
+    {
+        // For the proof alone: how many there are is a number of 64 bits.
+        let _len = self.len();
+        let (mut at, mut rest) = (at, bytes);
+        while !rest.is_empty() {
+            let run = self.run(at);
+            let len = run.len().min(rest.len());
+            let (front, behind) = rest.split_at(len);
+            if front != &run[..len] {
+                return false;
+            }
+            at += len as u64;
+            rest = behind;
+        }
+        true
+    }
+
+    // A copy of so many of them from an offset on.
+    fn copied(self, alloc: Global, at: u64, len: usize) -> Result<Vec<u8>, AllocError>
+        requires { at + len ≤ length (lent_bytes self) }
+        ensures { IfOk result (λ copy. copy.items ≡ take len (drop at (lent_bytes self.entry))) }
+    {
+        // For the proof alone: how many there are is a number of 64 bits.
+        let _len = self.len();
+        let mut copy = Vec::with_capacity(alloc, len)?;
+        while copy.len() < len {
+            let run = self.run(at + copy.len() as u64);
+            let more = run.len().min(len - copy.len());
+            copy.extend_from_slice(&run[..more])?;
+        }
+        Ok(copy)
+    }
+
+    /// Hashes the part of so many of them at an offset. It shares their stretch where they are one, and else copies them.
+    ///
+    /// F2 to F6 as of `Prepared::make`, and F9.
+    pub fn prepare(
+        self,
+        alloc: Global,
+        plan: &Plan,
+        offset: u64,
+        len: usize,
+        work: &mut Work,
+    ) -> Result<Prepared, PartFault>
+        requires { offset + len ≤ length (lent_bytes self) }
+        ensures made { IfOk result (λ p. p ≡ planned plan.now offset (take len (drop offset (lent_bytes self.entry)))) }
+        ensures fits { OnOk result (part_refusal plan.now offset len ≡ None) }
+        ensures fault { IfErr result (λ fault. fault ≡ unwrap_or (part_refusal plan.now offset len) PartFault.NoMemory) }
+        ensures count { OnOk result (work.new ≡ counted work.old (part_work len
+            (piece_count (chunks_of (planned plan.now offset (take len (drop offset (lent_bytes self.entry)))).part)))) }
+        ensures uncounted { IfSome (part_refusal plan.now offset len) (λ _. work.new ≡ work.old) }
+        ensures never_falls { NeverFalls work.old work.new }
+    {
+        if let Some(fault) = plan.part_fault(offset, len as u64) {
+            return Err(fault);
+        }
+        if let Some(stretch) = self.shared(offset, len) {
+            let Ok(stretch) = Arc::try_clone(stretch) else {
+                return Err(PartFault::NoMemory);
+            };
+            return match Prepared::share(alloc, plan, offset, stretch, work) {
+                Ok(part) => Ok(part),
+                Err(refused) => Err(refused.fault),
+            };
+        }
+        let Ok(bytes) = self.copied(alloc, offset, len) else {
+            return Err(PartFault::NoMemory);
+        };
+        match Prepared::make(alloc, plan, offset, bytes, work) {
+            Ok(part) => Ok(part),
+            Err(refused) => Err(refused.fault),
+        }
+    }
+
+    // The stretch that is just so many of them at an offset, if one is.
+    fn shared(self, offset: u64, len: usize) -> Option<&'a Arc<Vec<u8>>>
+        ensures { IfSome result (λ a. (vec_len (arc_value a.now) ≡ len) × StandsAt (lent_bytes self.entry) offset (arc_value a.now).items) }
+    {
+        let Lent::Stretches(stretches) = self else {
+            return None;
+        };
+        match stretches.begun_at(offset) {
+            Some(stretch) if stretch.len() == len => Some(stretch),
+            _ => None,
+        }
+    }
+}

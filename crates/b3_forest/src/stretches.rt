@@ -1,0 +1,171 @@
+//! Bytes in stretches of one length, which parts of an upload share.
+
+ghost use Rattle.std.specs.Prelude.{◌≡◌, ◌==◌, ◌<◌, ◌++◌, [], IfOk, IfSome, length};
+ghost use Rattle.b3_forest.specs.Stretches.{IsRun, StandsAt, stretch_bytes};
+
+use std::alloc::{AllocError, Global};
+use std::marker::Model;
+use std::sync::Arc;
+
+/// Bytes in stretches of one length, of which the last may be shorter. Parts of an upload share the stretches.
+#[derive(Drop)]
+pub struct Stretches {
+    stretch_len: usize,
+    len: u64,
+    full: Vec<Arc<Vec<u8>>>,
+    last: Arc<Vec<u8>>,
+}
+
+impl Model for Stretches {
+    ghost use Rattle.std.specs.Prelude.{◌≡◌, ◌<◌, length};
+    ghost use Rattle.b3_forest.specs.Stretches.{AreFull, Stretched, stretch_bytes, stretched};
+
+    ghost Value = { Stretched };
+
+    ghost view = { λ s. stretched s.stretch_len s.full.items (stretch_bytes s.last) };
+
+    ghost invariant = { λ s. (0 < s.stretch_len) × AreFull s.stretch_len s.full.items × (length (stretched s.stretch_len s.full.items (stretch_bytes s.last)).bytes ≡ s.len) };
+}
+
+impl Stretches {
+    /// How many bytes they are.
+    pub fn len(&self) -> u64
+        ensures { result ≡ length self.now.bytes }
+    {
+        self.len
+    }
+
+    /// Whether they are no bytes.
+    pub fn is_empty(&self) -> bool
+        ensures { result ≡ (length self.now.bytes == 0) }
+    {
+        self.len == 0
+    }
+
+    /// The bytes from an offset to the end of their stretch; none where none stand there.
+    pub fn run(&self, at: u64) -> &[u8]
+        ensures { IsRun self.now.bytes at result.now }
+    {
+        let number = at / self.stretch_len as u64;
+        let full = self.full.len() as u64;
+        if number < full {
+            let skip = at % self.stretch_len as u64;
+            return &self.full[number as usize].as_slice()[skip as usize..];
+        }
+        let skip = at - full * self.stretch_len as u64;
+        if skip < self.last.len() as u64 {
+            &self.last.as_slice()[skip as usize..]
+        } else {
+            &[]
+        }
+    }
+
+    /// The stretch that begins at an offset, if one does.
+    pub fn begun_at(&self, offset: u64) -> Option<&Arc<Vec<u8>>>
+        ensures { IfSome result (λ a. StandsAt self.now.bytes offset (stretch_bytes a.now)) }
+    {
+        if offset % self.stretch_len as u64 != 0 {
+            return None;
+        }
+        let number = offset / self.stretch_len as u64;
+        let full = self.full.len() as u64;
+        if number < full {
+            return Some(&self.full[number as usize]);
+        }
+        if number == full {
+            Some(&self.last)
+        } else {
+            None
+        }
+    }
+}
+
+/// Gathers bytes in stretches.
+#[derive(Drop)]
+pub struct StretchesBuilder {
+    stretch_len: usize,
+    full: Vec<Arc<Vec<u8>>>,
+    last: Vec<u8>,
+}
+
+impl Model for StretchesBuilder {
+    ghost use Rattle.std.specs.Prelude.{◌<◌, ◌≤◌, vec_len};
+    ghost use Rattle.b3_forest.specs.Stretches.{AreFull, Stretched, stretched};
+
+    ghost Value = { Stretched };
+
+    ghost view = { λ s. stretched s.stretch_len s.full.items s.last.items };
+
+    ghost invariant = { λ s. (0 < s.stretch_len) × AreFull s.stretch_len s.full.items × (vec_len s.last ≤ s.stretch_len) };
+}
+
+impl StretchesBuilder {
+    /// Begins stretches of so many bytes, and takes room for the first.
+    pub fn new(alloc: Global, stretch_len: usize) -> Result<StretchesBuilder, AllocError>
+        requires { 0 < stretch_len }
+        ensures { IfOk result (λ gathered. gathered ≡ record { each = stretch_len; bytes = [] }) }
+    {
+        let last = Vec::with_capacity(alloc, stretch_len)?;
+        Ok(StretchesBuilder {
+            stretch_len,
+            full: Vec::new(alloc),
+            last,
+        })
+    }
+
+    /// With more bytes behind. Room for a stretch is taken before its first byte.
+    pub fn with(self, alloc: Global, bytes: &[u8]) -> Result<StretchesBuilder, AllocError>
+        ensures { IfOk result (λ gathered. gathered ≡ record { each = self.each; bytes = self.bytes ++ bytes.now }) }
+    {
+        let StretchesBuilder {
+            stretch_len,
+            full,
+            last,
+        } = self;
+        let (mut full, mut last) = (full, last);
+        let mut rest = bytes;
+        while !rest.is_empty() {
+            if last.len() >= stretch_len {
+                let Ok(stretch) = Arc::new(alloc, last) else {
+                    return Err(AllocError);
+                };
+                full.push(stretch)?;
+                last = Vec::with_capacity(alloc, stretch_len)?;
+            }
+            let (front, behind) = rest.split_at(rest.len().min(stretch_len - last.len()));
+            last.extend_from_slice(front)?;
+            rest = behind;
+        }
+        Ok(StretchesBuilder {
+            stretch_len,
+            full,
+            last,
+        })
+    }
+
+    /// The stretches, no more of which will come.
+    pub fn finish(self, alloc: Global) -> Result<Stretches, AllocError>
+        ensures { IfOk result (λ stretches. stretches ≡ self) }
+    {
+        let StretchesBuilder {
+            stretch_len,
+            full,
+            last,
+        } = self;
+        let Some(before) = (full.len() as u64).checked_mul(stretch_len as u64) else {
+            return Err(AllocError);
+        };
+        let Some(len) = before.checked_add(last.len() as u64) else {
+            return Err(AllocError);
+        };
+        match Arc::new(alloc, last) {
+            Ok(last) => Ok(Stretches {
+                stretch_len,
+                len,
+                full,
+                last,
+            }),
+            Err(_) => Err(AllocError),
+        }
+    }
+}
