@@ -11,36 +11,37 @@ use Rattle.b3_check.specs.declared.report.Counts.{Counts}
 use Rattle.b3_check.specs.declared.report.Found.TheVariants.{Bad, Good, Missing, Unreadable}
 use Rattle.b3_check.specs.declared.report.Shown.{Shown}
 use Rattle.b3_check.specs.Output.{IsCutOff}
-use Rattle.b3_check.specs.Reports.{Answer, AreWithin, IsAsked, IsBroken, IsEnded, IsLineEnded, IsReport, Verdict, all_counted, counted, counts_of, lines_text, shown_counts, shown_line}
+use Rattle.b3_check.specs.Reports.{Answer, IsBroken, IsEnded, IsReport, Verdict, with_verdicts, with_verdict, counts_of, lines_text, shown_counts, shown_line}
+use Rattle.b3_check.specs.inner.Reports.{AreAtMost, IsLineAsked, IsLineEnded}
 use Rattle.b3_check.specs.Reports.Verdict.{faulty, named}
 use Rattle.b3_check.proofs.Chain.{IsReport-push}
 use Rattle.b3_check.proofs.CutOffs.{cut_in_first, cut_in_second}
 
 -- ---- counts
 
-all_push : (verdicts : List Verdict) (verdict : Verdict) (counts : Counts) → all_counted (verdicts ++ verdict ∷ []) counts ≡ counted verdict (all_counted verdicts counts)
+all_push : (verdicts : List Verdict) (verdict : Verdict) (counts : Counts) → with_verdicts (verdicts ++ verdict ∷ []) counts ≡ with_verdict verdict (with_verdicts verdicts counts)
 all_push [] verdict counts = refl
-all_push (first ∷ verdicts) verdict counts = all_push verdicts verdict (counted first counts)
+all_push (first ∷ verdicts) verdict counts = all_push verdicts verdict (with_verdict first counts)
 
-counts_push : (verdicts : List Verdict) (verdict : Verdict) → counts_of (verdicts ++ verdict ∷ []) ≡ counted verdict (counts_of verdicts)
+counts_push : (verdicts : List Verdict) (verdict : Verdict) → counts_of (verdicts ++ verdict ∷ []) ≡ with_verdict verdict (counts_of verdicts)
 counts_push verdicts verdict = all_push verdicts verdict _
 
-one_within : (n : ℕ) (verdict : Verdict) (counts : Counts) → AreWithin n counts → AreWithin (n + 1) (counted verdict counts)
+one_within : (n : ℕ) (verdict : Verdict) (counts : Counts) → AreAtMost n counts → AreAtMost (n + 1) (with_verdict verdict counts)
 one_within n (named Good name) counts h = record { good = omega (arith, h.good); bad = omega (arith, h.bad); missing = omega (arith, h.missing); unreadable = omega (arith, h.unreadable); faults = omega (arith, h.faults) }
 one_within n (named Bad name) counts h = record { good = omega (arith, h.good); bad = omega (arith, h.bad); missing = omega (arith, h.missing); unreadable = omega (arith, h.unreadable); faults = omega (arith, h.faults) }
 one_within n (named Missing name) counts h = record { good = omega (arith, h.good); bad = omega (arith, h.bad); missing = omega (arith, h.missing); unreadable = omega (arith, h.unreadable); faults = omega (arith, h.faults) }
 one_within n (named Unreadable name) counts h = record { good = omega (arith, h.good); bad = omega (arith, h.bad); missing = omega (arith, h.missing); unreadable = omega (arith, h.unreadable); faults = omega (arith, h.faults) }
 one_within n (faulty line fault) counts h = record { good = omega (arith, h.good); bad = omega (arith, h.bad); missing = omega (arith, h.missing); unreadable = omega (arith, h.unreadable); faults = omega (arith, h.faults) }
 
-within_more : (n : ℕ) (verdict : Verdict) (before after : Counts) → after ≡ counted verdict before → AreWithin n before → AreWithin (n + 1) after
-within_more n verdict before after is h = subst (AreWithin (n + 1)) (sym is) (one_within n verdict before h)
+within_more : (n : ℕ) (verdict : Verdict) (before after : Counts) → after ≡ with_verdict verdict before → AreAtMost n before → AreAtMost (n + 1) after
+within_more n verdict before after is h = subst (AreAtMost (n + 1)) (sym is) (one_within n verdict before h)
 
 -- ---- one line more
 
 -- what holds behind i lines
 abbrev pub IsUpTo : {S : Type 0} → (S → List ℕ → Answer → S → Type 0) → Shown → S → List NumberedLine → ℕ → S → Counts → Option (List ℕ) → Option (List ℕ) → Type 0
 IsUpTo gives shown old lines i new counts before after =
-    (verdicts : List Verdict) × IsReport gives old (take i lines) verdicts new × (counts ≡ counts_of verdicts) × AreWithin i counts
+    (verdicts : List Verdict) × IsReport gives old (take i lines) verdicts new × (counts ≡ counts_of verdicts) × AreAtMost i counts
     × Appends before after (lines_text shown verdicts)
 
 lines_push : (shown : Shown) (verdicts : List Verdict) (verdict : Verdict) → lines_text shown (verdicts ++ verdict ∷ []) ≡ lines_text shown verdicts ++ shown_line shown verdict
@@ -55,12 +56,12 @@ parted lines i line lt is =
     ap (λ (l : NumberedLine). take i lines ++ l ∷ drop (i + 1) lines) is ∙ ap (λ (ls : List NumberedLine). take i lines ++ ls) (sym (drop_more lines i line lt)) ∙ take-append-drop i lines
 
 pub one_line_more : {S : Type 0} (gives : S → List ℕ → Answer → S → Type 0) (shown : Shown) (old mid new : S) (lines : List NumberedLine) (i : ℕ) (line : NumberedLine) (counts after : Counts) (before grown last : Option (List ℕ))
-    → i < length lines → line ≡ get_or lines i line → IsUpTo gives shown old lines i mid counts before grown → IsAsked gives shown mid line.number line.line new counts after grown last
+    → i < length lines → line ≡ get_or lines i line → IsUpTo gives shown old lines i mid counts before grown → IsLineAsked gives shown mid line.number line.line new counts after grown last
     → IsUpTo gives shown old lines (i + 1) new after before last
 one_line_more gives shown old mid new lines i line counts after before grown last lt is h a = (
   h.0 ++ a.verdict ∷ [],
   subst (λ (ls : List NumberedLine). IsReport gives old ls (h.0 ++ a.verdict ∷ []) new) (sym (taken lines i line lt is)) (IsReport-push gives old mid new (take i lines) h.0 line a.verdict h.1 a.asked),
-  a.counts ∙ ap (counted a.verdict) h.2 ∙ sym (counts_push h.0 a.verdict),
+  a.counts ∙ ap (with_verdict a.verdict) h.2 ∙ sym (counts_push h.0 a.verdict),
   within_more i a.verdict counts after a.counts h.3,
   subst (Appends before last) (sym (lines_push shown h.0 a.verdict)) (Appends-trans before grown last (lines_text shown h.0) (shown_line shown a.verdict) h.4 a.went),
 )

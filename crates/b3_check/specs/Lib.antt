@@ -6,3 +6,4 @@ pub mod Lines
 pub mod Files
 pub mod Reports
 pub mod Laws
+pub mod inner

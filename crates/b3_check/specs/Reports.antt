@@ -1,5 +1,5 @@
 -- Reports on check files: a verdict on each line, and their text.
-use Rattle.std.specs.Prelude.{◌≡◌, ◌≤◌, ◌+◌, ℕ, Bool, true, false, not, List, [], ◌∷◌, ◌++◌, Option, Some, None, Result, Ok, Err, codes, if◌then◌else◌}
+use Rattle.std.specs.Prelude.{◌≡◌, ◌+◌, ℕ, Bool, true, false, not, List, [], ◌∷◌, ◌++◌, Option, Some, None, Result, Ok, Err, codes, if◌then◌else◌}
 use Rattle.std.specs.Fmt.{decimal}
 use Rattle.std.specs.List.{flat_map}
 use Rattle.std.specs.Str.{bytes_eq}
@@ -74,29 +74,21 @@ is_good (named Unreadable name) = false
 is_good (faulty line fault) = false
 
 -- counts and one verdict more
-abbrev pub counted : Verdict → Counts → Counts
-counted (named Good name) counts = record counts { good = counts.good + 1 }
-counted (named Bad name) counts = record counts { bad = counts.bad + 1 }
-counted (named Missing name) counts = record counts { missing = counts.missing + 1 }
-counted (named Unreadable name) counts = record counts { unreadable = counts.unreadable + 1 }
-counted (faulty line fault) counts = record counts { faults = counts.faults + 1 }
+abbrev pub with_verdict : Verdict → Counts → Counts
+with_verdict (named Good name) counts = record counts { good = counts.good + 1 }
+with_verdict (named Bad name) counts = record counts { bad = counts.bad + 1 }
+with_verdict (named Missing name) counts = record counts { missing = counts.missing + 1 }
+with_verdict (named Unreadable name) counts = record counts { unreadable = counts.unreadable + 1 }
+with_verdict (faulty line fault) counts = record counts { faults = counts.faults + 1 }
 
 -- counts and more verdicts, one after another
-abbrev pub all_counted : List Verdict → Counts → Counts
-all_counted [] counts = counts
-all_counted (verdict ∷ verdicts) counts = all_counted verdicts (counted verdict counts)
+abbrev pub with_verdicts : List Verdict → Counts → Counts
+with_verdicts [] counts = counts
+with_verdicts (verdict ∷ verdicts) counts = with_verdicts verdicts (with_verdict verdict counts)
 
 -- how many verdicts of each kind there are
 abbrev pub counts_of : List Verdict → Counts
-counts_of verdicts = all_counted verdicts (record { good = 0; bad = 0; missing = 0; unreadable = 0; faults = 0 })
-
--- no count is above n
-pub record AreWithin (n : ℕ) (counts : Counts) : Type 0 where
-  pub good : counts.good ≤ n
-  pub bad : counts.bad ≤ n
-  pub missing : counts.missing ≤ n
-  pub unreadable : counts.unreadable ≤ n
-  pub faults : counts.faults ≤ n
+counts_of verdicts = with_verdicts verdicts (record { good = 0; bad = 0; missing = 0; unreadable = 0; faults = 0 })
 
 -- ---- the text
 
@@ -167,7 +159,7 @@ pub record IsBroken {S : Type 0} (gives : S → List ℕ → Answer → S → Ty
 
 -- The names ended it: the chain is one for the lines before, whose verdicts were written, and for the next line they answered want of
 -- memory.
-pub record IsRefused {S : Type 0} (gives : S → List ℕ → Answer → S → Type 0) (shown : Shown) (old : S) (lines : List NumberedLine) (new : S) (before after : Option (List ℕ)) : Type 0 where
+pub record EndsForMemory {S : Type 0} (gives : S → List ℕ → Answer → S → Type 0) (shown : Shown) (old : S) (lines : List NumberedLine) (new : S) (before after : Option (List ℕ)) : Type 0 where
   pub front : List NumberedLine
   pub line : NumberedLine
   pub back : List NumberedLine
@@ -182,19 +174,4 @@ pub record IsRefused {S : Type 0} (gives : S → List ℕ → Answer → S → T
 abbrev pub IsEnded : {S : Type 0} → (S → List ℕ → Answer → S → Type 0) → Shown → S → List NumberedLine → Cause → S → Option (List ℕ) → Option (List ℕ) → Type 0
 IsEnded gives shown old lines CannotRead new before after = ⊥
 IsEnded gives shown old lines CannotWrite new before after = IsBroken gives shown old lines new before after
-IsEnded gives shown old lines OutOfMemory new before after = IsRefused gives shown old lines new before after
-
--- ---- one line of them
-
--- a line was asked for: its verdict is counted, and what is shown of it was written
-pub record IsAsked {S : Type 0} (gives : S → List ℕ → Answer → S → Type 0) (shown : Shown) (old : S) (number : ℕ) (line : Result Line Fault) (new : S) (before after : Counts) (written grown : Option (List ℕ)) : Type 0 where
-  pub verdict : Verdict
-  pub asked : IsVerdictBy gives old number line verdict new
-  pub counts : after ≡ counted verdict before
-  pub went : Appends written grown (shown_line shown verdict)
-
--- what ended a report at a line
-abbrev pub IsLineEnded : {S : Type 0} → (S → List ℕ → Answer → S → Type 0) → Shown → S → ℕ → Result Line Fault → Cause → S → Option (List ℕ) → Option (List ℕ) → Type 0
-IsLineEnded gives shown old number line CannotRead new written grown = ⊥
-IsLineEnded gives shown old number line CannotWrite new written grown = (verdict : Verdict) × IsVerdictBy gives old number line verdict new × IsCutOff written grown (shown_line shown verdict)
-IsLineEnded gives shown old number line OutOfMemory new written grown = IsRefusedFor gives old line new × (grown ≡ written)
+IsEnded gives shown old lines OutOfMemory new before after = EndsForMemory gives shown old lines new before after

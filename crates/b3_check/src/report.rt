@@ -3,7 +3,8 @@
 ghost use Rattle.std.specs.Prelude.{◌≡◌, ◌↔◌, ◌+◌, ◌-◌, ◌^◌, ℕ, List, OnErr, OnOk, IsTrue};
 ghost use Rattle.std.specs.Io.KnownBytes.{Appends};
 ghost use Rattle.b3_check.specs.Output.{IsCutOff};
-ghost use Rattle.b3_check.specs.Reports.{AreWithin, Verdict, counted, counts_text, fault_line, shown_counts, shown_line, shows, verdict_text};
+ghost use Rattle.b3_check.specs.Reports.{Verdict, with_verdict, counts_text, fault_line, shown_counts, shown_line, shows, verdict_text};
+ghost use Rattle.b3_check.specs.inner.Reports.{AreAtMost};
 ghost use Rattle.b3_check.specs.Reports.Verdict.{faulty, named};
 
 use crate::fault::Fault;
@@ -63,8 +64,8 @@ impl Counts {
 
     /// Counts what became of a name.
     pub(crate) fn add_found(&mut self, found: Found)
-        requires { AreWithin (2 ^ 64 - 2) self.old }
-        ensures { (name : List ℕ) → self.new ≡ counted (named found name) self.old }
+        requires { AreAtMost (2 ^ 64 - 2) self.old }
+        ensures { (name : List ℕ) → self.new ≡ with_verdict (named found name) self.old }
     {
         match found {
             Found::Good => self.good += 1,
@@ -76,8 +77,8 @@ impl Counts {
 
     /// Counts a line with a fault.
     pub(crate) fn add_fault(&mut self)
-        requires { AreWithin (2 ^ 64 - 2) self.old }
-        ensures { (line : ℕ) (fault : Fault) → self.new ≡ counted (faulty line fault) self.old }
+        requires { AreAtMost (2 ^ 64 - 2) self.old }
+        ensures { (line : ℕ) (fault : Fault) → self.new ≡ with_verdict (faulty line fault) self.old }
     {
         self.faults += 1;
     }

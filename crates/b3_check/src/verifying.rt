@@ -2,7 +2,8 @@
 
 ghost use Rattle.std.specs.Prelude.{◌≡◌, ◌≢◌, ◌+◌, ◌-◌, ◌^◌, ℕ, List, IfErr, IfOk, OnErr, OnOk};
 ghost use Rattle.std.specs.Io.KnownBytes.{Appends};
-ghost use Rattle.b3_check.specs.Reports.{AreWithin, IsAsked, IsEnded, IsFound, IsLineEnded, IsReport, Verdict, counts_of, report_text};
+ghost use Rattle.b3_check.specs.Reports.{IsEnded, IsFound, IsReport, Verdict, counts_of, report_text};
+ghost use Rattle.b3_check.specs.inner.Reports.{AreAtMost, IsLineAsked, IsLineEnded};
 
 use crate::file::{CheckFile, NumberedLine};
 use crate::line::Line;
@@ -46,8 +47,8 @@ fn verify_line<N: Names, W: Write>(
     counts: &mut Counts,
     writer: &mut W,
 ) -> Result<(), Cause>
-    requires { AreWithin (2 ^ 64 - 2) counts.old }
-    ensures asked { OnOk result (IsAsked N.gives shown names.old line.now.number line.now.line names.new counts.old counts.new (W.contents writer.old) (W.contents writer.new)) }
+    requires { AreAtMost (2 ^ 64 - 2) counts.old }
+    ensures asked { OnOk result (IsLineAsked N.gives shown names.old line.now.number line.now.line names.new counts.old counts.new (W.contents writer.old) (W.contents writer.new)) }
     ensures stopped { IfErr result (λ cause. IsLineEnded N.gives shown names.old line.now.number line.now.line cause names.new (W.contents writer.old) (W.contents writer.new)) }
 {
     match &line.line {
@@ -70,8 +71,8 @@ fn verify_named<N: Names, W: Write>(
     counts: &mut Counts,
     writer: &mut W,
 ) -> Result<(), Cause>
-    requires { AreWithin (2 ^ 64 - 2) counts.old }
-    ensures asked { OnOk result (IsAsked N.gives shown names.old 0 (Ok line.now) names.new counts.old counts.new (W.contents writer.old) (W.contents writer.new)) }
+    requires { AreAtMost (2 ^ 64 - 2) counts.old }
+    ensures asked { OnOk result (IsLineAsked N.gives shown names.old 0 (Ok line.now) names.new counts.old counts.new (W.contents writer.old) (W.contents writer.new)) }
     ensures stopped { IfErr result (λ cause. IsLineEnded N.gives shown names.old 0 (Ok line.now) cause names.new (W.contents writer.old) (W.contents writer.new)) }
 {
     let Ok(found) = found_of(line, names) else {

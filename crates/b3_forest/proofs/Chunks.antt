@@ -9,7 +9,7 @@ use Rattle.b3_core.specs.Laws.{NeighboursJoin}
 use Rattle.b3_core.specs.Modes.{hash_mode}
 use Rattle.b3_core.specs.Tree.{tree_top, parent_top}
 use Rattle.b3_forest.specs.Forests.{IsPiece, piece_end}
-use Rattle.b3_forest.specs.Subtrees.{AreChunks, is_held}
+use Rattle.b3_forest.specs.inner.Subtrees.{AreChunks, is_held}
 use Rattle.b3_forest.specs.Pieces.{content_at, is_full}
 use Rattle.b3_forest.specs.declared.piece.Piece.{Piece}
 use Rattle.b3_forest.proofs.OneForest.{both_full, full_halves, full_one, bool_cases}

@@ -5,7 +5,7 @@ use Rattle.std.proofs.lemmas.Bool.Decides.{nat_tests}
 use Rattle.std.proofs.lemmas.Bool.{cases_lt}
 use Rattle.std.proofs.lemmas.List.{length-append, take-append-le, drop-append-le, length-drop, length-take, append-nil}
 use Rattle.std.proofs.Math.Seq.{drop-append-add}
-use Rattle.b3_forest.specs.Subtrees.{IsFirstGap, is_held}
+use Rattle.b3_forest.specs.inner.Subtrees.{IsFirstGap, is_held}
 use Rattle.store_upload.specs.Uploads.{ArePlaced, end_of, first_gap}
 use Rattle.b3_forest.specs.Parts.{HeldPart, chunk_in}
 use Rattle.b3_forest.specs.Uploads.{content_of}

@@ -4,7 +4,7 @@ use Rattle.std.proofs.lemmas.List.{length-append}
 use Rattle.std.proofs.lemmas.Nat.{pow_pos}
 use Rattle.std.proofs.Math.Nat.{two-pow-succ}
 use Rattle.b3_forest.specs.Pieces.{is_full, pieces_of}
-use Rattle.b3_forest.specs.Subtrees.{is_held}
+use Rattle.b3_forest.specs.inner.Subtrees.{is_held}
 use Rattle.b3_forest.proofs.Chunks.{Extends, full_at, full_from, held_same}
 use Rattle.b3_forest.proofs.Growing.{IsUnionOf}
 use Rattle.b3_forest.proofs.OneForest.{bool_cases, full_one, pieces_of-none_held}

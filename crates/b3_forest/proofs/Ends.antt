@@ -11,9 +11,11 @@ use Rattle.std.specs.Ordering.{nat_cmp}
 use Rattle.store_upload.specs.declared.refusal.AddFault.TheVariants.{Overlap, PastLast, WrongPlan}
 use Rattle.store_upload.specs.declared.refusal.FinishFault.TheVariants.{Incomplete, NotFixed}
 use Rattle.b3_forest.specs.Parts.{HeldPart, Part, PlannedPart, chunk_in, chunks_of, held_as}
-use Rattle.b3_forest.specs.Subtrees.{AreHashed, AreWhole, HaveRoom, Keeps, Subtrees}
+use Rattle.b3_forest.specs.Subtrees.{AreHashed, Keeps, Subtrees}
+use Rattle.b3_forest.specs.inner.Subtrees.{AreWhole, HaveRoom}
 use Rattle.b3_forest.specs.Pieces.{piece_count, root_level}
-use Rattle.b3_forest.specs.Uploads.{add_refusal, overlap_at, past_last, pieces_held, with_part}
+use Rattle.b3_forest.specs.Uploads.{add_refusal, pieces_held, with_part}
+use Rattle.b3_forest.specs.inner.Uploads.{overlap_at, past_last}
 use Rattle.b3_forest.proofs.Contents.{gap_follows, gap_here}
 use Rattle.b3_forest.proofs.Counts.{count_joined}
 use Rattle.b3_forest.proofs.HeldParts.{IsApart, goes, no_overlap, overlap_order, parts_joined, with_held}

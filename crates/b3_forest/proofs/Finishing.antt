@@ -10,7 +10,8 @@ use Rattle.std.proofs.Math.Seq.{take-add}
 use Rattle.b3_core.specs.Laws.{NeighboursJoin}
 use Rattle.b3_core.specs.Modes.{hash_mode}
 use Rattle.b3_core.specs.Tree.{tree_top}
-use Rattle.b3_forest.specs.Subtrees.{Subtrees, AreChunks, AreWhole, Keeps, is_held, subtree_of, over, piece_from, top_before, top_over}
+use Rattle.b3_forest.specs.Subtrees.{Subtrees, Keeps, piece_from}
+use Rattle.b3_forest.specs.inner.Subtrees.{AreChunks, AreWhole, is_held, subtree_of, over, top_before, top_over}
 use Rattle.b3_forest.specs.Parts.{HeldPart, chunk_in}
 use Rattle.b3_forest.specs.Pieces.{content_at, is_full, piece_at, pieces_of, root_level}
 use Rattle.b3_forest.specs.Uploads.{content_of}

@@ -6,12 +6,14 @@ use Rattle.std.proofs.lemmas.Bool.{cases_lt}
 use Rattle.std.proofs.lemmas.Bool.Decides.{nat_tests}
 use Rattle.std.proofs.lemmas.List.{drop-drop, drop_all, length-append, length-drop, length-take, take-append-drop}
 use Rattle.b3_forest.specs.Followed.{AllNoted, ArePartsOf, Followed, Follows, IsFirstNoted, IsFirstUnnoted, IsNoted, IsNotedWith, NothingNoted, bytes_at, followed, has_chunk, noted_chunk, noting_merges, pieces_noted, range_of}
-use Rattle.b3_forest.specs.Subtrees.{HasChunk, HaveRoom, Keeps, Subtrees, is_held, subtree_at}
+use Rattle.b3_forest.specs.Subtrees.{HasChunk, Keeps, Subtrees, subtree_at}
+use Rattle.b3_forest.specs.inner.Subtrees.{HaveRoom, is_held}
 use Rattle.store_upload.specs.Laws.{IsFirstMissing, IsFirstOverlap, IsHeldAt, LeastMissing, LeastOverlap}
 use Rattle.store_upload.specs.Uploads.{ArePlaced, Fits, IsUpload, Upload, UploadPlan, closed_plan, end_of, first_gap, first_missing}
 use Rattle.b3_forest.specs.Parts.{HeldPart, Part, PlannedPart, chunk_in, chunks_of, held_as}
 use Rattle.b3_forest.specs.Pieces.{is_full, piece_count, pieces_of, root_level}
-use Rattle.b3_forest.specs.Uploads.{content_of, merges_of, overlap_at, with_part}
+use Rattle.b3_forest.specs.Uploads.{content_of, merges_of, with_part}
+use Rattle.b3_forest.specs.inner.Uploads.{overlap_at}
 use Rattle.b3_forest.specs.declared.piece.Subtree.{Subtree}
 use Rattle.b3_forest.proofs.Canonical.{AreSorted, forest_count, head_at, in_tail, tail_at}
 use Rattle.b3_forest.proofs.Contents.{gap_follows, gap_here}

@@ -7,7 +7,8 @@ use Rattle.std.specs.Ordering.{nat_cmp}
 use Rattle.std.proofs.lemmas.Bool.{cases_lt}
 use Rattle.std.proofs.lemmas.Nat.{pow_pos}
 use Rattle.b3_forest.specs.Forests.{IsPiece, IsRow, Covers, IsForest, piece_end}
-use Rattle.b3_forest.specs.Subtrees.{Subtrees, AreForest, AreFresh, ArePieces, HasChunk, IsAmong, firsts, is_held, subtree_at, subtree_of, piece_from, with_subtrees}
+use Rattle.b3_forest.specs.Subtrees.{Subtrees, AreForest, ArePieces, HasChunk, IsAmong, subtree_at, piece_from}
+use Rattle.b3_forest.specs.inner.Subtrees.{AreFresh, firsts, is_held, subtree_of, with_subtrees}
 use Rattle.b3_forest.specs.Pieces.{most_chunks, root_level}
 use Rattle.b3_forest.specs.declared.piece.Subtree.{Subtree}
 use Rattle.b3_forest.specs.declared.piece.Piece.{Piece}

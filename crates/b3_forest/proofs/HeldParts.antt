@@ -7,7 +7,7 @@ use Rattle.std.proofs.lemmas.Bool.Decides.{nat_tests}
 use Rattle.std.proofs.lemmas.Bool.{cases_lt}
 use Rattle.std.proofs.lemmas.List.{length-drop, length-take}
 use Rattle.store_upload.specs.Uploads.{ArePlaced, Fits, closed_plan, end_of, overlap_at, overlaps}
-use Rattle.b3_forest.specs.Subtrees.{AreChunks, is_held}
+use Rattle.b3_forest.specs.inner.Subtrees.{AreChunks, is_held}
 use Rattle.b3_forest.specs.Parts.{HeldPart, chunk_in}
 use Rattle.b3_forest.proofs.Growing.{IsUnionOf}
 use Rattle.b3_forest.proofs.OneForest.{bool_cases}

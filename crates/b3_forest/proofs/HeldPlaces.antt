@@ -3,7 +3,7 @@ use Rattle.std.proofs.Common.{◌≡◌, ℕ, ◌+◌, ◌*◌, ◌/◌, ◌%◌
 use Rattle.std.specs.Prelude.{max}
 use Rattle.std.proofs.lemmas.Bool.{cases_lt}
 use Rattle.store_upload.specs.Uploads.{ArePlaced, end_of, overlap_at, overlaps}
-use Rattle.b3_forest.specs.Subtrees.{IsLeastHeld, NoneHeld, is_held}
+use Rattle.b3_forest.specs.inner.Subtrees.{IsLeastHeld, NoneHeld, is_held}
 use Rattle.b3_forest.specs.Parts.{HeldPart, chunk_in}
 use Rattle.b3_forest.proofs.HeldParts.{none_held_in_nothing, BeginsOut, in_or_out, meet, meets, not_both, held_here, held_there, held_after, overlap_here, overlap_later}
 use Rattle.b3_forest.proofs.OneForest.{bool_cases}

@@ -9,7 +9,8 @@ use Rattle.b3_core.specs.Modes.{hash_mode}
 use Rattle.b3_core.specs.Tree.{Inputs, tree_top}
 use Rattle.store_upload.specs.Uploads.{most_bytes}
 use Rattle.b3_forest.specs.Forests.{IsForest}
-use Rattle.b3_forest.specs.Subtrees.{Subtrees, AreForest, AreFresh, AreWhole, HaveRoom, Keeps, firsts, is_held, top_over, with_subtrees}
+use Rattle.b3_forest.specs.Subtrees.{Subtrees, AreForest, Keeps}
+use Rattle.b3_forest.specs.inner.Subtrees.{AreFresh, AreWhole, HaveRoom, firsts, is_held, top_over, with_subtrees}
 use Rattle.b3_forest.specs.Parts.{HeldPart, Part, chunk_in, chunks_of, held_as}
 use Rattle.b3_forest.specs.Pieces.{most_chunks, piece_count, pieces_of, root_level}
 use Rattle.b3_forest.specs.Uploads.{content_of, merges_of, with_part}
@@ -20,7 +21,7 @@ use Rattle.b3_forest.proofs.Growing.{grown_forest}
 use Rattle.b3_forest.proofs.HeldParts.{held_after, parts_joined, placed_chunks, placed_more}
 use Rattle.b3_forest.proofs.OneForest.{bool_cases}
 use Rattle.b3_forest.proofs.PiecesAreForest.{pieces_are_forest}
-use Rattle.b3_forest.specs.Subtrees.{AreChunks}
+use Rattle.b3_forest.specs.inner.Subtrees.{AreChunks}
 
 pub nothing_past : (n : ℕ) (ps : List HeldPart) (es : Subtrees) → Keeps n ps es → (i : ℕ) → most_chunks ≤ i → is_held (chunk_in ps) i ≡ false
 nothing_past n ps es keeps i high = elim (bool_cases (is_held (chunk_in ps) i)) [

@@ -6,7 +6,8 @@ use Rattle.b3_core.specs.Laws.{NeighboursJoin}
 use Rattle.b3_core.specs.Modes.{hash_mode}
 use Rattle.b3_core.specs.Tree.{parent_top}
 use Rattle.b3_forest.specs.Forests.{IsPiece}
-use Rattle.b3_forest.specs.Subtrees.{Subtrees, AreChunks, AreForest, AreHalvesAt, ArePieces, AreSettled, HasChunk, IsAlone, IsAmong, IsMerged, IsPair, subtree_at, piece_from}
+use Rattle.b3_forest.specs.Subtrees.{Subtrees, AreForest, AreHalvesAt, ArePieces, AreSettled, HasChunk, IsAmong, subtree_at, piece_from}
+use Rattle.b3_forest.specs.inner.Subtrees.{AreChunks, IsAlone, IsMerged, IsPair}
 use Rattle.b3_forest.specs.Pieces.{most_chunks}
 use Rattle.b3_forest.specs.declared.subtrees.Halves.{Halves}
 use Rattle.b3_forest.specs.declared.piece.Subtree.{Subtree}

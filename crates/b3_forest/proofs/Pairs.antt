@@ -5,7 +5,8 @@ use Rattle.std.proofs.lemmas.Bool.{cases_lt}
 use Rattle.std.proofs.lemmas.Nat.{pow_pos}
 use Rattle.std.proofs.Math.Nat.{two-pow-succ, mul-div_cancel, mul-le-mul_right}
 use Rattle.std.proofs.Math.Pow.{pow_mono}
-use Rattle.b3_forest.specs.Subtrees.{Subtrees, ArePieces, IsAlone, IsOtherHalf, IsPair, subtree_at}
+use Rattle.b3_forest.specs.Subtrees.{Subtrees, ArePieces, subtree_at}
+use Rattle.b3_forest.specs.inner.Subtrees.{IsAlone, IsOtherHalf, IsPair}
 use Rattle.b3_forest.specs.Pieces.{root_level}
 use Rattle.b3_forest.specs.declared.piece.Subtree.{Subtree}
 use Rattle.b3_forest.proofs.Merging.{some_same}

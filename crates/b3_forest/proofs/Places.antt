@@ -8,7 +8,8 @@ use Rattle.std.specs.declared.ops.Bound.TheVariants.{Included, Excluded, Unbound
 use Rattle.std.proofs.lemmas.Bool.Decides.{nat_tests}
 use Rattle.std.proofs.lemmas.Bool.{cases_lt}
 use Rattle.std.proofs.lemmas.Nat.{pow_pos}
-use Rattle.b3_forest.specs.Subtrees.{Subtrees, AreForest, ArePieces, HasChunk, IsLastUpto, IsLeastHeld, IsNextFrom, NoneFrom, NoneHeld, NoneUpto, is_held, subtree_at}
+use Rattle.b3_forest.specs.Subtrees.{Subtrees, AreForest, ArePieces, HasChunk, subtree_at}
+use Rattle.b3_forest.specs.inner.Subtrees.{IsLastUpto, IsLeastHeld, IsNextFrom, NoneFrom, NoneHeld, NoneUpto, is_held}
 use Rattle.b3_forest.specs.Pieces.{most_chunks}
 use Rattle.b3_forest.specs.declared.piece.Subtree.{Subtree}
 use Rattle.b3_forest.proofs.Chunks.{full_at}

@@ -3,7 +3,7 @@ use Rattle.std.proofs.Common.{◌≡◌, ℕ, ◌+◌, ◌*◌, ◌++◌, List, 
 use Rattle.std.proofs.lemmas.List.{length-append}
 use Rattle.b3_core.specs.Tree.{Inputs}
 use Rattle.b3_core.specs.Work.{counted}
-use Rattle.b3_forest.specs.Subtrees.{over, parents_left, top_before}
+use Rattle.b3_forest.specs.inner.Subtrees.{over, parents_left, top_before}
 use Rattle.b3_forest.specs.declared.piece.Subtree.{Subtree}
 
 pub top_push : (ns : List Subtree) (n : Subtree) (right : Option Inputs) → top_before (ns ++ n ∷ []) right ≡ top_before ns (over n right)

@@ -9,3 +9,4 @@ pub mod Forests
 pub mod Uploads
 pub mod Subtrees
 pub mod Followed
+pub mod inner

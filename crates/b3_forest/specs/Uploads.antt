@@ -17,14 +17,6 @@ part_of s = (s.offset, (arc_value s.bytes).items)
 
 -- ---- a part that is handed in
 
--- the least offset of a part that others hold
-abbrev pub overlap_at : Part → List HeldPart → Option ℕ
-overlap_at p ps = upload.overlap_at length p.offset (length p.bytes) ps
-
--- how far the upload reaches, where the part would end past its end, or would end it where it doesn't end
-abbrev pub past_last : Upload (List ℕ) → Part → Option ℕ
-past_last u p = upload.past_last length u p.offset (length p.bytes)
-
 -- why a part is not added to an upload: it was made for another plan, or the upload does not take it where it is
 abbrev pub add_refusal : Upload (List ℕ) → PlannedPart → Option AddFault
 add_refusal u p = if same_plan p.plan u.plan then place_refusal length u p.part.offset (length p.part.bytes) else Some WrongPlan

@@ -102,7 +102,7 @@ impl<'a> Follow<'a> {
 
     /// The least offset that was not noted; none where all were.
     pub fn first_missing(&self) -> Option<u64>
-        ensures some { IfSome result (IsFirstUnnoted self.now) }
+        ensures found { IfSome result (IsFirstUnnoted self.now) }
         ensures none { IfNone result (AllNoted self.now) }
     {
         // For the proof alone: the laws of uploads.

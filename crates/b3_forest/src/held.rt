@@ -5,7 +5,8 @@ ghost use Rattle.b3_core.specs.Modes.{hash_mode};
 ghost use Rattle.b3_core.specs.Tree.{tree_top};
 ghost use Rattle.b3_core.specs.Work.{counted};
 ghost use Rattle.store_upload.specs.Uploads.{first_gap as first_gap_of, most_bytes, overlap_at};
-ghost use Rattle.b3_forest.specs.Subtrees.{AreOfUpload, AreWhole, HaveRoom, Keeps};
+ghost use Rattle.b3_forest.specs.Subtrees.{Keeps};
+ghost use Rattle.b3_forest.specs.inner.Subtrees.{AreOfUpload, AreWhole, HaveRoom};
 ghost use Rattle.b3_forest.specs.Parts.{HeldPart};
 ghost use Rattle.b3_forest.specs.Uploads.{content_of, finish_work, merges_of, with_part};
 
@@ -19,7 +20,7 @@ use store_upload::CHUNK_LEN;
 
 /// The least of so many offsets that is held.
 pub(crate) fn overlap(subtrees: &BTreeMap<u64, Subtree>, offset: u64, len: u64) -> Option<u64>
-    requires some { 0 < len }
+    requires positive { 0 < len }
     requires aligned { offset % 1024 ≡ 0 }
     requires within { offset + len ≤ most_bytes }
     requires pieces { (n : ℕ) × AreOfUpload n subtrees.now.entries }

@@ -164,7 +164,7 @@ impl Prepared {
     pub fn fitting(&self) -> &[u8]
         ensures bytes { result.now ≡ self.now.part.bytes }
         ensures fits { Fits self.now.plan self.now.part.offset (length self.now.part.bytes) }
-        ensures most { self.now.plan.bound ≤ most_bytes }
+        ensures bounded { self.now.plan.bound ≤ most_bytes }
     {
         // For the proof alone: a plan says that its bound is at most 2^44.
         let _most = self.plan.bound();

@@ -4,7 +4,8 @@ ghost use Rattle.std.specs.Prelude.{◌≡◌, ◌≢◌, ℕ, ◌+◌, ◌-◌,
 ghost use Rattle.std.specs.Map.{values_of};
 ghost use Rattle.b3_core.specs.Laws.{NeighboursJoin};
 ghost use Rattle.b3_core.specs.Work.{counted};
-ghost use Rattle.b3_forest.specs.Subtrees.{AreBoth, AreChunks, AreForest, AreFresh, ArePiecesOfSome, IsAlone, IsBound, IsFirstGap, IsLastUpto, IsLeastHeld, IsMerged, IsNextFrom, IsOtherHalf, IsPair, IsSettling, NoneFrom, NoneHeld, NoneUpto, firsts, is_held, top_over, with_subtrees};
+ghost use Rattle.b3_forest.specs.Subtrees.{AreForest};
+ghost use Rattle.b3_forest.specs.inner.Subtrees.{AreBoth, AreChunks, AreFresh, ArePiecesOfSome, IsAlone, IsBound, IsFirstGap, IsLastUpto, IsLeastHeld, IsMerged, IsNextFrom, IsOtherHalf, IsPair, IsSettling, NoneFrom, NoneHeld, NoneUpto, firsts, is_held, top_over, with_subtrees};
 ghost use Rattle.b3_forest.specs.Pieces.{most_chunks, root_level};
 
 use crate::piece::{MOST_CHUNKS, Piece, Subtree};
@@ -53,7 +54,7 @@ fn is_left_half(first: u64, width: u64) -> bool
 
 // The chunk with which the other half begins, of a range of `width` chunks.
 fn other_half(first: u64, width: u64) -> u64
-    requires some { 0 < width }
+    requires positive { 0 < width }
     requires within { first + width ≤ most_chunks }
     ensures { (l q : ℕ) → width ≡ 2 ^ l → first ≡ q * 2 ^ l → IsOtherHalf first l result }
 {
@@ -143,7 +144,7 @@ pub(crate) fn settle_all(subtrees: &mut BTreeMap<u64, Subtree>, pieces: &[Piece]
 
 // The piece that begins last at a chunk or before it.
 fn last_upto(subtrees: &BTreeMap<u64, Subtree>, start: u64) -> Option<(u64, Subtree)>
-    ensures some { IfSome result (λ e. IsLastUpto subtrees.now.entries start e.0 e.1) }
+    ensures found { IfSome result (λ e. IsLastUpto subtrees.now.entries start e.0 e.1) }
     ensures none { IfNone result (NoneUpto subtrees.now.entries start) }
 {
     let Some((first, subtree)) = subtrees.range(..=start).next_back() else {
@@ -155,7 +156,7 @@ fn last_upto(subtrees: &BTreeMap<u64, Subtree>, start: u64) -> Option<(u64, Subt
 // Where the first piece begins from `start` to below `end`.
 fn next_from(subtrees: &BTreeMap<u64, Subtree>, start: u64, end: u64) -> Option<u64>
     requires order { start < end }
-    ensures some { IfSome result (IsNextFrom subtrees.now.entries start end) }
+    ensures found { IfSome result (IsNextFrom subtrees.now.entries start end) }
     ensures none { IfNone result (NoneFrom subtrees.now.entries start end) }
 {
     let Some((first, _)) = subtrees.range(start..end).next() else {
@@ -182,7 +183,7 @@ pub(crate) fn first_gap(subtrees: &BTreeMap<u64, Subtree>, next: u64) -> u64
     requires { ArePiecesOfSome subtrees.now.entries }
     ensures gap { (x : ℕ → List ℕ) → AreForest x [] subtrees.now.entries → next ≤ most_chunks → IsBound subtrees.now.entries next
         → ((i : ℕ) → i < next → is_held x i ≡ true) → ((i : ℕ) → most_chunks ≤ i → is_held x i ≡ false) → IsFirstGap x result }
-    ensures most { (x : ℕ → List ℕ) → AreForest x [] subtrees.now.entries → next ≤ most_chunks → result ≤ most_chunks }
+    ensures bounded { (x : ℕ → List ℕ) → AreForest x [] subtrees.now.entries → next ≤ most_chunks → result ≤ most_chunks }
 {
     match subtrees.get(&next) {
         Some(subtree) if next < MOST_CHUNKS => first_gap(subtrees, next + subtree.width()),

@@ -90,7 +90,7 @@ fn text_of<'a>(found: &ArgMatches<'a>, id: &str) -> Option<&'a str>
 
 // The number that a text spells in decimal digits, without a sign.
 fn digits(text: &str) -> Option<u32>
-    ensures some { IfSome result (IsNumber text.now) }
+    ensures found { IfSome result (IsNumber text.now) }
     ensures none { result ≡ None → (n : ℕ) → IsNumber text.now n → 2 ^ 32 ≤ n }
 {
     if text.as_bytes().first() == Some(&b'+') {

@@ -11,26 +11,27 @@ use Rattle.edge.specs.declared.outcome.Verdict.{Verdict}
 use Rattle.edge.specs.declared.outcome.Verdict.TheVariants.{Good, Refused}
 use Rattle.store_engines.specs.declared.sources.FileFault.{FileFault}
 use Rattle.store_engines.specs.declared.sources.Reason.{Reason}
-use Rattle.store_engines.specs.Sums.{Answer, AreAnswered, IsAnswered, IsStoppedAt, IsSumStopped, IsSummed, answer_text, answers_text, answers_verdict, both, has_root}
+use Rattle.store_engines.specs.Sums.{RootAnswer, AreRootAnswers, IsRootAnswer, IsStoppedAt, IsSumStopped, root_answer_text, root_answers_text, root_answers_verdict, has_root}
+use Rattle.store_engines.specs.inner.Sums.{IsSumOf, both}
 
 module _ {S : Type 0} (gives : S → List ℕ → Result Inputs FileFault → S → Type 0) (tells : S → List ℕ → Reason → S → Type 0) where
-  answered_push : (old mid new : S) (names : List (List ℕ)) (answers : List Answer) (name : List ℕ) (answer : Answer)
-      → AreAnswered gives tells old names answers mid → IsAnswered gives tells mid name answer new → AreAnswered gives tells old (names ++ name ∷ []) (answers ++ answer ∷ []) new
-  answered_push old mid new [] [] name answer h a = (new, subst (λ (s : S). IsAnswered gives tells s name answer new) h a, refl)
+  answered_push : (old mid new : S) (names : List (List ℕ)) (answers : List RootAnswer) (name : List ℕ) (answer : RootAnswer)
+      → AreRootAnswers gives tells old names answers mid → IsRootAnswer gives tells mid name answer new → AreRootAnswers gives tells old (names ++ name ∷ []) (answers ++ answer ∷ []) new
+  answered_push old mid new [] [] name answer h a = (new, subst (λ (s : S). IsRootAnswer gives tells s name answer new) h a, refl)
   answered_push old mid new (first ∷ names) (found ∷ answers) name answer h a = (h.0, h.1, answered_push h.0 mid new names answers name answer h.2 a)
   answered_push old mid new [] (found ∷ answers) name answer h a = absurd h
   answered_push old mid new (first ∷ names) [] name answer h a = absurd h
 
-  text_push : (len : Option ℕ) (old mid : S) (names : List (List ℕ)) (answers : List Answer) (name : List ℕ) (answer : Answer) → AreAnswered gives tells old names answers mid
-      → answers_text len (names ++ name ∷ []) (answers ++ answer ∷ []) ≡ answers_text len names answers ++ answer_text len name answer
-  text_push len old mid [] [] name answer h = append-nil (answer_text len name answer)
+  text_push : (len : Option ℕ) (old mid : S) (names : List (List ℕ)) (answers : List RootAnswer) (name : List ℕ) (answer : RootAnswer) → AreRootAnswers gives tells old names answers mid
+      → root_answers_text len (names ++ name ∷ []) (answers ++ answer ∷ []) ≡ root_answers_text len names answers ++ root_answer_text len name answer
+  text_push len old mid [] [] name answer h = append-nil (root_answer_text len name answer)
   text_push len old mid (first ∷ names) (found ∷ answers) name answer h =
-      ap (λ (text : List ℕ). answer_text len first found ++ text) (text_push len h.0 mid names answers name answer h.2)
-      ∙ sym (append_assoc (answer_text len first found) (answers_text len names answers) (answer_text len name answer))
+      ap (λ (text : List ℕ). root_answer_text len first found ++ text) (text_push len h.0 mid names answers name answer h.2)
+      ∙ sym (append_assoc (root_answer_text len first found) (root_answers_text len names answers) (root_answer_text len name answer))
   text_push len old mid [] (found ∷ answers) name answer h = absurd h
   text_push len old mid (first ∷ names) [] name answer h = absurd h
 
-verdict_push : (answers : List Answer) (answer : Answer) → both (answers_verdict answers) (if has_root answer then Good else Refused) ≡ answers_verdict (answers ++ answer ∷ [])
+verdict_push : (answers : List RootAnswer) (answer : RootAnswer) → both (root_answers_verdict answers) (if has_root answer then Good else Refused) ≡ root_answers_verdict (answers ++ answer ∷ [])
 verdict_push [] answer = last (has_root answer)
   where
     last : (b : Bool) → (if b then Good else Refused) ≡ (if b && true then Good else Refused)
@@ -42,23 +43,23 @@ verdict_push (Err reason ∷ answers) answer = refl
 -- what holds behind i names
 abbrev pub IsUpTo : {S : Type 0} → (S → List ℕ → Result Inputs FileFault → S → Type 0) → (S → List ℕ → Reason → S → Type 0) → Option ℕ → S → List (List ℕ) → ℕ → S → Verdict → Option (List ℕ) → Option (List ℕ) → Type 0
 IsUpTo gives tells len old names i new verdict before after =
-    (answers : List Answer) × AreAnswered gives tells old (take i names) answers new × Appends before after (answers_text len (take i names) answers)
-    × (verdict ≡ answers_verdict answers)
+    (answers : List RootAnswer) × AreRootAnswers gives tells old (take i names) answers new × Appends before after (root_answers_text len (take i names) answers)
+    × (verdict ≡ root_answers_verdict answers)
 
 taken : (names : List (List ℕ)) (i : ℕ) (name : List ℕ) → i < length names → name ≡ get_or names i name → take (i + 1) names ≡ take i names ++ name ∷ []
 taken names i name lt is = take_more names i name lt ∙ ap (λ (n : List ℕ). take i names ++ n ∷ []) (sym is)
 
 pub one_name_more : {S : Type 0} (gives : S → List ℕ → Result Inputs FileFault → S → Type 0) (tells : S → List ℕ → Reason → S → Type 0) (len : Option ℕ) (old mid new : S) (names : List (List ℕ)) (i : ℕ) (name : List ℕ) (verdict found after : Verdict) (before grown last : Option (List ℕ))
-    → i < length names → name ≡ get_or names i name → IsUpTo gives tells len old names i mid verdict before grown → IsSummed gives tells len mid name new grown last found → after ≡ both verdict found
+    → i < length names → name ≡ get_or names i name → IsUpTo gives tells len old names i mid verdict before grown → IsSumOf gives tells len mid name new grown last found → after ≡ both verdict found
     → IsUpTo gives tells len old names (i + 1) new after before last
 one_name_more gives tells len old mid new names i name verdict found after before grown last lt is h a worst =
     let more = sym (taken names i name lt is) in (
       h.0 ++ a.answer ∷ [],
-      subst (λ (ns : List (List ℕ)). AreAnswered gives tells old ns (h.0 ++ a.answer ∷ []) new) more (answered_push gives tells old mid new (take i names) h.0 name a.answer h.1 a.answered),
-      subst (λ (ns : List (List ℕ)). Appends before last (answers_text len ns (h.0 ++ a.answer ∷ []))) more
+      subst (λ (ns : List (List ℕ)). AreRootAnswers gives tells old ns (h.0 ++ a.answer ∷ []) new) more (answered_push gives tells old mid new (take i names) h.0 name a.answer h.1 a.answered),
+      subst (λ (ns : List (List ℕ)). Appends before last (root_answers_text len ns (h.0 ++ a.answer ∷ []))) more
           (subst (Appends before last) (sym (text_push gives tells len old mid (take i names) h.0 name a.answer h.1))
-          (Appends-trans before grown last (answers_text len (take i names) h.0) (answer_text len name a.answer) h.2 a.wrote)),
-      worst ∙ ap (λ (v : Verdict). both v found) h.3 ∙ ap (both (answers_verdict h.0)) a.good ∙ verdict_push h.0 a.answer,
+          (Appends-trans before grown last (root_answers_text len (take i names) h.0) (root_answer_text len name a.answer) h.2 a.wrote)),
+      worst ∙ ap (λ (v : Verdict). both v found) h.3 ∙ ap (both (root_answers_verdict h.0)) a.good ∙ verdict_push h.0 a.answer,
     )
 
 pub stopped_at : {S : Type 0} (gives : S → List ℕ → Result Inputs FileFault → S → Type 0) (tells : S → List ℕ → Reason → S → Type 0) (len : Option ℕ) (old mid new : S) (names : List (List ℕ)) (i : ℕ) (name : List ℕ) (verdict : Verdict) (before grown last : Option (List ℕ)) (cause : Cause)
@@ -73,5 +74,5 @@ stopped_at gives tells len old mid new names i name verdict before grown last ca
   all = ap (λ (n : List ℕ). take i names ++ n ∷ drop (i + 1) names) is ∙ ap (λ (ns : List (List ℕ)). take i names ++ ns) (sym (drop_more names i name lt)) ∙ take-append-drop i names;
   answered = h.1;
   stopped = stop;
-  wrote = λ memory. subst (λ (o : Option (List ℕ)). Appends before o (answers_text len (take i names) h.0)) (sym (same memory)) h.2;
+  wrote = λ memory. subst (λ (o : Option (List ℕ)). Appends before o (root_answers_text len (take i names) h.0)) (sym (same memory)) h.2;
 }

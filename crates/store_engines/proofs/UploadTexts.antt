@@ -21,7 +21,8 @@ use Rattle.store_shared.specs.declared.fault.UploadFaultKind.{UploadFaultKind}
 use Rattle.store_shared.specs.declared.fault.UploadFaultKind.TheVariants.{BadCut, Stopped}
 use Rattle.store_shared.specs.declared.fault.UploadFaultKind.TheVariants as kinds
 use Rattle.store_shared.specs.Gates.{IsOwnFault}
-use Rattle.store_engines.specs.Uploads.{HasObject, IsFiled, IsTold, MayFail, SomeRefusal, WroteRefusal, WroteUpload, is_memory, uploaded_text}
+use Rattle.store_engines.specs.Uploads.{HasObject, MayFail, SomeRefusal, WroteRefusal, WroteUpload, is_memory, uploaded_text}
+use Rattle.store_engines.specs.inner.Uploads.{IsFiled, IsTold}
 use Rattle.edge.specs.declared.outcome.Cause.{Cause}
 use Rattle.edge.specs.declared.outcome.Cause.TheVariants.{OutOfMemory}
 use Rattle.edge.specs.declared.outcome.Verdict.{Verdict}

@@ -8,7 +8,7 @@ use Rattle.b3_check.specs.declared.report.Counts.{Counts}
 use Rattle.b3_check.specs.declared.report.Shown.{Shown}
 use Rattle.b3_check.specs.Files.{file_at}
 use Rattle.b3_check.specs.Output.{AllBut}
-use Rattle.b3_check.specs.Reports.{Answer, IsRefused, IsReport, Verdict as LineVerdict, counts_of, report_text}
+use Rattle.b3_check.specs.Reports.{Answer, EndsForMemory, IsReport, Verdict as LineVerdict, counts_of, report_text}
 use Rattle.b3_core.specs.Modes.{digest_of}
 use Rattle.b3_core.specs.Tree.{Keying}
 use Rattle.edge.specs.declared.outcome.Cause.{Cause}
@@ -47,7 +47,7 @@ IsIdle old new before after = (new ≡ old) × (after ≡ before)
 abbrev pub IsStopped : {S : Type 0} → (S → List ℕ → Answer → S → Type 0) → Shown → S → List ℕ → Cause → S → Option (List ℕ) → Option (List ℕ) → Type 0
 IsStopped gives shown old input CannotRead new before after = IsIdle old new before after
 IsStopped gives shown old input CannotWrite new before after = IsCut gives shown old (file_at input) new before after
-IsStopped gives shown old input OutOfMemory new before after = IsIdle old new before after ⊎ IsRefused gives shown old (file_at input) new before after
+IsStopped gives shown old input OutOfMemory new before after = IsIdle old new before after ⊎ EndsForMemory gives shown old (file_at input) new before after
 
 -- the same of a failed read, whatever the input is
 abbrev pub IsUntouched : {S : Type 0} → S → S → Option (List ℕ) → Option (List ℕ) → Cause → Type 0

@@ -8,10 +8,10 @@ use Rattle.hex.specs.declared.error.FromHexError.{FromHexError}
 abbrev pub without_feed : List ℕ → List ℕ
 without_feed text = if length text == 65 then (if slice_index text 64 == line_feed then take 64 text else text) else text
 
-abbrev pub decoded : Result (List ℕ) FromHexError → Option (List ℕ)
-decoded (Ok key) = Some key
-decoded (Err fault) = None
+abbrev pub decoded_key : Result (List ℕ) FromHexError → Option (List ℕ)
+decoded_key (Ok key) = Some key
+decoded_key (Err fault) = None
 
 -- the key that a text is: 32 bytes as they stand, or 64 digits
 abbrev pub key_at : List ℕ → Option (List ℕ)
-key_at text = if length text == 32 then Some text else decoded (decode_sized (without_feed text) 32)
+key_at text = if length text == 32 then Some text else decoded_key (decode_sized (without_feed text) 32)

@@ -8,3 +8,4 @@ pub mod Lists
 pub mod Migrations
 pub mod Sums
 pub mod Uploads
+pub mod inner

@@ -19,10 +19,10 @@ use Rattle.store_engines.specs.declared.sources.Reason.TheVariants.{IsFolder, Mi
 use Rattle.store_engines.specs.declared.sources.FileFault.TheVariants.{Failed, NoMemory}
 
 -- the mode that the options say
-abbrev pub mode_of : SumMode → Keying
-mode_of Hash = hash_mode
-mode_of (Keyed key) = keyed_mode key
-mode_of (Derive context) = derive_mode context.now
+abbrev pub sum_mode : SumMode → Keying
+sum_mode Hash = hash_mode
+sum_mode (Keyed key) = keyed_mode key
+sum_mode (Derive context) = derive_mode context.now
 
 -- What is written of an input's root: without a length the check line of the hash and the name; with one the digits of so many bytes of
 -- the extended output, and no name.
@@ -45,44 +45,39 @@ reason_text NotUtf8 = codes "the name is not UTF-8"
 reason_text Unreadable = codes "it can't be read"
 
 -- what a source answers for a name that it doesn't end at: the root of what has it, or why there is none
-abbrev pub Answer : Type 0
-Answer = Result Inputs Reason
+abbrev pub RootAnswer : Type 0
+RootAnswer = Result Inputs Reason
 
 -- a name was asked for, and where there is no root, why was told
-abbrev pub IsAnswered : {S : Type 0} → (S → List ℕ → Result Inputs FileFault → S → Type 0) → (S → List ℕ → Reason → S → Type 0) → S → List ℕ → Answer → S → Type 0
-IsAnswered gives tells old name (Ok root) new = gives old name (Ok root) new
-IsAnswered {S} gives tells old name (Err reason) new = (mid : S) × gives old name (Err (Failed reason)) mid × tells mid name reason new
+abbrev pub IsRootAnswer : {S : Type 0} → (S → List ℕ → Result Inputs FileFault → S → Type 0) → (S → List ℕ → Reason → S → Type 0) → S → List ℕ → RootAnswer → S → Type 0
+IsRootAnswer gives tells old name (Ok root) new = gives old name (Ok root) new
+IsRootAnswer {S} gives tells old name (Err reason) new = (mid : S) × gives old name (Err (Failed reason)) mid × tells mid name reason new
 
 -- A chain of answers, one for each name, in order, each from the state that the one before left.
-abbrev pub AreAnswered : {S : Type 0} → (S → List ℕ → Result Inputs FileFault → S → Type 0) → (S → List ℕ → Reason → S → Type 0) → S → List (List ℕ) → List Answer → S → Type 0
-AreAnswered gives tells old [] [] new = new ≡ old
-AreAnswered {S} gives tells old (name ∷ names) (answer ∷ answers) new = (mid : S) × IsAnswered gives tells old name answer mid × AreAnswered gives tells mid names answers new
-AreAnswered gives tells old [] (answer ∷ answers) new = ⊥
-AreAnswered gives tells old (name ∷ names) [] new = ⊥
+abbrev pub AreRootAnswers : {S : Type 0} → (S → List ℕ → Result Inputs FileFault → S → Type 0) → (S → List ℕ → Reason → S → Type 0) → S → List (List ℕ) → List RootAnswer → S → Type 0
+AreRootAnswers gives tells old [] [] new = new ≡ old
+AreRootAnswers {S} gives tells old (name ∷ names) (answer ∷ answers) new = (mid : S) × IsRootAnswer gives tells old name answer mid × AreRootAnswers gives tells mid names answers new
+AreRootAnswers gives tells old [] (answer ∷ answers) new = ⊥
+AreRootAnswers gives tells old (name ∷ names) [] new = ⊥
 
 -- what is written of an answer: a line where there is a root, and nothing where there is none
-abbrev pub answer_text : Option ℕ → List ℕ → Answer → List ℕ
-answer_text length name (Ok root) = root_text length name root
-answer_text length name (Err reason) = []
+abbrev pub root_answer_text : Option ℕ → List ℕ → RootAnswer → List ℕ
+root_answer_text length name (Ok root) = root_text length name root
+root_answer_text length name (Err reason) = []
 
 -- what is written of answers, those to the names in order
-abbrev pub answers_text : Option ℕ → List (List ℕ) → List Answer → List ℕ
-answers_text length (name ∷ names) (answer ∷ answers) = answer_text length name answer ++ answers_text length names answers
-answers_text length [] answers = []
-answers_text length names [] = []
+abbrev pub root_answers_text : Option ℕ → List (List ℕ) → List RootAnswer → List ℕ
+root_answers_text length (name ∷ names) (answer ∷ answers) = root_answer_text length name answer ++ root_answers_text length names answers
+root_answers_text length [] answers = []
+root_answers_text length names [] = []
 
-abbrev pub has_root : Answer → Bool
+abbrev pub has_root : RootAnswer → Bool
 has_root (Ok root) = true
 has_root (Err reason) = false
 
 -- good exactly where there is a root for each name
-abbrev pub answers_verdict : List Answer → Verdict
-answers_verdict answers = if list_all has_root answers then Good else Refused
-
--- good where both are
-abbrev pub both : Verdict → Verdict → Verdict
-both Good second = second
-both Refused second = Refused
+abbrev pub root_answers_verdict : List RootAnswer → Verdict
+root_answers_verdict answers = if list_all has_root answers then Good else Refused
 
 -- What stopped it, at a name: the source had no memory for it, or there was a root for it, and no memory for the line or a write that
 -- failed.
@@ -96,23 +91,14 @@ pub record IsSumStopped {S : Type 0} (gives : S → List ℕ → Result Inputs F
   pub front : List (List ℕ)
   pub name : List ℕ
   pub back : List (List ℕ)
-  pub answers : List Answer
+  pub answers : List RootAnswer
   pub mid : S
   pub all : front ++ name ∷ back ≡ names
-  pub answered : AreAnswered gives tells old front answers mid
+  pub answered : AreRootAnswers gives tells old front answers mid
   pub stopped : IsStoppedAt gives cause mid name new
-  pub wrote : cause ≡ OutOfMemory → Appends before after (answers_text length front answers)
+  pub wrote : cause ≡ OutOfMemory → Appends before after (root_answers_text length front answers)
 
 -- what the system's files, or another source of some bytes, may answer in a mode: a root is that of some bytes
 abbrev pub IsRootOfSome : Keying → Result Inputs FileFault → Type 0
 IsRootOfSome mode (Ok root) = (bytes : List ℕ) × (root ≡ tree_top bytes 0 mode)
 IsRootOfSome mode (Err fault) = Unit {0}
-
--- ---- one file
-
--- a name was answered, what is written of the answer was, and the verdict is on it
-pub record IsSummed {S : Type 0} (gives : S → List ℕ → Result Inputs FileFault → S → Type 0) (tells : S → List ℕ → Reason → S → Type 0) (length : Option ℕ) (old : S) (name : List ℕ) (new : S) (before after : Option (List ℕ)) (verdict : Verdict) : Type 0 where
-  pub answer : Answer
-  pub answered : IsAnswered gives tells old name answer new
-  pub wrote : Appends before after (answer_text length name answer)
-  pub good : verdict ≡ (if has_root answer then Good else Refused)

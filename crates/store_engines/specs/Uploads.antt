@@ -8,11 +8,9 @@ use Rattle.store_books.specs.Books.{Filed, object_at}
 use Rattle.store_books.specs.declared.content.ObjectLabel.{ObjectLabel}
 use Rattle.store_journal.specs.Journal.{journal_text}
 use Rattle.store_journal.specs.declared.version.Version.TheVariants.{Two}
-use Rattle.store_core.specs.Model.{ModelObject, ModelStore, Shown}
 use Rattle.store_books.specs.declared.refusal.Refusal.TheVariants as refusals
 use Rattle.store_journal.specs.Replay.{accepted_of, replay_of}
 use Rattle.store_journal.specs.declared.entry.Entry.{Entry}
-use Rattle.store_ledger.specs.declared.holding.Holding.{Holding}
 use Rattle.store_shared.specs.Cuts.{IsBadCut, cut_of}
 use Rattle.store_shared.specs.Faults.{fault_text}
 use Rattle.store_shared.specs.Gates.{IsOwnFault}
@@ -34,20 +32,6 @@ uploaded_text journal address bytes calls entries =
 -- books that have an object of so many bytes under the address
 abbrev pub HasObject : Bare → List ℕ → ℕ → Type 0
 HasObject books address n = (o : Filed ObjectLabel) × (object_at label_address books address ≡ Some o) × (o.content.len ≡ n)
-
--- an object of so many bytes is filed under the address
-abbrev pub IsFiled : ModelStore → List ℕ → ℕ → Type 0
-IsFiled s address n = (o : ModelObject) × (object_at hash_of s address ≡ Some o) × (length o.content ≡ n)
-
--- What is written of a store whose upload was filed: its journal is legal and leaves an object under the address, and what it accepted is
--- what the share says.
-pub record IsTold (journal : Bool) (address : List ℕ) (share : Holding) (shown : Shown) (text : List ℕ) : Type 0 where
-  pub left : Bare
-  pub legal : replay_of shown.journal ≡ Ok left
-  pub filed : HasObject left address share.bytes
-  pub bytes : (accepted_of shown.journal).bytes ≡ share.bytes
-  pub calls : (accepted_of shown.journal).calls ≡ share.calls
-  pub text_is : text ≡ uploaded_text journal address share.bytes share.calls shown.journal
 
 -- a legal journal, which leaves an object of the input's length under its hash, and whose put entries are as many as the cut's parts and
 -- have as many bytes as the input

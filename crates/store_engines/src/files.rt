@@ -4,7 +4,7 @@ ghost use Rattle.std.specs.Prelude.{◌≡◌, ◌⊎◌, ℕ, List, None, Err, 
 ghost use Rattle.std.specs.Str.{IsUtf8};
 ghost use Rattle.b3_core.specs.Tree.{tree_top};
 ghost use Rattle.store_engines.specs.Files.{IsSomeRoot};
-ghost use Rattle.store_engines.specs.Sums.{IsRootOfSome, mode_of};
+ghost use Rattle.store_engines.specs.Sums.{IsRootOfSome, sum_mode};
 ghost use Rattle.store_engines.specs.declared.sources.FileFault.TheVariants.{Failed};
 ghost use Rattle.store_engines.specs.declared.sources.Reason.TheVariants.{NotUtf8};
 
@@ -181,7 +181,7 @@ impl<'a, T: Threads + Runtime> SystemFiles<'a, T> {
         mode: SumMode<'_>,
         threads: Option<u32>,
     ) -> SystemFiles<'a, T>
-        ensures mode { result.mode ≡ mode_of mode.entry }
+        ensures mode { result.mode ≡ sum_mode mode.entry }
         ensures threads { result.threads ≡ threads }
     {
         let mut work = Work::new(rt);

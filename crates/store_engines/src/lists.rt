@@ -2,7 +2,7 @@
 
 ghost use Rattle.std.specs.Prelude.{◌≡◌, ◌++◌, ℕ, All, List, [], Option, Ok, None, true, false, IfOk, IfSome, map, option_map};
 ghost use Rattle.b3_check.specs.Names.{IsName};
-ghost use Rattle.store_engines.specs.Lists.{in_front, end_of, names_at, names_from};
+ghost use Rattle.store_engines.specs.Lists.{name_in_front, end_of, names_at, names_from};
 
 use crate::streams::read_all;
 use b3_check::{Fault, Name};
@@ -63,8 +63,8 @@ fn names_in(alloc: Global, end: u8, text: &[u8]) -> Result<Option<Vec<Name>>, Al
 
 // Adds a name, unless it is empty. `false` where it has a byte 0.
 fn push_name(names: &mut Vec<Name>, bytes: Vec<u8>) -> Result<bool, AllocError>
-    ensures good { result ≡ Ok true → (rest : Option (List (List ℕ))) → option_map (λ r. names.old.items ++ r) (in_front bytes.items rest) ≡ option_map (λ r. names.new.items ++ r) rest }
-    ensures bad { result ≡ Ok false → (rest : Option (List (List ℕ))) → in_front bytes.items rest ≡ None }
+    ensures good { result ≡ Ok true → (rest : Option (List (List ℕ))) → option_map (λ r. names.old.items ++ r) (name_in_front bytes.items rest) ≡ option_map (λ r. names.new.items ++ r) rest }
+    ensures bad { result ≡ Ok false → (rest : Option (List (List ℕ))) → name_in_front bytes.items rest ≡ None }
 {
     match Name::new(bytes) {
         Ok(name) => {

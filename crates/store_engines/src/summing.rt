@@ -7,7 +7,8 @@ ghost use Rattle.b3_check.specs.Lines.{written_line};
 ghost use Rattle.b3_check.specs.Names.{IsName};
 ghost use Rattle.b3_core.specs.ExtendedOutput.{output_of};
 ghost use Rattle.b3_core.specs.Tree.{tree_top};
-ghost use Rattle.store_engines.specs.Sums.{Answer, AreAnswered, IsStoppedAt, IsSumStopped, IsSummed, answers_text, answers_verdict, both, mode_of, root_text, sum_text};
+ghost use Rattle.store_engines.specs.Sums.{RootAnswer, AreRootAnswers, IsStoppedAt, IsSumStopped, root_answers_text, root_answers_verdict, sum_mode, root_text, sum_text};
+ghost use Rattle.store_engines.specs.inner.Sums.{IsSumOf, both};
 
 use crate::sources::{FileFault, Sources};
 use crate::streams::read_cause;
@@ -35,7 +36,7 @@ pub struct SumRequest<'a> {
 
 /// The mode that the options say.
 pub(crate) fn mode_of(mode: SumMode<'_>, work: &mut Work) -> Mode
-    ensures { result ≡ mode_of mode.entry }
+    ensures { result ≡ sum_mode mode.entry }
 {
     match mode {
         SumMode::Hash => Mode::hash(),
@@ -138,7 +139,7 @@ pub fn sum<T: Threads + Runtime, R: Read, W: Write>(
 ) -> Result<(), Cause>
     requires { IsName request.now.name.now }
     ensures written { OnOk result (IfSome (R.remaining reader.old) (λ input.
-        Appends (W.contents writer.old) (W.contents writer.new) (sum_text request.now.length request.now.name.now (mode_of request.now.mode) input))) }
+        Appends (W.contents writer.old) (W.contents writer.new) (sum_text request.now.length request.now.name.now (sum_mode request.now.mode) input))) }
     ensures end { OnOk result (IsAtEnd (R.remaining reader.new)) }
     ensures silent { IfErr result (λ cause. cause ≢ Cause.CannotWrite → W.contents writer.new ≡ W.contents writer.old) }
 {
@@ -164,8 +165,8 @@ pub fn sum_files<S: Sources, W: Write>(
     writer: &mut W,
     work: &mut Work,
 ) -> Result<Verdict, Cause>
-    ensures summed { IfOk result (λ verdict. (answers : List Answer) × AreAnswered S.gives S.tells sources.old names.now answers sources.new
-        × Appends (W.contents writer.old) (W.contents writer.new) (answers_text length names.now answers) × (verdict ≡ answers_verdict answers)) }
+    ensures summed { IfOk result (λ verdict. (answers : List RootAnswer) × AreRootAnswers S.gives S.tells sources.old names.now answers sources.new
+        × Appends (W.contents writer.old) (W.contents writer.new) (root_answers_text length names.now answers) × (verdict ≡ root_answers_verdict answers)) }
     ensures stopped { IfErr result (λ cause. IsSumStopped S.gives S.tells length sources.old names.now cause sources.new (W.contents writer.old) (W.contents writer.new)) }
 {
     let mut verdict = Verdict::Good;
@@ -196,7 +197,7 @@ fn sum_file<S: Sources, W: Write>(
     writer: &mut W,
     work: &mut Work,
 ) -> Result<Verdict, Cause>
-    ensures summed { IfOk result (IsSummed S.gives S.tells length sources.old name.now sources.new (W.contents writer.old) (W.contents writer.new)) }
+    ensures summed { IfOk result (IsSumOf S.gives S.tells length sources.old name.now sources.new (W.contents writer.old) (W.contents writer.new)) }
     ensures stopped { IfErr result (λ cause. IsStoppedAt S.gives cause sources.old name.now sources.new) }
     ensures silent { IfErr result (λ cause. cause ≡ Cause.OutOfMemory → W.contents writer.new ≡ W.contents writer.old) }
 {

@@ -5,7 +5,8 @@ ghost use Rattle.std.specs.Io.KnownBytes.{Appends, IsAtEnd};
 ghost use Rattle.store_ledger.specs.Shares.{all_parts};
 ghost use Rattle.store_shared.specs.Cuts.{IsBadCut};
 ghost use Rattle.store_shared.specs.Gates.{IsOwnFault};
-ghost use Rattle.store_engines.specs.Uploads.{IsFiled, IsTold, SomeRefusal, WroteRefusal, WroteUpload, is_memory, journal_part};
+ghost use Rattle.store_engines.specs.Uploads.{SomeRefusal, WroteRefusal, WroteUpload, is_memory, journal_part};
+ghost use Rattle.store_engines.specs.inner.Uploads.{IsFiled, IsTold};
 
 use crate::auditing::accepted_line;
 use crate::journals::text_of;

@@ -2,7 +2,7 @@
 use Rattle.std.specs.Prelude.{ℕ, List, Option, Some, None, if◌then◌else◌, codes, length, nat_lt}
 use Rattle.std.specs.Io.BufRead.{strip_last}
 use Rattle.std.specs.Str.{bytes_eq}
-use Rattle.edge.specs.Fields.{cut_at, number_at, space, three_numbers_at, two_numbers_at}
+use Rattle.edge.specs.Fields.{◌>>=◌, cut_at, number_at, space, three_numbers_at, two_numbers_at}
 use Rattle.store_script.specs.Grammar.{address_of_digits, held_at}
 use Rattle.store_script.specs.declared.command.Command.TheVariants.{Holds, Tenants, Uploads}
 use Rattle.store_session.specs.Reads.{most_request}

@@ -4,8 +4,10 @@ use Rattle.std.specs.Prelude.{OnOk}
 use Rattle.store_core.specs.declared.store.Sealed.{Sealed}
 use Rattle.store_ledger.specs.declared.holding.Holding.{Holding}
 use Rattle.store_shared.specs.Cuts.{IsBadCut}
-use Rattle.store_shared.specs.Gates.{IsFaultOf, MayStop}
-use Rattle.store_shared.specs.Uploading.{Cutting, IsUploaded, count_of}
+use Rattle.store_shared.specs.Gates.{MayStop}
+use Rattle.store_shared.specs.inner.Gates.{IsFaultOf}
+use Rattle.store_shared.specs.Uploading.{Cutting, cut_count}
+use Rattle.store_shared.specs.inner.Uploading.{IsUploaded}
 use Rattle.store_shared.specs.Uploads.{IsAnswered}
 use Rattle.store_shared.specs.declared.fault.UploadFault.{UploadFault}
 use Rattle.store_shared.proofs.Noting.{count_is, with_cut}
@@ -29,7 +31,7 @@ good_cut part_chunks workers most good bad =
 
 -- an upload of a good cut
 pub answered : (may_stop : ℕ → Type 0) (may_fault : ℕ → ℕ → Type 0) (has_passed : ℕ → Type 0) (c : Cutting) (workers most : ℕ) (old new : Holding) (result : Result Sealed UploadFault)
-    → (0 < c.part_chunks) × (c.part_chunks ≤ 16384) × (0 < workers) × (workers ≤ most) → OnOk result ((k : ℕ) → k < count_of c → has_passed k) → IsUploaded may_stop may_fault c old new result
+    → (0 < c.part_chunks) × (c.part_chunks ≤ 16384) × (0 < workers) × (workers ≤ most) → OnOk result ((k : ℕ) → k < cut_count c → has_passed k) → IsUploaded may_stop may_fault c old new result
     → IsAnswered may_stop may_fault has_passed c workers most old new result
 answered may_stop may_fault has_passed c workers most old new (Ok sealed) good passed is = record {
   parts = ap (λ h. h.parts) is.2;
@@ -49,7 +51,7 @@ answered may_stop may_fault has_passed c workers most old new (Err f) good passe
   share = tt;
   fault = is.1;
   bad_cut = λ bad. absurd (good_cut c.part_chunks workers most good bad);
-  good_cut = λ e. absurd (subst (λ kind. IsFaultOf may_stop may_fault (count_of c) kind) e is.0);
-  stopped = λ e. subst (λ n. MayStop may_stop n) (sym (count_is c)) (subst (λ kind. IsFaultOf may_stop may_fault (count_of c) kind) e is.0);
-  gate_fault = λ part code e. subst (λ n. (part < n) × may_fault part code) (sym (count_is c)) (subst (λ kind. IsFaultOf may_stop may_fault (count_of c) kind) e is.0);
+  good_cut = λ e. absurd (subst (λ kind. IsFaultOf may_stop may_fault (cut_count c) kind) e is.0);
+  stopped = λ e. subst (λ n. MayStop may_stop n) (sym (count_is c)) (subst (λ kind. IsFaultOf may_stop may_fault (cut_count c) kind) e is.0);
+  gate_fault = λ part code e. subst (λ n. (part < n) × may_fault part code) (sym (count_is c)) (subst (λ kind. IsFaultOf may_stop may_fault (cut_count c) kind) e is.0);
 }

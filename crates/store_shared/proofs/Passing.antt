@@ -14,9 +14,10 @@ use Rattle.store_board.specs.declared.hand_over.give_pass.GivePass.{GivePass}
 use Rattle.store_board.specs.declared.hand_over.taken.Taken.{Taken}
 use Rattle.store_ledger.specs.declared.holding.Holding.{Holding}
 use Rattle.store_shared.specs.Cuts.{part_at, parts_at}
-use Rattle.store_shared.specs.Gates.{IsFaultOf}
-use Rattle.store_shared.specs.Uploading.{Cutting, HasCollected, IsCollecting, count_of, parts_in}
-use Rattle.store_shared.specs.Workers.{AllPassed, IsPassedPart, IsReportOf, fault_of_first}
+use Rattle.store_shared.specs.inner.Gates.{IsFaultOf}
+use Rattle.store_shared.specs.Uploading.{Cutting, cut_count}
+use Rattle.store_shared.specs.inner.Uploading.{HasCollected, IsCollecting, parts_in}
+use Rattle.store_shared.specs.inner.Workers.{AllPassed, IsPassedPart, IsReportOf, fault_of_first}
 use Rattle.store_shared.specs.declared.fault.UploadFaultKind.{UploadFaultKind}
 use Rattle.store_shared.specs.declared.job.Exchange.{Exchange}
 use Rattle.store_shared.specs.declared.worker.Report.{Report}
@@ -77,13 +78,13 @@ given_passed P (p ∷ ps) all =
 
 -- where nothing failed and all was noted, all parts have passed
 pub collected_passed : (P : ℕ → Type 0) (c : Cutting) (start share : Holding) (f : Followed) (fault : Option UploadFaultKind) (passes : List GivePass) (result : Result (List ℕ) UploadFaultKind) → 0 < c.part_chunks
-    → HasCollected c start f share fault (all_given passes) → All (AllPassed P c) passes → IfOk result (λ a. (fault ≡ None) × (a ≡ hash_of f.bytes) × AllNoted f) → OnOk result ((k : ℕ) → k < count_of c → P k)
+    → HasCollected c start f share fault (all_given passes) → All (AllPassed P c) passes → IfOk result (λ a. (fault ≡ None) × (a ≡ hash_of f.bytes) × AllNoted f) → OnOk result ((k : ℕ) → k < cut_count c → P k)
 collected_passed P c start share f fault passes (Err kind) some has all ok = tt
 collected_passed P c start share f fault passes (Ok a) some has all ok = λ k below.
     let same = subst (λ o. IfNone o ((g : ℕ) → of_giver g has.taken ≡ of_giver g (all_given passes))) ok.0 has.all in
     let is = subst (λ o. IsCollecting c start f share (parts_in has.taken) o) ok.0 has.collecting in
     let once = each_once c f is.0 some is.1 ok.2 k in
-    passed_at P c k is.0 has.taken some is.3 (taken_as_given (IsPassedPart P c) has.taken (all_given passes) same (given_passed (IsPassedPart P c) passes all)) (omega (arith, once, once_in k (count_of c) below))
+    passed_at P c k is.0 has.taken some is.3 (taken_as_given (IsPassedPart P c) has.taken (all_given passes) same (given_passed (IsPassedPart P c) passes all)) (omega (arith, once, once_in k (cut_count c) below))
 
 -- ---- reports
 
@@ -113,9 +114,9 @@ fault_is F (r ∷ rs) all = or_is F r.fault (fault_of_first rs) (All-head (λ r.
 
 -- the first fault is one of the upload
 pub reports_fault : (e : Exchange) (may_stop : ℕ → Type 0) (may_fault : ℕ → ℕ → Type 0) (P : ℕ → Type 0) (c : Cutting) (rs : List Report) → All (λ r. IsReportOf e may_stop may_fault P c r) rs
-    → IfSome (fault_of_first rs) (IsFaultOf may_stop may_fault (count_of c))
+    → IfSome (fault_of_first rs) (IsFaultOf may_stop may_fault (cut_count c))
 reports_fault e may_stop may_fault P c rs all =
-    fault_is (IsFaultOf may_stop may_fault (count_of c)) rs (All-weaker (λ r. IsReportOf e may_stop may_fault P c r) (λ r. IfSome r.fault (IsFaultOf may_stop may_fault (count_of c))) (λ r x. x.0) rs all)
+    fault_is (IsFaultOf may_stop may_fault (cut_count c)) rs (All-weaker (λ r. IsReportOf e may_stop may_fault P c r) (λ r. IfSome r.fault (IsFaultOf may_stop may_fault (cut_count c))) (λ r x. x.0) rs all)
 
 -- all that the workers gave has passed
 pub reports_passed : (e : Exchange) (may_stop : ℕ → Type 0) (may_fault : ℕ → ℕ → Type 0) (P : ℕ → Type 0) (c : Cutting) (rs : List Report) → All (λ r. IsReportOf e may_stop may_fault P c r) rs

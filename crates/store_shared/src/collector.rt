@@ -8,7 +8,7 @@ ghost use Rattle.store_board.specs.Passes.{IsAllTaken, IsGiverOf, IsTakerOf, IsW
 ghost use Rattle.store_ledger.specs.declared.holding.Holding.{Holding};
 ghost use Rattle.store_shared.specs.Cuts.{RoseBySome, holding_with};
 ghost use Rattle.store_shared.specs.Gates.{IsOwnFault};
-ghost use Rattle.store_shared.specs.Uploading.{HasCollected, IsCollecting, NotesMore, RoseByBeginning, parts_in};
+ghost use Rattle.store_shared.specs.inner.Uploading.{HasCollected, IsCollecting, NotesMore, RoseByBeginning, parts_in};
 ghost use Rattle.store_shared.specs.declared.fault.UploadFaultKind.TheVariants.{StrangePart};
 
 use crate::backoff::Backoff;

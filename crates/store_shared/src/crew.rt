@@ -6,7 +6,7 @@ ghost use Rattle.store_board.specs.Passes.{IsGiverOf, given_of};
 ghost use Rattle.store_board.specs.Seats.{IsSeatOf, parts_of};
 ghost use Rattle.store_shared.specs.Cuts.{part_count};
 ghost use Rattle.store_shared.specs.Gates.{IsOwnFault};
-ghost use Rattle.store_shared.specs.Workers.{AreWorkersOf, IsReportOf, IsThreadOf, IsWorkerOf, fault_of_first};
+ghost use Rattle.store_shared.specs.inner.Workers.{AreWorkersOf, IsReportOf, IsThreadOf, IsWorkerOf, fault_of_first};
 ghost use Rattle.store_shared.specs.declared.fault.UploadFaultKind.TheVariants.{NoMemory};
 
 use crate::fault::UploadFaultKind;
@@ -119,7 +119,17 @@ fn start_one<'s, E, G: Gate + Sync, R: Wait + Sync>(
             let runs = move || -> Report
                 requires { IsWorkerOf exchange.now worker × (given_of worker.pass ≡ []) × (parts_of exchange.now.board ≡ part_count (length bytes.now) part_chunks) × (length bytes.now ≤ most_bytes) × (0 < part_chunks) × (part_chunks ≤ 16384) }
                 ensures { IsReportOf exchange.entry.now (G.may_stop gate.entry.now) (G.may_fault gate.entry.now) (G.has_passed gate.entry.now) (record { bytes = bytes.entry.now; part_chunks = part_chunks }) result }
-            { run(rt, alloc, Lent::Slice(bytes), part_chunks, gate, exchange, worker) };
+            {
+                run(
+                    rt,
+                    alloc,
+                    Lent::Slice(bytes),
+                    part_chunks,
+                    gate,
+                    exchange,
+                    worker,
+                )
+            };
             if let Ok(handle) = scope.spawn_with(promise, runs) {
                 return Ok(handle);
             }
@@ -128,7 +138,17 @@ fn start_one<'s, E, G: Gate + Sync, R: Wait + Sync>(
             let runs = move || -> Report
                 requires { IsWorkerOf exchange.now worker × (given_of worker.pass ≡ []) × (parts_of exchange.now.board ≡ part_count (length bytes.now.bytes) part_chunks) × (length bytes.now.bytes ≤ most_bytes) × (0 < part_chunks) × (part_chunks ≤ 16384) }
                 ensures { IsReportOf exchange.entry.now (G.may_stop gate.entry.now) (G.may_fault gate.entry.now) (G.has_passed gate.entry.now) (record { bytes = bytes.entry.now.bytes; part_chunks = part_chunks }) result }
-            { run(rt, alloc, Lent::Stretches(bytes), part_chunks, gate, exchange, worker) };
+            {
+                run(
+                    rt,
+                    alloc,
+                    Lent::Stretches(bytes),
+                    part_chunks,
+                    gate,
+                    exchange,
+                    worker,
+                )
+            };
             if let Ok(handle) = scope.spawn_with(promise, runs) {
                 return Ok(handle);
             }

@@ -8,9 +8,10 @@ ghost use Rattle.store_upload.specs.Uploads.{most_bytes};
 ghost use Rattle.store_board.specs.Passes.{IsTakerOf, givers_of, taken_of};
 ghost use Rattle.store_shared.specs.Cuts.{IsBadCut};
 ghost use Rattle.store_shared.specs.Gates.{IsOwnFault};
-ghost use Rattle.store_shared.specs.Uploading.{AreNoted, Cutting, IsCollected, IsUploaded, count_of};
+ghost use Rattle.store_shared.specs.Uploading.{Cutting, cut_count};
+ghost use Rattle.store_shared.specs.inner.Uploading.{AreNoted, IsCollected, IsUploaded};
 ghost use Rattle.store_shared.specs.Uploads.{IsAnswered};
-ghost use Rattle.store_shared.specs.Workers.{AreWorkersOf, IsThreadOf};
+ghost use Rattle.store_shared.specs.inner.Workers.{AreWorkersOf, IsThreadOf};
 
 use crate::collector::Collector;
 use crate::crew::{Crew, first_fault, join_all, start_all, workers_of};
@@ -118,7 +119,7 @@ fn upload_parts<L: Ledgers, G: Gate + Sync, R: Threads + Wait + Sync + Runtime>(
 ) -> (Share<L>, Result<Sealed, UploadFault>)
     requires part_chunks { (0 < request.now.part_chunks) × (request.now.part_chunks ≤ 16384) }
     requires workers { request.now.workers ≤ 16 }
-    ensures passed { OnOk result.1 ((k : ℕ) → k < count_of (record { bytes = lent_bytes request.now.bytes; part_chunks = request.now.part_chunks }) → G.has_passed request.now.gate.now k) }
+    ensures passed { OnOk result.1 ((k : ℕ) → k < cut_count (record { bytes = lent_bytes request.now.bytes; part_chunks = request.now.part_chunks }) → G.has_passed request.now.gate.now k) }
     ensures uploaded { IsUploaded (G.may_stop request.now.gate.now) (G.may_fault request.now.gate.now) (record { bytes = lent_bytes request.now.bytes; part_chunks = request.now.part_chunks }) share result.0 result.1 }
 {
     let upload = match begin(rt, shared, request.tenant, request.bytes.len()) {
@@ -144,7 +145,7 @@ fn begin<L: Ledgers, R: Wait>(
     tenant: TenantId,
     len: u64,
 ) -> Result<UploadId, UploadFaultKind>
-    ensures most { OnOk result (len ≤ most_bytes) }
+    ensures bounded { OnOk result (len ≤ most_bytes) }
     ensures fault { IfErr result IsOwnFault }
 {
     match lent_begin(&mut *shared.lock(rt), tenant, len) {
@@ -203,7 +204,7 @@ fn put_parts<L: Ledgers, G: Gate + Sync, R: Threads + Wait + Sync + Runtime>(
     requires bytes { length (lent_bytes request.now.bytes) ≤ most_bytes }
     requires part_chunks { (0 < request.now.part_chunks) × (request.now.part_chunks ≤ 16384) }
     requires workers { request.now.workers ≤ 16 }
-    ensures passed { OnOk result.1 ((k : ℕ) → k < count_of (record { bytes = lent_bytes request.now.bytes; part_chunks = request.now.part_chunks }) → G.has_passed request.now.gate.now k) }
+    ensures passed { OnOk result.1 ((k : ℕ) → k < cut_count (record { bytes = lent_bytes request.now.bytes; part_chunks = request.now.part_chunks }) → G.has_passed request.now.gate.now k) }
     ensures collected { IsCollected (G.may_stop request.now.gate.now) (G.may_fault request.now.gate.now) (record { bytes = lent_bytes request.now.bytes; part_chunks = request.now.part_chunks }) share result.0 result.1 }
 {
     let cut = Cut::new(request.bytes, request.part_chunks);
@@ -255,20 +256,20 @@ fn work_together<L: Ledgers, G: Gate + Sync, R: Threads + Wait + Sync>(
     take_pass: TakePass,
     collector: Collector<'_, L>,
 ) -> (Share<L>, Result<Address, UploadFaultKind>)
-    requires some { 0 < job.now.cut.part_chunks }
+    requires positive { 0 < job.now.cut.part_chunks }
     requires workers { AreWorkersOf job.now.exchange workers.items }
     requires all { vec_len workers ≡ givers_of job.now.exchange.hand_over }
     requires taker { IsTakerOf job.now.exchange.hand_over take_pass × (taken_of take_pass ≡ []) }
     requires fresh { AreNoted job.now.cut collector.follow [] }
     ensures collected { IsCollected (G.may_stop job.now.gate.now) (G.may_fault job.now.gate.now) job.now.cut collector.entry.share result.0 result.1 }
-    ensures passed { OnOk result.1 ((k : ℕ) → k < count_of job.now.cut → G.has_passed job.now.gate.now k) }
+    ensures passed { OnOk result.1 ((k : ℕ) → k < cut_count job.now.cut → G.has_passed job.now.gate.now k) }
 {
     thread::scope(
         thread::scope_env(),
         rt,
         move |scope| -> (Share<L>, Result<Address, UploadFaultKind>)
             requires { (0 < job.now.cut.part_chunks) × AreWorkersOf job.now.exchange workers.items × (vec_len workers ≡ givers_of job.now.exchange.hand_over) × (IsTakerOf job.now.exchange.hand_over take_pass × (taken_of take_pass ≡ [])) × AreNoted job.now.cut collector.follow [] }
-            ensures { IsCollected (G.may_stop job.entry.now.gate.now) (G.may_fault job.entry.now.gate.now) job.entry.now.cut collector.entry.share result.0 result.1 × OnOk result.1 ((k : ℕ) → k < count_of job.entry.now.cut → G.has_passed job.entry.now.gate.now k) }
+            ensures { IsCollected (G.may_stop job.entry.now.gate.now) (G.may_fault job.entry.now.gate.now) job.entry.now.cut collector.entry.share result.0 result.1 × OnOk result.1 ((k : ℕ) → k < cut_count job.entry.now.cut → G.has_passed job.entry.now.gate.now k) }
         {
             let crew = start_all(scope, rt, alloc, job, workers);
             gather(rt, alloc, job, crew, take_pass, collector)
@@ -286,7 +287,7 @@ fn gather<'s, L: Ledgers, G: Gate, R: Threads + Wait>(
     take_pass: TakePass,
     collector: Collector<'_, L>,
 ) -> (Share<L>, Result<Address, UploadFaultKind>)
-    requires some { 0 < job.now.cut.part_chunks }
+    requires positive { 0 < job.now.cut.part_chunks }
     requires handles { All (IsThreadOf job.now.cut job.now.gate.now job.now.exchange) crew.handles.items }
     requires all { IfNone crew.unstarted (vec_len crew.handles ≡ givers_of job.now.exchange.hand_over) }
     requires room { (crew.reports.items ≡ []) × (vec_len crew.reports + vec_len crew.handles ≤ vec_capacity crew.reports) }
@@ -294,7 +295,7 @@ fn gather<'s, L: Ledgers, G: Gate, R: Threads + Wait>(
     requires taker { IsTakerOf job.now.exchange.hand_over take_pass × (taken_of take_pass ≡ []) }
     requires fresh { AreNoted job.now.cut collector.follow [] }
     ensures collected { IsCollected (G.may_stop job.now.gate.now) (G.may_fault job.now.gate.now) job.now.cut collector.entry.share result.0 result.1 }
-    ensures passed { OnOk result.1 ((k : ℕ) → k < count_of job.now.cut → G.has_passed job.now.gate.now k) }
+    ensures passed { OnOk result.1 ((k : ℕ) → k < cut_count job.now.cut → G.has_passed job.now.gate.now k) }
 {
     let Crew {
         handles,

@@ -6,9 +6,9 @@ ghost use Rattle.store_upload.specs.Uploads.{most_bytes};
 ghost use Rattle.store_board.specs.Passes.{given_of, giver_of};
 ghost use Rattle.store_board.specs.Seats.{IsSeatOf, parts_of};
 ghost use Rattle.store_shared.specs.Cuts.{part_count};
-ghost use Rattle.store_shared.specs.Gates.{IsFaultOf, fault_for};
-ghost use Rattle.store_shared.specs.Uploading.{count_of};
-ghost use Rattle.store_shared.specs.Workers.{AllPassed, IsReportOf, IsWorkerOf};
+ghost use Rattle.store_shared.specs.inner.Gates.{IsFaultOf, fault_for};
+ghost use Rattle.store_shared.specs.Uploading.{cut_count};
+ghost use Rattle.store_shared.specs.inner.Workers.{AllPassed, IsReportOf, IsWorkerOf};
 
 use crate::backoff::Backoff;
 use crate::cut::Cut;
@@ -101,11 +101,11 @@ fn make_parts<G: Gate, R: Wait>(
     worker: &mut Worker,
 ) -> Result<(), UploadFaultKind>
     requires own { IsWorkerOf exchange.now worker.old }
-    requires parts { parts_of exchange.now.board ≡ count_of cut.now }
+    requires parts { parts_of exchange.now.board ≡ cut_count cut.now }
     requires passed { AllPassed (G.has_passed gate.now) cut.now worker.old.pass }
     ensures own { IsWorkerOf exchange.now worker.new }
     ensures passed { AllPassed (G.has_passed gate.now) cut.now worker.new.pass }
-    ensures fault { IfErr result (IsFaultOf (G.may_stop gate.now) (G.may_fault gate.now) (count_of cut.now)) }
+    ensures fault { IfErr result (IsFaultOf (G.may_stop gate.now) (G.may_fault gate.now) (cut_count cut.now)) }
 {
     for _ in rt.forever() {
         if is_over(exchange, &mut worker.seat) {
@@ -140,8 +140,8 @@ pub(crate) fn run<G: Gate, R: Wait>(
     requires fresh { given_of worker.pass ≡ [] }
     requires parts { parts_of exchange.now.board ≡ part_count (length (lent_bytes lent)) part_chunks }
     requires bytes { length (lent_bytes lent) ≤ most_bytes }
-    requires some { 0 < part_chunks }
-    requires most { part_chunks ≤ 16384 }
+    requires positive { 0 < part_chunks }
+    requires bounded { part_chunks ≤ 16384 }
     ensures fault { IfSome result.fault (IsFaultOf (G.may_stop gate.now) (G.may_fault gate.now) (part_count (length (lent_bytes lent.entry)) part_chunks)) }
     ensures own { IsWorkerOf exchange.now result.worker }
     ensures passed { AllPassed (G.has_passed gate.now) (record { bytes = lent_bytes lent.entry; part_chunks = part_chunks }) result.worker.pass }

@@ -1,5 +1,6 @@
 use Rattle.std.proofs.Common.{List, ◌-◌, ap₂, subst, sym, ◌∙◌}
-use Rattle.b3_forest.specs.Subtrees.{AreForest, firsts}
+use Rattle.b3_forest.specs.Subtrees.{AreForest}
+use Rattle.b3_forest.specs.inner.Subtrees.{firsts}
 use Rattle.b3_forest.specs.Parts.{chunk_in}
 use Rattle.b3_forest.specs.Uploads.{with_part}
 use Rattle.b3_forest.specs.declared.piece.Piece.{Piece}

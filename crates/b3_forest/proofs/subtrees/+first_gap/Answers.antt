@@ -25,8 +25,8 @@ returns-in-Some-clause-gap t c x forest most bound held past =
       | inr new ↦ held_in x es c.args.next i n forest.pieces here new (omega (arith, before, next))
     ]) past
 
-pub returns-in-Some-clause-most : goal.returns-in-Some-clause-most
-returns-in-Some-clause-most t c x forest most =
+pub returns-in-Some-clause-bounded : goal.returns-in-Some-clause-bounded
+returns-in-Some-clause-bounded t c x forest most =
     let es = c.args.subtrees.now.entries in
     let n = c.in-Some.subtree.now in
     let here = sym c.in-Some.ensures.value in

@@ -1,5 +1,6 @@
 use Rattle.std.proofs.Common.{List, length, arith, ap, subst}
-use Rattle.b3_forest.specs.Subtrees.{AreForest, firsts}
+use Rattle.b3_forest.specs.Subtrees.{AreForest}
+use Rattle.b3_forest.specs.inner.Subtrees.{firsts}
 use Rattle.b3_forest.specs.declared.piece.Piece.{Piece}
 use Rattle.b3_forest.proofs.subtrees.+settle_all.Goals as goal
 

@@ -1,7 +1,7 @@
 use Rattle.std.proofs.Common.{ℕ, arith, ap, sym, ◌∙◌, subst}
 use Rattle.std.proofs.lemmas.Nat.{pow_pos}
 use Rattle.b3_core.specs.Tree.{Inputs}
-use Rattle.b3_forest.specs.Subtrees.{IsPair}
+use Rattle.b3_forest.specs.inner.Subtrees.{IsPair}
 use Rattle.b3_forest.specs.declared.piece.Subtree.{Subtree}
 use Rattle.b3_forest.proofs.Merging.{some_same}
 use Rattle.b3_forest.proofs.Pairs.{level_most, other_alone, other_place, pair_of, pair_to}

@@ -2,7 +2,7 @@ use Rattle.std.proofs.Common.{◌≡◌, ◌*◌, ◌-◌, Some, None, length, a
 use Rattle.std.proofs.lemmas.Map.Entries.{length-values_of}
 use Rattle.b3_core.specs.Tree.{Inputs, parent_top}
 use Rattle.b3_core.specs.Work.{counted}
-use Rattle.b3_forest.specs.Subtrees.{top_before}
+use Rattle.b3_forest.specs.inner.Subtrees.{top_before}
 use Rattle.b3_forest.proofs.Tops.{first_count, more_count, none_count, top_push}
 use Rattle.b3_forest.proofs.subtrees.top_of.Goals as goal
 

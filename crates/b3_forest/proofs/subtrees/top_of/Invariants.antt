@@ -1,7 +1,7 @@
 use Rattle.std.proofs.Common.{◌≡◌, ◌*◌, ◌-◌, length}
 use Rattle.std.specs.Map.{values_of}
 use Rattle.b3_core.specs.Work.{counted}
-use Rattle.b3_forest.specs.Subtrees.{parents_left, top_before, top_over}
+use Rattle.b3_forest.specs.inner.Subtrees.{parents_left, top_before, top_over}
 use Rattle.b3_forest.proofs.subtrees.top_of.Given as goal
 
 abbrev pub invariant-loop-subtree : goal.invariant-loop-subtree

@@ -3,7 +3,7 @@ use Rattle.std.specs.Prelude.{IfSome}
 use Rattle.b3_core.specs.Modes.{hash_of}
 use Rattle.store_shared.specs.Cuts.{cut_of}
 use Rattle.store_shared.specs.declared.fault.UploadFaultKind.TheVariants as kinds
-use Rattle.store_engines.specs.Uploads.{IsTold}
+use Rattle.store_engines.specs.inner.Uploads.{IsTold}
 use Rattle.std.specs.Io.KnownBytes.{Appends}
 use Rattle.store_engines.proofs.UploadTexts.{own_may, told, wrote}
 use Rattle.store_engines.proofs.uploading.upload.Goals as goal

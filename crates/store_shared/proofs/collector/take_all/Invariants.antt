@@ -1,6 +1,6 @@
 use Rattle.std.specs.Prelude.{◌≡◌, ◌++◌, map}
 use Rattle.store_board.specs.Passes.{IsWholeOf, given_by_all, taken_by_all}
-use Rattle.store_shared.specs.Uploading.{parts_in}
+use Rattle.store_shared.specs.inner.Uploading.{parts_in}
 use Rattle.store_shared.proofs.collector.take_all.Given as goal
 
 abbrev pub invariant-loop : goal.invariant-loop

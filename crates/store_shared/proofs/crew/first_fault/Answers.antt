@@ -1,7 +1,7 @@
 use Rattle.std.proofs.Common.{◌≡◌, ◌+◌, ◌∙◌, ◌++◌, ◌∷◌, [], ap, refl, sym, take}
 use Rattle.std.proofs.lemmas.List.{take_more}
 use Rattle.std.specs.Option.{option_or}
-use Rattle.store_shared.specs.Workers.{fault_of_first}
+use Rattle.store_shared.specs.inner.Workers.{fault_of_first}
 use Rattle.store_shared.proofs.Passing.{fault_push}
 use Rattle.store_shared.proofs.crew.first_fault.Goals as goal
 

@@ -1,7 +1,7 @@
 use Rattle.std.proofs.Common.{All, ap, arith, length, subst, sym}
 use Rattle.std.proofs.lemmas.List.Elements.{All-head, All-push, All-rest}
 use Rattle.std.specs.declared.thread.PromisedHandle.{PromisedHandle}
-use Rattle.store_shared.specs.Workers.{IsReportOf, IsThreadOf}
+use Rattle.store_shared.specs.inner.Workers.{IsReportOf, IsThreadOf}
 use Rattle.store_shared.specs.declared.worker.Report.{Report}
 use Rattle.store_shared.specs.declared.worker.ReportOf.{ReportOf}
 use Rattle.store_shared.proofs.crew.join_all.Goals as goal

@@ -1,6 +1,6 @@
 use Rattle.std.specs.Prelude.{◌≡◌, ◌+◌, ◌≤◌, All, length, vec_capacity, vec_len}
 use Rattle.std.specs.Vec.Iter.{into_iter_items}
-use Rattle.store_shared.specs.Workers.{IsReportOf, IsThreadOf}
+use Rattle.store_shared.specs.inner.Workers.{IsReportOf, IsThreadOf}
 use Rattle.store_shared.proofs.crew.join_all.Given as goal
 
 abbrev pub invariant-loop-handle : goal.invariant-loop-handle

@@ -1,5 +1,5 @@
 use Rattle.std.specs.Prelude.{◌≡◌, ◌+◌, ◌≤◌, All, vec_capacity, vec_len}
-use Rattle.store_shared.specs.Workers.{AreWorkersOf, IsThreadOf}
+use Rattle.store_shared.specs.inner.Workers.{AreWorkersOf, IsThreadOf}
 use Rattle.store_shared.proofs.crew.start_all.Given as goal
 
 abbrev pub invariant-loop-worker : goal.invariant-loop-worker

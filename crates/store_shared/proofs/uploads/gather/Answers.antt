@@ -1,8 +1,9 @@
 use Rattle.std.proofs.Common.{◌∙◌, ap, subst, sym}
 use Rattle.std.specs.Prelude.{IfSome}
-use Rattle.store_shared.specs.Gates.{IsFaultOf}
-use Rattle.store_shared.specs.Uploading.{IsCollected, IsCollecting, count_of, parts_in}
-use Rattle.store_shared.specs.Workers.{fault_of_first}
+use Rattle.store_shared.specs.inner.Gates.{IsFaultOf}
+use Rattle.store_shared.specs.Uploading.{cut_count}
+use Rattle.store_shared.specs.inner.Uploading.{IsCollected, IsCollecting, parts_in}
+use Rattle.store_shared.specs.inner.Workers.{fault_of_first}
 use Rattle.store_shared.proofs.Noting.{collected, collecting_begun}
 use Rattle.store_shared.proofs.Passing.{collected_passed, reports_fault, reports_passed}
 use Rattle.store_shared.proofs.uploads.gather.Goals as goal
@@ -18,8 +19,8 @@ returns-clause-collected g c =
     let has = c.collect_rest.ensures.collected fresh.share (c.collect.ensures.kept fresh.share begun) in
     let end = c.collect_rest.new.self in
     subst (λ share. IsCollected may_stop may_fault job.cut fresh.share share c.address.result.1) (sym c.address.ensures.share)
-    (collected may_stop may_fault job.cut fresh.share end.share end.follow (parts_in has.taken) end.fault c.first_fault-workers_fault.result c.address.result.1 c.requires.some has.collecting c.collect_rest.ensures.own
-    (subst (λ o. IfSome o (IsFaultOf may_stop may_fault (count_of job.cut))) (sym (c.first_fault-workers_fault.ensures ∙ ap fault_of_first c.as_slice.ensures.value))
+    (collected may_stop may_fault job.cut fresh.share end.share end.follow (parts_in has.taken) end.fault c.first_fault-workers_fault.result c.address.result.1 c.requires.positive has.collecting c.collect_rest.ensures.own
+    (subst (λ o. IfSome o (IsFaultOf may_stop may_fault (cut_count job.cut))) (sym (c.first_fault-workers_fault.ensures ∙ ap fault_of_first c.as_slice.ensures.value))
     (reports_fault job.exchange may_stop may_fault (g.G.Gate.has_passed job.gate.now) job.cut c.join_all-reports.result.items c.join_all-reports.ensures.reports))
     c.address.ensures.address c.address.ensures.fault)
 
@@ -34,5 +35,5 @@ returns-clause-passed g c =
     let begun = subst (λ taken. IsCollecting job.cut fresh.share fresh.follow fresh.share (parts_in taken) unstarted) (sym c.requires.taker.1) (collecting_begun job.cut fresh.share fresh.follow unstarted c.requires.fresh) in
     let has = c.collect_rest.ensures.collected fresh.share (c.collect.ensures.kept fresh.share begun) in
     let end = c.collect_rest.new.self in
-    collected_passed has_passed job.cut fresh.share end.share end.follow end.fault _ c.address.result.1 c.requires.some has
+    collected_passed has_passed job.cut fresh.share end.share end.follow end.fault _ c.address.result.1 c.requires.positive has
     (reports_passed job.exchange may_stop may_fault has_passed job.cut c.join_all-reports.result.items c.join_all-reports.ensures.reports) c.address.ensures.address

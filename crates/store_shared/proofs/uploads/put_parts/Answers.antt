@@ -1,5 +1,6 @@
 use Rattle.std.proofs.Common.{◌<◌, ℕ, OnOk, subst}
-use Rattle.store_shared.specs.Uploading.{IsCollected, count_of}
+use Rattle.store_shared.specs.Uploading.{cut_count}
+use Rattle.store_shared.specs.inner.Uploading.{IsCollected}
 use Rattle.store_shared.proofs.uploads.put_parts.Goals as goal
 
 pub returns-clause-collected : goal.returns-clause-collected
@@ -10,4 +11,4 @@ returns-clause-collected g c =
 pub returns-clause-passed : goal.returns-clause-passed
 returns-clause-passed g c =
     let gate = c.args.request.now.gate.now in
-    subst (λ cut. OnOk c.work_together.result.1 ((k : ℕ) → k < count_of cut → g.G.Gate.has_passed gate k)) c.new-cut.ensures c.work_together.ensures.passed
+    subst (λ cut. OnOk c.work_together.result.1 ((k : ℕ) → k < cut_count cut → g.G.Gate.has_passed gate k)) c.new-cut.ensures c.work_together.ensures.passed

@@ -5,7 +5,7 @@ use Rattle.b3_core.specs.Work.{counted}
 use Rattle.b3_forest.specs.Lent.{lent_bytes}
 use Rattle.b3_forest.specs.Subtrees.{Keeps}
 use Rattle.b3_forest.specs.Followed.{AllNoted, Followed, IsFirstUnnoted, pieces_noted}
-use Rattle.b3_forest.specs.Subtrees.{AreWhole}
+use Rattle.b3_forest.specs.inner.Subtrees.{AreWhole}
 use Rattle.b3_forest.proofs.Following.{content_is, noted_count, told_all, told_missing}
 use Rattle.b3_forest.proofs.follow.Follow.finish.Goals as goal
 

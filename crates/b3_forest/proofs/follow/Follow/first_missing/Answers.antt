@@ -5,8 +5,8 @@ use Rattle.b3_forest.specs.Followed.{AllNoted, Followed, IsFirstUnnoted}
 use Rattle.b3_forest.proofs.Following.{told_all, told_missing}
 use Rattle.b3_forest.proofs.follow.Follow.first_missing.Goals as goal
 
-pub returns-then-missing-len-clause-some : goal.returns-then-missing-len-clause-some
-returns-then-missing-len-clause-some c =
+pub returns-then-missing-len-clause-found : goal.returns-then-missing-len-clause-found
+returns-then-missing-len-clause-found c =
     let w = c.self.invariant in
     let gap = c.least_missing-missing.ensures.least w.parts (subst (λ n. Keeps n w.parts c.self.inside.subtrees.entries) (sym c.len-len.ensures) w.keeps) in
     subst (λ (f : Followed). IsFirstUnnoted f c.least_missing-missing.result) c.self.view_is

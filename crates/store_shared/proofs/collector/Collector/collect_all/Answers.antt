@@ -2,7 +2,7 @@ use Rattle.std.proofs.Common.{◌≡◌, ◌∙◌, ℕ, [], None, ap, subst, sy
 use Rattle.std.specs.Prelude.{IfNone}
 use Rattle.store_board.specs.HandOverRule.{of_giver}
 use Rattle.store_board.specs.Passes.{given_by_all, taken_by_all}
-use Rattle.store_shared.specs.Uploading.{IsCollecting, parts_in}
+use Rattle.store_shared.specs.inner.Uploading.{IsCollecting, parts_in}
 use Rattle.store_shared.proofs.Noting.{rose_collecting}
 use Rattle.store_shared.proofs.collector.Collector.collect_all.Goals as goal
 

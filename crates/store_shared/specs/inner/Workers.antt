@@ -8,8 +8,8 @@ use Rattle.store_board.specs.Seats.{IsSeatOf}
 use Rattle.store_board.specs.declared.hand_over.give_pass.GivePass.{GivePass}
 use Rattle.store_board.specs.declared.hand_over.taken.Taken.{Taken}
 use Rattle.store_shared.specs.Cuts.{part_at}
-use Rattle.store_shared.specs.Gates.{IsFaultOf}
-use Rattle.store_shared.specs.Uploading.{Cutting, count_of}
+use Rattle.store_shared.specs.inner.Gates.{IsFaultOf}
+use Rattle.store_shared.specs.Uploading.{Cutting, cut_count}
 use Rattle.store_shared.specs.declared.fault.UploadFaultKind.{UploadFaultKind}
 use Rattle.store_shared.specs.declared.job.Exchange.{Exchange}
 use Rattle.store_shared.specs.declared.worker.Report.{Report}
@@ -37,7 +37,7 @@ AllPassed has_passed c pass = All (IsPassedPart has_passed c) (given_of pass)
 -- a report on an upload of a cut: a fault that the gate may have caused, or want of memory, or none; and all that the worker gave has passed
 abbrev pub IsReportOf : Exchange → (ℕ → Type 0) → (ℕ → ℕ → Type 0) → (ℕ → Type 0) → Cutting → Report → Type 0
 IsReportOf exchange may_stop may_fault has_passed c report =
-    IfSome report.fault (IsFaultOf may_stop may_fault (count_of c)) × IsWorkerOf exchange report.worker × AllPassed has_passed c report.worker.pass
+    IfSome report.fault (IsFaultOf may_stop may_fault (cut_count c)) × IsWorkerOf exchange report.worker × AllPassed has_passed c report.worker.pass
 
 -- the thread's promise is of this cut, gate and exchange
 abbrev pub IsThreadOf : {G : Type 0} → Cutting → G → Exchange → PromisedHandle Report (ReportOf G) → Type 0

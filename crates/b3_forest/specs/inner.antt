@@ -1,0 +1,3 @@
+-- What only proofs and functions within use.
+pub mod Subtrees
+pub mod Uploads

@@ -1,0 +1,4 @@
+-- What only proofs and functions within use.
+pub mod Gates
+pub mod Uploading
+pub mod Workers
