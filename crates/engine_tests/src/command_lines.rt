@@ -29,8 +29,8 @@ fn inputs_text(alloc: Global, inputs: &SumInputs<'_>) -> Result<String, AllocErr
 fn sum_text(alloc: Global, said: &SumOptions<'_>) -> Result<String, AllocError> {
     let inputs = inputs_text(alloc, &said.inputs)?;
     let mode = mode_text(alloc, said.mode)?;
-    let (length, threads) = (said.length, said.threads);
-    format!(in alloc; "sum {inputs} {mode} {length:?} {threads:?}")
+    let (length, threads, no_progress) = (said.length, said.threads, said.no_progress);
+    format!(in alloc; "sum {inputs} {mode} {length:?} {threads:?} {no_progress}")
 }
 
 // What the words say. A fault of usage has a text.
@@ -42,16 +42,18 @@ fn said(alloc: Global, words: &[&str]) -> Result<String, AllocError> {
                 workers,
                 part_chunks,
                 journal,
+                no_progress,
             } = said;
-            format!(in alloc; "upload {workers} {part_chunks} {journal}")
+            format!(in alloc; "upload {workers} {part_chunks} {journal} {no_progress}")
         }
         Ok(Options::Check(said)) => {
             let CheckOptions {
                 list,
                 shown,
                 threads,
+                no_progress,
             } = said;
-            format!(in alloc; "check {list:?} {shown:?} {threads:?}")
+            format!(in alloc; "check {list:?} {shown:?} {threads:?} {no_progress}")
         }
         Ok(_) => String::from_str(alloc, "no options"),
         Err(Fault::Usage(text)) => {
@@ -73,43 +75,57 @@ fn said(alloc: Global, words: &[&str]) -> Result<String, AllocError> {
 // What the program does can't tell these: the options' own values, the greatest length, and a byte 0, with which no process can
 // be given a word.
 const SAID: &[(&[&str], &str)] = &[
-    (&["b3store", "sum"], "sum - hash None None"),
+    (&["b3store", "sum"], "sum - hash None None false"),
     (
         &["b3store", "sum", "--length", "65536", "--context", ""],
-        "sum - context  Some(65536) None",
+        "sum - context  Some(65536) None false",
     ),
     (
-        &["b3store", "sum", "--threads", "16"],
-        "sum - hash None Some(16)",
+        &["b3store", "sum", "--threads", "16", "--no-progress"],
+        "sum - hash None Some(16) true",
     ),
     (
         &["b3store", "sum", "a", "--key-file", "k", "-", "a"],
-        "sum [\"a\", \"-\", \"a\"] key in k None None",
+        "sum [\"a\", \"-\", \"a\"] key in k None None false",
     ),
     (
         &["b3store", "sum", "--files-from", "l", "-0"],
-        "sum File(\"l\") true hash None None",
+        "sum File(\"l\") true hash None None false",
     ),
     (
         &["b3store", "sum", "--files-from", "-"],
-        "sum Standard false hash None None",
+        "sum Standard false hash None None false",
     ),
-    (&["b3store", "check"], "check Standard All None"),
+    (&["b3store", "check"], "check Standard All None false"),
     (
         &["b3store", "check", "--threads", "1", "--quiet", "l"],
-        "check File(\"l\") AllButGood Some(1)",
+        "check File(\"l\") AllButGood Some(1) false",
     ),
     (
-        &["b3store", "check", "--quiet", "--status", "-"],
-        "check Standard Nothing None",
+        &[
+            "b3store",
+            "check",
+            "--quiet",
+            "--no-progress",
+            "--status",
+            "-",
+        ],
+        "check Standard Nothing None true",
     ),
     (&["b3store", "--version"], "version"),
     (&["b3store", "sum", "a", ""], "usage"),
     (&["b3store", "sum", "a\0b"], "usage"),
-    (&["b3store", "upload"], "upload 4 64 false"),
+    (&["b3store", "upload"], "upload 4 64 false false"),
     (
-        &["b3store", "upload", "--journal", "--workers", "16"],
-        "upload 16 64 true",
+        &[
+            "b3store",
+            "upload",
+            "--no-progress",
+            "--journal",
+            "--workers",
+            "16",
+        ],
+        "upload 16 64 true true",
     ),
     (&["b3store", "sum", "--name", "\0"], "usage"),
     (&["b3store", "sum", "--name", "a\0b"], "usage"),

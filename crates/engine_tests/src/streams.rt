@@ -93,6 +93,7 @@ const ONE_WORKER: UploadOptions = UploadOptions {
     workers: 1,
     part_chunks: 1,
     journal: false,
+    no_progress: false,
 };
 
 // How an engine ends.

@@ -37,6 +37,7 @@ fn a_journal_by_three_workers_is_legal(rt: HostRuntime) -> Result<(), Fail> {
         workers: 3,
         part_chunks: 1,
         journal: true,
+        no_progress: false,
     };
     let mut reader = ByteReader::new(input.as_slice(), u64::MAX, false);
     let mut writer = ByteWriter::new(rt.alloc(), u64::MAX);
@@ -60,6 +61,7 @@ fn a_cut_without_workers_is_refused(rt: HostRuntime) {
         workers: 0,
         part_chunks: 1,
         journal: true,
+        no_progress: false,
     };
     let mut reader = ByteReader::new(b"abc", u64::MAX, false);
     let mut writer = ByteWriter::new(rt.alloc(), u64::MAX);

@@ -15,7 +15,7 @@ pub other_half-place-requires : goal.other_half-place-requires
 other_half-place-requires c =
     let within = c.requires.1.within c.args.first c.in-Some.subtree.now (sym c.in-Some.ensures.value) in
     let pos = pow_pos c.in-Some.subtree.now.level in
-    record { some = omega (arith, c.width.ensures, pos); within = omega (arith, c.width.ensures, within) }
+    record { positive = omega (arith, c.width.ensures, pos); within = omega (arith, c.width.ensures, within) }
 
 pub returns-in_default-get-clause-alone : goal.returns-in_default-get-clause-alone
 returns-in_default-get-clause-alone c =
