@@ -34,7 +34,7 @@ REFUSALS = {
     "S5": "the upload is too long",
     "S6": "the tenant has not enough bytes left",
     "S7": "there is no such open upload",
-    "S9": "a byte of the part is held already",
+    "S9": "a byte of the part is covered already",
     "S10": "a byte is missing",
     "S11": "the content has another address",
     "S12": "the tenant holds no such object",
