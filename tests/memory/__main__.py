@@ -3,6 +3,7 @@
 - A seal keeps the bytes of its parts, and copies none; nor do a seal of what is known and a forget, which hand bytes back. What each asks
   of memory is the same where its parts are 64 times as long.
 - A fetch shares the object: eight fetches ask for less than one of its parts has. That is shown of a test program of store_tests.
+- An upload asks for at most half as much again as its input has.
 - A fetch of an object 64 times as long asks for no more, and of a line that is too long for a command no more is kept than of the longest.
 - What is forgotten, and what an upload held that was aborted or sealed as known, is given back: some thousand rounds of each take no more
   memory than some hundred, but for the entries of the journal.
@@ -159,6 +160,15 @@ def a_line_that_is_too_long_is_not_kept(options, folder):
     return counts[0] - counts[1], 0
 
 
+def an_upload_takes_its_input_once(options, folder):
+    """How much an upload of many parts asks for, and how much that may be."""
+    length = PARTS * PART
+    found, count = counted([options.program, "upload"], counting(folder), pattern(0, length))
+    if found != f"{address_of_pattern(length)}  -\naccepted {length} {PARTS}\n":
+        raise ValueError(f"it answered {found[:200]!r}")
+    return count, length * 3 // 2
+
+
 def growth_of_rounds(program, folder, lines_of, answers_of, left=NOTHING_LEFT):
     """How much more memory many rounds take than few, and how much that may be."""
     most = []
@@ -210,7 +220,7 @@ def main():
     options, passed, failed = parser.parse_args(), 0, 0
     tests = [
         a_seal_shares_bytes, a_seal_of_what_is_known_copies_no_bytes, a_forget_copies_no_bytes, a_fetch_asks_for_no_digits,
-        a_line_that_is_too_long_is_not_kept,
+        a_line_that_is_too_long_is_not_kept, an_upload_takes_its_input_once,
         what_is_forgotten_is_given_back, what_is_known_is_given_back, what_is_aborted_is_given_back,
     ]
     for test in tests if options.program_alone else [*tests, a_fetch_shares_bytes]:
