@@ -10,10 +10,10 @@ ghost use Rattle.b3_forest.specs.Gaps.{gaps_of};
 ghost use Rattle.b3_forest.specs.Texts.{forest_text};
 ghost use Rattle.b3_forest.specs.Uploads.{add_refusal, content_of, finish_work, merges_of, part_of, put_work, with_more};
 
+use crate::add_refused::AddRefused;
 use crate::gap::Gap;
 use crate::hashed_parts::HashedParts;
 use crate::prepared::Prepared;
-use crate::refusal::AddRefused;
 use crate::segment::Segment;
 use crate::shared_bytes::SharedBytes;
 use b3_core::{Top, Work};

@@ -18,6 +18,7 @@
 //! forest of what is held. They stand in an ordered map by their first chunk.
 #![tactic(auto)]
 
+mod add_refused;
 mod cutting;
 mod follow;
 mod forest;
@@ -34,6 +35,7 @@ mod shared_bytes;
 mod stretches;
 mod subtrees;
 
+pub use add_refused::AddRefused;
 pub use follow::Follow;
 pub use forest::{Forest, top_of};
 pub use gap::Gap;
@@ -41,7 +43,7 @@ pub use hashed_parts::HashedParts;
 pub use laws::forest_laws;
 pub use lent::Lent;
 pub use prepared::Prepared;
-pub use refusal::{AddRefused, Incomplete, NoteFault, PartRefused, ShareRefused};
+pub use refusal::{Incomplete, NoteFault, PartRefused, ShareRefused};
 pub use segment::Segment;
 pub use shared_bytes::SharedBytes;
 pub use store_upload::{

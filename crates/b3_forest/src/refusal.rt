@@ -1,15 +1,14 @@
 //! Why parts are refused, and why there is no top yet.
 
 ghost use Rattle.std.specs.Prelude.{◌≡◌, Some, vec_len};
-ghost use Rattle.store_upload.specs.Texts.{add_fault_text, incomplete_code, incomplete_text, part_fault_text};
-ghost use Rattle.b3_forest.specs.Texts.{add_refused_text, note_fault_code, note_fault_text, part_refused_text, share_refused_text};
+ghost use Rattle.store_upload.specs.Texts.{incomplete_code, incomplete_text, part_fault_text};
+ghost use Rattle.b3_forest.specs.Texts.{note_fault_code, note_fault_text, part_refused_text, share_refused_text};
 ghost use Rattle.std.specs.Arc.{arc_value};
 
-use crate::prepared::Prepared;
 use std::error::Error;
 use std::fmt;
 use std::sync::Arc;
-use store_upload::{AddFault, PartFault};
+use store_upload::PartFault;
 
 /// A refused part: its bytes, handed back.
 #[derive(Drop)]
@@ -66,34 +65,6 @@ impl fmt::Debug for ShareRefused {
 }
 
 impl Error for ShareRefused {}
-
-/// A part that was not added, handed back.
-#[derive(Drop)]
-pub struct AddRefused {
-    pub fault: AddFault,
-    pub part: Prepared,
-}
-
-/// The refusal's number with what it carries.
-impl fmt::Display for AddRefused {
-    ghost output = { λ refused. Some (add_fault_text refused.fault) };
-
-    fn fmt<W: fmt::Write>(&self, f: &mut fmt::Formatter<W>) -> fmt::Result {
-        write!(f, "{}", self.fault)
-    }
-}
-
-/// The refusal and the part's place and length.
-impl fmt::Debug for AddRefused {
-    ghost debug_output = { λ refused. Some (add_refused_text refused.fault refused.part.part) };
-
-    fn fmt<W: fmt::Write>(&self, f: &mut fmt::Formatter<W>) -> fmt::Result {
-        let AddRefused { fault, part } = self;
-        write!(f, "AddRefused {{ fault: {fault}, part: {part:?} }}")
-    }
-}
-
-impl Error for AddRefused {}
 
 /// F10: the least offset of the upload that is not held.
 #[derive(Clone, Copy, PartialEq, Eq, Debug)]
