@@ -314,6 +314,8 @@ impl<T: Threads + Runtime, I: Read + Drop, E: Write + Drop> Sources for SystemIn
 
     fn root_of(&mut self, name: &[u8]) -> Result<Top, FileFault> {
         if name == b"-".as_slice() {
+            // It may have been looked up as a path.
+            let _ahead = self.files.known_root(name);
             self.files.hasher.stream_root(&mut self.input)
         } else {
             self.files.root_of_file(name)
