@@ -3,9 +3,12 @@
 
 use crate::fakes::FailingWriter;
 use crate::helpers::{ABC, THREE_LINES, digest};
-use b3_check::{CheckFile, Line, NameFault, Names, ReadError, Shown, read_line, verify, write};
+use b3_check::{
+    CheckFile, Line, NameFault, Names, NumberedLine, ReadError, Shown, read_line, verify, write,
+};
 use std::alloc::{AllocError, Global};
 use std::io::Write;
+use std::marker::Model;
 use std::test::Fail;
 
 // A line of the hash of `abc`.
@@ -55,6 +58,47 @@ impl Names for Table {
         } else {
             Ok(None)
         }
+    }
+}
+
+// Names that nothing has, which keep what was asked of them: of each hint the numbers of its lines, each behind a space, and a semicolon; of
+// each name that was asked for the name and a question mark. Contracts see nothing of it.
+#[derive(Drop)]
+struct Hinted {
+    asked: Vec<u8>,
+}
+
+impl Model for Hinted {
+    ghost use Rattle.std.specs.Prelude.{ℕ};
+
+    ghost Value = { ℕ };
+
+    ghost view = { λ _. 0 };
+}
+
+impl Hinted {
+    // What was asked.
+    fn asked(self) -> Vec<u8> {
+        let Hinted { asked } = self;
+        asked
+    }
+}
+
+impl Names for Hinted {
+    ghost gives = { λ _ _ _ _. Unit {0} };
+
+    fn expect(&mut self, lines: &[NumberedLine]) {
+        for line in lines {
+            let _ = self.asked.push(b' ');
+            let _ = self.asked.push((line.number % 10) as u8 + b'0');
+        }
+        let _ = self.asked.push(b';');
+    }
+
+    fn digest_of(&mut self, name: &[u8]) -> Result<Option<[u8; 32]>, NameFault> {
+        let _ = self.asked.extend_from_slice(name);
+        let _ = self.asked.push(b'?');
+        Ok(None)
     }
 }
 
@@ -118,6 +162,20 @@ fn a_file_is_verified(rt: HostRuntime) -> Result<(), Fail> {
     assert!(rt; report_on(alloc, Shown::All)?.as_slice() == all);
     assert!(rt; report_on(alloc, Shown::AllButGood)?.as_slice() == behind_good);
     assert!(rt; report_on(alloc, Shown::Nothing)?.is_empty());
+    Ok(())
+}
+
+#[test]
+fn lines_are_told_before_they_are_asked_for(rt: HostRuntime) -> Result<(), Fail> {
+    let alloc = rt.alloc();
+    let mut names = Hinted {
+        asked: Vec::new(alloc),
+    };
+    let file = CheckFile::read(alloc, THREE_LINES)?;
+    let mut text = Vec::new(alloc);
+    assert!(rt; verify(&file, Shown::Nothing, &mut names, &mut text).is_ok());
+    let wanted: &[u8] = b" 1 2 3;f? 2 3; 3;g?";
+    assert!(rt; names.asked().as_slice() == wanted);
     Ok(())
 }
 

@@ -1,11 +1,12 @@
 //! A reader and a writer that give and take one byte a call, fail at a call or are interrupted, a writer that allocates nothing,
-//! names that are not there, and sources of one name.
+//! names that are not there, sources of one name, and sources that keep what was asked of them.
 
-use b3_check::{NameFault, Names};
+use b3_check::{Name, NameFault, Names};
 use b3_core::{Mode, Top, Work};
 use std::alloc::Global;
 use std::io;
 use std::io::{ErrorKind, Read, Write};
+use std::marker::Model;
 use store_engines::{FileFault, Reason, Sources};
 
 /// Gives one byte a call. The call with the number `fails_at`, from 0, and all later ones fail. One that is interrupted answers
@@ -213,4 +214,55 @@ impl Sources for AbcSources {
         let _ = self.told.extend_from_slice(name);
         let _ = self.told.extend_from_slice(reason.text().as_bytes());
     }
+}
+
+/// Sources that have nothing. They keep what was asked of them: of each hint its names, each behind a space, and a semicolon; of each name
+/// that was asked for the name and a question mark. Contracts see nothing of it.
+#[derive(Drop)]
+pub struct HintedSources {
+    asked: Vec<u8>,
+}
+
+impl Model for HintedSources {
+    ghost use Rattle.std.specs.Prelude.{ℕ};
+
+    ghost Value = { ℕ };
+
+    ghost view = { λ _. 0 };
+}
+
+impl HintedSources {
+    pub fn new(alloc: Global) -> HintedSources {
+        HintedSources {
+            asked: Vec::new(alloc),
+        }
+    }
+
+    /// What was asked.
+    pub fn asked(self) -> Vec<u8> {
+        let HintedSources { asked } = self;
+        asked
+    }
+}
+
+impl Sources for HintedSources {
+    ghost gives = { λ _ _ _ _. Unit {0} };
+
+    ghost tells = { λ _ _ _ _. Unit {0} };
+
+    fn expect(&mut self, names: &[Name]) {
+        for name in names {
+            let _ = self.asked.push(b' ');
+            let _ = self.asked.extend_from_slice(name.as_bytes());
+        }
+        let _ = self.asked.push(b';');
+    }
+
+    fn root_of(&mut self, name: &[u8]) -> Result<Top, FileFault> {
+        let _ = self.asked.extend_from_slice(name);
+        let _ = self.asked.push(b'?');
+        Err(FileFault::Failed(Reason::Missing))
+    }
+
+    fn tell(&mut self, _name: &[u8], _reason: Reason) {}
 }

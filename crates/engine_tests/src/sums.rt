@@ -1,6 +1,6 @@
-//! The engine of `sum` over files, with sources of one name.
+//! The engine of `sum` over files, with sources of one name, or of none.
 
-use crate::fakes::{AbcSources, ByteWriter};
+use crate::fakes::{AbcSources, ByteWriter, HintedSources};
 use b3_check::Name;
 use b3_core::{Runtime, Work};
 use std::alloc::{AllocError, Global};
@@ -63,6 +63,27 @@ fn a_length_leaves_names_out(rt: HostRuntime) -> Result<(), Fail> {
     assert_eq!(rt; ended, Ok(Verdict::Good));
     let wanted: &[u8] = b"6437b3ac\n6437b3ac\n";
     assert!(rt; text.as_slice() == wanted && told.is_empty());
+    Ok(())
+}
+
+#[test]
+fn names_are_told_before_they_are_asked_for(rt: HostRuntime) -> Result<(), Fail> {
+    let alloc = rt.alloc();
+    let names = names(alloc, &["x", "abc", "-"])?;
+    let mut sources = HintedSources::new(alloc);
+    let mut text = Vec::new(alloc);
+    let mut work = Work::new(&rt);
+    let ended = sum_files(
+        alloc,
+        None,
+        names.as_slice(),
+        &mut sources,
+        &mut text,
+        &mut work,
+    );
+    let wanted: &[u8] = b" x abc -;x? abc -;abc? -;-?";
+    assert_eq!(rt; ended, Ok(Verdict::Refused));
+    assert!(rt; sources.asked().as_slice() == wanted && text.is_empty());
     Ok(())
 }
 

@@ -348,6 +348,8 @@ impl<T: Threads + Runtime, I: Standing + Drop, E: Write + Drop> Sources
         if name != b"-".as_slice() {
             return self.files.root_of_file(name);
         }
+        // It may have been looked up as a path.
+        let _ahead = self.files.known_root(name);
         match self.files.hasher.standing_root(&mut self.input) {
             Some(root) => Ok(root),
             None => self.files.hasher.stream_root(&mut self.input),
