@@ -1,6 +1,7 @@
 mod StandardFacts
 pub mod EachLane
 pub mod EachRow
+pub mod ByteTurns
 pub mod WholeChunks
 pub mod Hashings
 pub mod InPlaces

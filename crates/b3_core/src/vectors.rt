@@ -76,7 +76,7 @@ impl<const N: usize> Words for Simd<u32, N> {
 
 // The exclusive or, turned right.
 #[inline(always)]
-fn xor_turn<V: Words>(a: V, b: V, k: u32) -> V
+pub(crate) fn xor_turn<V: Words>(a: V, b: V, k: u32) -> V
     requires { (0 < k) × (k < 32) }
     ensures { (j : ℕ) → j < V.LANES → V.word result j ≡ xor_turn (V.word a j) (V.word b j) k }
 {
@@ -111,45 +111,4 @@ pub(crate) fn mix<V: Words>(a: V, b: V, c: V, d: V, x: V, y: V) -> (V, V, V, V)
     let c2 = c1.add(d2.turn(8));
     let b2 = xor_turn(b1, c2, 7);
     (a2, b2, c2, d2)
-}
-
-// G on two such quadruples of words, with two message words for each, step by step in turn: so the processor has two chains
-// of steps at hand, neither of which waits for the other.
-#[inline(always)]
-pub(crate) fn mix_two<V: Words>(
-    p: (V, V, V, V),
-    q: (V, V, V, V),
-    x: (V, V),
-    y: (V, V),
-) -> (V, V, V, V, V, V, V, V)
-    ensures first { (j : ℕ) → j < V.LANES
-        → (V.word result.0 j, V.word result.1 j, V.word result.2 j, turned 8 (V.word result.3 j))
-        ≡ mix (V.word p.0 j) (V.word p.1 j) (V.word p.2 j) (turned 8 (V.word p.3 j)) (V.word x.0 j) (V.word x.1 j) }
-    ensures second { (j : ℕ) → j < V.LANES
-        → (V.word result.4 j, V.word result.5 j, V.word result.6 j, turned 8 (V.word result.7 j))
-        ≡ mix (V.word q.0 j) (V.word q.1 j) (V.word q.2 j) (turned 8 (V.word q.3 j)) (V.word y.0 j) (V.word y.1 j) }
-{
-    let (a, b, c, d) = p;
-    let (e, f, g, h) = q;
-    let a0 = a.add(b);
-    let e0 = e.add(f);
-    let a1 = a0.add(x.0);
-    let e1 = e0.add(y.0);
-    let d1 = first_turn(d, a1);
-    let h1 = first_turn(h, e1);
-    let c1 = c.add(d1);
-    let g1 = g.add(h1);
-    let b1 = xor_turn(b, c1, 12);
-    let f1 = xor_turn(f, g1, 12);
-    let a2 = a1.add(b1);
-    let e2 = e1.add(f1);
-    let a3 = a2.add(x.1);
-    let e3 = e2.add(y.1);
-    let d2 = d1.xor(a3);
-    let h2 = h1.xor(e3);
-    let c2 = c1.add(d2.turn(8));
-    let g2 = g1.add(h2.turn(8));
-    let b2 = xor_turn(b1, c2, 7);
-    let f2 = xor_turn(f1, g2, 7);
-    (a3, b2, c2, d2, e3, f2, g2, h2)
 }

@@ -9,6 +9,7 @@ ghost use Rattle.b3_core.specs.Work.{counted, hash_work};
 mod chunks;
 mod eight;
 mod lanes;
+mod mixing;
 mod pairs;
 
 use crate::compression::CHUNK_LEN;

@@ -7,12 +7,12 @@ ghost use Rattle.b3_core.specs.inner.Lanes.{across};
 ghost use Rattle.b3_core.specs.Tree.{word_at};
 
 use crate::compression::{high, low};
-use crate::vectors::Words;
+use crate::wide::mixing::ByteTurns;
 use crate::words::word;
 use std::simd::{u32x4, u32x8};
 
 /// Vectors with a lane for each of some chunks, which stand equally far from each other.
-pub(crate) trait Chunks: Words {
+pub(crate) trait Chunks: ByteTurns {
     // Four words in a row of each lane's chunk. From one lane's chunk to the next lane's there are so many.
     fn words_at(bytes: &[u8], at: usize, step: usize) -> (Self, Self, Self, Self)
         requires { at + 16 + 1024 * (step * Self.LANES) ≤ length bytes.now + 1024 * step }

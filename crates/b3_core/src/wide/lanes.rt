@@ -1,24 +1,24 @@
-//! Compressions side by side, one lane each, by vectors of any number of lanes. The last row of a state is as it was before
-//! its turn by 8 bits, as `mix` has it.
+//! Compressions side by side, one lane each, by vectors of any number of lanes.
 
 ghost use Rattle.std.specs.Prelude.{◌≡◌, ℕ, ◌+◌, ◌*◌, ◌/◌, ◌%◌, ◌^◌, ◌<◌, ◌≤◌, ◌++◌, List, length, take, slice_index};
 ghost use Rattle.b3_core.specs.Compression.{columns, diagonals, round, permute, start_state, compress_of, output_words};
 ghost use Rattle.b3_core.specs.Lanes.{chunk_bytes, chunk_at};
-ghost use Rattle.b3_core.specs.inner.Lanes.{lane, state_lane};
+ghost use Rattle.b3_core.specs.inner.Lanes.{lane};
 ghost use Rattle.b3_core.specs.Tree.{Inputs, chaining_value_of, parent_top, block, block_words_of, chain};
 ghost use Rattle.b3_core.specs.Work.{counted};
 
 use crate::compression::{CHUNK_END, IV, PARENT, start_flag};
 use crate::mode::Mode;
-use crate::vectors::{Words, mix_two};
+use crate::vectors::Words;
 use crate::wide::chunks::Chunks;
+use crate::wide::mixing::{ByteTurns, mix_two};
 use crate::work::Work;
 use std::simd::u32x8;
 
 #[inline(always)]
 #[rattlefmt::skip]
-fn columns<V: Words>(v: [V; 16], m: [V; 16]) -> [V; 16]
-    ensures { (j : ℕ) → j < V.LANES → state_lane V.word j result ≡ columns (state_lane V.word j v) (lane V.word j m) }
+fn columns<V: ByteTurns>(v: [V; 16], m: [V; 16]) -> [V; 16]
+    ensures { (j : ℕ) → j < V.LANES → lane V.word j result ≡ columns (lane V.word j v) (lane V.word j m) }
 {
     let [
         v0, v1, v2, v3,
@@ -40,8 +40,8 @@ fn columns<V: Words>(v: [V; 16], m: [V; 16]) -> [V; 16]
 
 #[inline(always)]
 #[rattlefmt::skip]
-fn diagonals<V: Words>(v: [V; 16], m: [V; 16]) -> [V; 16]
-    ensures { (j : ℕ) → j < V.LANES → state_lane V.word j result ≡ diagonals (state_lane V.word j v) (lane V.word j m) }
+fn diagonals<V: ByteTurns>(v: [V; 16], m: [V; 16]) -> [V; 16]
+    ensures { (j : ℕ) → j < V.LANES → lane V.word j result ≡ diagonals (lane V.word j v) (lane V.word j m) }
 {
     let [
         v0, v1, v2, v3,
@@ -62,8 +62,8 @@ fn diagonals<V: Words>(v: [V; 16], m: [V; 16]) -> [V; 16]
 }
 
 #[inline(always)]
-fn round<V: Words>(v: [V; 16], m: [V; 16]) -> [V; 16]
-    ensures { (j : ℕ) → j < V.LANES → state_lane V.word j result ≡ round (state_lane V.word j v) (lane V.word j m) }
+fn round<V: ByteTurns>(v: [V; 16], m: [V; 16]) -> [V; 16]
+    ensures { (j : ℕ) → j < V.LANES → lane V.word j result ≡ round (lane V.word j v) (lane V.word j m) }
 {
     diagonals(columns(v, m), m)
 }
@@ -84,27 +84,25 @@ fn permute<V: Words>(m: [V; 16]) -> [V; 16]
 #[rattlefmt::skip]
 fn start_states<V: Words>(h: [V; 8], t_low: V, t_high: V, d: u32) -> [V; 16]
     ensures { (j t : ℕ) → j < V.LANES → V.word t_low j ≡ t % 2 ^ 32 → V.word t_high j ≡ t / 2 ^ 32
-        → state_lane V.word j result ≡ start_state (lane V.word j h) t 64 d }
+        → lane V.word j result ≡ start_state (lane V.word j h) t 64 d }
 {
     let i0 = V::splat(IV[0]);
     let i1 = V::splat(IV[1]);
     let i2 = V::splat(IV[2]);
     let i3 = V::splat(IV[3]);
-    let t0 = t_low.turn(24);
-    let t1 = t_high.turn(24);
-    let b = V::splat(64).turn(24);
-    let f = V::splat(d).turn(24);
+    let b = V::splat(64);
+    let f = V::splat(d);
     [
         h[0], h[1], h[2], h[3],
         h[4], h[5], h[6], h[7],
         i0, i1, i2, i3,
-        t0, t1, b, f,
+        t_low, t_high, b, f,
     ]
 }
 
 // The chaining value after a whole block, from that before it, in each lane: one compression for each. It takes the step of the
 // chunks, which it doesn't use, so that there is one for each caller, into which it goes with no copy of the block.
-fn compress<V: Words, const STEP: usize>(
+fn compress<V: ByteTurns, const STEP: usize>(
     h: &mut [V; 8],
     m0: [V; 16],
     t_low: V,
@@ -136,16 +134,16 @@ fn compress<V: Words, const STEP: usize>(
 
 #[inline(always)]
 fn halves<V: Words>(v: [V; 16]) -> [V; 8]
-    ensures { (j : ℕ) (h : List ℕ) → j < V.LANES → lane V.word j result ≡ take 8 (output_words h (state_lane V.word j v)) }
+    ensures { (j : ℕ) (h : List ℕ) → j < V.LANES → lane V.word j result ≡ take 8 (output_words h (lane V.word j v)) }
 {
     let w0 = v[0].xor(v[8]);
     let w1 = v[1].xor(v[9]);
     let w2 = v[2].xor(v[10]);
     let w3 = v[3].xor(v[11]);
-    let w4 = v[4].xor(v[12].turn(8));
-    let w5 = v[5].xor(v[13].turn(8));
-    let w6 = v[6].xor(v[14].turn(8));
-    let w7 = v[7].xor(v[15].turn(8));
+    let w4 = v[4].xor(v[12]);
+    let w5 = v[5].xor(v[13]);
+    let w6 = v[6].xor(v[14]);
+    let w7 = v[7].xor(v[15]);
     [w0, w1, w2, w3, w4, w5, w6, w7]
 }
 

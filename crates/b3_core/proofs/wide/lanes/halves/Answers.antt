@@ -13,9 +13,5 @@ returns g c j h below =
       c.xor-w5.ensures j below,
       c.xor-w6.ensures j below,
       c.xor-w7.ensures j below,
-      c.turn.ensures.turns j below,
-      c.turn-2.ensures.turns j below,
-      c.turn-3.ensures.turns j below,
-      c.turn-4.ensures.turns j below,
       lane_word g.V.Words.word j c.args.v 16 (omega arith),
     )
