@@ -27,6 +27,7 @@ mod parallel;
 #[cfg(test)]
 mod places;
 mod scripts;
+#[cfg(test)]
 mod shared_parts;
 
 pub use fakes::{FailingWriter, is_pattern, pattern};
