@@ -1,6 +1,7 @@
 //! The threads of an upload.
 
 ghost use Rattle.std.specs.Prelude.{◌≡◌, ◌+◌, ◌<◌, ◌≤◌, ◌^◌, [], All, IfNone, IfOk, IfSome, Some, length, map, vec_capacity, vec_len};
+ghost use Rattle.b3_forest.specs.Lent.{lent_bytes};
 ghost use Rattle.store_upload.specs.Uploads.{most_bytes};
 ghost use Rattle.store_board.specs.Passes.{IsGiverOf, given_of};
 ghost use Rattle.store_board.specs.Seats.{IsSeatOf, parts_of};
@@ -14,7 +15,7 @@ use crate::gate::Gate;
 use crate::job::Job;
 use crate::worker::{Report, ReportOf, Worker, run};
 use b3_core::{Runtime, Work};
-use b3_forest::Lent;
+use b3_forest::{Lent, Stretches};
 use std::alloc::{AllocError, Global};
 use std::sync::Wait;
 use std::thread::{PromisedHandle, Scope, Threads};
@@ -105,56 +106,74 @@ fn start_one<'s, E, G: Gate + Sync, R: Wait + Sync>(
     ensures { IfOk result (IsThreadOf job.now.cut job.now.gate.now job.now.exchange) }
 {
     let lent = job.cut.lent();
-    let part_chunks = job.cut.part_chunks();
-    let gate = job.gate;
-    let exchange = &job.exchange;
     let promise = ReportOf {
         lent,
-        part_chunks,
-        gate,
-        exchange,
+        part_chunks: job.cut.part_chunks(),
+        gate: job.gate,
+        exchange: &job.exchange,
     };
     match lent {
-        Lent::Slice(bytes) => {
-            let runs = move || -> Report
-                requires { IsWorkerOf exchange.now worker × (given_of worker.pass ≡ []) × (parts_of exchange.now.board ≡ part_count (length bytes.now) part_chunks) × (length bytes.now ≤ most_bytes) × (0 < part_chunks) × (part_chunks ≤ 16384) }
-                ensures { IsReportOf exchange.entry.now (G.may_stop gate.entry.now) (G.may_fault gate.entry.now) (G.has_passed gate.entry.now) (record { bytes = bytes.entry.now; part_chunks = part_chunks }) result }
-            {
-                run(
-                    rt,
-                    alloc,
-                    Lent::Slice(bytes),
-                    part_chunks,
-                    gate,
-                    exchange,
-                    worker,
-                )
-            };
-            if let Ok(handle) = scope.spawn_with(promise, runs) {
-                return Ok(handle);
-            }
-        }
-        Lent::Stretches(bytes) => {
-            let runs = move || -> Report
-                requires { IsWorkerOf exchange.now worker × (given_of worker.pass ≡ []) × (parts_of exchange.now.board ≡ part_count (length bytes.now.bytes) part_chunks) × (length bytes.now.bytes ≤ most_bytes) × (0 < part_chunks) × (part_chunks ≤ 16384) }
-                ensures { IsReportOf exchange.entry.now (G.may_stop gate.entry.now) (G.may_fault gate.entry.now) (G.has_passed gate.entry.now) (record { bytes = bytes.entry.now.bytes; part_chunks = part_chunks }) result }
-            {
-                run(
-                    rt,
-                    alloc,
-                    Lent::Stretches(bytes),
-                    part_chunks,
-                    gate,
-                    exchange,
-                    worker,
-                )
-            };
-            if let Ok(handle) = scope.spawn_with(promise, runs) {
-                return Ok(handle);
-            }
-        }
+        Lent::Slice(bytes) => start_on_slice(scope, rt, alloc, promise, bytes, worker),
+        Lent::Stretches(bytes) => start_on_stretches(scope, rt, alloc, promise, bytes, worker),
     }
-    Err(UploadFaultKind::NoMemory)
+}
+
+// Starts a thread for a worker that takes parts of a slice.
+fn start_on_slice<'s, E, G: Gate + Sync, R: Wait + Sync>(
+    scope: &Scope<'s, E>,
+    rt: &'s R,
+    alloc: Global,
+    promise: ReportOf<'s, G>,
+    bytes: &'s [u8],
+    worker: Worker,
+) -> Result<PromisedHandle<Report, ReportOf<'s, G>>, UploadFaultKind>
+    requires bytes { (lent_bytes promise.lent ≡ bytes.now) × (length bytes.now ≤ most_bytes) }
+    requires parts { parts_of promise.exchange.now.board ≡ part_count (length bytes.now) promise.part_chunks }
+    requires part_chunks { (0 < promise.part_chunks) × (promise.part_chunks ≤ 16384) }
+    requires worker { IsWorkerOf promise.exchange.now worker × (given_of worker.pass ≡ []) }
+    ensures { IfOk result (λ handle. handle.promise ≡ promise.entry) }
+{
+    let (part_chunks, gate, exchange) = (promise.part_chunks, promise.gate, promise.exchange);
+    let runs = move || -> Report
+        requires { IsWorkerOf exchange.now worker × (given_of worker.pass ≡ []) × (parts_of exchange.now.board ≡ part_count (length bytes.now) part_chunks) × (length bytes.now ≤ most_bytes) × (0 < part_chunks) × (part_chunks ≤ 16384) }
+        ensures { IsReportOf exchange.entry.now (G.may_stop gate.entry.now) (G.may_fault gate.entry.now) (G.has_passed gate.entry.now) (record { bytes = bytes.entry.now; part_chunks = part_chunks }) result }
+    {
+        let lent = Lent::Slice(bytes);
+        run(rt, alloc, lent, part_chunks, gate, exchange, worker)
+    };
+    match scope.spawn_with(promise, runs) {
+        Ok(handle) => Ok(handle),
+        Err(_) => Err(UploadFaultKind::NoMemory),
+    }
+}
+
+// Starts a thread for a worker that takes parts of stretches.
+fn start_on_stretches<'s, E, G: Gate + Sync, R: Wait + Sync>(
+    scope: &Scope<'s, E>,
+    rt: &'s R,
+    alloc: Global,
+    promise: ReportOf<'s, G>,
+    bytes: &'s Stretches,
+    worker: Worker,
+) -> Result<PromisedHandle<Report, ReportOf<'s, G>>, UploadFaultKind>
+    requires bytes { (lent_bytes promise.lent ≡ bytes.now.bytes) × (length bytes.now.bytes ≤ most_bytes) }
+    requires parts { parts_of promise.exchange.now.board ≡ part_count (length bytes.now.bytes) promise.part_chunks }
+    requires part_chunks { (0 < promise.part_chunks) × (promise.part_chunks ≤ 16384) }
+    requires worker { IsWorkerOf promise.exchange.now worker × (given_of worker.pass ≡ []) }
+    ensures { IfOk result (λ handle. handle.promise ≡ promise.entry) }
+{
+    let (part_chunks, gate, exchange) = (promise.part_chunks, promise.gate, promise.exchange);
+    let runs = move || -> Report
+        requires { IsWorkerOf exchange.now worker × (given_of worker.pass ≡ []) × (parts_of exchange.now.board ≡ part_count (length bytes.now.bytes) part_chunks) × (length bytes.now.bytes ≤ most_bytes) × (0 < part_chunks) × (part_chunks ≤ 16384) }
+        ensures { IsReportOf exchange.entry.now (G.may_stop gate.entry.now) (G.may_fault gate.entry.now) (G.has_passed gate.entry.now) (record { bytes = bytes.entry.now.bytes; part_chunks = part_chunks }) result }
+    {
+        let lent = Lent::Stretches(bytes);
+        run(rt, alloc, lent, part_chunks, gate, exchange, worker)
+    };
+    match scope.spawn_with(promise, runs) {
+        Ok(handle) => Ok(handle),
+        Err(_) => Err(UploadFaultKind::NoMemory),
+    }
 }
 
 // A crew to which memory was refused for a thread more.

@@ -1,5 +1,6 @@
-//! G in each lane, for compressions side by side. A turn by whole bytes is one step, a move of the bytes; the exclusive or before it
-//! is one of bytes too, since LLVM makes two moves of one where it is of words.
+//! G in each lane, for compressions side by side. A turn by whole bytes is one step, a move of the bytes; the exclusive or before
+//! it is one of bytes too, since LLVM makes two moves of one where it is of words. Rows have a `mix` of their own, with more steps
+//! in a shorter chain.
 
 ghost use Rattle.std.specs.Prelude.{◌≡◌, ℕ, ◌<◌};
 ghost use Rattle.b3_core.specs.Compression.{xor_turn, mix};
