@@ -6,14 +6,17 @@ use std::rt::Stdin;
 use std::{fs, io};
 use store_engines::Standing;
 
-// The name by which the system opens the file that standard input is.
+// The name by which the system opens the file that standard input is, and the file that tells where it stands there.
 const PATH: &str = "/dev/stdin";
+
+const PLACE: &str = "/proc/self/fdinfo/0";
 
 /// Standard input, which may be an open file.
 #[derive(Drop)]
 pub(crate) struct StandardInput<'a> {
     rt: &'a HostRuntime,
     stdin: Stdin,
+    is_taken: bool,
 }
 
 impl<'a> StandardInput<'a> {
@@ -21,12 +24,23 @@ impl<'a> StandardInput<'a> {
         StandardInput {
             rt,
             stdin: rt.stdin(),
+            is_taken: false,
         }
+    }
+
+    // Where standard input stands in its file, as the system tells it.
+    fn place(&self) -> Option<u64> {
+        let text = fs::read_to_string(self.rt, PLACE).ok()?;
+        let line = text.lines().next()?;
+        line.strip_prefix("pos:")?.trim().parse().ok()
     }
 }
 
 impl Read for StandardInput<'_> {
     fn read(&mut self, buf: &mut [u8]) -> io::Result<usize> {
+        if self.is_taken {
+            return Ok(0);
+        }
         self.stdin.read(buf)
     }
 }
@@ -34,17 +48,16 @@ impl Read for StandardInput<'_> {
 impl Standing for StandardInput<'_> {
     fn as_file(&self) -> Option<(File, u64)> {
         let found = fs::metadata(self.rt, PATH).ok()?;
-        if !found.is_file() {
+        if self.is_taken || !found.is_file() {
             return None;
         }
-        let place = libc::lseek(libc::STDIN_FILENO, 0, libc::SEEK_CUR);
-        let start = u64::try_from(place).ok()?;
+        let place = self.place()?;
         let file = File::open(self.rt, PATH).ok()?;
-        Some((file, start))
+        Some((file, place))
     }
 
-    fn skip_all(&mut self) {
-        let _ = libc::lseek(libc::STDIN_FILENO, 0, libc::SEEK_END);
+    fn take_all(&mut self) {
+        self.is_taken = true;
     }
 }
 

@@ -84,7 +84,7 @@ in_a_row a b c x y z first second third = rw (first, second, third) refl
 -- ---- worked rows
 
 abbrev by_workers : ℕ → UploadOptions
-by_workers n = record { part_chunks = 4; workers = n; journal = false }
+by_workers n = record { part_chunks = 4; workers = n; journal = false; no_progress = false }
 
 seventeen_workers : MayFail (by_workers 17) BadCut
 seventeen_workers = inr (inr (inr (omega arith)))

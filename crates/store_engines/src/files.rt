@@ -144,7 +144,7 @@ impl<T: Threads + Runtime> FileHasher<'_, T> {
             return None;
         };
         let root = self.root_from_places(&FileBytes { file, start })?;
-        input.skip_all();
+        input.take_all();
         Some(root)
     }
 }

@@ -78,6 +78,6 @@ pub trait Standing: Read {
     /// The file, opened for reading, and the place in it where the input stands.
     fn as_file(&self) -> Option<(File, u64)>;
 
-    /// Leaves out all that the file has from there on.
-    fn skip_all(&mut self);
+    /// Takes all that the file has from there on: the input gives none of it any more.
+    fn take_all(&mut self);
 }
