@@ -36,7 +36,9 @@ fn made(alloc: Global, offset: u64, len: u64, work: &mut Work) -> Result<String,
 // The same of one that shares its bytes.
 fn shared(alloc: Global, offset: u64, len: u64, work: &mut Work) -> Result<String, Fail> {
     let plan = Plan::new(2049).ok().ok_or("no plan")?;
-    let bytes = Arc::new(alloc, pattern(alloc, offset, len)?).ok().ok_or("no memory")?;
+    let bytes = Arc::new(alloc, pattern(alloc, offset, len)?)
+        .ok()
+        .ok_or("no memory")?;
     let before = work.count();
     let part = Prepared::share(alloc, &plan, offset, Arc::try_clone(&bytes)?, work);
     Ok(shown(alloc, part.ok().as_ref(), before, work)?)
@@ -68,11 +70,25 @@ fn prepared(
 fn shared_parts_are_as_made_ones(rt: HostRuntime) -> Result<(), Fail> {
     let alloc = rt.alloc();
     let mut work = Work::new(&rt);
-    for (offset, len) in [(0u64, 2049u64), (1024, 1024), (1024, 1025), (2048, 1), (0, 0), (1, 1024), (0, 1025)] {
+    for (offset, len) in [
+        (0u64, 2049u64),
+        (1024, 1024),
+        (1024, 1025),
+        (2048, 1),
+        (0, 0),
+        (1, 1024),
+        (0, 1025),
+    ] {
         let made = made(alloc, offset, len, &mut work)?;
-        assert_eq!(rt; shared(alloc, offset, len, &mut work)?.as_str(), made.as_str());
+        assert_eq!(rt;
+            shared(alloc, offset, len, &mut work)?.as_str(),
+            made.as_str()
+        );
         for stretch_len in [1usize, 1000, 1024, 2048, 4096] {
-            assert_eq!(rt; prepared(alloc, stretch_len, offset, len, &mut work)?.as_str(), made.as_str());
+            assert_eq!(rt;
+                prepared(alloc, stretch_len, offset, len, &mut work)?.as_str(),
+                made.as_str()
+            );
         }
     }
     Ok(())
@@ -92,10 +108,16 @@ fn stretches_are_shared_where_they_are_parts(rt: HostRuntime) -> Result<(), Fail
             return Err(Fail::new("another length"));
         }
         for (offset, len) in [(0u64, 1024usize), (1024, 1024)] {
-            let part = lent.prepare(alloc, &plan, offset, len, &mut work).ok().ok_or("refused")?;
+            let part = lent
+                .prepare(alloc, &plan, offset, len, &mut work)
+                .ok()
+                .ok_or("refused")?;
             assert_eq!(rt; part.into_bytes().is_err(), is_shared);
         }
-        let part = lent.prepare(alloc, &plan, 2048, 1, &mut work).ok().ok_or("refused")?;
+        let part = lent
+            .prepare(alloc, &plan, 2048, 1, &mut work)
+            .ok()
+            .ok_or("refused")?;
         assert_eq!(rt; part.into_bytes().is_err(), stretch_len != 1000);
     }
     Ok(())
