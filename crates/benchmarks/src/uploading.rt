@@ -68,9 +68,10 @@ fn time_one<L: Ledgers, G: Gate + Sync, T: Threads + Wait + Sync + Runtime>(
     let Ok(tenant) = lent_open_tenant(&mut *shared.lock(threads), LIMIT) else {
         return Err(io::Error::from(ErrorKind::Other));
     };
+    let lent = Lent::Slice(&input.as_slice()[..most]);
     let request = UploadRequest {
         tenant,
-        bytes: Lent::Slice(&input.as_slice()[..most]),
+        bytes: lent,
         part_chunks: load.part_chunks as u64,
         workers: load.workers as u64,
         gate,
