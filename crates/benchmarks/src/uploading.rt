@@ -4,7 +4,6 @@ ghost use Rattle.std.specs.Prelude.{◌≡◌, ◌^◌};
 
 use crate::hashing::{pattern, report};
 use b3_core::Runtime;
-use b3_forest::Lent;
 use std::io::ErrorKind;
 use std::marker::Brand;
 use std::rt::Clock;
@@ -15,7 +14,7 @@ use std::time::{Duration, Instant};
 use std::{io, thread};
 use store_core::Limits;
 use store_shared::{
-    ALL_PARTS, Draw, Gate, GateStop, Ledgers, PassAll, Shared, UploadRequest, lent_open_tenant,
+    ALL_PARTS, Draw, Gate, GateStop, Ledgers, PassAll, Shared, lent_open_tenant, upload,
 };
 
 // The tenant's limit, in bytes.
@@ -68,16 +67,19 @@ fn time_one<L: Ledgers, G: Gate + Sync, T: Threads + Wait + Sync + Runtime>(
     let Ok(tenant) = lent_open_tenant(&mut *shared.lock(threads), LIMIT) else {
         return Err(io::Error::from(ErrorKind::Other));
     };
-    let lent = Lent::Slice(&input.as_slice()[..most]);
-    let request = UploadRequest {
-        tenant,
-        bytes: lent,
-        part_chunks: load.part_chunks as u64,
-        workers: load.workers as u64,
-        gate,
-    };
+    let bytes = &input.as_slice()[..most];
     let start = Instant::now(rt)?;
-    let (_share, sealed) = request.upload(threads, alloc, &shared, share);
+    let (_share, sealed) = upload(
+        threads,
+        alloc,
+        &shared,
+        share,
+        gate,
+        tenant,
+        bytes,
+        load.part_chunks as u64,
+        load.workers as u64,
+    );
     let time = start.elapsed(rt)?;
     match sealed {
         Ok(sealed) => report(rt, &sealed.address.bytes(), time.as_micros()),
