@@ -1,6 +1,6 @@
 //! How an input is cut, and for how many threads.
 
-ghost use Rattle.std.specs.Prelude.{◌≡◌, ℕ, ◌+◌, ◌*◌, ◌^◌, ◌<◌, ◌≤◌};
+ghost use Rattle.std.specs.Prelude.{◌≡◌, ℕ, ◌+◌, ◌*◌, ◌^◌, ◌<◌, ◌≤◌, IfSome, min};
 
 use b3_core::CHUNK_LEN;
 use std::thread::{Threads, available_parallelism};
@@ -54,7 +54,10 @@ pub(crate) fn block_limit(level: u32) -> u64
 }
 
 /// How many threads hash: as many as are asked for, or as the processor has, and no more than 16.
-pub fn thread_count<T: Threads>(rt: &T, asked: Option<u32>) -> usize {
+pub fn thread_count<T: Threads>(rt: &T, asked: Option<u32>) -> usize
+    ensures asked { IfSome asked (λ n. result ≡ min n 16) }
+    ensures bounded { result ≤ 16 }
+{
     let count = match asked {
         Some(count) => count as usize,
         None => match available_parallelism(rt) {
