@@ -16,6 +16,8 @@
 //!   as plain numbers laid out as C lays them out.
 //! - `OutputReader` reads the extended output; `CountedOutput` reads it as `std::io::Read` does.
 //! - `tree_laws` states the tree in the specification's own words.
+//!
+//! Beside the specification's own way, from `compression` over `top` to `tree`, `wide` has the quick one.
 #![tactic(auto)]
 
 mod compression;

@@ -12,7 +12,9 @@
 //! The rules of an upload, where parts may lie, what is missing and where it ends, are those of `store_upload`: a `Forest` is an
 //! `Open` upload that holds its parts as `HashedParts`, which know of bytes and of pieces alone.
 //!
-//! A `Follow` does the same for bytes that are lent: it notes parts of them, and tells their top, without copies.
+//! A `Follow` does the same for bytes that are lent: it notes parts of them, and tells their top, without copies. `Lent` bytes
+//! stand in one slice, or in `Stretches` of one length, which a `StretchesBuilder` gathers. `Prepared::share` makes a part of
+//! bytes that others hold too, as of a stretch, without a copy.
 //!
 //! The pieces are always the canonical forest of the held chunks, and `forest_laws` states that there is one such
 //! forest of what is held. They stand in an ordered map by their first chunk.
