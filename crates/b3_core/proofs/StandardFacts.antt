@@ -2,7 +2,7 @@
 use Rattle.std.proofs.Common.{◌≡◌, ℕ, ◌+◌, ◌-◌, ◌%◌, List, [], ◌∷◌, codes, refl}
 use Rattle.std.specs.Prelude.{map}
 use Rattle.std.specs.List.{range_with_len}
-use Rattle.b3_core.specs.Compression.{mix, columns, diagonals, message, rounds, compress_of}
+use Rattle.b3_core.specs.Compression.{g, columns, diagonals, message, rounds, compress_of}
 use Rattle.b3_core.specs.ExtendedOutput.{output_byte}
 use Rattle.b3_core.specs.Hashers.{kept_work}
 use Rattle.b3_core.specs.Modes.{digest_of, hash_mode, keyed_mode, derive_mode}
@@ -15,47 +15,47 @@ pattern n = map (λ i. i % 251) (range_with_len 0 n)
 
 pub digest_of_pattern_0 : digest_of (pattern 0) hash_mode ≡
     0xaf ∷ 0x13 ∷ 0x49 ∷ 0xb9 ∷ 0xf5 ∷ 0xf9 ∷ 0xa1 ∷ 0xa6 ∷ 0xa0 ∷ 0x40 ∷ 0x4d ∷ 0xea ∷ 0x36 ∷ 0xdc ∷ 0xc9 ∷ 0x49 ∷ 0x9b ∷ 0xcb ∷ 0x25 ∷ 0xc9 ∷ 0xad ∷ 0xc1 ∷ 0x12 ∷ 0xb7 ∷ 0xcc ∷ 0x9a ∷ 0x93 ∷ 0xca ∷ 0xe4 ∷ 0x1f ∷ 0x32 ∷ 0x62 ∷ []
-unfolding mix columns diagonals message rounds compress_of chain chunk_top parent_top power_below left_length tree_top_within tree_top output_byte digest_of
+unfolding g columns diagonals message rounds compress_of chain chunk_top parent_top power_below left_length tree_top_within tree_top output_byte digest_of
 digest_of_pattern_0 = refl
 
 pub digest_of_pattern_1 : digest_of (pattern 1) hash_mode ≡
     0x2d ∷ 0x3a ∷ 0xde ∷ 0xdf ∷ 0xf1 ∷ 0x1b ∷ 0x61 ∷ 0xf1 ∷ 0x4c ∷ 0x88 ∷ 0x6e ∷ 0x35 ∷ 0xaf ∷ 0xa0 ∷ 0x36 ∷ 0x73 ∷ 0x6d ∷ 0xcd ∷ 0x87 ∷ 0xa7 ∷ 0x4d ∷ 0x27 ∷ 0xb5 ∷ 0xc1 ∷ 0x51 ∷ 0x02 ∷ 0x25 ∷ 0xd0 ∷ 0xf5 ∷ 0x92 ∷ 0xe2 ∷ 0x13 ∷ []
-unfolding mix columns diagonals message rounds compress_of chain chunk_top parent_top power_below left_length tree_top_within tree_top output_byte digest_of
+unfolding g columns diagonals message rounds compress_of chain chunk_top parent_top power_below left_length tree_top_within tree_top output_byte digest_of
 digest_of_pattern_1 = refl
 
 pub digest_of_pattern_1024 : digest_of (pattern 1024) hash_mode ≡
     0x42 ∷ 0x21 ∷ 0x47 ∷ 0x39 ∷ 0xf0 ∷ 0x95 ∷ 0xa4 ∷ 0x06 ∷ 0xf3 ∷ 0xfc ∷ 0x83 ∷ 0xde ∷ 0xb8 ∷ 0x89 ∷ 0x74 ∷ 0x4a ∷ 0xc0 ∷ 0x0d ∷ 0xf8 ∷ 0x31 ∷ 0xc1 ∷ 0x0d ∷ 0xaa ∷ 0x55 ∷ 0x18 ∷ 0x9b ∷ 0x5d ∷ 0x12 ∷ 0x1c ∷ 0x85 ∷ 0x5a ∷ 0xf7 ∷ []
-unfolding mix columns diagonals message rounds compress_of chain chunk_top parent_top power_below left_length tree_top_within tree_top output_byte digest_of
+unfolding g columns diagonals message rounds compress_of chain chunk_top parent_top power_below left_length tree_top_within tree_top output_byte digest_of
 digest_of_pattern_1024 = refl
 
 pub digest_of_pattern_1025 : digest_of (pattern 1025) hash_mode ≡
     0xd0 ∷ 0x02 ∷ 0x78 ∷ 0xae ∷ 0x47 ∷ 0xeb ∷ 0x27 ∷ 0xb3 ∷ 0x4f ∷ 0xae ∷ 0xcf ∷ 0x67 ∷ 0xb4 ∷ 0xfe ∷ 0x26 ∷ 0x3f ∷ 0x82 ∷ 0xd5 ∷ 0x41 ∷ 0x29 ∷ 0x16 ∷ 0xc1 ∷ 0xff ∷ 0xd9 ∷ 0x7c ∷ 0x8c ∷ 0xb7 ∷ 0xfb ∷ 0x81 ∷ 0x4b ∷ 0x84 ∷ 0x44 ∷ []
-unfolding mix columns diagonals message rounds compress_of chain chunk_top parent_top power_below left_length tree_top_within tree_top output_byte digest_of
+unfolding g columns diagonals message rounds compress_of chain chunk_top parent_top power_below left_length tree_top_within tree_top output_byte digest_of
 digest_of_pattern_1025 = refl
 
 pub digest_of_pattern_2048 : digest_of (pattern 2048) hash_mode ≡
     0xe7 ∷ 0x76 ∷ 0xb6 ∷ 0x02 ∷ 0x8c ∷ 0x7c ∷ 0xd2 ∷ 0x2a ∷ 0x4d ∷ 0x0b ∷ 0xa1 ∷ 0x82 ∷ 0xa8 ∷ 0xbf ∷ 0x62 ∷ 0x20 ∷ 0x5d ∷ 0x2e ∷ 0xf5 ∷ 0x76 ∷ 0x46 ∷ 0x7e ∷ 0x83 ∷ 0x8e ∷ 0xd6 ∷ 0xf2 ∷ 0x52 ∷ 0x9b ∷ 0x85 ∷ 0xfb ∷ 0xa2 ∷ 0x4a ∷ []
-unfolding mix columns diagonals message rounds compress_of chain chunk_top parent_top power_below left_length tree_top_within tree_top output_byte digest_of
+unfolding g columns diagonals message rounds compress_of chain chunk_top parent_top power_below left_length tree_top_within tree_top output_byte digest_of
 digest_of_pattern_2048 = refl
 
 pub digest_of_pattern_2049 : digest_of (pattern 2049) hash_mode ≡
     0x5f ∷ 0x4d ∷ 0x72 ∷ 0xf4 ∷ 0x0d ∷ 0x7a ∷ 0x5f ∷ 0x82 ∷ 0xb1 ∷ 0x5c ∷ 0xa2 ∷ 0xb2 ∷ 0xe4 ∷ 0x4b ∷ 0x1d ∷ 0xe3 ∷ 0xc2 ∷ 0xef ∷ 0x86 ∷ 0xc4 ∷ 0x26 ∷ 0xc9 ∷ 0x5c ∷ 0x1a ∷ 0xf0 ∷ 0xb6 ∷ 0x87 ∷ 0x95 ∷ 0x22 ∷ 0x56 ∷ 0x30 ∷ 0x30 ∷ []
-unfolding mix columns diagonals message rounds compress_of chain chunk_top parent_top power_below left_length tree_top_within tree_top output_byte digest_of
+unfolding g columns diagonals message rounds compress_of chain chunk_top parent_top power_below left_length tree_top_within tree_top output_byte digest_of
 digest_of_pattern_2049 = refl
 
 pub digest_of_abc : digest_of (codes "abc") hash_mode ≡
     0x64 ∷ 0x37 ∷ 0xb3 ∷ 0xac ∷ 0x38 ∷ 0x46 ∷ 0x51 ∷ 0x33 ∷ 0xff ∷ 0xb6 ∷ 0x3b ∷ 0x75 ∷ 0x27 ∷ 0x3a ∷ 0x8d ∷ 0xb5 ∷ 0x48 ∷ 0xc5 ∷ 0x58 ∷ 0x46 ∷ 0x5d ∷ 0x79 ∷ 0xdb ∷ 0x03 ∷ 0xfd ∷ 0x35 ∷ 0x9c ∷ 0x6c ∷ 0xd5 ∷ 0xbd ∷ 0x9d ∷ 0x85 ∷ []
-unfolding mix columns diagonals message rounds compress_of chain chunk_top parent_top power_below left_length tree_top_within tree_top output_byte digest_of
+unfolding g columns diagonals message rounds compress_of chain chunk_top parent_top power_below left_length tree_top_within tree_top output_byte digest_of
 digest_of_abc = refl
 
 pub keyed_digest : digest_of [] (keyed_mode (codes "whats the Elvish word for friend")) ≡
     0x92 ∷ 0xb2 ∷ 0xb7 ∷ 0x56 ∷ 0x04 ∷ 0xed ∷ 0x3c ∷ 0x76 ∷ 0x1f ∷ 0x9d ∷ 0x6f ∷ 0x62 ∷ 0x39 ∷ 0x2c ∷ 0x8a ∷ 0x92 ∷ 0x27 ∷ 0xad ∷ 0x0e ∷ 0xa3 ∷ 0xf0 ∷ 0x95 ∷ 0x73 ∷ 0xe7 ∷ 0x83 ∷ 0xf1 ∷ 0x49 ∷ 0x8a ∷ 0x4e ∷ 0xd6 ∷ 0x0d ∷ 0x26 ∷ []
-unfolding mix columns diagonals message rounds compress_of chain chunk_top parent_top power_below left_length tree_top_within tree_top output_byte digest_of
+unfolding g columns diagonals message rounds compress_of chain chunk_top parent_top power_below left_length tree_top_within tree_top output_byte digest_of
 keyed_digest = refl
 
 pub derived_digest : digest_of [] (derive_mode (codes "BLAKE3 2019-12-27 16:29:52 test vectors context")) ≡
     0x2c ∷ 0xc3 ∷ 0x97 ∷ 0x83 ∷ 0xc2 ∷ 0x23 ∷ 0x15 ∷ 0x4f ∷ 0xea ∷ 0x8d ∷ 0xfb ∷ 0x7c ∷ 0x1b ∷ 0x16 ∷ 0x60 ∷ 0xf2 ∷ 0xac ∷ 0x2d ∷ 0xcb ∷ 0xd1 ∷ 0xc1 ∷ 0xde ∷ 0x82 ∷ 0x77 ∷ 0xb0 ∷ 0xb0 ∷ 0xdd ∷ 0x39 ∷ 0xb7 ∷ 0xe5 ∷ 0x0d ∷ 0x7d ∷ []
-unfolding mix columns diagonals message rounds compress_of chain chunk_top parent_top power_below left_length tree_top_within tree_top output_byte digest_of
+unfolding g columns diagonals message rounds compress_of chain chunk_top parent_top power_below left_length tree_top_within tree_top output_byte digest_of
 derived_digest = refl
 
 -- the compressions behind the nodes of three whole chunks, one and two before it; the whole has one parent more

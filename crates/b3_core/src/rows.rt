@@ -1,12 +1,12 @@
 //! The rounds on states as rows of four words, so that one vector operation does a step for all columns or all diagonals: of one
-//! state, or of two side by side. The last row is as it was before its turn by 8 bits, as `mix` has it.
+//! state, or of two side by side. The last row is as it was before its turn by 8 bits, as `g` has it.
 
 ghost use Rattle.std.specs.Prelude.{◌≡◌, ℕ, ◌+◌, ◌*◌, ◌/◌, ◌<◌, List, take, slice_index};
 ghost use Rattle.b3_core.specs.Compression.{columns, diagonals, round, permute, rounds, output_words};
 ghost use Rattle.b3_core.specs.inner.Rows.{IsRowOf, rows_words, rows_state, rows_message, rows_value};
 ghost use Rattle.b3_core.specs.Work.{counted};
 
-use crate::vectors::{Words, mix};
+use crate::vectors::{Words, g};
 use crate::work::Work;
 use std::simd::{u32x4, u32x8};
 
@@ -132,7 +132,7 @@ impl Quads for u32x8 {
 fn columns<V: Quads>(v: (V, V, V, V), m: (V, V, V, V)) -> (V, V, V, V)
     ensures { (i : ℕ) → 4 * i + 3 < V.LANES → rows_state V.word i result ≡ columns (rows_state V.word i v) (rows_message V.word i m) }
 {
-    mix(v.0, v.1, v.2, v.3, m.0, m.1)
+    g(v.0, v.1, v.2, v.3, m.0, m.1)
 }
 
 // G on the diagonals of each state, the second half of a round.
@@ -143,7 +143,7 @@ fn diagonals<V: Quads>(v: (V, V, V, V), m: (V, V, V, V)) -> (V, V, V, V)
     let b0 = v.1.down_one();
     let c0 = v.2.down_two();
     let d0 = v.3.down_three();
-    let (a, b1, c1, d1) = mix(v.0, b0, c0, d0, m.2, m.3);
+    let (a, b1, c1, d1) = g(v.0, b0, c0, d0, m.2, m.3);
     let b = b1.down_three();
     let c = c1.down_two();
     let d = d1.down_one();

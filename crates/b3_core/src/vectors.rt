@@ -2,7 +2,7 @@
 //! of some compressions side by side a lane for each.
 
 ghost use Rattle.std.specs.Prelude.{◌≡◌, ℕ, ◌^◌, ◌<◌, slice_index, bit_xor};
-ghost use Rattle.b3_core.specs.Compression.{add32, xor_turn, mix};
+ghost use Rattle.b3_core.specs.Compression.{add32, xor_turn, g};
 ghost use Rattle.b3_core.specs.inner.Compression.{turned};
 
 use std::simd::Simd;
@@ -95,10 +95,10 @@ fn first_turn<V: Words>(d: V, a: V) -> V
 // G (section 2.2): mixes two message words into four words of the state. The last of the four comes and goes as it was
 // before its turn by 8 bits.
 #[inline(always)]
-pub(crate) fn mix<V: Words>(a: V, b: V, c: V, d: V, x: V, y: V) -> (V, V, V, V)
+pub(crate) fn g<V: Words>(a: V, b: V, c: V, d: V, x: V, y: V) -> (V, V, V, V)
     ensures { (j : ℕ) → j < V.LANES
         → (V.word result.0 j, V.word result.1 j, V.word result.2 j, turned 8 (V.word result.3 j))
-        ≡ mix (V.word a j) (V.word b j) (V.word c j) (turned 8 (V.word d j)) (V.word x j) (V.word y j) }
+        ≡ g (V.word a j) (V.word b j) (V.word c j) (turned 8 (V.word d j)) (V.word x j) (V.word y j) }
 {
     let a0 = a.add(b);
     let a1 = a0.add(x);

@@ -11,7 +11,7 @@ use crate::compression::{CHUNK_END, IV, PARENT, start_flag};
 use crate::mode::Mode;
 use crate::vectors::Words;
 use crate::wide::chunks::Chunks;
-use crate::wide::mixing::{ByteTurns, mix_two};
+use crate::wide::mixing::{ByteTurns, g_two};
 use crate::work::Work;
 use std::simd::u32x8;
 
@@ -27,9 +27,9 @@ fn columns<V: ByteTurns>(v: [V; 16], m: [V; 16]) -> [V; 16]
         v12, v13, v14, v15,
     ] = v;
     let (v0, v4, v8, v12, v1, v5, v9, v13) =
-        mix_two((v0, v4, v8, v12), (v1, v5, v9, v13), (m[0], m[1]), (m[2], m[3]));
+        g_two((v0, v4, v8, v12), (v1, v5, v9, v13), (m[0], m[1]), (m[2], m[3]));
     let (v2, v6, v10, v14, v3, v7, v11, v15) =
-        mix_two((v2, v6, v10, v14), (v3, v7, v11, v15), (m[4], m[5]), (m[6], m[7]));
+        g_two((v2, v6, v10, v14), (v3, v7, v11, v15), (m[4], m[5]), (m[6], m[7]));
     [
         v0, v1, v2, v3,
         v4, v5, v6, v7,
@@ -50,9 +50,9 @@ fn diagonals<V: ByteTurns>(v: [V; 16], m: [V; 16]) -> [V; 16]
         v12, v13, v14, v15,
     ] = v;
     let (v0, v5, v10, v15, v1, v6, v11, v12) =
-        mix_two((v0, v5, v10, v15), (v1, v6, v11, v12), (m[8], m[9]), (m[10], m[11]));
+        g_two((v0, v5, v10, v15), (v1, v6, v11, v12), (m[8], m[9]), (m[10], m[11]));
     let (v2, v7, v8, v13, v3, v4, v9, v14) =
-        mix_two((v2, v7, v8, v13), (v3, v4, v9, v14), (m[12], m[13]), (m[14], m[15]));
+        g_two((v2, v7, v8, v13), (v3, v4, v9, v14), (m[12], m[13]), (m[14], m[15]));
     [
         v0, v1, v2, v3,
         v4, v5, v6, v7,

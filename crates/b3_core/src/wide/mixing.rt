@@ -1,9 +1,9 @@
 //! G in each lane, for compressions side by side. A turn by whole bytes is one step, a move of the bytes; the exclusive or before
-//! it is one of bytes too, since LLVM makes two moves of one where it is of words. Rows have a `mix` of their own, with more steps
+//! it is one of bytes too, since LLVM makes two moves of one where it is of words. Rows have a `g` of their own, with more steps
 //! in a shorter chain.
 
 ghost use Rattle.std.specs.Prelude.{◌≡◌, ℕ, ◌<◌};
-ghost use Rattle.b3_core.specs.Compression.{xor_turn, mix};
+ghost use Rattle.b3_core.specs.Compression.{xor_turn, g};
 
 use crate::vectors::{Words, xor_turn};
 use std::simd::{u32x4, u32x8};
@@ -64,7 +64,7 @@ impl ByteTurns for u32x8 {
 // G (section 2.2) on two quadruples of words of the state, with two message words for each, step by step in turn: so the
 // processor has two chains of steps at hand, neither of which waits for the other.
 #[inline(always)]
-pub(crate) fn mix_two<V: ByteTurns>(
+pub(crate) fn g_two<V: ByteTurns>(
     p: (V, V, V, V),
     q: (V, V, V, V),
     x: (V, V),
@@ -72,10 +72,10 @@ pub(crate) fn mix_two<V: ByteTurns>(
 ) -> (V, V, V, V, V, V, V, V)
     ensures first { (j : ℕ) → j < V.LANES
         → (V.word result.0 j, V.word result.1 j, V.word result.2 j, V.word result.3 j)
-        ≡ mix (V.word p.0 j) (V.word p.1 j) (V.word p.2 j) (V.word p.3 j) (V.word x.0 j) (V.word x.1 j) }
+        ≡ g (V.word p.0 j) (V.word p.1 j) (V.word p.2 j) (V.word p.3 j) (V.word x.0 j) (V.word x.1 j) }
     ensures second { (j : ℕ) → j < V.LANES
         → (V.word result.4 j, V.word result.5 j, V.word result.6 j, V.word result.7 j)
-        ≡ mix (V.word q.0 j) (V.word q.1 j) (V.word q.2 j) (V.word q.3 j) (V.word y.0 j) (V.word y.1 j) }
+        ≡ g (V.word q.0 j) (V.word q.1 j) (V.word q.2 j) (V.word q.3 j) (V.word y.0 j) (V.word y.1 j) }
 {
     let (a, b, c, d) = p;
     let (e, f, g, h) = q;

@@ -1,10 +1,10 @@
 use Rattle.std.proofs.Common.{refl}
-use Rattle.b3_core.specs.Compression.{mix}
-use Rattle.b3_core.proofs.wide.mixing.mix_two.Goals as goal
+use Rattle.b3_core.specs.Compression.{g}
+use Rattle.b3_core.proofs.wide.mixing.g_two.Goals as goal
 
 pub returns-clause-first : goal.returns-clause-first
-unfolding mix
-returns-clause-first g c j h =
+unfolding g
+returns-clause-first types c j h =
     rw (
       c.xor_turn-b2.ensures j h,
       c.add-c2.ensures j h,
@@ -19,8 +19,8 @@ returns-clause-first g c j h =
     ) refl
 
 pub returns-clause-second : goal.returns-clause-second
-unfolding mix
-returns-clause-second g c j h =
+unfolding g
+returns-clause-second types c j h =
     rw (
       c.xor_turn-f2.ensures j h,
       c.add-g2.ensures j h,

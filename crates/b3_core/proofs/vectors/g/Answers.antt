@@ -1,10 +1,10 @@
 use Rattle.std.proofs.Common.{refl}
-use Rattle.b3_core.specs.Compression.{mix}
-use Rattle.b3_core.proofs.vectors.mix.Goals as goal
+use Rattle.b3_core.specs.Compression.{g}
+use Rattle.b3_core.proofs.vectors.g.Goals as goal
 
 pub returns : goal.returns
-unfolding mix
-returns g c j h =
+unfolding g
+returns types c j h =
     rw (
       c.xor_turn-b2.ensures j h,
       c.add-c2.ensures j h,
