@@ -8,12 +8,11 @@ use crate::standard::{StandardError, StandardInput};
 use crate::telling::{misused, opened, status, stopped};
 use b3_check::Name;
 use b3_core::{Runtime, Work};
+use edge::SumMode;
 use std::io;
 use std::io::{LineWriter, Read};
 use std::thread::Threads;
-use store_command_line::{
-    AskedMode, CheckOptions, Input, NameList, SumInputs, SumMode, SumOptions,
-};
+use store_command_line::{AskedMode, CheckOptions, Input, NameList, SumInputs, SumOptions};
 use store_engines::{
     Cause, SumRequest, SystemFiles, SystemInputs, Verdict, check, names_of, read_key, read_names,
     sum, sum_files, write_root,

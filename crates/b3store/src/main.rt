@@ -9,6 +9,7 @@ mod standard;
 mod telling;
 
 use b3_core::{Runtime, Work};
+use edge::UploadOptions;
 use inputs::{check_status, sum_status};
 use progress::with_progress;
 use std::io;
@@ -18,7 +19,7 @@ use std::process::ExitCode;
 use std::sync::Wait;
 use std::sync::ledger::Blank;
 use std::thread::Threads;
-use store_command_line::{Fault, Options, SumInputs, UploadOptions, options};
+use store_command_line::{Fault, Options, SumInputs, options};
 use store_engines::{ALL_PARTS, Cause, Verdict, audit, migrate, run, serve, upload};
 use telling::{GOOD, USAGE, status, stopped};
 
@@ -96,7 +97,7 @@ fn perform<T: Threads + Wait + Sync + Runtime>(
         Options::Sum(options) => sum_status(rt, threads, options),
         Options::Run => status(rt, answered(rt)),
         Options::Serve => status(rt, served(rt)),
-        Options::Upload(options) => status(rt, uploaded(rt, threads, *options)),
+        Options::Upload(asked) => status(rt, uploaded(rt, threads, asked.options)),
         Options::Check(options) => check_status(rt, threads, options),
         Options::Audit => status(rt, audit(alloc, &mut reader, &mut writer)),
         Options::Migrate => status(rt, migrate(alloc, &mut reader, &mut writer)),
@@ -111,7 +112,7 @@ fn tells_progress(rt: &HostRuntime, options: &Options<'_>) -> bool {
             !matches!(options.inputs, SumInputs::Standard(_)),
         ),
         Options::Check(options) => (options.no_progress, true),
-        Options::Upload(options) => (options.no_progress, false),
+        Options::Upload(asked) => (asked.no_progress, false),
         _ => return false,
     };
     !is_unwanted && rt.stderr().is_terminal() && !(writes_lines && rt.stdout().is_terminal())

@@ -1,9 +1,10 @@
 //! What the words of a command line say.
 
+use edge::{SumMode, UploadOptions};
 use std::alloc::{AllocError, Global};
 use std::test::Fail;
 use store_command_line::{
-    AskedMode, CheckOptions, Fault, Options, SumInputs, SumMode, SumOptions, UploadOptions, options,
+    AskedMode, AskedUpload, CheckOptions, Fault, Options, SumInputs, SumOptions, options,
 };
 
 // The mode that is asked for.
@@ -38,12 +39,15 @@ fn said(alloc: Global, words: &[&str]) -> Result<String, AllocError> {
     match options(alloc, words) {
         Ok(Options::Sum(said)) => sum_text(alloc, &said),
         Ok(Options::Upload(said)) => {
+            let AskedUpload {
+                options,
+                no_progress,
+            } = said;
             let UploadOptions {
                 workers,
                 part_chunks,
                 journal,
-                no_progress,
-            } = said;
+            } = options;
             format!(in alloc; "upload {workers} {part_chunks} {journal} {no_progress}")
         }
         Ok(Options::Check(said)) => {

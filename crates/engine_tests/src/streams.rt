@@ -4,10 +4,10 @@ use crate::fakes::{ByteReader, ByteWriter, NoNames};
 use crate::uploads::uploaded;
 use b3_check::Shown;
 use b3_core::{Runtime, Work};
+use edge::{SumMode, UploadOptions};
 use std::io::BufReader;
 use std::sync::Wait;
 use std::thread::Threads;
-use store_command_line::{SumMode, UploadOptions};
 use store_engines::{Cause, SumRequest, Verdict, audit, check, migrate, run, serve, sum};
 
 #[derive(Clone, Copy, Debug, PartialEq, Eq)]
@@ -93,7 +93,6 @@ const ONE_WORKER: UploadOptions = UploadOptions {
     workers: 1,
     part_chunks: 1,
     journal: false,
-    no_progress: false,
 };
 
 // How an engine ends.

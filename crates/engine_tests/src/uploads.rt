@@ -3,12 +3,12 @@
 use crate::fakes::{ByteReader, ByteWriter};
 use b3_core::Runtime;
 use b3_tests::pattern;
+use edge::UploadOptions;
 use std::marker::Brand;
 use std::sync::Wait;
 use std::sync::ledger::Blank;
 use std::test::Fail;
 use std::thread::Threads;
-use store_command_line::UploadOptions;
 use store_engines::{Cause, Verdict, audit, upload};
 use store_ledger::ALL_PARTS;
 
@@ -37,7 +37,6 @@ fn a_journal_by_three_workers_is_legal(rt: HostRuntime) -> Result<(), Fail> {
         workers: 3,
         part_chunks: 1,
         journal: true,
-        no_progress: false,
     };
     let mut reader = ByteReader::new(input.as_slice(), u64::MAX, false);
     let mut writer = ByteWriter::new(rt.alloc(), u64::MAX);
@@ -61,7 +60,6 @@ fn a_cut_without_workers_is_refused(rt: HostRuntime) {
         workers: 0,
         part_chunks: 1,
         journal: true,
-        no_progress: false,
     };
     let mut reader = ByteReader::new(b"abc", u64::MAX, false);
     let mut writer = ByteWriter::new(rt.alloc(), u64::MAX);

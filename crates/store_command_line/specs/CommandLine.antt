@@ -3,6 +3,15 @@ use Rattle.std.specs.Prelude.{◌≡◌, ℕ, List, [], Some, pos, true, codes}
 use Rattle.clap.specs.Words.{App, Rule, Text, fault_of, new_app, new_rule, with_rule, with_subcommand}
 use Rattle.clap.specs.declared.builder.action.ArgAction.TheVariants.{Append, SetTrue}
 use Rattle.clap.specs.declared.builder.value_parser.ValueParser.TheVariants as vp
+use Rattle.store_upload.specs.Uploads.{most_part_chunks}
+
+-- the most threads that hash an input, and the most workers of an upload
+abbrev pub most_threads : ℕ
+most_threads = 16
+
+-- the most bytes of the extended output that are written as digits
+abbrev pub most_output_len : ℕ
+most_output_len = 65536
 
 -- an option `--ID VALUE`
 abbrev pub value_rule : Text → Rule
@@ -41,11 +50,11 @@ with_mode a = with_rule (with_rule (with_rule a (value_rule (codes "key"))) (val
 
 -- `[--threads T] [--no-progress]`
 abbrev pub with_work : App → App
-with_work a = with_rule (with_rule a (number_rule (codes "threads") 16)) (flag_rule (codes "no-progress"))
+with_work a = with_rule (with_rule a (number_rule (codes "threads") most_threads)) (flag_rule (codes "no-progress"))
 
 -- `sum` with these, and `[--length N]`
 abbrev pub sum_line : App
-sum_line = with_work (with_rule (with_mode (with_list (with_names (new_app (codes "sum"))))) (number_rule (codes "length") 65536))
+sum_line = with_work (with_rule (with_mode (with_list (with_names (new_app (codes "sum"))))) (number_rule (codes "length") most_output_len))
 
 -- `run`
 abbrev pub run_line : App
@@ -57,7 +66,7 @@ serve_line = new_app (codes "serve")
 
 -- `[--workers W] [--part-chunks P]`
 abbrev pub with_cut : App → App
-with_cut a = with_rule (with_rule a (number_rule (codes "workers") 16)) (number_rule (codes "part-chunks") 16384)
+with_cut a = with_rule (with_rule a (number_rule (codes "workers") most_threads)) (number_rule (codes "part-chunks") most_part_chunks)
 
 -- `upload` with these, and `[--journal] [--no-progress]`
 abbrev pub upload_line : App

@@ -4,9 +4,12 @@ use Rattle.std.specs.Str.Parse.{IsNumeral, digits_value}
 use Rattle.b3_check.specs.declared.report.Shown.{Shown}
 use Rattle.b3_check.specs.declared.report.Shown.TheVariants.{All, AllButGood, Nothing}
 use Rattle.clap.specs.Words.{Row, Text, all_of, first_of, one_of}
+use Rattle.edge.specs.declared.options.SumMode.{SumMode}
+use Rattle.edge.specs.declared.options.SumMode.TheVariants.{Hash, Keyed, Derive}
 use Rattle.hex.specs.Hex.{decode_sized}
 use Rattle.store_command_line.specs.declared.said.AskedMode.{AskedMode}
 use Rattle.store_command_line.specs.declared.said.AskedMode.TheVariants.{Known, KeyFile}
+use Rattle.store_command_line.specs.declared.said.AskedUpload.{AskedUpload}
 use Rattle.store_command_line.specs.declared.said.CheckOptions.{CheckOptions}
 use Rattle.store_command_line.specs.declared.said.Fault.{Fault}
 use Rattle.store_command_line.specs.declared.said.Fault.TheVariants.{NoMemory}
@@ -16,10 +19,7 @@ use Rattle.store_command_line.specs.declared.said.Options.{Options}
 use Rattle.store_command_line.specs.declared.said.Options.TheVariants.{Sum, Run, Serve, Upload, Check, Audit, Migrate}
 use Rattle.store_command_line.specs.declared.said.SumInputs.{SumInputs}
 use Rattle.store_command_line.specs.declared.said.SumInputs.TheVariants.{Standard, Named, Listed}
-use Rattle.store_command_line.specs.declared.said.SumMode.{SumMode}
-use Rattle.store_command_line.specs.declared.said.SumMode.TheVariants.{Hash, Keyed, Derive}
 use Rattle.store_command_line.specs.declared.said.SumOptions.{SumOptions}
-use Rattle.store_command_line.specs.declared.said.UploadOptions.{UploadOptions}
 
 -- a text is decimal digits, one or more and no sign, and they write the number
 abbrev pub IsNumber : Text → ℕ → Type 0
@@ -82,11 +82,11 @@ pub record SaysSum (o : SumOptions) (rows : List Row) : Type 0 where
   pub threads : SaysNumber (first_of (codes "threads") rows) o.threads
   pub no_progress : SaysFlag (one_of (codes "no-progress") rows) o.no_progress
 
-pub record SaysUpload (o : UploadOptions) (rows : List Row) : Type 0 where
-  pub workers : SpellsOr 4 (first_of (codes "workers") rows) o.workers
-  pub part_chunks : SpellsOr 64 (first_of (codes "part-chunks") rows) o.part_chunks
-  pub journal : SaysFlag (one_of (codes "journal") rows) o.journal
-  pub no_progress : SaysFlag (one_of (codes "no-progress") rows) o.no_progress
+pub record SaysUpload (asked : AskedUpload) (rows : List Row) : Type 0 where
+  pub workers : SpellsOr 4 (first_of (codes "workers") rows) asked.options.workers
+  pub part_chunks : SpellsOr 64 (first_of (codes "part-chunks") rows) asked.options.part_chunks
+  pub journal : SaysFlag (one_of (codes "journal") rows) asked.options.journal
+  pub no_progress : SaysFlag (one_of (codes "no-progress") rows) asked.no_progress
 
 -- which lines of a report are written, from `--quiet` and `--status`, which goes before it
 abbrev pub shown_by : Bool → Bool → Shown

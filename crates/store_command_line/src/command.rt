@@ -3,7 +3,8 @@
 ghost use Rattle.std.specs.Prelude.{◌≡◌, IfOk, codes, false};
 ghost use Rattle.clap.specs.Words.{app_of, new_app, rule_of};
 ghost use Rattle.clap.specs.declared.builder.command.Command.TheViews.{out-Command as fields_of};
-ghost use Rattle.store_command_line.specs.CommandLine.{value_rule, flag_rule, short_flag_rule, word_rule, words_rule, program_line, with_list, with_cut, with_mode, with_names, with_shown, with_work, sum_line, run_line, serve_line, upload_line, check_line, audit_line, migrate_line, answering_line, storing_line, command_line, number_rule};
+ghost use Rattle.store_upload.specs.Uploads.{most_part_chunks};
+ghost use Rattle.store_command_line.specs.CommandLine.{most_output_len, most_threads, value_rule, flag_rule, short_flag_rule, word_rule, words_rule, program_line, with_list, with_cut, with_mode, with_names, with_shown, with_work, sum_line, run_line, serve_line, upload_line, check_line, audit_line, migrate_line, answering_line, storing_line, command_line, number_rule};
 
 use clap::{Arg, ArgAction, Command, value_parser};
 use std::alloc::{AllocError, Global};
@@ -21,7 +22,7 @@ fn value_argument<'a>(alloc: Global, id: &'a str, value_name: &'a str, help: &'a
 
 // The option of what hashes by several threads.
 fn threads_argument<'a>(alloc: Global) -> Arg<'a>
-    ensures rule { rule_of result ≡ number_rule (codes "threads") 16 }
+    ensures rule { rule_of result ≡ number_rule (codes "threads") most_threads }
     ensures local { result.global ≡ false }
 {
     let help = "Hash by at most this many threads (1 to 16, by default one for each processor)";
@@ -109,7 +110,7 @@ fn with_work<'a>(alloc: Global, command: Command<'a>) -> Result<Command<'a>, All
 
 // The length of the extended output.
 fn length_argument<'a>(alloc: Global) -> Arg<'a>
-    ensures rule { rule_of result ≡ number_rule (codes "length") 65536 }
+    ensures rule { rule_of result ≡ number_rule (codes "length") most_output_len }
     ensures local { result.global ≡ false }
 {
     let help = "Write this many bytes of the extended output as digits, and no name (1 to 65536)";
@@ -175,7 +176,7 @@ fn flag_argument<'a>(alloc: Global, id: &'a str, help: &'a str) -> Arg<'a>
 
 // The option of how many workers an upload has.
 fn workers_argument<'a>(alloc: Global) -> Arg<'a>
-    ensures rule { rule_of result ≡ number_rule (codes "workers") 16 }
+    ensures rule { rule_of result ≡ number_rule (codes "workers") most_threads }
     ensures local { result.global ≡ false }
 {
     let help = "Hash parts by this many threads (1 to 16, 4 by default)";
@@ -184,7 +185,7 @@ fn workers_argument<'a>(alloc: Global) -> Arg<'a>
 
 // The option of how many chunks a part has.
 fn part_chunks_argument<'a>(alloc: Global) -> Arg<'a>
-    ensures rule { rule_of result ≡ number_rule (codes "part-chunks") 16384 }
+    ensures rule { rule_of result ≡ number_rule (codes "part-chunks") most_part_chunks }
     ensures local { result.global ≡ false }
 {
     let help =

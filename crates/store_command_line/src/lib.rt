@@ -25,7 +25,6 @@ mod said;
 mod words;
 
 pub use said::{
-    AskedMode, CheckOptions, Fault, Input, NameList, Options, SumInputs, SumMode, SumOptions,
-    UploadOptions,
+    AskedMode, AskedUpload, CheckOptions, Fault, Input, NameList, Options, SumInputs, SumOptions,
 };
 pub use words::options;

@@ -4,6 +4,7 @@ ghost use Rattle.std.specs.Prelude.{◌≡◌};
 ghost use Rattle.store_command_line.specs.declared.said.Fault.TheVariants.{NoMemory};
 
 use b3_check::Shown;
+use edge::{SumMode, UploadOptions};
 use std::alloc::AllocError;
 
 /// An input that words name.
@@ -13,17 +14,6 @@ pub enum Input<'a> {
     Standard,
     /// The file of this path.
     File(&'a str),
-}
-
-/// The mode that `sum` hashes in.
-#[derive(Clone, Copy, Debug)]
-pub enum SumMode<'a> {
-    /// Without a key.
-    Hash,
-    /// With the key of `--key`.
-    Keyed([u8; 32]),
-    /// With the context of `--context`.
-    Derive(&'a str),
 }
 
 /// The mode that the words of `sum` ask for.
@@ -70,15 +60,11 @@ pub struct SumOptions<'a> {
     pub no_progress: bool,
 }
 
-/// The options of `upload`.
+/// What the words of `upload` ask for.
 #[derive(Clone, Copy, Debug)]
-pub struct UploadOptions {
-    /// How many workers hash parts.
-    pub workers: u32,
-    /// How many chunks of 1024 bytes a part has.
-    pub part_chunks: u32,
-    /// Whether the journal's text is written too.
-    pub journal: bool,
+pub struct AskedUpload {
+    /// How the input is cut, and what is written.
+    pub options: UploadOptions,
     /// Whether standard error shows no progress.
     pub no_progress: bool,
 }
@@ -106,7 +92,7 @@ pub enum Options<'a> {
     /// `serve`.
     Serve,
     /// `upload`.
-    Upload(UploadOptions),
+    Upload(AskedUpload),
     /// `check`.
     Check(CheckOptions<'a>),
     /// `audit`.

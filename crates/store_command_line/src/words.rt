@@ -4,29 +4,36 @@ ghost use Rattle.std.specs.Prelude.{◌≡◌, ◌↔◌, ◌^◌, ◌≤◌, �
 ghost use Rattle.clap.specs.Values.{kind_of};
 ghost use Rattle.clap.specs.Words.{all_of, found_of, first_of, one_of, rows_of, subcommand_of, subcommand_rows_of};
 ghost use Rattle.b3_check.specs.Names.{IsName};
-ghost use Rattle.store_command_line.specs.CommandLine.{IsTaken, command_line};
+ghost use Rattle.edge.specs.declared.options.SumMode.{SumMode as SaidMode};
+ghost use Rattle.store_command_line.specs.CommandLine.{IsTaken, command_line, most_threads};
 ghost use Rattle.store_command_line.specs.Ranges.{AreNamed, AreWithin, InRange, IsSumInRange, IsWithin};
 ghost use Rattle.store_command_line.specs.Stated.{IsNotUsage, IsNumber, NamesInput, Says, SaysAsked, SaysCheck, SaysFlag, SaysInput, SaysInputs, SaysMode, SaysName, SaysShown, SaysSum, SaysUpload, SaysNumber, SpellsOr};
 ghost use Rattle.store_command_line.specs.declared.said.AskedMode.{AskedMode as SaidAsked};
+ghost use Rattle.store_command_line.specs.declared.said.AskedUpload.{AskedUpload as SaidUpload};
 ghost use Rattle.store_command_line.specs.declared.said.CheckOptions.{CheckOptions as SaidCheck};
 ghost use Rattle.store_command_line.specs.declared.said.Fault.TheVariants.{NoMemory, Usage};
 ghost use Rattle.store_command_line.specs.declared.said.SumInputs.{SumInputs as SaidInputs};
 ghost use Rattle.store_command_line.specs.declared.said.Options.{Options as Said};
-ghost use Rattle.store_command_line.specs.declared.said.SumMode.{SumMode as SaidMode};
 ghost use Rattle.store_command_line.specs.declared.said.SumOptions.{SumOptions as SaidSum};
-ghost use Rattle.store_command_line.specs.declared.said.UploadOptions.{UploadOptions as SaidUpload};
 
 use crate::command::program;
 use crate::said::{
-    AskedMode, CheckOptions, Fault, Input, NameList, Options, SumInputs, SumMode, SumOptions,
-    UploadOptions,
+    AskedMode, AskedUpload, CheckOptions, Fault, Input, NameList, Options, SumInputs, SumOptions,
 };
 use b3_check::Shown;
 use clap::error::ErrorKind;
 use clap::{ArgMatches, Error};
+use edge::{SumMode, UploadOptions};
 use hex::FromHex;
 use std::alloc::{AllocError, Global};
 use std::convert::AsStr;
+use store_upload::MOST_PART_CHUNKS;
+
+// The most threads that hash an input, and the most workers of an upload.
+const MOST_THREADS: u32 = 16;
+
+// The most bytes of the extended output that are written as digits.
+const MOST_OUTPUT_LEN: u32 = 65536;
 
 // The text of a usage fault, where there was memory for it.
 fn told(text: Result<String, AllocError>) -> Fault
@@ -261,8 +268,8 @@ fn sum_options<'a>(alloc: Global, found: &ArgMatches<'a>) -> Result<SumOptions<'
     ensures only { (o : SaidSum) → SaysSum o (rows_of (found_of found.now)) → IsSumInRange o → IsNotUsage result }
 {
     let mode = asked_mode(alloc, found)?;
-    let length = number_within(alloc, found, "sum", "length", 65536)?;
-    let threads = number_within(alloc, found, "sum", "threads", 16)?;
+    let length = number_within(alloc, found, "sum", "length", MOST_OUTPUT_LEN)?;
+    let threads = number_within(alloc, found, "sum", "threads", MOST_THREADS)?;
     let inputs = sum_inputs(alloc, found)?;
     Ok(SumOptions {
         inputs,
@@ -300,10 +307,10 @@ fn word_input<'a>(found: &ArgMatches<'a>, id: &str) -> Input<'a>
 
 fn check_options<'a>(alloc: Global, found: &ArgMatches<'a>) -> Result<CheckOptions<'a>, Fault>
     ensures says { IfOk result (λ o. SaysCheck o (rows_of (found_of found.now))) }
-    ensures range { IfOk result (λ o. IfSome o.threads (IsWithin 16)) }
-    ensures only { (o : SaidCheck) → SaysCheck o (rows_of (found_of found.now)) → IfSome o.threads (IsWithin 16) → IsNotUsage result }
+    ensures range { IfOk result (λ o. IfSome o.threads (IsWithin most_threads)) }
+    ensures only { (o : SaidCheck) → SaysCheck o (rows_of (found_of found.now)) → IfSome o.threads (IsWithin most_threads) → IsNotUsage result }
 {
-    let threads = number_within(alloc, found, "check", "threads", 16)?;
+    let threads = number_within(alloc, found, "check", "threads", MOST_THREADS)?;
     Ok(CheckOptions {
         list: word_input(found, "list"),
         shown: shown(found),
@@ -338,17 +345,20 @@ fn flag(found: &ArgMatches<'_>, id: &str) -> bool
     found.get_flag(id)
 }
 
-fn upload_options(alloc: Global, found: &ArgMatches<'_>) -> Result<UploadOptions, Fault>
-    ensures says { IfOk result (λ o. SaysUpload o (rows_of (found_of found.now))) }
-    ensures range { IfOk result AreWithin }
-    ensures only { (o : SaidUpload) → SaysUpload o (rows_of (found_of found.now)) → AreWithin o → IsNotUsage result }
+fn upload_options(alloc: Global, found: &ArgMatches<'_>) -> Result<AskedUpload, Fault>
+    ensures says { IfOk result (λ asked. SaysUpload asked (rows_of (found_of found.now))) }
+    ensures range { IfOk result (λ asked. AreWithin asked.options) }
+    ensures only { (asked : SaidUpload) → SaysUpload asked (rows_of (found_of found.now)) → AreWithin asked.options → IsNotUsage result }
 {
-    let workers = number_or(alloc, found, "workers", 16, 4)?;
-    let part_chunks = number_or(alloc, found, "part-chunks", 16384, 64)?;
-    Ok(UploadOptions {
+    let workers = number_or(alloc, found, "workers", MOST_THREADS, 4)?;
+    let part_chunks = number_or(alloc, found, "part-chunks", MOST_PART_CHUNKS as u32, 64)?;
+    let options = UploadOptions {
         workers,
         part_chunks,
         journal: flag(found, "journal"),
+    };
+    Ok(AskedUpload {
+        options,
         no_progress: flag(found, "no-progress"),
     })
 }

@@ -27,7 +27,7 @@ use Rattle.edge.specs.declared.outcome.Cause.{Cause}
 use Rattle.edge.specs.declared.outcome.Cause.TheVariants.{OutOfMemory}
 use Rattle.edge.specs.declared.outcome.Verdict.{Verdict}
 use Rattle.edge.specs.declared.outcome.Verdict.TheVariants.{Refused}
-use Rattle.store_command_line.specs.declared.said.UploadOptions.{UploadOptions}
+use Rattle.edge.specs.declared.options.UploadOptions.{UploadOptions}
 
 -- a refusal that was told, and is not want of memory, is some refusal
 pub told : (o : UploadOptions) (r : Result Verdict Cause) (kind : UploadFaultKind) (old new : Option (List ℕ)) → MayFail o kind → OnOk r (WroteRefusal kind old new) → (is_memory kind ≡ true → r ≡ Err OutOfMemory) → r ≡ Ok Refused
@@ -84,7 +84,7 @@ in_a_row a b c x y z first second third = rw (first, second, third) refl
 -- ---- worked rows
 
 abbrev by_workers : ℕ → UploadOptions
-by_workers n = record { part_chunks = 4; workers = n; journal = false; no_progress = false }
+by_workers n = record { part_chunks = 4; workers = n; journal = false }
 
 seventeen_workers : MayFail (by_workers 17) BadCut
 seventeen_workers = inr (inr (inr (omega arith)))

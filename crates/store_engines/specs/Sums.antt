@@ -11,8 +11,8 @@ use Rattle.edge.specs.declared.outcome.Cause.{Cause}
 use Rattle.edge.specs.declared.outcome.Cause.TheVariants.{CannotRead, CannotWrite, OutOfMemory}
 use Rattle.edge.specs.declared.outcome.Verdict.{Verdict}
 use Rattle.edge.specs.declared.outcome.Verdict.TheVariants.{Good, Refused}
-use Rattle.store_command_line.specs.declared.said.SumMode.{SumMode}
-use Rattle.store_command_line.specs.declared.said.SumMode.TheVariants.{Hash, Keyed, Derive}
+use Rattle.edge.specs.declared.options.SumMode.{SumMode}
+use Rattle.edge.specs.declared.options.SumMode.TheVariants.{Hash, Keyed, Derive}
 use Rattle.store_engines.specs.declared.sources.FileFault.{FileFault}
 use Rattle.store_engines.specs.declared.sources.Reason.{Reason}
 use Rattle.store_engines.specs.declared.sources.Reason.TheVariants.{IsFolder, Missing, NoPermission, NotUtf8, Unreadable}

@@ -4,7 +4,7 @@ use Rattle.std.specs.Io.KnownBytes.{Appends}
 use Rattle.b3_check.specs.Lines.{written_line}
 use Rattle.b3_core.specs.Modes.{hash_of}
 use Rattle.store_books.specs.Bare.{Bare, label_address}
-use Rattle.store_books.specs.Books.{Filed, object_at}
+use Rattle.store_books.specs.Books.{Filed, most_workers, object_at}
 use Rattle.store_books.specs.declared.content.ObjectLabel.{ObjectLabel}
 use Rattle.store_journal.specs.Journal.{journal_text}
 use Rattle.store_journal.specs.declared.version.Version.TheVariants.{Two}
@@ -17,7 +17,7 @@ use Rattle.store_shared.specs.Gates.{IsOwnFault}
 use Rattle.store_shared.specs.declared.fault.UploadFaultKind.{UploadFaultKind}
 use Rattle.store_shared.specs.declared.fault.UploadFaultKind.TheVariants.{BadCut, NoMemory, Refused}
 use Rattle.store_engines.specs.Audits.{accepted_text}
-use Rattle.store_command_line.specs.declared.said.UploadOptions.{UploadOptions}
+use Rattle.edge.specs.declared.options.UploadOptions.{UploadOptions}
 
 -- the journal's text, where it is asked for
 abbrev pub journal_part : Bool → List Entry → List ℕ
@@ -62,7 +62,7 @@ WroteRefusal kind old new = Appends old new (codes "refused " ++ (fault_text kin
 
 -- why an upload by these options may fail, whose gate passes all parts: a cut is bad only where it is
 abbrev pub MayFail : UploadOptions → UploadFaultKind → Type 0
-MayFail o BadCut = IsBadCut o.part_chunks o.workers 16
+MayFail o BadCut = IsBadCut o.part_chunks o.workers most_workers
 MayFail o kind = IsOwnFault kind
 
 -- the writer grew by the line of an upload by these options that failed, and not for want of memory

@@ -14,6 +14,7 @@ use crate::summing::mode_of;
 use b3_check::{Name, NameFault, Names, NumberedLine};
 use b3_core::{Mode, Runtime, Top, Work};
 use b3_parallel::{Source, hash_all, hash_source, thread_count};
+use edge::SumMode;
 use std::fs::File;
 use std::io;
 use std::io::{ErrorKind, Read, Write};
@@ -21,7 +22,6 @@ use std::marker::Model;
 use std::os::unix::fs::FileExt;
 use std::rt::HostRuntime;
 use std::thread::Threads;
-use store_command_line::SumMode;
 
 // The bytes of an open file from a place on, which threads read without moving its position.
 #[derive(Drop)]

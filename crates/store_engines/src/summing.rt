@@ -15,11 +15,10 @@ use crate::streams::read_cause;
 use b3_check::{Line, Name};
 use b3_core::{Mode, OutputReader, Runtime, Top, Work};
 use b3_parallel::hash_all;
-use edge::{Cause, Verdict, write_all};
+use edge::{Cause, SumMode, Verdict, write_all};
 use std::alloc::{AllocError, Global};
 use std::io::{Read, Write};
 use std::thread::Threads;
-use store_command_line::SumMode;
 
 /// How an input is hashed, and what is written of it.
 #[derive(Clone, Copy, Debug)]

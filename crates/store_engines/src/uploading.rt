@@ -2,6 +2,7 @@
 
 ghost use Rattle.std.specs.Prelude.{◌≡◌, ◌≢◌, ◌<◌, ◌++◌, codes, false, true, IfErr, IfOk, IfSome, OnOk, Err, Ok};
 ghost use Rattle.std.specs.Io.KnownBytes.{Appends, IsAtEnd};
+ghost use Rattle.store_books.specs.Books.{most_workers};
 ghost use Rattle.store_ledger.specs.Shares.{all_parts};
 ghost use Rattle.store_shared.specs.Cuts.{IsBadCut};
 ghost use Rattle.store_shared.specs.Gates.{IsOwnFault};
@@ -14,13 +15,12 @@ use crate::streams::read_stretches;
 use crate::summing::line_of;
 use b3_core::{CHUNK_LEN, Runtime};
 use b3_forest::{Lent, MOST_PART_BYTES};
-use edge::{Cause, Verdict, write_all};
+use edge::{Cause, UploadOptions, Verdict, write_all};
 use std::alloc::{AllocError, Global};
 use std::io::{Read, Write};
 use std::sync::Wait;
 use std::sync::ledger::Blank;
 use std::thread::Threads;
-use store_command_line::UploadOptions;
 use store_core::{Address, Entry, Limits, Refusal, TenantId};
 use store_ledger::{Ledgers, Share};
 use store_shared::{Locked, PassAll, Shared, UploadFaultKind, UploadRequest, lent_open_tenant};
@@ -146,7 +146,7 @@ pub fn upload<L: Ledgers, T: Threads + Wait + Sync + Runtime, R: Read, W: Write>
     ensures written { result ≡ Ok Verdict.Good → IfSome (R.remaining reader.old) (λ input.
         WroteUpload options input (W.contents writer.old) (W.contents writer.new)) }
     ensures refused { result ≡ Ok Verdict.Refused → SomeRefusal options (W.contents writer.old) (W.contents writer.new) }
-    ensures bad_cut { IsBadCut options.part_chunks options.workers 16 → result ≢ Ok Verdict.Good }
+    ensures bad_cut { IsBadCut options.part_chunks options.workers most_workers → result ≢ Ok Verdict.Good }
     ensures end { OnOk result (IsAtEnd (R.remaining reader.new)) }
     ensures silent { result ≡ Err Cause.CannotRead → W.contents writer.new ≡ W.contents writer.old }
 {

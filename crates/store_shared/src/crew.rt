@@ -2,7 +2,7 @@
 
 ghost use Rattle.std.specs.Prelude.{◌≡◌, ◌+◌, ◌<◌, ◌≤◌, ◌^◌, [], All, IfNone, IfOk, IfSome, Some, length, map, vec_capacity, vec_len};
 ghost use Rattle.b3_forest.specs.Lent.{lent_bytes};
-ghost use Rattle.store_upload.specs.Uploads.{most_bytes};
+ghost use Rattle.store_upload.specs.Uploads.{most_bytes, most_part_chunks};
 ghost use Rattle.store_board.specs.Passes.{IsGiverOf, given_of};
 ghost use Rattle.store_board.specs.Seats.{IsSeatOf, parts_of};
 ghost use Rattle.store_shared.specs.Cuts.{part_count};
@@ -129,13 +129,13 @@ fn start_on_slice<'s, E, G: Gate + Sync, R: Wait + Sync>(
 ) -> Result<PromisedHandle<Report, ReportOf<'s, G>>, UploadFaultKind>
     requires bytes { (lent_bytes promise.lent ≡ bytes.now) × (length bytes.now ≤ most_bytes) }
     requires parts { parts_of promise.exchange.now.board ≡ part_count (length bytes.now) promise.part_chunks }
-    requires part_chunks { (0 < promise.part_chunks) × (promise.part_chunks ≤ 16384) }
+    requires part_chunks { (0 < promise.part_chunks) × (promise.part_chunks ≤ most_part_chunks) }
     requires worker { IsWorkerOf promise.exchange.now worker × (given_of worker.pass ≡ []) }
     ensures { IfOk result (λ handle. handle.promise ≡ promise.entry) }
 {
     let (part_chunks, gate, exchange) = (promise.part_chunks, promise.gate, promise.exchange);
     let runs = move || -> Report
-        requires { IsWorkerOf exchange.now worker × (given_of worker.pass ≡ []) × (parts_of exchange.now.board ≡ part_count (length bytes.now) part_chunks) × (length bytes.now ≤ most_bytes) × (0 < part_chunks) × (part_chunks ≤ 16384) }
+        requires { IsWorkerOf exchange.now worker × (given_of worker.pass ≡ []) × (parts_of exchange.now.board ≡ part_count (length bytes.now) part_chunks) × (length bytes.now ≤ most_bytes) × (0 < part_chunks) × (part_chunks ≤ most_part_chunks) }
         ensures { IsReportOf exchange.entry.now (G.may_stop gate.entry.now) (G.may_fault gate.entry.now) (G.has_passed gate.entry.now) (record { bytes = bytes.entry.now; part_chunks = part_chunks }) result }
     {
         let lent = Lent::Slice(bytes);
@@ -158,13 +158,13 @@ fn start_on_stretches<'s, E, G: Gate + Sync, R: Wait + Sync>(
 ) -> Result<PromisedHandle<Report, ReportOf<'s, G>>, UploadFaultKind>
     requires bytes { (lent_bytes promise.lent ≡ bytes.now.bytes) × (length bytes.now.bytes ≤ most_bytes) }
     requires parts { parts_of promise.exchange.now.board ≡ part_count (length bytes.now.bytes) promise.part_chunks }
-    requires part_chunks { (0 < promise.part_chunks) × (promise.part_chunks ≤ 16384) }
+    requires part_chunks { (0 < promise.part_chunks) × (promise.part_chunks ≤ most_part_chunks) }
     requires worker { IsWorkerOf promise.exchange.now worker × (given_of worker.pass ≡ []) }
     ensures { IfOk result (λ handle. handle.promise ≡ promise.entry) }
 {
     let (part_chunks, gate, exchange) = (promise.part_chunks, promise.gate, promise.exchange);
     let runs = move || -> Report
-        requires { IsWorkerOf exchange.now worker × (given_of worker.pass ≡ []) × (parts_of exchange.now.board ≡ part_count (length bytes.now.bytes) part_chunks) × (length bytes.now.bytes ≤ most_bytes) × (0 < part_chunks) × (part_chunks ≤ 16384) }
+        requires { IsWorkerOf exchange.now worker × (given_of worker.pass ≡ []) × (parts_of exchange.now.board ≡ part_count (length bytes.now.bytes) part_chunks) × (length bytes.now.bytes ≤ most_bytes) × (0 < part_chunks) × (part_chunks ≤ most_part_chunks) }
         ensures { IsReportOf exchange.entry.now (G.may_stop gate.entry.now) (G.may_fault gate.entry.now) (G.has_passed gate.entry.now) (record { bytes = bytes.entry.now.bytes; part_chunks = part_chunks }) result }
     {
         let lent = Lent::Stretches(bytes);

@@ -4,7 +4,7 @@ ghost use Rattle.std.specs.Prelude.{◌≡◌, ◌+◌, ◌<◌, ◌≤◌, ℕ,
 ghost use Rattle.std.specs.Arc.{arc_value};
 ghost use Rattle.b3_core.specs.Modes.{hash_of};
 ghost use Rattle.b3_forest.specs.Lent.{lent_bytes};
-ghost use Rattle.store_upload.specs.Uploads.{most_bytes};
+ghost use Rattle.store_upload.specs.Uploads.{most_bytes, most_part_chunks};
 ghost use Rattle.store_board.specs.Passes.{IsTakerOf, givers_of, taken_of};
 ghost use Rattle.store_shared.specs.Cuts.{IsBadCut};
 ghost use Rattle.store_shared.specs.Gates.{IsOwnFault};
@@ -12,10 +12,11 @@ ghost use Rattle.store_shared.specs.Uploading.{Cutting, cut_count};
 ghost use Rattle.store_shared.specs.inner.Uploading.{AreNoted, IsCollected, IsUploaded};
 ghost use Rattle.store_shared.specs.Uploads.{IsAnswered};
 ghost use Rattle.store_shared.specs.inner.Workers.{AreWorkersOf, IsThreadOf};
+ghost use Rattle.store_books.specs.Books.{most_workers};
 
 use crate::collector::Collector;
 use crate::crew::{Crew, first_fault, join_all, start_all, workers_of};
-use crate::cut::{Cut, MOST_PART_CHUNKS};
+use crate::cut::Cut;
 use crate::fault::{UploadFault, UploadFaultKind};
 use crate::gate::Gate;
 use crate::job::{Exchange, Job};
@@ -32,6 +33,7 @@ use std::thread::Threads;
 use store_board::{Board, HandOver, TakePass, Unasked};
 use store_core::{Address, Refusal, Sealed, TenantId, UploadId};
 use store_ledger::{Ledgers, Share};
+use store_upload::MOST_PART_CHUNKS;
 
 /// What an upload is asked for: bytes for a tenant, cut into parts of so many chunks of 1024 bytes, by so many workers, and
 /// the gate that they ask after each part.
@@ -76,7 +78,7 @@ impl<'a, G: Gate + Sync> UploadRequest<'a, G> {
     // Whether a part would have no chunk or too many, or there would be no worker or more than may be.
     fn has_bad_cut(&self, most: u64) -> bool
         ensures yes { result ≡ true → IsBadCut self.now.part_chunks self.now.workers most }
-        ensures no { result ≡ false → (0 < self.now.part_chunks) × (self.now.part_chunks ≤ 16384) × (0 < self.now.workers) × (self.now.workers ≤ most) }
+        ensures no { result ≡ false → (0 < self.now.part_chunks) × (self.now.part_chunks ≤ most_part_chunks) × (0 < self.now.workers) × (self.now.workers ≤ most) }
     {
         if self.part_chunks == 0 || self.part_chunks > MOST_PART_CHUNKS {
             return true;
@@ -117,8 +119,8 @@ fn upload_parts<L: Ledgers, G: Gate + Sync, R: Threads + Wait + Sync + Runtime>(
     share: Share<L>,
     request: &UploadRequest<'_, G>,
 ) -> (Share<L>, Result<Sealed, UploadFault>)
-    requires part_chunks { (0 < request.now.part_chunks) × (request.now.part_chunks ≤ 16384) }
-    requires workers { request.now.workers ≤ 16 }
+    requires part_chunks { (0 < request.now.part_chunks) × (request.now.part_chunks ≤ most_part_chunks) }
+    requires workers { request.now.workers ≤ most_workers }
     ensures passed { OnOk result.1 ((k : ℕ) → k < cut_count (record { bytes = lent_bytes request.now.bytes; part_chunks = request.now.part_chunks }) → G.has_passed request.now.gate.now k) }
     ensures uploaded { IsUploaded (G.may_stop request.now.gate.now) (G.may_fault request.now.gate.now) (record { bytes = lent_bytes request.now.bytes; part_chunks = request.now.part_chunks }) share result.0 result.1 }
 {
@@ -202,8 +204,8 @@ fn put_parts<L: Ledgers, G: Gate + Sync, R: Threads + Wait + Sync + Runtime>(
     upload: UploadId,
 ) -> (Share<L>, Result<Address, UploadFaultKind>)
     requires bytes { length (lent_bytes request.now.bytes) ≤ most_bytes }
-    requires part_chunks { (0 < request.now.part_chunks) × (request.now.part_chunks ≤ 16384) }
-    requires workers { request.now.workers ≤ 16 }
+    requires part_chunks { (0 < request.now.part_chunks) × (request.now.part_chunks ≤ most_part_chunks) }
+    requires workers { request.now.workers ≤ most_workers }
     ensures passed { OnOk result.1 ((k : ℕ) → k < cut_count (record { bytes = lent_bytes request.now.bytes; part_chunks = request.now.part_chunks }) → G.has_passed request.now.gate.now k) }
     ensures collected { IsCollected (G.may_stop request.now.gate.now) (G.may_fault request.now.gate.now) (record { bytes = lent_bytes request.now.bytes; part_chunks = request.now.part_chunks }) share result.0 result.1 }
 {

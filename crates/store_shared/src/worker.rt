@@ -2,7 +2,7 @@
 
 ghost use Rattle.std.specs.Prelude.{◌≡◌, ◌∷◌, ◌++◌, ◌<◌, ◌≤◌, ◌^◌, [], IfErr, IfSome, false, length, true};
 ghost use Rattle.b3_forest.specs.Lent.{lent_bytes};
-ghost use Rattle.store_upload.specs.Uploads.{most_bytes};
+ghost use Rattle.store_upload.specs.Uploads.{most_bytes, most_part_chunks};
 ghost use Rattle.store_board.specs.Passes.{given_of, giver_of};
 ghost use Rattle.store_board.specs.Seats.{IsSeatOf, parts_of};
 ghost use Rattle.store_shared.specs.Cuts.{part_count};
@@ -141,7 +141,7 @@ pub(crate) fn run<G: Gate, R: Wait>(
     requires parts { parts_of exchange.now.board ≡ part_count (length (lent_bytes lent)) part_chunks }
     requires bytes { length (lent_bytes lent) ≤ most_bytes }
     requires positive { 0 < part_chunks }
-    requires bounded { part_chunks ≤ 16384 }
+    requires bounded { part_chunks ≤ most_part_chunks }
     ensures fault { IfSome result.fault (IsFaultOf (G.may_stop gate.now) (G.may_fault gate.now) (part_count (length (lent_bytes lent.entry)) part_chunks)) }
     ensures own { IsWorkerOf exchange.now result.worker }
     ensures passed { AllPassed (G.has_passed gate.now) (record { bytes = lent_bytes lent.entry; part_chunks = part_chunks }) result.worker.pass }

@@ -15,12 +15,15 @@ use Rattle.store_upload.specs.declared.refusal.FixFault.TheVariants as fix
 use Rattle.store_upload.specs.declared.refusal.PartFault.{PartFault}
 use Rattle.store_upload.specs.declared.refusal.PartFault.TheVariants.{EmptyPart, OffAlign, PartTooLong, PastEnd, Ragged}
 
--- the most bytes of an upload, and of a part
+-- the most bytes of an upload and of a part, and the most chunks of a part
 abbrev pub most_bytes : ℕ
 most_bytes = 2 ^ 44
 
 abbrev pub most_part_bytes : ℕ
 most_part_bytes = 2 ^ 24
+
+abbrev pub most_part_chunks : ℕ
+most_part_chunks = 16384
 
 -- ---- plans, and what fits them
 

@@ -21,5 +21,5 @@ pub use held_parts::HeldParts;
 pub use laws::upload_laws;
 pub use length::Length;
 pub use open::Open;
-pub use plan::{CHUNK_LEN, MOST_BYTES, MOST_PART_BYTES, Plan, TooLong};
+pub use plan::{CHUNK_LEN, MOST_BYTES, MOST_PART_BYTES, MOST_PART_CHUNKS, Plan, TooLong};
 pub use refusal::{AddFault, FinishFault, FixFault, PartFault};

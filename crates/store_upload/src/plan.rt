@@ -18,6 +18,9 @@ pub const MOST_BYTES: u64 = 1 << 44;
 /// The most bytes of a part, 2^24.
 pub const MOST_PART_BYTES: u64 = 1 << 24;
 
+/// The most chunks of a part.
+pub const MOST_PART_CHUNKS: u64 = MOST_PART_BYTES / CHUNK_LEN;
+
 /// F1: the length is above 2^44.
 #[derive(Clone, Copy, PartialEq, Eq, Debug)]
 pub struct TooLong;
