@@ -4,6 +4,7 @@ ghost use Rattle.std.specs.Prelude.{All, IfOk};
 ghost use Rattle.b3_check.specs.Names.{IsName};
 ghost use Rattle.store_command_line.specs.Ranges.{IsSumInRange};
 
+use crate::extent::{Extent, Metered};
 use crate::standard::{StandardError, StandardInput};
 use crate::telling::{misused, opened, status, stopped};
 use b3_check::Name;
@@ -59,12 +60,16 @@ fn names_in(rt: &HostRuntime, names: &NameList<'_>) -> Result<Vec<Name>, u8> {
 fn sum_standard<T: Threads + Runtime>(
     rt: &HostRuntime,
     threads: &T,
+    extent: &Extent,
     request: &SumRequest<'_>,
 ) -> Result<Verdict, Cause>
     requires { IsName request.now.name.now }
 {
     let mut work = Work::new(rt);
     let (mut input, mut writer) = (StandardInput::new(rt), io::writer(rt));
+    if let Some(len) = input.len_left() {
+        extent.note_bytes(len);
+    }
     let mut files = SystemFiles::new(rt, threads, request.mode, request.threads);
     if let Some(root) = files.root_of_file_input(&mut input) {
         let name = request.name.as_bytes();
@@ -93,6 +98,7 @@ fn sum_standard<T: Threads + Runtime>(
 fn sum_named<T: Threads + Runtime>(
     rt: &HostRuntime,
     threads: &T,
+    extent: &Extent,
     mode: SumMode<'_>,
     options: &SumOptions<'_>,
     names: &[Name],
@@ -101,7 +107,8 @@ fn sum_named<T: Threads + Runtime>(
         return Err(Cause::OutOfMemory);
     };
     let files = SystemFiles::new(rt, threads, mode, options.threads);
-    let mut inputs = SystemInputs::new(files, StandardInput::new(rt), StandardError::new(rt));
+    let inputs = SystemInputs::new(files, StandardInput::new(rt), StandardError::new(rt));
+    let mut inputs = Metered::new(rt, extent, inputs);
     let mut work = Work::new(rt);
     sum_files(
         rt.alloc(),
@@ -117,6 +124,7 @@ fn sum_named<T: Threads + Runtime>(
 fn summed<T: Threads + Runtime>(
     rt: &HostRuntime,
     threads: &T,
+    extent: &Extent,
     options: &SumOptions<'_>,
 ) -> Result<u8, u8>
     requires { IsSumInRange options.now }
@@ -130,7 +138,7 @@ fn summed<T: Threads + Runtime>(
                 length: options.length,
                 threads: options.threads,
             };
-            return Ok(status(rt, sum_standard(rt, threads, &request)));
+            return Ok(status(rt, sum_standard(rt, threads, extent, &request)));
         }
         SumInputs::Named(words) => match names_of(rt.alloc(), words.as_slice()) {
             Ok(names) => names,
@@ -138,18 +146,22 @@ fn summed<T: Threads + Runtime>(
         },
         SumInputs::Listed(names) => names_in(rt, names)?,
     };
-    Ok(status(rt, sum_named(rt, threads, mode, options, names.as_slice())))
+    Ok(status(
+        rt,
+        sum_named(rt, threads, extent, mode, options, names.as_slice()),
+    ))
 }
 
 /// The status of `sum`.
 pub(crate) fn sum_status<T: Threads + Runtime>(
     rt: &HostRuntime,
     threads: &T,
+    extent: &Extent,
     options: &SumOptions<'_>,
 ) -> u8
     requires { IsSumInRange options.now }
 {
-    match summed(rt, threads, options) {
+    match summed(rt, threads, extent, options) {
         Ok(status) => status,
         Err(status) => status,
     }
@@ -159,13 +171,15 @@ pub(crate) fn sum_status<T: Threads + Runtime>(
 fn checked<T: Threads + Runtime, R: Read>(
     rt: &HostRuntime,
     threads: &T,
+    extent: &Extent,
     options: &CheckOptions<'_>,
     reader: &mut R,
 ) -> Result<Verdict, Cause> {
     let Ok(mut writer) = LineWriter::new(rt.alloc(), io::writer(rt)) else {
         return Err(Cause::OutOfMemory);
     };
-    let mut names = SystemFiles::new(rt, threads, SumMode::Hash, options.threads);
+    let files = SystemFiles::new(rt, threads, SumMode::Hash, options.threads);
+    let mut names = Metered::new(rt, extent, files);
     check(rt.alloc(), options.shown, &mut names, reader, &mut writer)
 }
 
@@ -173,12 +187,13 @@ fn checked<T: Threads + Runtime, R: Read>(
 pub(crate) fn check_status<T: Threads + Runtime>(
     rt: &HostRuntime,
     threads: &T,
+    extent: &Extent,
     options: &CheckOptions<'_>,
 ) -> u8 {
     match options.list {
-        Input::Standard => status(rt, checked(rt, threads, options, &mut rt.stdin())),
+        Input::Standard => status(rt, checked(rt, threads, extent, options, &mut rt.stdin())),
         Input::File(path) => match opened(rt, path) {
-            Ok(mut file) => status(rt, checked(rt, threads, options, &mut file)),
+            Ok(mut file) => status(rt, checked(rt, threads, extent, options, &mut file)),
             Err(status) => status,
         },
     }

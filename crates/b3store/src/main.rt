@@ -3,6 +3,7 @@
 
 ghost use Rattle.store_command_line.specs.Ranges.{InRange};
 
+mod extent;
 mod inputs;
 mod progress;
 mod standard;
@@ -10,8 +11,10 @@ mod telling;
 
 use b3_core::{Runtime, Work};
 use edge::UploadOptions;
+use extent::Extent;
 use inputs::{check_status, sum_status};
 use progress::with_progress;
+use standard::StandardInput;
 use std::io;
 use std::io::{BufReader, BufWriter, ErrorKind, IsTerminal};
 use std::marker::Brand;
@@ -68,8 +71,12 @@ fn served(rt: &HostRuntime) -> Result<Verdict, Cause> {
 fn uploaded<T: Threads + Wait + Sync + Runtime>(
     rt: &HostRuntime,
     threads: &T,
+    extent: &Extent,
     options: UploadOptions,
 ) -> Result<Verdict, Cause> {
+    if let Some(len) = StandardInput::new(rt).len_left() {
+        extent.note_bytes(len);
+    }
     let (mut reader, mut writer) = (rt.stdin(), io::writer(rt));
     let (bytes, calls) = (Blank::new(ALL_PARTS), Blank::new(ALL_PARTS));
     upload::<Brand, _, _, _>(
@@ -87,6 +94,7 @@ fn uploaded<T: Threads + Wait + Sync + Runtime>(
 fn perform<T: Threads + Wait + Sync + Runtime>(
     rt: &HostRuntime,
     threads: &T,
+    extent: &Extent,
     options: &Options<'_>,
 ) -> u8
     requires { InRange options.now }
@@ -94,11 +102,11 @@ fn perform<T: Threads + Wait + Sync + Runtime>(
     let alloc = rt.alloc();
     let (mut reader, mut writer) = (rt.stdin(), io::writer(rt));
     match options {
-        Options::Sum(options) => sum_status(rt, threads, options),
+        Options::Sum(options) => sum_status(rt, threads, extent, options),
         Options::Run => status(rt, answered(rt)),
         Options::Serve => status(rt, served(rt)),
-        Options::Upload(asked) => status(rt, uploaded(rt, threads, asked.options)),
-        Options::Check(options) => check_status(rt, threads, options),
+        Options::Upload(asked) => status(rt, uploaded(rt, threads, extent, asked.options)),
+        Options::Check(options) => check_status(rt, threads, extent, options),
         Options::Audit => status(rt, audit(alloc, &mut reader, &mut writer)),
         Options::Migrate => status(rt, migrate(alloc, &mut reader, &mut writer)),
     }
@@ -126,15 +134,18 @@ fn perform_telling<T: Threads + Wait + Sync + Runtime>(
 ) -> u8
     requires { InRange options.now }
 {
-    if !tells_progress(rt, options) {
-        return perform(rt, threads, options);
+    let is_told = tells_progress(rt, options);
+    let extent = &Extent::new(is_told);
+    if !is_told {
+        return perform(rt, threads, extent, options);
     }
     with_progress(
         rt,
         threads,
+        extent,
         move || -> u8
             requires { InRange options.now }
-        { perform(rt, threads, options) },
+        { perform(rt, threads, extent, options) },
     )
 }
 

@@ -28,6 +28,15 @@ impl<'a> StandardInput<'a> {
         }
     }
 
+    /// How many bytes are left of the file that standard input is, where it is one.
+    pub(crate) fn len_left(&self) -> Option<u64> {
+        let found = fs::metadata(self.rt, PATH).ok()?;
+        if !found.is_file() {
+            return None;
+        }
+        Some(found.len().saturating_sub(self.place()?))
+    }
+
     // Where standard input stands in its file, as the system tells it.
     fn place(&self) -> Option<u64> {
         let text = fs::read_to_string(self.rt, PLACE).ok()?;
