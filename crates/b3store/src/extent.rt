@@ -26,9 +26,9 @@ impl Extent {
         }
     }
 
-    /// Notes how many bytes there are.
-    pub(crate) fn note_bytes(&self, bytes: u64) {
-        self.bytes.store(bytes, Ordering::Relaxed);
+    /// Notes how many bytes there are, where that is known.
+    pub(crate) fn note_bytes(&self, bytes: Option<u64>) {
+        self.bytes.store(bytes.unwrap_or(0), Ordering::Relaxed);
     }
 
     // Notes how many files are left, and answers whether these are all and their bytes are asked for.
@@ -52,7 +52,7 @@ impl Extent {
         }
     }
 
-    /// How many bytes there are.
+    /// How many bytes there are, where that is known.
     pub(crate) fn bytes(&self) -> Option<u64> {
         match self.bytes.load(Ordering::Relaxed) {
             0 => None,
@@ -74,15 +74,35 @@ impl<'a, S: Drop> Metered<'a, S> {
         Metered { rt, extent, within }
     }
 
-    // How many bytes the file of a name has, or none where the system doesn't tell.
-    fn len_of(&self, name: &Name) -> u64 {
-        let Ok(path) = str::from_utf8(name.as_bytes()) else {
-            return 0;
-        };
-        match fs::metadata(self.rt, path) {
-            Ok(found) if found.is_file() => found.len(),
-            _ => 0,
+    // So many bytes and those of the file of a name, where it is a regular file.
+    fn with_file(&self, bytes: u64, name: &Name) -> Option<u64> {
+        let path = str::from_utf8(name.as_bytes()).ok()?;
+        let found = fs::metadata(self.rt, path).ok()?;
+        if found.is_file() {
+            bytes.checked_add(found.len())
+        } else {
+            None
         }
+    }
+
+    // How many bytes the files of these names have, where all are regular files.
+    fn bytes_of(&self, names: &[Name]) -> Option<u64> {
+        let mut bytes = 0;
+        for name in names {
+            bytes = self.with_file(bytes, name)?;
+        }
+        Some(bytes)
+    }
+
+    // The same of the names of lines, but of those with a fault.
+    fn bytes_of_lines(&self, lines: &[NumberedLine]) -> Option<u64> {
+        let mut bytes = 0;
+        for line in lines {
+            if let Ok(named) = &line.line {
+                bytes = self.with_file(bytes, &named.name)?;
+            }
+        }
+        Some(bytes)
     }
 }
 
@@ -93,11 +113,7 @@ impl<S: Sources + Drop> Sources for Metered<'_, S> {
 
     fn expect(&mut self, names: &[Name]) {
         if self.extent.note_left(names.len()) {
-            let mut bytes: u64 = 0;
-            for name in names {
-                bytes = bytes.saturating_add(self.len_of(name));
-            }
-            self.extent.note_bytes(bytes);
+            self.extent.note_bytes(self.bytes_of(names));
         }
         self.within.expect(names);
     }
@@ -116,13 +132,7 @@ impl<S: Names + Drop> Names for Metered<'_, S> {
 
     fn expect(&mut self, lines: &[NumberedLine]) {
         if self.extent.note_left(lines.len()) {
-            let mut bytes: u64 = 0;
-            for line in lines {
-                if let Ok(named) = &line.line {
-                    bytes = bytes.saturating_add(self.len_of(&named.name));
-                }
-            }
-            self.extent.note_bytes(bytes);
+            self.extent.note_bytes(self.bytes_of_lines(lines));
         }
         self.within.expect(lines);
     }

@@ -67,9 +67,7 @@ fn sum_standard<T: Threads + Runtime>(
 {
     let mut work = Work::new(rt);
     let (mut input, mut writer) = (StandardInput::new(rt), io::writer(rt));
-    if let Some(len) = input.len_left() {
-        extent.note_bytes(len);
-    }
+    extent.note_bytes(input.len_left());
     let mut files = SystemFiles::new(rt, threads, request.mode, request.threads);
     if let Some(root) = files.root_of_file_input(&mut input) {
         let name = request.name.as_bytes();

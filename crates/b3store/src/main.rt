@@ -74,9 +74,7 @@ fn uploaded<T: Threads + Wait + Sync + Runtime>(
     extent: &Extent,
     options: UploadOptions,
 ) -> Result<Verdict, Cause> {
-    if let Some(len) = StandardInput::new(rt).len_left() {
-        extent.note_bytes(len);
-    }
+    extent.note_bytes(StandardInput::new(rt).len_left());
     let (mut reader, mut writer) = (rt.stdin(), io::writer(rt));
     let (bytes, calls) = (Blank::new(ALL_PARTS), Blank::new(ALL_PARTS));
     upload::<Brand, _, _, _>(
