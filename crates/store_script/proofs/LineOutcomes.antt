@@ -14,7 +14,7 @@ use Rattle.store_core.specs.Runs.{Command, Reply, Step, plan, put, the_plan, tol
 use Rattle.store_script.specs.Grammar.{ScriptCommand, asks, command_at, puts}
 use Rattle.store_script.specs.Lines.{AnswersRead}
 use Rattle.store_script.proofs.Lengths.{long_is_none}
-use Rattle.store_script.specs.Script.{Answered, Does, MakesPart, Plays, PutsBy, Turn, bad, fault_ending, reply_ending, skipped, took, unmade}
+use Rattle.store_script.specs.Script.{Answered, IsTurnOfCommand, IsTurnOfMade, IsTurnOf, IsTurnOfPut, Turn, bad, fault_ending, reply_ending, skipped, took, unmade}
 use Rattle.store_script.specs.Texts.{answer_text, unmade_text, refused_text}
 use Rattle.store_script.specs.Answers.{told_ending, told_text}
 use Rattle.store_script.specs.Commands.{reply_of}
@@ -48,10 +48,10 @@ says shown reply = (refl, seen_ending (reply_of shown) reply)
 
 -- a part's turn, whose upload and bytes are these
 abbrev pub PutTurn : Shown → ℕ → ℕ → List ℕ → Shown → Turn → Type 0
-PutTurn old upload offset bytes new turn = PutsBy old upload offset bytes (plan_in old.state upload) turn new
+PutTurn old upload offset bytes new turn = IsTurnOfPut old upload offset bytes (plan_in old.state upload) turn new
 
-by_plan : (old new : Shown) (upload offset : ℕ) (bytes : List ℕ) (turn : Turn) (planned : Result UploadPlan Refusal) → planned ≡ plan_in old.state upload → PutsBy old upload offset bytes planned turn new → PutTurn old upload offset bytes new turn
-by_plan old new upload offset bytes turn planned is h = subst (λ r. PutsBy old upload offset bytes r turn new) is h
+by_plan : (old new : Shown) (upload offset : ℕ) (bytes : List ℕ) (turn : Turn) (planned : Result UploadPlan Refusal) → planned ≡ plan_in old.state upload → IsTurnOfPut old upload offset bytes planned turn new → PutTurn old upload offset bytes new turn
+by_plan old new upload offset bytes turn planned is h = subst (λ r. IsTurnOfPut old upload offset bytes r turn new) is h
 
 -- S7
 pub no_plan : (old : Shown) (upload offset : ℕ) (bytes : List ℕ) (refusal : Refusal) (text : List ℕ) (ending : Ending) → Err refusal ≡ plan_in old.state upload → Says (Err refusal) text ending → Answered (PutTurn old upload offset bytes old) text ending
@@ -62,7 +62,7 @@ no_plan old upload offset bytes refusal text ending is says = record {
   ending_is = says.1;
 }
 
-fault_is : (old : Shown) (upload : ℕ) (part : PlannedPart) (refused : Option PartFault) (fault : PartFault) → fault ≡ unwrap_or refused faults.NoMemory → MakesPart old upload part refused (unmade fault) old
+fault_is : (old : Shown) (upload : ℕ) (part : PlannedPart) (refused : Option PartFault) (fault : PartFault) → fault ≡ unwrap_or refused faults.NoMemory → IsTurnOfMade old upload part refused (unmade fault) old
 fault_is old upload part (Some first) fault is = (ap unmade is, refl)
 fault_is old upload part None fault is = (is, refl)
 
@@ -82,7 +82,7 @@ pub made : (old new : Shown) (upload offset : ℕ) (made_for : UploadPlan) (byte
 made old new upload offset made_for bytes part reply text ending is fits part_is step says = record {
   turn = took (put upload (planned made_for offset bytes)) reply;
   is = by_plan old new upload offset bytes (took (put upload (planned made_for offset bytes)) reply) (Ok made_for) is
-      (subst (λ (o : Option PartFault). MakesPart old upload (planned made_for offset bytes) o (took (put upload (planned made_for offset bytes)) reply) new) (sym fits)
+      (subst (λ (o : Option PartFault). IsTurnOfMade old upload (planned made_for offset bytes) o (took (put upload (planned made_for offset bytes)) reply) new) (sym fits)
       (refl, subst (λ (p : PlannedPart). Step old (put upload p) reply new) part_is step));
   text_is = says.0;
   ending_is = says.1;
@@ -91,11 +91,11 @@ made old new upload offset made_for bytes part reply text ending is fits part_is
 -- ---- a line
 
 abbrev pub LineTurn : Shown → List ℕ → Shown → Turn → Type 0
-LineTurn old line new turn = Plays old line turn new
+LineTurn old line new turn = IsTurnOf old line turn new
 
-plays : (old new : Shown) (line : List ℕ) (turn : Turn) (command : Option ScriptCommand) → 0 < length line → command ≡ command_at line → Does old command turn new → Plays old line turn new
+plays : (old new : Shown) (line : List ℕ) (turn : Turn) (command : Option ScriptCommand) → 0 < length line → command ≡ command_at line → IsTurnOfCommand old command turn new → IsTurnOf old line turn new
 plays old new [] turn command some is h = absurd (omega (arith, some))
-plays old new (b ∷ line) turn command some is h = subst (λ o. Does old o turn new) is h
+plays old new (b ∷ line) turn command some is h = subst (λ o. IsTurnOfCommand old o turn new) is h
 
 pub nothing : (old : Shown) (line text : List ℕ) (ending : Ending) → length line ≡ 0 → text ≡ [] → ending ≡ endings.Good → Answered (LineTurn old line old) text ending
 nothing old [] text ending none text_is ending_is = record { turn = skipped; is = (refl, refl); text_is = text_is; ending_is = ending_is }

@@ -20,7 +20,7 @@ use Rattle.store_core.specs.Model.{Shown, start}
 use Rattle.store_core.specs.Runs.{Command, Run, Step, plan}
 use Rattle.store_script.specs.Grammar.{ScriptCommand, asks, command_at, puts}
 use Rattle.store_script.specs.Lines.{AnswersRead, IsReadLine}
-use Rattle.store_script.specs.Script.{AllPlay, AreAnswered, Does, IsScriptBegun, MakesPart, Plays, Puts, PutsBy, Ran, RanOut, RanSome, Takes, Turn, bad, commands_of, ending_of, failed_write, ran_all, ran_some, replies_of, skipped, took, turn_ending, turn_text, unmade, verdict_ending, widest_start, worse}
+use Rattle.store_script.specs.Script.{AreTurnsOf, AreAnswered, IsTurnOfCommand, IsScriptBegun, IsTurnOfMade, IsTurnOf, IsTurnOfPart, IsTurnOfPut, Ran, RanOut, RanSome, IsTurnOfStep, Turn, bad, commands_of, ending_of, failed_write, ran_all, ran_some, replies_of, skipped, took, turn_ending, turn_text, unmade, verdict_ending, widest_start, worse}
 use Rattle.store_script.specs.inner.Script.{ended_as, first_cause}
 use Rattle.store_script.specs.declared.ending.Ending.{Ending}
 use Rattle.store_script.specs.declared.ending.Ending.TheVariants as endings
@@ -31,8 +31,8 @@ use Rattle.store_core.proofs.Runs.{runs_carry}
 
 -- ---- a line more
 
-more_play : (old mid new : Shown) (front : List (List ℕ)) (turns : List Turn) (line : List ℕ) (turn : Turn) → AllPlay old front turns mid → Plays mid line turn new → AllPlay old (front ++ line ∷ []) (turns ++ turn ∷ []) new
-more_play old mid new [] [] line turn h p = (new, subst (λ (s : Shown). Plays s line turn new) h p, refl)
+more_play : (old mid new : Shown) (front : List (List ℕ)) (turns : List Turn) (line : List ℕ) (turn : Turn) → AreTurnsOf old front turns mid → IsTurnOf mid line turn new → AreTurnsOf old (front ++ line ∷ []) (turns ++ turn ∷ []) new
+more_play old mid new [] [] line turn h p = (new, subst (λ (s : Shown). IsTurnOf s line turn new) h p, refl)
 more_play old mid new [] (t ∷ turns) line turn h p = absurd h
 more_play old mid new (l ∷ front) [] line turn h p = absurd h
 more_play old mid new (l ∷ front) (t ∷ turns) line turn h p = (h.0, h.1, more_play h.0 mid new front turns line turn h.2 p)
@@ -67,32 +67,32 @@ Came old bad new = new ≡ old
 Came old (unmade fault) new = new ≡ old
 Came old (took command reply) new = Step old command reply new
 
-pub came_takes : (old new : Shown) (command : Command) (turn : Turn) → Takes old command turn new → Came old turn new
+pub came_takes : (old new : Shown) (command : Command) (turn : Turn) → IsTurnOfStep old command turn new → Came old turn new
 came_takes old new command skipped h = absurd h
 came_takes old new command bad h = absurd h
 came_takes old new command (unmade fault) h = absurd h
 came_takes old new command (took asked reply) h = subst (λ (c : Command). Step old c reply new) (sym h.0) h.1
 
-came_puts : (old new : Shown) (upload : ℕ) (part : PlannedPart) (turn : Turn) → Puts old upload part turn new → Came old turn new
+came_puts : (old new : Shown) (upload : ℕ) (part : PlannedPart) (turn : Turn) → IsTurnOfPart old upload part turn new → Came old turn new
 came_puts old new upload part skipped h = absurd h
 came_puts old new upload part bad h = absurd h
 came_puts old new upload part (unmade fault) h = h.1
 came_puts old new upload part (took asked reply) h = subst (λ (c : Command). Step old c reply new) (sym h.0) h.1
 
-came_makes : (old new : Shown) (upload : ℕ) (part : PlannedPart) (refused : Option PartFault) (turn : Turn) → MakesPart old upload part refused turn new → Came old turn new
+came_makes : (old new : Shown) (upload : ℕ) (part : PlannedPart) (refused : Option PartFault) (turn : Turn) → IsTurnOfMade old upload part refused turn new → Came old turn new
 came_makes old new upload part (Some fault) turn h = subst (λ (t : Turn). Came old t new) (sym h.0) h.1
 came_makes old new upload part None turn h = came_puts old new upload part turn h
 
-pub came_put : (old new : Shown) (upload offset : ℕ) (bytes : List ℕ) (made_by : Result UploadPlan Refusal) (turn : Turn) → PutsBy old upload offset bytes made_by turn new → Came old turn new
+pub came_put : (old new : Shown) (upload offset : ℕ) (bytes : List ℕ) (made_by : Result UploadPlan Refusal) (turn : Turn) → IsTurnOfPut old upload offset bytes made_by turn new → Came old turn new
 came_put old new upload offset bytes (Err refusal) turn h = came_takes old new (plan upload) turn h
 came_put old new upload offset bytes (Ok made_for) turn h = came_makes old new upload (planned made_for offset bytes) (part_refusal made_for offset (length bytes)) turn h
 
-came_does : (old new : Shown) (command : Option ScriptCommand) (turn : Turn) → Does old command turn new → Came old turn new
+came_does : (old new : Shown) (command : Option ScriptCommand) (turn : Turn) → IsTurnOfCommand old command turn new → Came old turn new
 came_does old new None turn h = subst (λ (t : Turn). Came old t new) (sym h.0) h.1
 came_does old new (Some (asks command)) turn h = came_takes old new command turn h
 came_does old new (Some (puts upload offset bytes)) turn h = came_put old new upload offset bytes (plan_in old.state upload) turn h
 
-pub came : (old new : Shown) (line : List ℕ) (turn : Turn) → Plays old line turn new → Came old turn new
+pub came : (old new : Shown) (line : List ℕ) (turn : Turn) → IsTurnOf old line turn new → Came old turn new
 came old new [] turn h = subst (λ (t : Turn). Came old t new) (sym h.0) h.1
 came old new (b ∷ line) turn h = came_does old new (command_at (b ∷ line)) turn h
 
@@ -102,7 +102,7 @@ run_on old mid new bad turns h r = subst (λ (s : Shown). Run s (commands_of tur
 run_on old mid new (unmade fault) turns h r = subst (λ (s : Shown). Run s (commands_of turns) (replies_of turns) new) h r
 run_on old mid new (took command reply) turns h r = (mid, h, r)
 
-runs : (old new : Shown) (lines : List (List ℕ)) (turns : List Turn) → AllPlay old lines turns new → Run old (commands_of turns) (replies_of turns) new
+runs : (old new : Shown) (lines : List (List ℕ)) (turns : List Turn) → AreTurnsOf old lines turns new → Run old (commands_of turns) (replies_of turns) new
 runs old new [] [] h = h
 runs old new [] (turn ∷ turns) h = absurd h
 runs old new (line ∷ lines) [] h = absurd h
@@ -117,7 +117,7 @@ pub record IsUnder (now was is : Option (List ℕ)) (store : Shown) (ending : En
   pub front : List (List ℕ)
   pub lines : lines_of input ≡ front ++ lines_of rest
   pub turns : List Turn
-  pub plays : AllPlay widest_start front turns store
+  pub plays : AreTurnsOf widest_start front turns store
   pub wrote : Appends was is (flat_map turn_text turns)
   pub ending_is : ending ≡ ending_of turns
 
@@ -134,7 +134,7 @@ begun (Some input) was store is = record {
   ending_is = refl;
 }
 
-are_answered : (front : List (List ℕ)) (turns : List Turn) (store : Shown) (ending : Ending) → AllPlay widest_start front turns store → ending ≡ ending_of turns → AreAnswered front (flat_map turn_text turns) ending
+are_answered : (front : List (List ℕ)) (turns : List Turn) (store : Shown) (ending : Ending) → AreTurnsOf widest_start front turns store → ending ≡ ending_of turns → AreAnswered front (flat_map turn_text turns) ending
 are_answered front turns store ending plays is = record {
   turns = turns;
   end = store;

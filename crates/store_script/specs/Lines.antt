@@ -3,7 +3,7 @@ use Rattle.std.specs.Prelude.{◌≡◌, ℕ, List, length, take}
 use Rattle.std.specs.Io.Iter.{u64_saturate}
 use Rattle.std.specs.Io.BufRead.{strip_last}
 use Rattle.store_core.specs.Model.{Shown}
-use Rattle.store_script.specs.Script.{Answered, Plays}
+use Rattle.store_script.specs.Script.{Answered, IsTurnOf}
 use Rattle.store_script.specs.declared.ending.Ending.{Ending}
 
 -- the most bytes of a command's line without its line feed: `put`, two numbers of 20 digits, and the digits of a part
@@ -16,4 +16,4 @@ IsReadLine whole count kept = (count ≡ u64_saturate (length whole)) × (kept �
 
 -- what is answered to it
 pub record AnswersRead (old new : Shown) (count : ℕ) (kept text : List ℕ) (ending : Ending) : Type 0 where
-  pub answers : (whole : List ℕ) → IsReadLine whole count kept → Answered (λ turn. Plays old (strip_last 10 whole) turn new) text ending
+  pub answers : (whole : List ℕ) → IsReadLine whole count kept → Answered (λ turn. IsTurnOf old (strip_last 10 whole) turn new) text ending

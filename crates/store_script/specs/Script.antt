@@ -58,35 +58,35 @@ turn_ending (unmade fault) = fault_ending fault
 turn_ending (took command reply) = reply_ending reply
 
 -- this step alone
-abbrev pub Takes : Shown → Command → Turn → Shown → Type 0
-Takes old command (took asked reply) new = (asked ≡ command) × Step old command reply new
-Takes old command _ new = ⊥
+abbrev pub IsTurnOfStep : Shown → Command → Turn → Shown → Type 0
+IsTurnOfStep old command (took asked reply) new = (asked ≡ command) × Step old command reply new
+IsTurnOfStep old command _ new = ⊥
 
 -- a part that nothing refuses is put, unless memory is refused where it is made
-abbrev pub Puts : Shown → ℕ → PlannedPart → Turn → Shown → Type 0
-Puts old upload part (unmade fault) new = (fault ≡ faults.NoMemory) × (new ≡ old)
-Puts old upload part (took asked reply) new = (asked ≡ put upload part) × Step old (put upload part) reply new
-Puts old upload part _ new = ⊥
+abbrev pub IsTurnOfPart : Shown → ℕ → PlannedPart → Turn → Shown → Type 0
+IsTurnOfPart old upload part (unmade fault) new = (fault ≡ faults.NoMemory) × (new ≡ old)
+IsTurnOfPart old upload part (took asked reply) new = (asked ≡ put upload part) × Step old (put upload part) reply new
+IsTurnOfPart old upload part _ new = ⊥
 
 -- a part that is refused is not put
-abbrev pub MakesPart : Shown → ℕ → PlannedPart → Option PartFault → Turn → Shown → Type 0
-MakesPart old upload part (Some fault) turn new = (turn ≡ unmade fault) × (new ≡ old)
-MakesPart old upload part None turn new = Puts old upload part turn new
+abbrev pub IsTurnOfMade : Shown → ℕ → PlannedPart → Option PartFault → Turn → Shown → Type 0
+IsTurnOfMade old upload part (Some fault) turn new = (turn ≡ unmade fault) × (new ≡ old)
+IsTurnOfMade old upload part None turn new = IsTurnOfPart old upload part turn new
 
 -- first the upload's plan is asked for
-abbrev pub PutsBy : Shown → ℕ → ℕ → List ℕ → Result UploadPlan Refusal → Turn → Shown → Type 0
-PutsBy old upload offset bytes (Err refusal) turn new = Takes old (plan upload) turn new
-PutsBy old upload offset bytes (Ok made_for) turn new = MakesPart old upload (planned made_for offset bytes) (part_refusal made_for offset (length bytes)) turn new
+abbrev pub IsTurnOfPut : Shown → ℕ → ℕ → List ℕ → Result UploadPlan Refusal → Turn → Shown → Type 0
+IsTurnOfPut old upload offset bytes (Err refusal) turn new = IsTurnOfStep old (plan upload) turn new
+IsTurnOfPut old upload offset bytes (Ok made_for) turn new = IsTurnOfMade old upload (planned made_for offset bytes) (part_refusal made_for offset (length bytes)) turn new
 
-abbrev pub Does : Shown → Option ScriptCommand → Turn → Shown → Type 0
-Does old None turn new = (turn ≡ bad) × (new ≡ old)
-Does old (Some (asks command)) turn new = Takes old command turn new
-Does old (Some (puts upload offset bytes)) turn new = PutsBy old upload offset bytes (plan_in old.state upload) turn new
+abbrev pub IsTurnOfCommand : Shown → Option ScriptCommand → Turn → Shown → Type 0
+IsTurnOfCommand old None turn new = (turn ≡ bad) × (new ≡ old)
+IsTurnOfCommand old (Some (asks command)) turn new = IsTurnOfStep old command turn new
+IsTurnOfCommand old (Some (puts upload offset bytes)) turn new = IsTurnOfPut old upload offset bytes (plan_in old.state upload) turn new
 
 -- what a line comes to in a store, and what it leaves
-abbrev pub Plays : Shown → List ℕ → Turn → Shown → Type 0
-Plays old [] turn new = (turn ≡ skipped) × (new ≡ old)
-Plays old (b ∷ line) turn new = Does old (command_at (b ∷ line)) turn new
+abbrev pub IsTurnOf : Shown → List ℕ → Turn → Shown → Type 0
+IsTurnOf old [] turn new = (turn ≡ skipped) × (new ≡ old)
+IsTurnOf old (b ∷ line) turn new = IsTurnOfCommand old (command_at (b ∷ line)) turn new
 
 -- a turn of which this holds, with its answer and its ending
 pub record Answered (Is : Turn → Type 0) (text : List ℕ) (ending : Ending) : Type 0 where
@@ -98,11 +98,11 @@ pub record Answered (Is : Turn → Type 0) (text : List ℕ) (ending : Ending) :
 -- ---- a script
 
 -- lines in order, each with its turn
-abbrev pub AllPlay : Shown → List (List ℕ) → List Turn → Shown → Type 0
-AllPlay old [] [] new = new ≡ old
-AllPlay old [] (turn ∷ turns) new = ⊥
-AllPlay old (line ∷ lines) [] new = ⊥
-AllPlay old (line ∷ lines) (turn ∷ turns) new = (then : Shown) × Plays old line turn then × AllPlay then lines turns new
+abbrev pub AreTurnsOf : Shown → List (List ℕ) → List Turn → Shown → Type 0
+AreTurnsOf old [] [] new = new ≡ old
+AreTurnsOf old [] (turn ∷ turns) new = ⊥
+AreTurnsOf old (line ∷ lines) [] new = ⊥
+AreTurnsOf old (line ∷ lines) (turn ∷ turns) new = (then : Shown) × IsTurnOf old line turn then × AreTurnsOf then lines turns new
 
 -- the steps among turns, and their replies
 abbrev pub commands_of : List Turn → List Command
@@ -141,7 +141,7 @@ widest_start = record { state = empty_books most_tenants most_entries most_worke
 pub record AreAnswered (lines : List (List ℕ)) (output : List ℕ) (ending : Ending) : Type 0 where
   pub turns : List Turn
   pub end : Shown
-  pub plays : AllPlay widest_start lines turns end
+  pub plays : AreTurnsOf widest_start lines turns end
   pub run : Run widest_start (commands_of turns) (replies_of turns) end
   pub law : IsCarried end
   pub text_is : output ≡ flat_map turn_text turns

@@ -8,7 +8,7 @@ ghost use Rattle.store_core.specs.Commands.{plan_in, reply_seen};
 ghost use Rattle.store_script.specs.Answers.{told_ending, told_text};
 ghost use Rattle.store_script.specs.Commands.{reply_of};
 ghost use Rattle.store_script.specs.Lines.{AnswersRead};
-ghost use Rattle.store_script.specs.Script.{Answered, Plays, PutsBy, fault_ending, reply_ending};
+ghost use Rattle.store_script.specs.Script.{Answered, IsTurnOf, IsTurnOfPut, fault_ending, reply_ending};
 ghost use Rattle.std.specs.Io.BufRead.{strip_last};
 
 use crate::command::ScriptCommand;
@@ -118,7 +118,7 @@ fn answer_line(
     line: &[u8],
     work: &mut Work,
 ) -> Result<Answer, AllocError>
-    ensures answered { IfOk result (λ answer. Answered (λ turn. Plays store.old line.now turn store.new) (told_text store.new answer) (told_ending answer)) }
+    ensures answered { IfOk result (λ answer. Answered (λ turn. IsTurnOf store.old line.now turn store.new) (told_text store.new answer) (told_ending answer)) }
     ensures unchanged { OnErr result (store.new ≡ store.old) }
 {
     if line.is_empty() {
@@ -146,7 +146,7 @@ pub fn put_part(
     bytes: Vec<u8>,
     work: &mut Work,
 ) -> Answer
-    ensures { Answered (λ turn. PutsBy store.old upload offset bytes.items (plan_in store.old.state upload) turn store.new) (told_text store.new result) (told_ending result) }
+    ensures { Answered (λ turn. IsTurnOfPut store.old upload offset bytes.items (plan_in store.old.state upload) turn store.new) (told_text store.new result) (told_ending result) }
 {
     let plan = match store.plan(upload) {
         Ok(plan) => plan,

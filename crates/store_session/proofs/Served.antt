@@ -11,7 +11,7 @@ use Rattle.store_core.specs.Runs.{Command, Reply, Step}
 use Rattle.store_script.specs.Answers.{told_ending, told_text}
 use Rattle.store_script.specs.Commands.{reply_of}
 use Rattle.store_script.specs.Lines.{AnswersRead}
-use Rattle.store_script.specs.Script.{Answered, PutsBy, took}
+use Rattle.store_script.specs.Script.{Answered, IsTurnOfPut, took}
 use Rattle.store_script.specs.declared.answer.Answer.{Answer}
 use Rattle.store_script.specs.declared.answer.Answer.TheVariants as answers
 use Rattle.store_script.specs.declared.reply.Reply.{Reply as CodeReply}

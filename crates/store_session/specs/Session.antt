@@ -14,7 +14,7 @@ use Rattle.store_core.specs.Commands.{plan_in}
 use Rattle.store_core.specs.Model.{Shown}
 use Rattle.store_core.specs.Runs.{Command, Reply, Run, Step, fetch, journal, the_bytes, the_journal}
 use Rattle.store_script.specs.Commands.{command_seen}
-use Rattle.store_script.specs.Script.{PutsBy, widest_start}
+use Rattle.store_script.specs.Script.{IsTurnOfPut, widest_start}
 use Rattle.store_script.specs.Script as script
 use Rattle.store_script.specs.Texts.{entries_text, refused_text, reply_text}
 use Rattle.store_session.specs.Requests.{request_in}
@@ -65,17 +65,17 @@ session_turn_text (told_from from reply) = told_by (later_text from) reply
 -- a line of a script comes to what it comes to there, unless memory is refused for it
 abbrev pub InScript : Shown → List ℕ → SessionTurn → Shown → Type 0
 InScript old line no_memory new = new ≡ old
-InScript old line (as_script turn) new = script.Plays old line turn new
+InScript old line (as_script turn) new = script.IsTurnOf old line turn new
 InScript old line _ new = ⊥
 
 -- a part's bytes are put as a script's are
 abbrev pub PutsRaw : Shown → ℕ → ℕ → List ℕ → SessionTurn → Shown → Type 0
-PutsRaw old upload offset bytes (as_script turn) new = PutsBy old upload offset bytes (plan_in old.state upload) turn new
+PutsRaw old upload offset bytes (as_script turn) new = IsTurnOfPut old upload offset bytes (plan_in old.state upload) turn new
 PutsRaw old upload offset bytes _ new = ⊥
 
 -- a question
 abbrev pub Replies : Shown → Command → SessionTurn → Shown → Type 0
-Replies old command (as_script turn) new = script.Takes old command turn new
+Replies old command (as_script turn) new = script.IsTurnOfStep old command turn new
 Replies old command _ new = ⊥
 
 -- a fetch, of which a range is given

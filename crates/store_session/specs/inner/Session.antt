@@ -5,7 +5,7 @@ use Rattle.std.specs.Io.KnownBytes.{Appends}
 use Rattle.store_core.specs.Commands.{plan_in}
 use Rattle.store_core.specs.Model.{Shown}
 use Rattle.store_script.specs.Answers.{told_ending, told_text}
-use Rattle.store_script.specs.Script.{Answered, PutsBy}
+use Rattle.store_script.specs.Script.{Answered, IsTurnOfPut}
 use Rattle.store_script.specs.declared.answer.Answer.{Answer}
 use Rattle.store_session.specs.inner.Reads.{IsLineRead}
 use Rattle.store_session.specs.Requests.{request_in}
@@ -47,4 +47,4 @@ ServesPut false old upload offset len behind new left was is = (length behind < 
 abbrev pub Receives : Option Answer → Shown → ℕ → ℕ → ℕ → List ℕ → Shown → Option (List ℕ) → Type 0
 Receives None old upload offset len behind new left = length behind < len
 Receives (Some answer) old upload offset len behind new left =
-    (len ≤ length behind) × (left ≡ Some (drop len behind)) × Answered (λ turn. PutsBy old upload offset (take len behind) (plan_in old.state upload) turn new) (told_text new answer) (told_ending answer)
+    (len ≤ length behind) × (left ≡ Some (drop len behind)) × Answered (λ turn. IsTurnOfPut old upload offset (take len behind) (plan_in old.state upload) turn new) (told_text new answer) (told_ending answer)
