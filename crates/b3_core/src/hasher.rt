@@ -9,7 +9,7 @@ ghost use Rattle.b3_core.specs.Work.{NeverFalls, hash_work};
 
 use crate::kept::Kept;
 use crate::mode::Mode;
-use crate::top::Top;
+use crate::node::Top;
 use crate::work::Work;
 use std::alloc::AllocError;
 use std::fmt;

@@ -8,7 +8,7 @@ ghost use Rattle.b3_core.specs.Work.{NeverFalls, hash_work};
 
 use crate::kept::Kept;
 use crate::mode::Mode;
-use crate::top::Top;
+use crate::node::Top;
 use crate::work::Work;
 
 /// A [`Hasher`](crate::Hasher) as plain numbers, laid out as C lays them out, so that a program in another language can own it where

@@ -9,8 +9,8 @@ ghost use Rattle.b3_core.specs.Work.{NeverFalls, counted, hash_work};
 
 use crate::compression::CHUNK_LEN;
 use crate::mode::Mode;
+use crate::node::Top;
 use crate::places::{Stack, Subtree, Tail};
-use crate::top::Top;
 use crate::wide::wide_top;
 use crate::work::Work;
 

@@ -17,9 +17,10 @@
 //! - `OutputReader` reads the extended output; `CountedOutput` reads it as `std::io::Read` does.
 //! - `tree_laws` states the tree in the specification's own words.
 //!
-//! Beside the specification's own way, from `compression` over `top` to `tree`, `wide` has the quick one.
+//! Beside the specification's own way, from `compression` over `chunk` and `node` to `tree`, `wide` has the quick one.
 #![tactic(auto)]
 
+mod chunk;
 mod compression;
 mod counted_output;
 mod derive;
@@ -28,10 +29,10 @@ mod hasher_state;
 mod kept;
 mod laws;
 mod mode;
+mod node;
 mod output;
 mod places;
 mod rows;
-mod top;
 mod tree;
 mod vectors;
 mod wide;
@@ -47,8 +48,8 @@ pub use hasher::Hasher;
 pub use hasher_state::HasherState;
 pub use laws::tree_laws;
 pub use mode::Mode;
+pub use node::Top;
 pub use output::{OutputEnd, OutputReader};
-pub use top::Top;
 pub use tree::hash;
 pub use wide::{hash_wide, is_subtree};
 pub use work::{Runtime, Work};

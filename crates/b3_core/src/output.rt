@@ -5,7 +5,7 @@ ghost use Rattle.b3_core.specs.ExtendedOutput.{Reader, output_of, blocks_touched
 ghost use Rattle.b3_core.specs.Texts.{output_end_code, output_end_text, reader_text};
 ghost use Rattle.b3_core.specs.Work.{counted};
 
-use crate::top::Top;
+use crate::node::Top;
 use crate::work::Work;
 use std::error::Error;
 use std::fmt;

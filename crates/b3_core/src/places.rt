@@ -6,7 +6,7 @@ ghost use Rattle.b3_core.specs.Tree.{Inputs};
 
 use crate::compression::CHUNK_LEN;
 use crate::mode::Mode;
-use crate::top::Top;
+use crate::node::Top;
 use std::marker::Model;
 
 /// The levels of a tree over less than 2^64 bytes.

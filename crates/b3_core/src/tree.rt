@@ -7,7 +7,7 @@ ghost use Rattle.b3_core.specs.Work.{counted, hash_work};
 
 use crate::compression::CHUNK_LEN;
 use crate::mode::Mode;
-use crate::top::Top;
+use crate::node::Top;
 use crate::work::Work;
 
 /// Where an input of more than one chunk is split.

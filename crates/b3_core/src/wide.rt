@@ -14,7 +14,7 @@ mod pairs;
 
 use crate::compression::CHUNK_LEN;
 use crate::mode::Mode;
-use crate::top::Top;
+use crate::node::Top;
 use crate::tree::left_len;
 use crate::vectors::Words;
 use crate::wide::lanes::{chunk_values, lane_parents, lane_words, parent_values};

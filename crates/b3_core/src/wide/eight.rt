@@ -8,7 +8,7 @@ ghost use Rattle.b3_core.specs.Work.{counted};
 
 use crate::compression::{BLOCK_LEN, CHUNK_END, CHUNK_LEN};
 use crate::mode::Mode;
-use crate::top::Top;
+use crate::node::Top;
 use crate::wide::lanes::{chains, lane_words};
 use crate::words::words_of_block;
 use crate::work::Work;

@@ -1,16 +1,14 @@
-//! A node of the tree: one chunk, or the parent of two nodes.
+//! A node of the tree: one chunk (`chunk.rt`), or the parent of two nodes.
 
-ghost use Rattle.std.specs.Prelude.{◌≡◌, ℕ, ◌+◌, ◌-◌, ◌*◌, ◌^◌, ◌<◌, ◌≤◌, Some, length, slice_index};
+ghost use Rattle.std.specs.Prelude.{◌≡◌, ℕ, ◌+◌, ◌*◌, ◌^◌, ◌<◌, ◌≤◌, Some, length, slice_index};
 ghost use Rattle.b3_core.specs.ExtendedOutput.{output_of, root_words_of};
-ghost use Rattle.b3_core.specs.Tree.{Inputs, chunk_top, parent_top, chaining_value_of};
+ghost use Rattle.b3_core.specs.Tree.{Inputs, parent_top, chaining_value_of};
 ghost use Rattle.b3_core.specs.Texts.{top_text};
-ghost use Rattle.b3_core.specs.Work.{counted, block_count};
+ghost use Rattle.b3_core.specs.Work.{counted};
 
-use crate::compression::{
-    BLOCK_LEN, CHUNK_END, PARENT, ROOT, compress, compress_to_value, start_flag,
-};
+use crate::compression::{PARENT, ROOT, compress, compress_to_value};
 use crate::mode::Mode;
-use crate::words::{bytes_of, joined, words_of_block, words_of_short_block};
+use crate::words::{bytes_of, joined};
 use crate::work::Work;
 use std::fmt;
 use std::marker::Model;
@@ -51,31 +49,6 @@ impl Model for Top {
 }
 
 impl Top {
-    /// The node of one chunk of at most 1024 bytes (section 2.4). `number` counts the chunks before it in the input.
-    pub fn of_chunk(mode: &Mode, bytes: &[u8], number: u64, work: &mut Work) -> Top
-        requires { length bytes.now ≤ 1024 }
-        ensures node { result ≡ chunk_top bytes.now number mode.now }
-        ensures count { work.new ≡ counted work.old (block_count (length bytes.now) - 1) }
-    {
-        let last = bytes.len().saturating_sub(1) / BLOCK_LEN;
-        let mut chaining_value = mode.key();
-        // Its proof names the loop by the label.
-        'blocks: for j in 0..last {
-            let at = BLOCK_LEN * j;
-            let block = words_of_block(&bytes[at..at + BLOCK_LEN]);
-            let flags = mode.flag() + start_flag(j);
-            chaining_value = compress_to_value(&chaining_value, &block, number, 64, flags, work);
-        }
-        let tail = &bytes[BLOCK_LEN * last..];
-        Top {
-            chaining_value,
-            block_words: words_of_short_block(tail),
-            counter: number,
-            block_len: tail.len() as u32,
-            flags: (mode.flag() + start_flag(last) + CHUNK_END) as u8,
-        }
-    }
-
     /// The parent of two nodes (section 2.5).
     pub fn parent(mode: &Mode, left: &Top, right: &Top, work: &mut Work) -> Top
         ensures node { result ≡ parent_top left.now right.now mode.now }

@@ -1,5 +1,5 @@
 use Rattle.std.proofs.Common.{refl, arith}
-use Rattle.b3_core.proofs.top.Top.of_eight.Goals as goal
+use Rattle.b3_core.proofs.node.Top.of_eight.Goals as goal
 
 pub returns-clause-nodes : goal.returns-clause-nodes
 returns-clause-nodes c =

@@ -3,7 +3,7 @@ use Rattle.std.proofs.lemmas.List.{length-drop, length-take-le, drop-take, drop-
 use Rattle.b3_core.specs.Tree.{block_words_of}
 use Rattle.b3_core.specs.Lanes.{chunk_bytes}
 use Rattle.b3_core.proofs.Nodes.{chunk_is}
-use Rattle.b3_core.proofs.top.Top.of_lane.Goals as goal
+use Rattle.b3_core.proofs.node.Top.of_lane.Goals as goal
 
 pub returns : goal.returns
 returns c = λ held.

@@ -3,7 +3,7 @@ use Rattle.std.specs.Prelude.{map}
 use Rattle.std.specs.List.{range_with_len}
 use Rattle.b3_core.specs.ExtendedOutput.{byte_of}
 use Rattle.b3_core.proofs.OutputBytes.{block_bytes}
-use Rattle.b3_core.proofs.top.Top.output_block.Goals as goal
+use Rattle.b3_core.proofs.node.Top.output_block.Goals as goal
 
 pub returns-clause-bytes : goal.returns-clause-bytes
 returns-clause-bytes c =

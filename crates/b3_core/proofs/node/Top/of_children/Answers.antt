@@ -1,6 +1,6 @@
 use Rattle.std.proofs.Common.{◌++◌, List, ℕ, ap₂, ap, ◌∙◌, ◌+◌}
 use Rattle.b3_core.proofs.Nodes.{parent_is}
-use Rattle.b3_core.proofs.top.Top.of_children.Goals as goal
+use Rattle.b3_core.proofs.node.Top.of_children.Goals as goal
 
 pub returns : goal.returns
 returns c l r left right =

@@ -2,7 +2,7 @@ use Rattle.std.proofs.Common.{◌≡◌, ◌+◌, ◌-◌, ◌*◌, ◌/◌, dro
 use Rattle.std.proofs.lemmas.List.{take_rest, length-drop}
 use Rattle.b3_core.specs.Tree.{chain, block_words_of, start_flag}
 use Rattle.b3_core.proofs.Nodes.{chain_step, chunk_is}
-use Rattle.b3_core.proofs.top.Top.of_chunk.Goals as goal
+use Rattle.b3_core.proofs.node.Top.of_chunk.Goals as goal
 
 pub blocks-2-init : goal.blocks-2-init
 unfolding chain

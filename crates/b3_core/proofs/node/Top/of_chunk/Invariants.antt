@@ -1,7 +1,7 @@
 use Rattle.std.proofs.Common.{◌≡◌}
 use Rattle.b3_core.specs.Tree.{chain}
 use Rattle.b3_core.specs.Work.{counted}
-use Rattle.b3_core.proofs.top.Top.of_chunk.Given as goal
+use Rattle.b3_core.proofs.node.Top.of_chunk.Given as goal
 
 abbrev pub invariant-blocks-2 : goal.invariant-blocks-2
 invariant-blocks-2 l = record {
