@@ -35,7 +35,7 @@ impl Model for CheckFile {
 
 impl CheckFile {
     /// Reads a file's lines. A line feed ends a line, and the last one may lack it. A line that holds nothing but
-    /// carriage returns is left out, and with_line.
+    /// carriage returns is left out; it counts among the lines.
     pub fn read(alloc: Global, bytes: &[u8]) -> Result<CheckFile, AllocError>
         ensures { IfOk result (λ file. file ≡ file_at bytes.now) }
     {
