@@ -1,5 +1,5 @@
-"""python3 tests/of_tests: shows that tests/growths, tests/random, tests/memory, tests/program and tests/clients fail where they must: over `true`
-and `cat` in the program's place, where no growth can be refused, and where there is no C compiler or no test program. Each is run
+"""python3 tests/of_tests: shows that tests/growths, tests/random, tests/memory, tests/program, tests/clients and tests/soak fail where they must: over
+`true` and `cat` in the program's place, where no growth can be refused, and where there is no C compiler or no test program. Each is run
 so, and must end with status 1 and a last line `N passed, M failed`, where M is not 0 and no more pass than is said here.
 
 A stand-in (stand_in.c) gives the answers that tests/growths wants, and grows once. With it tests/growths passes; linked statically
@@ -139,6 +139,8 @@ def try_program(trials, name):
     trials.fails(f"memory over {name}", [memory, program, "--program-alone"], "it answered")
     trials.fails(f"program over {name}", [os.path.join(TESTS, "program"), program], most=MOST_OF_A_HUNDRED)
     trials.fails(f"clients over {name}", [os.path.join(TESTS, "clients"), program], most=MOST_OF_CLIENTS)
+    few = ["--cases", "8", "--commands", "400", "--uploads", "4", "--minutes", "0.01"]
+    trials.fails(f"soak over {name}", [os.path.join(TESTS, "soak"), program, *few])
 
 
 def main():

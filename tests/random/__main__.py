@@ -1,6 +1,6 @@
 """python3 tests/random PROGRAM [--cases N] [--seed S]: runs the program over random scripts, sessions, journals, check files,
 uploads and inputs of `sum`, and compares what it writes with the plain second reading of tests/second_reading, which was written from
-docs/COMMANDS.md.
+docs/FORMATS.md.
 
 A case that differs is printed behind FAILED with its seed; `--cases 1 --seed S` runs it again. The last line is
 `N passed, M failed`.

@@ -1,4 +1,4 @@
-"""A second reading of check files, from docs/COMMANDS.md."""
+"""A second reading of check files, from docs/FORMATS.md."""
 import re
 
 
