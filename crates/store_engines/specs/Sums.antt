@@ -2,6 +2,7 @@
 use Rattle.std.specs.Prelude.{◌≡◌, ◌⊎◌, ℕ, Bool, true, false, List, [], ◌∷◌, ◌++◌, Option, Some, None, Result, Ok, Err, codes, if◌then◌else◌}
 use Rattle.std.specs.List.{list_all}
 use Rattle.std.specs.Io.KnownBytes.{Appends}
+use Rattle.std.specs.Str.{IsUtf8}
 use Rattle.hex.specs.Hex.{encode_lower}
 use Rattle.b3_core.specs.Tree.{Inputs, Keying, tree_top}
 use Rattle.b3_core.specs.ExtendedOutput.{output_of}
@@ -97,6 +98,10 @@ pub record IsSumStopped {S : Type 0} (gives : S → List ℕ → Result Inputs F
   pub answered : AreRootAnswers gives tells old front answers mid
   pub stopped : IsStoppedAt gives cause mid name new
   pub wrote : cause ≡ OutOfMemory → Appends before after (root_answers_text length front answers)
+
+-- what may be answered of a file's name: a name that is not UTF-8 has no root
+abbrev pub IsRootOfFile : List ℕ → Result Inputs FileFault → Type 0
+IsRootOfFile name answer = IsUtf8 name ⊎ (answer ≡ Err (Failed NotUtf8))
 
 -- what the system's files, or another source of some bytes, may answer in a mode: a root is that of some bytes
 abbrev pub IsRootOfSome : Keying → Result Inputs FileFault → Type 0

@@ -1,12 +1,14 @@
 //! The system's files, by their names.
 
-ghost use Rattle.std.specs.Prelude.{◌≡◌, ◌⊎◌, ℕ, List, None, Err, IfOk, IfSome};
+ghost use Rattle.std.specs.Prelude.{◌≡◌, ◌↔◌, ◌⊎◌, ℕ, List, None, Err, IfNone, IfOk, IfSome};
+ghost use Rattle.std.specs.Io.KnownBytes.{IsAtEnd};
+ghost use Rattle.std.specs.IoError.{error_kind};
 ghost use Rattle.std.specs.Str.{IsUtf8};
 ghost use Rattle.b3_core.specs.Tree.{tree_top};
 ghost use Rattle.store_engines.specs.Files.{IsSomeRoot};
 ghost use Rattle.store_engines.specs.Sums.{IsRootOfSome, sum_mode};
-ghost use Rattle.store_engines.specs.declared.sources.FileFault.TheVariants.{Failed};
-ghost use Rattle.store_engines.specs.declared.sources.Reason.TheVariants.{NotUtf8};
+ghost use Rattle.store_engines.specs.declared.sources.FileFault.TheVariants.{Failed, NoMemory};
+ghost use Rattle.store_engines.specs.declared.sources.Reason.TheVariants.{IsFolder, Missing, NoPermission, NotUtf8};
 
 use crate::ahead::{Known, hash_runs, names_of_lines, next_names, small_root};
 use crate::sources::{FileFault, Reason, Sources, Standing};
@@ -61,7 +63,11 @@ struct FileHasher<'a, T> {
 
 /// Why an open or a read failed.
 pub fn fault_of(error: &io::Error) -> FileFault
-    ensures { result ≡ Failed NotUtf8 → ⊥ }
+    ensures memory { (result ≡ NoMemory) ↔ (error_kind error.now ≡ ErrorKind.OutOfMemory) }
+    ensures missing { (result ≡ Failed Missing) ↔ (error_kind error.now ≡ ErrorKind.NotFound) }
+    ensures folder { (result ≡ Failed IsFolder) ↔ (error_kind error.now ≡ ErrorKind.IsADirectory) }
+    ensures permission { (result ≡ Failed NoPermission) ↔ (error_kind error.now ≡ ErrorKind.PermissionDenied) }
+    ensures read { result ≡ Failed NotUtf8 → ⊥ }
 {
     match error.kind() {
         ErrorKind::OutOfMemory => FileFault::NoMemory,
@@ -139,6 +145,8 @@ impl<T: Threads + Runtime> FileHasher<'_, T> {
     fn standing_root<I: Standing>(&mut self, input: &mut I) -> Option<Top>
         ensures root { IfSome result (λ top. (bytes : List ℕ) × (top ≡ tree_top bytes 0 self.old.mode)) }
         ensures mode { self.new.mode ≡ self.old.mode }
+        ensures end { IfSome result (λ _. IsAtEnd (I.remaining input.new)) }
+        ensures none { IfNone result (input.new ≡ input.old) }
     {
         let Some((file, start)) = input.as_file() else {
             return None;
@@ -206,6 +214,8 @@ impl<'a, T: Threads + Runtime> SystemFiles<'a, T> {
     pub fn root_of_file_input<I: Standing>(&mut self, input: &mut I) -> Option<Top>
         ensures root { IfSome result (λ top. (bytes : List ℕ) × (top ≡ tree_top bytes 0 self.old.mode)) }
         ensures mode { self.new.mode ≡ self.old.mode }
+        ensures end { IfSome result (λ _. IsAtEnd (I.remaining input.new)) }
+        ensures none { IfNone result (input.new ≡ input.old) }
     {
         self.hasher.standing_root(input)
     }
@@ -333,10 +343,11 @@ fn write_reason<E: Write>(name: &[u8], reason: Reason, told: &mut E) -> io::Resu
 
 impl<T: Threads + Runtime, I: Standing + Drop, E: Write + Drop> Sources
     for SystemInputs<'_, T, I, E> {
-    ghost use Rattle.std.specs.Prelude.{◌≡◌};
-    ghost use Rattle.store_engines.specs.Sums.{IsRootOfSome};
+    ghost use Rattle.std.specs.Prelude.{◌≡◌, ◌≢◌, codes};
+    ghost use Rattle.store_engines.specs.Sums.{IsRootOfFile, IsRootOfSome};
 
-    ghost gives = { λ old name answer new. IsRootOfSome old.files.mode answer × (new.files.mode ≡ old.files.mode) };
+    // Of a name but `-` the input gives nothing.
+    ghost gives = { λ old name answer new. IsRootOfSome old.files.mode answer × (name ≢ codes "-" → IsRootOfFile name answer × (new.input ≡ old.input)) × (new.files.mode ≡ old.files.mode) };
 
     ghost tells = { λ old name reason new. new.files.mode ≡ old.files.mode };
 

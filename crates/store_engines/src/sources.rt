@@ -1,6 +1,7 @@
 //! Where the bytes come from that are hashed.
 
 ghost use Rattle.std.specs.Prelude.{◌≡◌, ℕ, List, Result};
+ghost use Rattle.std.specs.Io.KnownBytes.{IsAtEnd};
 ghost use Rattle.b3_core.specs.Tree.{Inputs};
 ghost use Rattle.store_engines.specs.Sums.{reason_text};
 ghost use Rattle.store_engines.specs.declared.sources.FileFault.{FileFault as Refusal};
@@ -79,5 +80,6 @@ pub trait Standing: Read {
     fn as_file(&self) -> Option<(File, u64)>;
 
     /// Takes all that the file has from there on: the input gives none of it any more.
-    fn take_all(&mut self);
+    fn take_all(&mut self)
+        ensures { IsAtEnd (Self.remaining self.new) };
 }

@@ -1,7 +1,8 @@
 //! Reading all of an input.
 
-ghost use Rattle.std.specs.Prelude.{◌≡◌, ◌≢◌, ◌<◌, ◌≤◌, IfSome, OnOk, IfOk, IfErr, take, vec_len};
+ghost use Rattle.std.specs.Prelude.{◌≡◌, ◌≢◌, ◌↔◌, ◌<◌, ◌≤◌, IfSome, OnOk, IfOk, IfErr, take, vec_len};
 ghost use Rattle.std.specs.Io.KnownBytes.{Consumes, IsAtEnd, Keeps};
+ghost use Rattle.std.specs.IoError.{error_kind};
 
 use b3_forest::{Stretches, StretchesBuilder};
 use edge::Cause;
@@ -18,7 +19,8 @@ fn at_a_time() -> usize
 
 /// Why a read failed.
 pub(crate) fn read_cause(error: &Error) -> Cause
-    ensures { result ≢ Cause.CannotWrite }
+    ensures memory { (result ≡ Cause.OutOfMemory) ↔ (error_kind error.now ≡ ErrorKind.OutOfMemory) }
+    ensures cause { result ≢ Cause.CannotWrite }
 {
     if error.kind() == ErrorKind::OutOfMemory {
         Cause::OutOfMemory
