@@ -321,6 +321,11 @@ class Server(http.server.ThreadingHTTPServer):
         super().__init__(address, Handler)
         self.cache = cache
 
+    def handle_error(self, request, client_address):
+        """A connection that a client cuts is no fault of the server's."""
+        if not isinstance(sys.exc_info()[1], ConnectionError):
+            super().handle_error(request, client_address)
+
 
 def pieces(file, length):
     """So many bytes of a file, a piece at a time."""
