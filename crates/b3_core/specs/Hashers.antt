@@ -1,6 +1,6 @@
 -- Bytes that come in pieces, and what is kept of them: one node for each whole subtree, and the bytes behind these.
 use Rattle.std.specs.Prelude.{◌≡◌, ℕ, ◌+◌, ◌-◌, ◌*◌, ◌/◌, ◌%◌, ◌^◌, ◌<◌, ◌≤◌, List, [], ◌∷◌, ◌++◌, length}
-use Rattle.b3_core.specs.Tree.{Inputs, Keying, tree_top}
+use Rattle.b3_core.specs.Tree.{Inputs, Keying, chunk_len, tree_top}
 use Rattle.b3_core.specs.Work.{counted, hash_work}
 
 -- the nodes of whole subtrees with their levels, the last first
@@ -27,12 +27,12 @@ AreFrom k (s ∷ subtrees) = k ≤ s.0
 abbrev pub AreSubtrees : Keying → Subtrees → List ℕ → Type 0
 AreSubtrees p [] x = x ≡ []
 AreSubtrees p (s ∷ subtrees) x =
-    (before : List ℕ) × (mine : List ℕ) × (x ≡ before ++ mine) × (length mine ≡ 1024 * 2 ^ s.0)
-    × (s.1 ≡ tree_top mine (length before / 1024) p) × AreAbove s.0 subtrees × AreSubtrees p subtrees before
+    (before : List ℕ) × (mine : List ℕ) × (x ≡ before ++ mine) × (length mine ≡ chunk_len * 2 ^ s.0)
+    × (s.1 ≡ tree_top mine (length before / chunk_len) p) × AreAbove s.0 subtrees × AreSubtrees p subtrees before
 
 -- the hasher was given the bytes x
 abbrev pub Holds : Hashing → List ℕ → Type 0
-Holds h x = (before : List ℕ) × (x ≡ before ++ h.tail) × AreSubtrees h.mode h.subtrees before × (length before ≡ h.whole) × (length h.tail < 1024)
+Holds h x = (before : List ℕ) × (x ≡ before ++ h.tail) × AreSubtrees h.mode h.subtrees before × (length before ≡ h.whole) × (length h.tail < chunk_len)
 
 -- a whole subtree of 2^k chunks can stand behind what the hasher was given
 abbrev pub HasRoomFor : ℕ → Hashing → Type 0
@@ -41,7 +41,7 @@ HasRoomFor k h = (h.tail ≡ []) × AreFrom k h.subtrees
 -- it does: behind the bytes x that the hasher was given stand mine, 2^k whole chunks, of which t is the node
 abbrev pub IsBehind : Hashing → ℕ → Inputs → List ℕ → List ℕ → Type 0
 IsBehind h k t x mine =
-    Holds h x × HasRoomFor k h × (length mine ≡ 1024 * 2 ^ k) × (t ≡ tree_top mine (h.whole / 1024) h.mode) × (length x + length mine < 2 ^ 64)
+    Holds h x × HasRoomFor k h × (length mine ≡ chunk_len * 2 ^ k) × (t ≡ tree_top mine (h.whole / chunk_len) h.mode) × (length x + length mine < 2 ^ 64)
 
 -- how many bytes a hasher was given, counted below 2 ^ 64
 abbrev pub count_of : Hashing → ℕ
@@ -50,7 +50,7 @@ count_of h = (h.whole + length h.tail) % 2 ^ 64
 -- the compressions behind these nodes
 abbrev pub kept_work : Subtrees → ℕ
 kept_work [] = 0
-kept_work (s ∷ subtrees) = kept_work subtrees + (hash_work (1024 * 2 ^ s.0) - 1)
+kept_work (s ∷ subtrees) = kept_work subtrees + (hash_work (chunk_len * 2 ^ s.0) - 1)
 
 -- of so many compressions in all some were made before, and the others are counted, from one count to another
 abbrev pub CountsRest : ℕ → ℕ → ℕ → ℕ → Type 0

@@ -1,10 +1,10 @@
 -- Compressions side by side: each word is a vector, with one lane for each of them.
 use Rattle.std.specs.Prelude.{ℕ, ◌+◌, ◌*◌, List, [], ◌∷◌, take, drop}
-use Rattle.b3_core.specs.Tree.{Keying, Inputs, chunk_top}
+use Rattle.b3_core.specs.Tree.{Keying, Inputs, chunk_len, chunk_top}
 
--- the bytes of chunk i, of 1024 bytes each
+-- the bytes of chunk i, where all are whole
 abbrev pub chunk_bytes : List ℕ → ℕ → List ℕ
-chunk_bytes x i = take 1024 (drop (1024 * i) x)
+chunk_bytes x i = take chunk_len (drop (chunk_len * i) x)
 
 -- the last compression of chunk i of the bytes x, whose first chunk has the number c
 abbrev pub chunk_at : List ℕ → ℕ → Keying → ℕ → Inputs

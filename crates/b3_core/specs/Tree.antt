@@ -26,6 +26,10 @@ chaining_value_of n = take 8 (node_words n)
 
 -- ---- chunks (section 2.4)
 
+-- the bytes of a chunk; the last of an input may have fewer (section 2.1)
+abbrev pub chunk_len : ℕ
+chunk_len = 1024
+
 -- the word at byte i, low byte first
 abbrev pub word_at : List ℕ → ℕ → ℕ
 word_at x i = from_le_bytes w32
@@ -57,7 +61,7 @@ chain x c p (suc j) = take 8 (compress_of (chain x c p j) (block_words_of (block
 abbrev pub last_block : ℕ → ℕ
 last_block n = (n - 1) / 64
 
--- a chunk's last compression: chunk c with the bytes x, of which there are at most 1024
+-- a chunk's last compression: chunk c with the bytes x, of which there are at most chunk_len
 unfoldable pub chunk_top : List ℕ → ℕ → Keying → Inputs
 chunk_top x c p =
     let j = last_block (length x) in
@@ -85,7 +89,7 @@ parent_top left right p = record {
 
 -- the chunks of n bytes; no bytes are one empty chunk
 abbrev pub chunk_count : ℕ → ℕ
-chunk_count n = max 1 ((n + 1023) / 1024)
+chunk_count n = max 1 ((n + (chunk_len - 1)) / chunk_len)
 
 -- the greatest of the powers 2 ^ 0, .., 2 ^ n that is below k, or else 1
 unfoldable pub power_below : ℕ → ℕ → ℕ
@@ -95,15 +99,15 @@ power_below (suc n) k = elim (nat_lt (2 ^ suc n) k) [ true ↦ 2 ^ suc n | false
 -- where n bytes, more than one chunk, are split: after the greatest power of two of chunks that is
 -- below the number of all chunks
 unfoldable pub left_length : ℕ → ℕ
-left_length n = 1024 * power_below (chunk_count n) (chunk_count n)
+left_length n = chunk_len * power_below (chunk_count n) (chunk_count n)
 
 -- the top of the tree over the bytes x, whose first chunk has the number c: at most n splits deep
 unfoldable pub tree_top_within : ℕ → List ℕ → ℕ → Keying → Inputs
 tree_top_within zero x c p = chunk_top x c p
-tree_top_within (suc n) x c p = elim (nat_lt 1024 (length x)) [
+tree_top_within (suc n) x c p = elim (nat_lt chunk_len (length x)) [
   | true ↦
       let s = left_length (length x) in
-      parent_top (tree_top_within n (take s x) c p) (tree_top_within n (drop s x) (c + s / 1024) p) p
+      parent_top (tree_top_within n (take s x) c p) (tree_top_within n (drop s x) (c + s / chunk_len) p) p
   | false ↦ chunk_top x c p
 ]
 

@@ -1,7 +1,7 @@
 //! A chunk, which is a leaf of the tree.
 
 ghost use Rattle.std.specs.Prelude.{◌≡◌, ◌-◌, ◌≤◌, length};
-ghost use Rattle.b3_core.specs.Tree.{chunk_top};
+ghost use Rattle.b3_core.specs.Tree.{chunk_len, chunk_top};
 ghost use Rattle.b3_core.specs.Work.{counted, block_count};
 
 use crate::compression::{BLOCK_LEN, CHUNK_END, compress_to_value, start_flag};
@@ -13,7 +13,7 @@ use crate::work::Work;
 impl Top {
     /// The node of one chunk of at most 1024 bytes (section 2.4). `number` counts the chunks before it in the input.
     pub fn of_chunk(mode: &Mode, bytes: &[u8], number: u64, work: &mut Work) -> Top
-        requires { length bytes.now ≤ 1024 }
+        requires { length bytes.now ≤ chunk_len }
         ensures node { result ≡ chunk_top bytes.now number mode.now }
         ensures count { work.new ≡ counted work.old (block_count (length bytes.now) - 1) }
     {

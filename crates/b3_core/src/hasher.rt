@@ -2,9 +2,10 @@
 
 ghost use Rattle.std.specs.Prelude.{◌≡◌, ℕ, ◌+◌, ◌-◌, ◌/◌, ◌^◌, ◌<◌, ◌↔◌, ◌++◌, List, [], ◌∷◌, Some, length, true};
 ghost use Rattle.b3_core.specs.Hashers.{HasRoomFor, IsBehind, Holds, CountsRest, count_of, kept_work};
+ghost use Rattle.b3_core.specs.Kept.{most_levels};
 ghost use Rattle.b3_core.specs.Modes.{digest_of};
 ghost use Rattle.b3_core.specs.Texts.{hasher_text};
-ghost use Rattle.b3_core.specs.Tree.{tree_top};
+ghost use Rattle.b3_core.specs.Tree.{chunk_len, tree_top};
 ghost use Rattle.b3_core.specs.Work.{NeverFalls, hash_work};
 
 use crate::kept::Kept;
@@ -65,7 +66,7 @@ impl Hasher {
 
     /// The number of the chunk behind the whole ones that were given.
     pub fn number(&self) -> u64
-        ensures value { result ≡ self.now.whole / 1024 }
+        ensures value { result ≡ self.now.whole / chunk_len }
         ensures below { result < 2 ^ 54 }
     {
         self.kept.number()
@@ -82,7 +83,7 @@ impl Hasher {
     /// Puts a whole subtree of 2^level chunks behind those that were given, as `update` with its bytes does. `top` is its
     /// node, whose first chunk has the number that `number` tells. Its own compressions are counted where it was made.
     pub fn append(&mut self, top: &Top, level: u32, work: &mut Work)
-        requires { level < 54 }
+        requires { level < most_levels }
         ensures mode { self.new.mode ≡ self.old.mode }
         ensures bytes { (x mine : List ℕ) → IsBehind self.old level top.now x mine → Holds self.new (x ++ mine) }
         ensures fits { (x mine : List ℕ) → IsBehind self.old level top.now x mine → HasRoomFor level self.new }

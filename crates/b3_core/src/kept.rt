@@ -3,8 +3,8 @@
 ghost use Rattle.std.specs.Prelude.{◌≡◌, ℕ, ◌+◌, ◌-◌, ◌*◌, ◌/◌, ◌^◌, ◌<◌, ◌≤◌, ◌↔◌, ◌++◌, List, [], ◌∷◌, length, reverse, true};
 ghost use Rattle.b3_core.specs.Hashers.{AreFrom, AreSubtrees, HasRoomFor, IsBehind, Holds, CountsRest, count_of, kept_work};
 ghost use Rattle.b3_core.specs.inner.Hashers.{IsLeft, IsNext, joined};
-ghost use Rattle.b3_core.specs.Kept.{FitsItsPlaces, kept_of, nodes_of};
-ghost use Rattle.b3_core.specs.Tree.{Keying, tree_top};
+ghost use Rattle.b3_core.specs.Kept.{FitsItsPlaces, kept_of, most_levels, nodes_of};
+ghost use Rattle.b3_core.specs.Tree.{Keying, chunk_len, tree_top};
 ghost use Rattle.b3_core.specs.Work.{NeverFalls, counted, hash_work};
 
 use crate::compression::CHUNK_LEN;
@@ -100,7 +100,7 @@ impl Kept {
 
     /// The number of the chunk behind the whole ones that were given.
     pub(crate) fn number(&self) -> u64
-        ensures value { result ≡ self.now.whole / 1024 }
+        ensures value { result ≡ self.now.whole / chunk_len }
         ensures below { result < 2 ^ 54 }
     {
         self.whole / CHUNK_LEN as u64
@@ -122,7 +122,7 @@ impl Kept {
 
     /// Puts a whole subtree of 2^level chunks behind those that were given. `top` is its node.
     pub(crate) fn append(&mut self, mode: &Mode, top: &Top, level: u32, work: &mut Work)
-        requires { level < 54 }
+        requires { level < most_levels }
         ensures bytes { (x mine : List ℕ) → IsBehind (kept_of mode.now self.old) level top.now x mine
             → Holds (kept_of mode.now self.new) (x ++ mine) }
         ensures fits { (x mine : List ℕ) → IsBehind (kept_of mode.now self.old) level top.now x mine
@@ -152,7 +152,7 @@ impl Kept {
     fn put(&mut self, mode: &Mode, next: Subtree, work: &mut Work)
         requires { next.0 < 64 }
         ensures tail { self.new.tail ≡ self.old.tail }
-        ensures whole { self.old.whole + 1024 * 2 ^ next.0 < 2 ^ 64 → self.new.whole ≡ self.old.whole + 1024 * 2 ^ next.0 }
+        ensures whole { self.old.whole + chunk_len * 2 ^ next.0 < 2 ^ 64 → self.new.whole ≡ self.old.whole + chunk_len * 2 ^ next.0 }
         ensures nodes { (x : List ℕ) → IsNext mode.now (reverse (nodes_of self.old.subtrees)) next x → length x < 2 ^ 64
             → AreSubtrees mode.now (reverse (nodes_of self.new.subtrees)) x }
         ensures from { (x : List ℕ) → IsNext mode.now (reverse (nodes_of self.old.subtrees)) next x → length x < 2 ^ 64
@@ -160,7 +160,7 @@ impl Kept {
         ensures count { (x : List ℕ) → IsNext mode.now (reverse (nodes_of self.old.subtrees)) next x → length x < 2 ^ 64
             → CountsRest (kept_work (next ∷ reverse (nodes_of self.old.subtrees))) (kept_work (reverse (nodes_of self.new.subtrees))) work.old work.new }
         ensures never_falls { NeverFalls work.old work.new }
-        ensures fits { self.old.subtrees.len ≤ 54 → self.new.subtrees.len ≤ 54 }
+        ensures fits { self.old.subtrees.len ≤ most_levels → self.new.subtrees.len ≤ most_levels }
     {
         self.whole = self.whole.wrapping_add((CHUNK_LEN as u64) << next.level);
         push(mode, &mut self.subtrees, next, work);
@@ -199,7 +199,7 @@ fn push(mode: &Mode, subtrees: &mut Stack, next: Subtree, work: &mut Work)
     ensures count { (x : List ℕ) → IsNext mode.now (reverse (nodes_of subtrees.old)) next x → length x < 2 ^ 64
         → CountsRest (kept_work (next ∷ reverse (nodes_of subtrees.old))) (kept_work (reverse (nodes_of subtrees.new))) work.old work.new }
     ensures never_falls { NeverFalls work.old work.new }
-    ensures fits { subtrees.old.len ≤ 54 → subtrees.new.len ≤ 54 }
+    ensures fits { subtrees.old.len ≤ most_levels → subtrees.new.len ≤ most_levels }
 {
     let mut next = next;
     while let Some(last) = subtrees.as_slice().last() {

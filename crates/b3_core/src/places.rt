@@ -1,8 +1,8 @@
 //! The nodes and the bytes that a hasher keeps, laid out as C lays them out.
 
 ghost use Rattle.std.specs.Prelude.{◌≡◌, ℕ, ◌+◌, ◌-◌, ◌<◌, ◌≤◌, ◌↔◌, ◌++◌, ◌==◌, [], ◌∷◌, Some, length, min, reverse, slice_get, true};
-ghost use Rattle.b3_core.specs.Kept.{nodes_of, tail_of};
-ghost use Rattle.b3_core.specs.Tree.{Inputs};
+ghost use Rattle.b3_core.specs.Kept.{most_levels, nodes_of, tail_of};
+ghost use Rattle.b3_core.specs.Tree.{Inputs, chunk_len};
 
 use crate::compression::CHUNK_LEN;
 use crate::mode::Mode;
@@ -44,7 +44,7 @@ impl Stack {
     #[tactic(auto, unfolding(crate::specs::Kept::nodes_of))]
     pub(crate) fn new() -> Stack
         ensures nodes { nodes_of result ≡ [] }
-        ensures fits { result.len ≤ 54 }
+        ensures fits { result.len ≤ most_levels }
     {
         let blank = Subtree {
             level: 0,
@@ -60,14 +60,14 @@ impl Stack {
     #[tactic(auto, unfolding(crate::specs::Kept::nodes_of))]
     pub(crate) fn clear(&mut self)
         ensures nodes { nodes_of self.new ≡ [] }
-        ensures fits { self.new.len ≤ 54 }
+        ensures fits { self.new.len ≤ most_levels }
     {
         self.len = 0;
     }
 
     /// Whether the length is at most the number of places.
     pub(crate) fn fits(&self) -> bool
-        ensures { result ≡ true ↔ self.now.len ≤ 54 }
+        ensures { result ≡ true ↔ self.now.len ≤ most_levels }
     {
         self.len as usize <= LEVELS
     }
@@ -76,7 +76,7 @@ impl Stack {
     #[tactic(auto, unfolding(crate::specs::Kept::nodes_of))]
     pub(crate) fn as_slice(&self) -> &[Subtree]
         ensures value { result.now ≡ nodes_of self.now }
-        ensures fits { length result.now ≤ 54 }
+        ensures fits { length result.now ≤ most_levels }
     {
         &self.places[..(self.len as usize).min(LEVELS)]
     }
@@ -86,15 +86,15 @@ impl Stack {
         ensures rest { (last : ℕ × Inputs) → slice_get (nodes_of self.old) (length (nodes_of self.old) - 1) ≡ Some last
             → reverse (nodes_of self.old) ≡ last ∷ reverse (nodes_of self.new) }
         ensures fewer { 0 < length (nodes_of self.old) → length (nodes_of self.new) < length (nodes_of self.old) }
-        ensures fits { self.new.len ≤ 54 }
+        ensures fits { self.new.len ≤ most_levels }
     {
         self.len = self.len.min(LEVELS as u32).saturating_sub(1);
     }
 
     /// Puts one behind the others, if there is room.
     pub(crate) fn push(&mut self, next: Subtree)
-        ensures nodes { length (nodes_of self.old) < 54 → reverse (nodes_of self.new) ≡ next ∷ reverse (nodes_of self.old) }
-        ensures fits { self.old.len ≤ 54 → self.new.len ≤ 54 }
+        ensures nodes { length (nodes_of self.old) < most_levels → reverse (nodes_of self.new) ≡ next ∷ reverse (nodes_of self.old) }
+        ensures fits { self.old.len ≤ most_levels → self.new.len ≤ most_levels }
     {
         let len = self.len as usize;
         if len < LEVELS {
@@ -117,7 +117,7 @@ impl Tail {
     #[tactic(auto, unfolding(crate::specs::Kept::tail_of))]
     pub(crate) fn new() -> Tail
         ensures bytes { tail_of result ≡ [] }
-        ensures fits { result.len ≤ 1024 }
+        ensures fits { result.len ≤ chunk_len }
     {
         Tail {
             len: 0,
@@ -129,14 +129,14 @@ impl Tail {
     #[tactic(auto, unfolding(crate::specs::Kept::tail_of))]
     pub(crate) fn clear(&mut self)
         ensures bytes { tail_of self.new ≡ [] }
-        ensures fits { self.new.len ≤ 1024 }
+        ensures fits { self.new.len ≤ chunk_len }
     {
         self.len = 0;
     }
 
     /// Whether the length is at most the number of places.
     pub(crate) fn fits(&self) -> bool
-        ensures { result ≡ true ↔ self.now.len ≤ 1024 }
+        ensures { result ≡ true ↔ self.now.len ≤ chunk_len }
     {
         self.len as usize <= CHUNK_LEN
     }
@@ -145,7 +145,7 @@ impl Tail {
     #[tactic(auto, unfolding(crate::specs::Kept::tail_of))]
     pub(crate) fn len(&self) -> usize
         ensures value { result ≡ length (tail_of self.now) }
-        ensures places { result ≡ min self.now.len 1024 }
+        ensures places { result ≡ min self.now.len chunk_len }
     {
         (self.len as usize).min(CHUNK_LEN)
     }
@@ -159,14 +159,14 @@ impl Tail {
 
     /// Whether they are a whole chunk.
     pub(crate) fn is_full(&self) -> bool
-        ensures { result ≡ (length (tail_of self.now) == 1024) }
+        ensures { result ≡ (length (tail_of self.now) == chunk_len) }
     {
         self.len() == CHUNK_LEN
     }
 
     /// How many more make a whole chunk.
     pub(crate) fn room(&self) -> usize
-        ensures { result + length (tail_of self.now) ≡ 1024 }
+        ensures { result + length (tail_of self.now) ≡ chunk_len }
     {
         CHUNK_LEN - self.len()
     }
@@ -175,15 +175,15 @@ impl Tail {
     #[tactic(auto, unfolding(crate::specs::Kept::tail_of))]
     pub(crate) fn as_slice(&self) -> &[u8]
         ensures value { result.now ≡ tail_of self.now }
-        ensures fits { length result.now ≤ 1024 }
+        ensures fits { length result.now ≤ chunk_len }
     {
         &self.places[..self.len()]
     }
 
     /// Puts bytes behind them, if there is room for all.
     pub(crate) fn extend(&mut self, bytes: &[u8])
-        ensures bytes { length (tail_of self.old) + length bytes.now ≤ 1024 → tail_of self.new ≡ tail_of self.old ++ bytes.now }
-        ensures fits { self.old.len ≤ 1024 → self.new.len ≤ 1024 }
+        ensures bytes { length (tail_of self.old) + length bytes.now ≤ chunk_len → tail_of self.new ≡ tail_of self.old ++ bytes.now }
+        ensures fits { self.old.len ≤ chunk_len → self.new.len ≤ chunk_len }
     {
         let len = self.len();
         if bytes.len() <= self.room() {

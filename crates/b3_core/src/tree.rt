@@ -2,7 +2,7 @@
 
 ghost use Rattle.std.specs.Prelude.{◌≡◌, ◌+◌, ◌-◌, ◌/◌, ◌%◌, ◌^◌, ◌<◌, length};
 ghost use Rattle.b3_core.specs.Modes.{digest_of};
-ghost use Rattle.b3_core.specs.Tree.{left_length, tree_top};
+ghost use Rattle.b3_core.specs.Tree.{chunk_len, left_length, tree_top};
 ghost use Rattle.b3_core.specs.Work.{counted, hash_work};
 
 use crate::compression::CHUNK_LEN;
@@ -12,10 +12,10 @@ use crate::work::Work;
 
 /// Where an input of more than one chunk is split.
 pub(crate) fn left_len(len: usize) -> usize
-    requires { 1024 < len }
+    requires { chunk_len < len }
     ensures value { result ≡ left_length len }
     ensures below { result < len }
-    ensures whole { result % 1024 ≡ 0 }
+    ensures whole { result % chunk_len ≡ 0 }
     ensures above { 0 < result }
 {
     let mut side = CHUNK_LEN;
@@ -27,7 +27,7 @@ pub(crate) fn left_len(len: usize) -> usize
 
 // The top of the tree over bytes whose first chunk has the given number.
 fn top_of(mode: &Mode, bytes: &[u8], number: u64, work: &mut Work) -> Top
-    requires { number + length bytes.now / 1024 < 2 ^ 64 }
+    requires { number + length bytes.now / chunk_len < 2 ^ 64 }
     ensures node { result ≡ tree_top bytes.now number mode.now }
     ensures count { work.new ≡ counted work.old (hash_work (length bytes.now) - 1) }
 {

@@ -3,7 +3,7 @@
 ghost use Rattle.std.specs.Prelude.{◌≡◌, ℕ, ◌+◌, ◌-◌, ◌*◌, ◌/◌, ◌^◌, ◌<◌, ◌≤◌, ◌↔◌, true, IfSome, length, slice_index};
 ghost use Rattle.b3_core.specs.inner.Lanes.{lane, group_top};
 ghost use Rattle.b3_core.specs.Modes.{digest_of};
-ghost use Rattle.b3_core.specs.Tree.{Inputs, IsSubtree, chaining_value_of, parent_top, tree_top};
+ghost use Rattle.b3_core.specs.Tree.{Inputs, IsSubtree, chaining_value_of, chunk_len, parent_top, tree_top};
 ghost use Rattle.b3_core.specs.Work.{counted, hash_work};
 
 mod chunks;
@@ -81,7 +81,7 @@ fn page_values(mode: &Mode, bytes: &[u8], number: u64, work: &mut Work) -> [u32x
 // The chaining values of the eight eighths of bytes, of 2^level whole chunks each; the first chunk has the given number.
 fn eighth_values(mode: &Mode, bytes: &[u8], level: u32, number: u64, work: &mut Work) -> [u32x8; 8]
     requires len { length bytes.now ≡ 8192 * 2 ^ level }
-    requires number { number + length bytes.now / 1024 < 2 ^ 64 }
+    requires number { number + length bytes.now / chunk_len < 2 ^ 64 }
     ensures values { (j : ℕ) → j < 8 → lane slice_index j result ≡ chaining_value_of (group_top (2 ^ level) bytes.now number mode.now j) }
     ensures count { work.new ≡ counted work.old (136 * 2 ^ level - 8) }
 {
@@ -102,7 +102,7 @@ fn eighth_values(mode: &Mode, bytes: &[u8], level: u32, number: u64, work: &mut 
 // The top of the tree over eight times 2^level whole chunks, the first with the given number.
 fn whole_top(mode: &Mode, bytes: &[u8], level: u32, number: u64, work: &mut Work) -> Top
     requires len { length bytes.now ≡ 8192 * 2 ^ level }
-    requires number { number + length bytes.now / 1024 < 2 ^ 64 }
+    requires number { number + length bytes.now / chunk_len < 2 ^ 64 }
     ensures node { result ≡ tree_top bytes.now number mode.now }
     ensures count { work.new ≡ counted work.old (hash_work (length bytes.now) - 1) }
 {
@@ -138,7 +138,7 @@ fn two_top(mode: &Mode, bytes: &[u8], number: u64, work: &mut Work) -> Top
 
 /// The top of the tree over bytes whose first chunk has the given number.
 pub(crate) fn wide_top(mode: &Mode, bytes: &[u8], number: u64, work: &mut Work) -> Top
-    requires { number + length bytes.now / 1024 < 2 ^ 64 }
+    requires { number + length bytes.now / chunk_len < 2 ^ 64 }
     ensures node { result ≡ tree_top bytes.now number mode.now }
     ensures count { work.new ≡ counted work.old (hash_work (length bytes.now) - 1) }
 {
@@ -176,7 +176,7 @@ impl Top {
     /// and its number is a multiple of 2^k, or the input ends with it, and it has at most 2^k chunks.
     pub fn of_subtree(mode: &Mode, bytes: &[u8], number: u64, work: &mut Work) -> Top
         requires subtree { IsSubtree (length bytes.now) number }
-        requires number { number + length bytes.now / 1024 < 2 ^ 64 }
+        requires number { number + length bytes.now / chunk_len < 2 ^ 64 }
         ensures node { result ≡ tree_top bytes.now number mode.now }
         ensures count { work.new ≡ counted work.old (hash_work (length bytes.now) - 1) }
     {

@@ -1,6 +1,6 @@
 -- What functions within say beside specs/Lanes.
 use Rattle.std.specs.Prelude.{ℕ, ◌+◌, ◌*◌, List, [], ◌∷◌, map, take, drop, slice_index}
-use Rattle.b3_core.specs.Tree.{Keying, Inputs, tree_top}
+use Rattle.b3_core.specs.Tree.{Keying, Inputs, chunk_len, tree_top}
 
 -- the words of lane j of some vectors, where `word` tells the word of a vector's lane
 abbrev pub lane : {V : Type 0} → (V → ℕ → ℕ) → ℕ → List V → List ℕ
@@ -12,4 +12,4 @@ across i a b c d = slice_index a i ∷ slice_index b i ∷ slice_index c i ∷ s
 
 -- the top over group j of the bytes x, where a group is k whole chunks and the first chunk has the number c
 abbrev pub group_top : ℕ → List ℕ → ℕ → Keying → ℕ → Inputs
-group_top k x c p j = tree_top (take (1024 * k) (drop (1024 * k * j) x)) (c + k * j) p
+group_top k x c p j = tree_top (take (chunk_len * k) (drop (chunk_len * k * j) x)) (c + k * j) p

@@ -4,9 +4,9 @@ ghost use Rattle.std.specs.Prelude.{◌≡◌, ℕ, ◌+◌, ◌*◌, ◌/◌, �
 ghost use Rattle.std.proofs.Common.{rules};
 ghost use Rattle.std.specs.Mem.{type_size};
 ghost use Rattle.b3_core.specs.inner.Lanes.{across};
-ghost use Rattle.b3_core.specs.Tree.{word_at};
+ghost use Rattle.b3_core.specs.Tree.{chunk_len, word_at};
 
-use crate::compression::{high, low};
+use crate::compression::{CHUNK_LEN, high, low};
 use crate::wide::mixing::ByteTurns;
 use crate::words::word;
 use std::simd::{u32x4, u32x8};
@@ -15,11 +15,11 @@ use std::simd::{u32x4, u32x8};
 pub(crate) trait Chunks: ByteTurns {
     // Four words in a row of each lane's chunk. From one lane's chunk to the next lane's there are so many.
     fn words_at(bytes: &[u8], at: usize, step: usize) -> (Self, Self, Self, Self)
-        requires { at + 16 + 1024 * (step * Self.LANES) ≤ length bytes.now + 1024 * step }
-        ensures first { (j : ℕ) → j < Self.LANES → Self.word result.0 j ≡ word_at bytes.now (1024 * (step * j) + at) }
-        ensures second { (j : ℕ) → j < Self.LANES → Self.word result.1 j ≡ word_at bytes.now (1024 * (step * j) + (at + 4)) }
-        ensures third { (j : ℕ) → j < Self.LANES → Self.word result.2 j ≡ word_at bytes.now (1024 * (step * j) + (at + 8)) }
-        ensures fourth { (j : ℕ) → j < Self.LANES → Self.word result.3 j ≡ word_at bytes.now (1024 * (step * j) + (at + 12)) };
+        requires { at + 16 + chunk_len * (step * Self.LANES) ≤ length bytes.now + chunk_len * step }
+        ensures first { (j : ℕ) → j < Self.LANES → Self.word result.0 j ≡ word_at bytes.now (chunk_len * (step * j) + at) }
+        ensures second { (j : ℕ) → j < Self.LANES → Self.word result.1 j ≡ word_at bytes.now (chunk_len * (step * j) + (at + 4)) }
+        ensures third { (j : ℕ) → j < Self.LANES → Self.word result.2 j ≡ word_at bytes.now (chunk_len * (step * j) + (at + 8)) }
+        ensures fourth { (j : ℕ) → j < Self.LANES → Self.word result.3 j ≡ word_at bytes.now (chunk_len * (step * j) + (at + 12)) };
 
     // The low word of the number of each lane's chunk.
     fn low_words(number: u64, step: u64) -> Self
@@ -40,7 +40,7 @@ impl Chunks for u32x4 {
 
     #[inline(always)]
     fn words_at(bytes: &[u8], at: usize, step: usize) -> (Self, Self, Self, Self) {
-        let gap = 1024 * step;
+        let gap = CHUNK_LEN * step;
         let a = row(bytes, at);
         let b = row(bytes, at + gap);
         let c = row(bytes, at + 2 * gap);
@@ -72,7 +72,7 @@ impl Chunks for u32x8 {
 
     #[inline(always)]
     fn words_at(bytes: &[u8], at: usize, step: usize) -> (Self, Self, Self, Self) {
-        let gap = 1024 * step;
+        let gap = CHUNK_LEN * step;
         let a = two_rows(bytes, at, 4 * gap);
         let b = two_rows(bytes, at + gap, 4 * gap);
         let c = two_rows(bytes, at + 2 * gap, 4 * gap);

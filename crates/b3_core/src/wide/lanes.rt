@@ -4,7 +4,7 @@ ghost use Rattle.std.specs.Prelude.{◌≡◌, ℕ, ◌+◌, ◌*◌, ◌/◌, �
 ghost use Rattle.b3_core.specs.Compression.{columns, diagonals, round, permute, start_state, compress_of, output_words};
 ghost use Rattle.b3_core.specs.Lanes.{chunk_bytes, chunk_at};
 ghost use Rattle.b3_core.specs.inner.Lanes.{lane};
-ghost use Rattle.b3_core.specs.Tree.{Inputs, chaining_value_of, parent_top, block, block_words_of, chain};
+ghost use Rattle.b3_core.specs.Tree.{Inputs, chaining_value_of, parent_top, block, block_words_of, chain, chunk_len};
 ghost use Rattle.b3_core.specs.Work.{counted};
 
 use crate::compression::{CHUNK_END, IV, PARENT, start_flag};
@@ -151,7 +151,7 @@ fn halves<V: Words>(v: [V; 16]) -> [V; 8]
 #[inline(always)]
 #[rattlefmt::skip]
 fn blocks_at<V: Chunks, const STEP: usize>(bytes: &[u8], k: usize) -> [V; 16]
-    requires len { 1024 + 1024 * (STEP * V.LANES) ≤ length bytes.now + 1024 * STEP }
+    requires len { chunk_len + chunk_len * (STEP * V.LANES) ≤ length bytes.now + chunk_len * STEP }
     requires block { k < 16 }
     ensures { (j : ℕ) → j < V.LANES → lane V.word j result ≡ block_words_of (block (chunk_bytes bytes.now (STEP * j)) k) }
 {
@@ -193,7 +193,7 @@ fn compress_block<V: Chunks, const STEP: usize>(
     d: u32,
     work: &mut Work,
 )
-    requires len { 1024 + 1024 * (STEP * V.LANES) ≤ length bytes.now + 1024 * STEP }
+    requires len { chunk_len + chunk_len * (STEP * V.LANES) ≤ length bytes.now + chunk_len * STEP }
     requires block { k < 16 }
     ensures values { (j t : ℕ) → j < V.LANES → V.word t_low j ≡ t % 2 ^ 32 → V.word t_high j ≡ t / 2 ^ 32
         → lane V.word j h.new ≡ take 8 (compress_of (lane V.word j h.old) (block_words_of (block (chunk_bytes bytes.now (STEP * j)) k)) t 64 d) }
@@ -211,7 +211,7 @@ pub(crate) fn chains<V: Chunks, const STEP: usize>(
     number: u64,
     work: &mut Work,
 ) -> [V; 8]
-    requires len { 1024 + 1024 * (STEP * V.LANES) ≤ length bytes.now + 1024 * STEP }
+    requires len { chunk_len + chunk_len * (STEP * V.LANES) ≤ length bytes.now + chunk_len * STEP }
     requires number { number + STEP * V.LANES < 2 ^ 64 + STEP }
     ensures values { (j : ℕ) → j < V.LANES → lane V.word j result ≡ chain (chunk_bytes bytes.now (STEP * j)) (number + STEP * j) mode.now 15 }
     ensures count { work.new ≡ counted work.old (15 * V.LANES) }
@@ -234,7 +234,7 @@ pub(crate) fn chunk_values<V: Chunks, const STEP: usize>(
     number: u64,
     work: &mut Work,
 ) -> [V; 8]
-    requires len { 1024 + 1024 * (STEP * V.LANES) ≤ length bytes.now + 1024 * STEP }
+    requires len { chunk_len + chunk_len * (STEP * V.LANES) ≤ length bytes.now + chunk_len * STEP }
     requires number { number + STEP * V.LANES < 2 ^ 64 + STEP }
     ensures values { (j : ℕ) → j < V.LANES → lane V.word j result ≡ chaining_value_of (chunk_at bytes.now number mode.now (STEP * j)) }
     ensures count { work.new ≡ counted work.old (16 * V.LANES) }
