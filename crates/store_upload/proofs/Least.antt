@@ -1,6 +1,6 @@
 -- The least offset that is missing, and the least that is held.
-use Rattle.std.proofs.Common.{◌≡◌, ◌+◌, ◌<◌, ◌≤◌, ℕ, List, [], ◌∷◌, Option, Some, None, nat_lt, true, false, arith, refl, subst, sym, inl, inr}
-use Rattle.std.specs.Prelude.{IfNone, IfSome, max}
+use Rattle.std.proofs.Common.{◌≡◌, ◌+◌, ◌<◌, ◌≤◌, ℕ, List, [], ◌∷◌, Option, Some, None, arith, refl, subst, sym, inl, inr}
+use Rattle.std.specs.Prelude.{IfNone, IfSome}
 use Rattle.std.proofs.lemmas.Bool.{and_parts, cases_Bool, cases_eq, cases_lt, le-ltb, lt-ltb, ltb-true}
 use Rattle.store_upload.specs.Laws.{IsFirstMissing, IsFirstOverlap, IsHeldAt, TellsMissing, TellsOverlap}
 use Rattle.store_upload.specs.Uploads.{ArePlaced, IsUpload, Upload, end_of, first_gap, first_missing, length_of, overlap_at, overlaps}

@@ -15,6 +15,10 @@ use Rattle.store_upload.specs.declared.refusal.FixFault.TheVariants as fix
 use Rattle.store_upload.specs.declared.refusal.PartFault.{PartFault}
 use Rattle.store_upload.specs.declared.refusal.PartFault.TheVariants.{EmptyPart, OffAlign, PartTooLong, PastEnd, Ragged}
 
+-- the bytes of a chunk: parts begin at multiples of them
+abbrev pub chunk_len : ℕ
+chunk_len = 1024
+
 -- the most bytes of an upload and of a part, and the most chunks of a part
 abbrev pub most_bytes : ℕ
 most_bytes = 2 ^ 44
@@ -50,24 +54,24 @@ first_end plan = if plan.is_open then None else Some plan.bound
 
 -- n bytes are no multiple of a chunk's
 abbrev pub is_ragged : ℕ → Bool
-is_ragged n = not (n % 1024 == 0)
+is_ragged n = not (n % chunk_len == 0)
 
 -- n bytes at an offset fit a plan: they are 1 to `most_part_bytes` bytes within its bound, and begin with a chunk; where the plan has
 -- the upload's length, they end with a chunk or with the upload
 pub record Fits (plan : UploadPlan) (offset n : ℕ) : Type 0 where
   pub some : 0 < n
-  pub aligned : offset % 1024 ≡ 0
+  pub aligned : offset % chunk_len ≡ 0
   pub within : offset + n ≤ plan.bound
-  pub whole : plan.is_open ≡ false → n % 1024 ≢ 0 → offset + n ≡ plan.bound
+  pub whole : plan.is_open ≡ false → n % chunk_len ≢ 0 → offset + n ≡ plan.bound
   pub small : n ≤ most_part_bytes
 
 -- the first reason for which n bytes at an offset don't fit a plan
 abbrev pub part_refusal : UploadPlan → ℕ → ℕ → Option PartFault
 part_refusal plan offset n =
     if n == 0 then Some EmptyPart
-    else if not (offset % 1024 == 0) then Some OffAlign
+    else if not (offset % chunk_len == 0) then Some OffAlign
     else if nat_lt plan.bound (offset + n) then Some PastEnd
-    else if not plan.is_open && not (n % 1024 == 0) && not (offset + n == plan.bound) then Some Ragged
+    else if not plan.is_open && not (n % chunk_len == 0) && not (offset + n == plan.bound) then Some Ragged
     else if nat_lt most_part_bytes n then Some PartTooLong
     else None
 

@@ -3,7 +3,7 @@
 ghost use Rattle.std.specs.Prelude.{◌≡◌, ◌+◌, ◌%◌, ◌<◌, ◌≤◌, ℕ, List, [], IfErr, OnErr, OnOk, length};
 ghost use Rattle.std.specs.BTreeMap.{insert_entry};
 ghost use Rattle.std.specs.Ordering.{nat_cmp};
-ghost use Rattle.store_upload.specs.Uploads.{ArePartsOfSome, MayTake, first_gap as first_gap_of, last_end as last_end_of, most_bytes, most_part_bytes, overlap_at};
+ghost use Rattle.store_upload.specs.Uploads.{ArePartsOfSome, MayTake, chunk_len, first_gap as first_gap_of, last_end as last_end_of, most_bytes, most_part_bytes, overlap_at};
 
 use crate::length::Length;
 use crate::parts;
@@ -45,7 +45,7 @@ pub trait HeldParts: Drop {
     /// The least of so many offsets that is held.
     fn overlap(&self, offset: u64, len: u64) -> Option<u64>
         requires positive { 0 < len }
-        requires aligned { offset % 1024 ≡ 0 }
+        requires aligned { offset % chunk_len ≡ 0 }
         requires within { offset + len ≤ most_bytes }
         requires short { len ≤ most_part_bytes }
         requires placed { ArePartsOfSome Self.Part.len (parts self.now) }
