@@ -1,5 +1,6 @@
 -- Parts that are noted over the bytes that they are to be of.
 use Rattle.std.specs.Prelude.{◌≡◌, ◌≢◌, ◌↔◌, ℕ, ◌+◌, ◌-◌, ◌*◌, ◌^◌, ◌<◌, ◌≤◌, ◌⊎◌, ◌/◌, ◌&&◌, ◌||◌, Bool, true, false, nat_le, nat_lt, if◌then◌else◌, List, [], ◌∷◌, length, map, take, drop}
+use Rattle.b3_core.specs.Tree.{chunk_len}
 use Rattle.b3_forest.specs.Subtrees.{Keeps, Subtrees}
 use Rattle.b3_forest.specs.Parts.{HeldPart, Part, PlannedPart, chunks_of}
 use Rattle.store_upload.specs.Laws.{IsHeldAt}
@@ -21,11 +22,11 @@ has_chunk (r ∷ rs) i = (nat_le r.0 i && nat_lt i r.1) || has_chunk rs i
 
 -- offset i was noted
 abbrev pub IsNoted : Followed → ℕ → Type 0
-IsNoted f i = (i < length f.bytes) × (has_chunk f.ranges (i / 1024) ≡ true)
+IsNoted f i = (i < length f.bytes) × (has_chunk f.ranges (i / chunk_len) ≡ true)
 
 -- the bytes of chunk i where it was noted, and none where it wasn't
 abbrev pub noted_chunk : Followed → ℕ → List ℕ
-noted_chunk f i = if has_chunk f.ranges i then take 1024 (drop (1024 * i) f.bytes) else []
+noted_chunk f i = if has_chunk f.ranges i then take chunk_len (drop (chunk_len * i) f.bytes) else []
 
 -- how many pieces the noted chunks have
 abbrev pub pieces_noted : Followed → ℕ

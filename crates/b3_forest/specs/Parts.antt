@@ -1,5 +1,6 @@
 -- The parts of an upload: as they are handed in, and as an upload holds them.
 use Rattle.std.specs.Prelude.{ℕ, ◌-◌, ◌*◌, ◌&&◌, nat_lt, nat_le, true, false, List, [], ◌∷◌, length, take, drop}
+use Rattle.b3_core.specs.Tree.{chunk_len}
 use Rattle.store_upload.specs.Uploads.{UploadPlan, end_of}
 
 -- bytes that begin at an offset of the upload
@@ -26,8 +27,8 @@ held_as p = (p.offset, p.bytes)
 -- the bytes of chunk i where the parts hold it, and none where they don't
 unfoldable pub chunk_in : List HeldPart → ℕ → List ℕ
 chunk_in [] i = []
-chunk_in (p ∷ ps) i = elim (nat_le p.0 (1024 * i) && nat_lt (1024 * i) (end_of length p)) [
-  | true ↦ take 1024 (drop (1024 * i - p.0) p.1)
+chunk_in (p ∷ ps) i = elim (nat_le p.0 (chunk_len * i) && nat_lt (chunk_len * i) (end_of length p)) [
+  | true ↦ take chunk_len (drop (chunk_len * i - p.0) p.1)
   | false ↦ chunk_in ps i
 ]
 

@@ -2,6 +2,7 @@
 //! that it meets is halved.
 
 ghost use Rattle.std.specs.Prelude.{◌≡◌, ℕ, ◌+◌, ◌-◌, ◌*◌, ◌/◌, ◌^◌, ◌<◌, ◌≤◌, ◌++◌, OnOk, length, min, max};
+ghost use Rattle.b3_core.specs.Tree.{chunk_len};
 ghost use Rattle.b3_core.specs.Work.{NeverFalls, counted};
 ghost use Rattle.b3_forest.specs.Parts.{chunks_of};
 ghost use Rattle.store_upload.specs.Uploads.{most_part_bytes};
@@ -16,9 +17,9 @@ fn piece_of(start: u64, bytes: &[u8], level: u32, width: u64, first: u64, work: 
     requires width { (width ≡ 2 ^ level) × (0 < width) × (width ≤ most_chunks) }
     requires len { length bytes.now ≤ most_part_bytes }
     requires aligned { (q : ℕ) × (first ≡ q * 2 ^ level) }
-    requires within { (start ≤ first) × (first + width ≤ start + (length bytes.now + 1023) / 1024) × (first < most_chunks) }
-    ensures piece { result ≡ piece_at (chunks_of (record { offset = 1024 * start; bytes = bytes.now })) level first }
-    ensures count { work.new ≡ counted work.old (part_work (min (1024 * width) (length bytes.now - 1024 * (first - start))) 1) }
+    requires within { (start ≤ first) × (first + width ≤ start + (length bytes.now + (chunk_len - 1)) / chunk_len) × (first < most_chunks) }
+    ensures piece { result ≡ piece_at (chunks_of (record { offset = chunk_len * start; bytes = bytes.now })) level first }
+    ensures count { work.new ≡ counted work.old (part_work (min (chunk_len * width) (length bytes.now - chunk_len * (first - start))) 1) }
 {
     let skip = (first - start) as usize * CHUNK_LEN;
     let end = bytes.len().min(skip + width as usize * CHUNK_LEN);
@@ -40,10 +41,10 @@ fn push_pieces(
     requires len { (length bytes.now ≤ most_part_bytes) × (0 < length bytes.now) }
     requires aligned { (q : ℕ) × (first ≡ q * 2 ^ level) }
     requires within { (first + width ≤ most_chunks) × (start ≤ most_chunks) }
-    ensures pieces { OnOk result (pieces.new.items ≡ pieces.old.items ++ pieces_of (chunks_of (record { offset = 1024 * start; bytes = bytes.now })) level first) }
+    ensures pieces { OnOk result (pieces.new.items ≡ pieces.old.items ++ pieces_of (chunks_of (record { offset = chunk_len * start; bytes = bytes.now })) level first) }
     ensures count { OnOk result (work.new ≡ counted work.old (part_work
-        (min (1024 * start + length bytes.now) (1024 * (first + width)) - max (1024 * start) (1024 * first))
-        (length (pieces_of (chunks_of (record { offset = 1024 * start; bytes = bytes.now })) level first)))) }
+        (min (chunk_len * start + length bytes.now) (chunk_len * (first + width)) - max (chunk_len * start) (chunk_len * first))
+        (length (pieces_of (chunks_of (record { offset = chunk_len * start; bytes = bytes.now })) level first)))) }
     ensures never_falls { NeverFalls work.old work.new }
 {
     let end = start + bytes.len().div_ceil(CHUNK_LEN) as u64;
@@ -68,10 +69,10 @@ pub(crate) fn push_all(
     work: &mut Work,
 ) -> Result<(), AllocError>
     requires len { (length bytes.now ≤ most_part_bytes) × (0 < length bytes.now) }
-    requires within { start + (length bytes.now + 1023) / 1024 ≤ most_chunks }
-    ensures pieces { OnOk result (pieces.new.items ≡ pieces.old.items ++ pieces_of (chunks_of (record { offset = 1024 * start; bytes = bytes.now })) root_level 0) }
+    requires within { start + (length bytes.now + (chunk_len - 1)) / chunk_len ≤ most_chunks }
+    ensures pieces { OnOk result (pieces.new.items ≡ pieces.old.items ++ pieces_of (chunks_of (record { offset = chunk_len * start; bytes = bytes.now })) root_level 0) }
     ensures count { OnOk result (work.new ≡ counted work.old (part_work (length bytes.now)
-        (piece_count (chunks_of (record { offset = 1024 * start; bytes = bytes.now }))))) }
+        (piece_count (chunks_of (record { offset = chunk_len * start; bytes = bytes.now }))))) }
     ensures never_falls { NeverFalls work.old work.new }
 {
     let end = start + bytes.len().div_ceil(CHUNK_LEN) as u64;

@@ -2,7 +2,7 @@
 
 ghost use Rattle.std.specs.Prelude.{◌≡◌, ℕ, ◌%◌, ◌*◌, ◌+◌, ◌<◌, ◌≤◌, List, IfOk, OnErr, OnOk, length};
 ghost use Rattle.b3_core.specs.Modes.{hash_mode};
-ghost use Rattle.b3_core.specs.Tree.{tree_top};
+ghost use Rattle.b3_core.specs.Tree.{chunk_len, tree_top};
 ghost use Rattle.b3_core.specs.Work.{counted};
 ghost use Rattle.store_upload.specs.Uploads.{first_gap as first_gap_of, most_bytes, overlap_at};
 ghost use Rattle.b3_forest.specs.Subtrees.{Keeps};
@@ -21,7 +21,7 @@ use store_upload::CHUNK_LEN;
 /// The least of so many offsets that is held.
 pub(crate) fn overlap(subtrees: &BTreeMap<u64, Subtree>, offset: u64, len: u64) -> Option<u64>
     requires positive { 0 < len }
-    requires aligned { offset % 1024 ≡ 0 }
+    requires aligned { offset % chunk_len ≡ 0 }
     requires within { offset + len ≤ most_bytes }
     requires pieces { (n : ℕ) × AreOfUpload n subtrees.now.entries }
     ensures { (n : ℕ) (ps : List HeldPart) → Keeps n ps subtrees.now.entries → result ≡ overlap_at length offset len ps }

@@ -17,7 +17,7 @@ use std::alloc::Global;
 use std::fmt;
 use std::marker::Model;
 use std::sync::Arc;
-use store_upload::{PartFault, Plan};
+use store_upload::{CHUNK_LEN, PartFault, Plan};
 
 /// A part of an upload with its pieces: complete subtrees of the tree over the whole upload. It was hashed with no
 /// other part at hand.
@@ -215,7 +215,7 @@ fn hashed(
         return Err(fault);
     }
     let mut pieces = Vec::new(alloc);
-    let start = offset / 1024;
+    let start = offset / CHUNK_LEN;
     match push_all(start, bytes, &mut pieces, work) {
         Ok(()) => Ok(pieces),
         Err(_) => Err(PartFault::NoMemory),

@@ -3,7 +3,7 @@ use Rattle.std.specs.Prelude.{◌≡◌, ◌≢◌, ℕ, suc, ◌+◌, ◌-◌, 
 use Rattle.std.specs.BTreeMap.{insert_entry}
 use Rattle.std.specs.Ordering.{nat_cmp}
 use Rattle.b3_core.specs.Modes.{hash_mode}
-use Rattle.b3_core.specs.Tree.{Inputs, parent_top}
+use Rattle.b3_core.specs.Tree.{Inputs, chunk_len, parent_top}
 use Rattle.store_upload.specs.Uploads.{Fits, closed_plan, first_gap}
 use Rattle.b3_forest.specs.Parts.{HeldPart, Part}
 use Rattle.b3_forest.specs.Pieces.{root_level}
@@ -36,7 +36,7 @@ is_held x i = nat_lt 0 (length (x i))
 
 -- what is held of n bytes: whole chunks, but for the last
 abbrev pub AreChunks : ℕ → (ℕ → List ℕ) → Type 0
-AreChunks n x = (i : ℕ) → is_held x i ≡ true → length (x i) ≡ min 1024 (n - 1024 * i)
+AreChunks n x = (i : ℕ) → is_held x i ≡ true → length (x i) ≡ min chunk_len (n - chunk_len * i)
 
 -- the subtrees are a canonical forest of what is held of some upload, but for halves at such chunks
 pub record IsSettling (ds : List ℕ) (es : Subtrees) : Type 0 where
