@@ -1,7 +1,7 @@
 //! A block of bytes that a thread of its own hashes.
 
 ghost use Rattle.std.specs.Prelude.{◌≡◌, ◌+◌, ◌-◌, ◌/◌, ◌^◌, ◌<◌, IfOk, IfErr, length};
-ghost use Rattle.b3_core.specs.Tree.{IsSubtree};
+ghost use Rattle.b3_core.specs.Tree.{IsSubtree, chunk_len};
 ghost use Rattle.b3_parallel.specs.inner.Blocks.{IsHashed};
 
 use b3_core::{Mode, Top, Work};
@@ -35,7 +35,7 @@ pub(crate) type Handle = PromisedHandle<Block, BlockOf>;
 /// Hashes a block by this thread. Its first chunk has the given number.
 pub(crate) fn hash_block(mode: Mode, bytes: Vec<u8>, number: u64, work: Work) -> Block
     requires subtree { IsSubtree (length bytes.items) number }
-    requires number { number + length bytes.items / 1024 < 2 ^ 64 }
+    requires number { number + length bytes.items / chunk_len < 2 ^ 64 }
     requires none { work ≡ 0 }
     ensures { IsHashed mode bytes.items number result.top result.work }
 {
@@ -53,7 +53,7 @@ pub(crate) fn start<T: Threads>(
     work: Work,
 ) -> Result<Handle, Block>
     requires subtree { IsSubtree (length bytes.items) number }
-    requires number { number + length bytes.items / 1024 < 2 ^ 64 }
+    requires number { number + length bytes.items / chunk_len < 2 ^ 64 }
     requires none { work ≡ 0 }
     ensures started { IfOk result (λ h. (h.promise.bytes.value.items ≡ bytes.items) × (h.promise.number ≡ number) × (h.promise.mode ≡ mode)) }
     ensures here { IfErr result (λ block. IsHashed mode bytes.items number block.top block.work) }

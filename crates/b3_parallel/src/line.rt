@@ -1,7 +1,7 @@
 //! A hasher, and behind what it was given a line of blocks that threads are hashing.
 
 ghost use Rattle.std.specs.Prelude.{◌≡◌, ℕ, ◌+◌, ◌*◌, ◌/◌, ◌^◌, ◌<◌, ◌≤◌, ◌++◌, List, [], ◌∷◌, IfSome, length};
-ghost use Rattle.b3_core.specs.Tree.{Keying};
+ghost use Rattle.b3_core.specs.Tree.{Keying, chunk_len};
 ghost use Rattle.b3_parallel.specs.inner.Blocks.{IsHashed};
 ghost use Rattle.b3_parallel.specs.inner.Lines.{Carries, Thread};
 
@@ -58,8 +58,8 @@ fn put_hashed<T: Threads>(
     work: &mut Work,
 )
     requires { level < 53 }
-    ensures { (p : Keying) (x mine : List ℕ) (n : ℕ) → Carries p level hasher.old line.old.items x n work.old → length mine ≡ 1024 * 2 ^ level
-        → IsHashed p mine (length x / 1024) block.top block.work → length x + length mine < 2 ^ 64 → Carries p level hasher.new line.new.items (x ++ mine) n work.new }
+    ensures { (p : Keying) (x mine : List ℕ) (n : ℕ) → Carries p level hasher.old line.old.items x n work.old → length mine ≡ chunk_len * 2 ^ level
+        → IsHashed p mine (length x / chunk_len) block.top block.work → length x + length mine < 2 ^ 64 → Carries p level hasher.new line.new.items (x ++ mine) n work.new }
 {
     settle_all(rt, hasher, line, level, work);
     work.absorb(block.work);
@@ -78,9 +78,9 @@ pub(crate) fn put<T: Threads + Runtime>(
     work: &mut Work,
 ) -> bool
     requires level { level < 53 }
-    requires len { length bytes.items ≡ 1024 * 2 ^ level }
+    requires len { length bytes.items ≡ chunk_len * 2 ^ level }
     requires place { (place + 1) * 2 ^ level ≤ 2 ^ 53 }
-    ensures { (p : Keying) (x : List ℕ) (n : ℕ) → Carries p level hasher.old line.old.items x n work.old → length x ≡ 1024 * (place * 2 ^ level)
+    ensures { (p : Keying) (x : List ℕ) (n : ℕ) → Carries p level hasher.old line.old.items x n work.old → length x ≡ chunk_len * (place * 2 ^ level)
         → Carries p level hasher.new line.new.items (x ++ bytes.items) n work.new }
 {
     let mode = hasher.mode();
@@ -131,7 +131,7 @@ pub(crate) fn next_place<T: Threads>(
     work: &mut Work,
 ) -> Option<Vec<u8>>
     requires { plan.level < 53 }
-    ensures len { IfSome result (λ bytes. length bytes.items ≡ 1024 * 2 ^ plan.level) }
+    ensures len { IfSome result (λ bytes. length bytes.items ≡ chunk_len * 2 ^ plan.level) }
     ensures carries { (p : Keying) (x : List ℕ) (n : ℕ) → length x < 2 ^ 64 → Carries p plan.level hasher.old line.old.items x n work.old
         → Carries p plan.level hasher.new line.new.items x n work.new }
 {

@@ -2,7 +2,7 @@
 
 ghost use Rattle.std.specs.Prelude.{◌≡◌, ℕ, ◌+◌, ◌*◌, ◌/◌, ◌%◌, ◌^◌, ◌<◌, ◌++◌, IfOk, List, length};
 ghost use Rattle.b3_core.specs.Hashers.{CountsRest, Holds, kept_work};
-ghost use Rattle.b3_core.specs.Tree.{IsSubtree};
+ghost use Rattle.b3_core.specs.Tree.{IsSubtree, chunk_len};
 ghost use Rattle.b3_core.specs.Work.{NeverFalls};
 ghost use Rattle.b3_parallel.specs.inner.Blocks.{IsHashed};
 ghost use Rattle.b3_parallel.specs.inner.Parts.{AreHashedParts, StandBehind};
@@ -29,11 +29,11 @@ fn part_of<T: Runtime>(
     start: usize,
     level: u32,
 ) -> Part
-    requires len { length bytes.now ≡ 1024 * 2 ^ level }
-    requires start { start % (1024 * 2 ^ level) ≡ 0 }
-    requires subtree { IsSubtree (1024 * 2 ^ level) number }
+    requires len { length bytes.now ≡ chunk_len * 2 ^ level }
+    requires start { start % (chunk_len * 2 ^ level) ≡ 0 }
+    requires subtree { IsSubtree (chunk_len * 2 ^ level) number }
     requires number { number < 2 ^ 54 }
-    ensures { IsHashed mode.now bytes.now (number + start / 1024) result.top result.work }
+    ensures { IsHashed mode.now bytes.now (number + start / chunk_len) result.top result.work }
 {
     let mut work = Work::new(rt);
     let number = number + (start / CHUNK_LEN) as u64;
@@ -52,8 +52,8 @@ pub(crate) fn parts_of<T: Threads + Sync + Runtime>(
     number: u64,
 ) -> Result<Vec<Part>, AllocError>
     requires level { level < 53 }
-    requires whole { length bytes.now % (1024 * 2 ^ level) ≡ 0 }
-    requires subtree { IsSubtree (1024 * 2 ^ level) number }
+    requires whole { length bytes.now % (chunk_len * 2 ^ level) ≡ 0 }
+    requires subtree { IsSubtree (chunk_len * 2 ^ level) number }
     requires number { number < 2 ^ 54 }
     ensures { IfOk result (λ parts. AreHashedParts mode.now bytes.now level number parts.items) }
 {

@@ -3,7 +3,7 @@
 ghost use Rattle.std.specs.Prelude.{◌≡◌, ◌≢◌, ℕ, ◌+◌, ◌-◌, ◌*◌, ◌^◌, ◌<◌, ◌≤◌, ◌++◌, List, [], IfErr, IfOk, None, OnOk, length, take, true, false, vec_len};
 ghost use Rattle.std.specs.Io.KnownBytes.{Consumes, IsAtEnd, Keeps};
 ghost use Rattle.b3_core.specs.Hashers.{count_of};
-ghost use Rattle.b3_core.specs.Tree.{Keying, tree_top};
+ghost use Rattle.b3_core.specs.Tree.{Keying, chunk_len, tree_top};
 ghost use Rattle.b3_core.specs.Work.{counted, hash_work};
 ghost use Rattle.b3_parallel.specs.inner.Blocks.{HasRead, IsGiven};
 ghost use Rattle.b3_parallel.specs.inner.Lines.{Carries, last_of};
@@ -185,7 +185,7 @@ fn hash_in_line<T: Threads + Runtime, R: Read>(
     work: &mut Work,
 ) -> io::Result<bool>
     requires { level < 40 }
-    ensures given { (x : List ℕ) (n : ℕ) → IsGiven hasher.old x n work.old → length x ≡ 1024 * 2 ^ level
+    ensures given { (x : List ℕ) (n : ℕ) → IsGiven hasher.old x n work.old → length x ≡ chunk_len * 2 ^ level
         → OnOk result ((hasher.new.mode ≡ hasher.old.mode) × HasRead (2 ^ 64 - 1) hasher.new x n work.new (R.remaining reader.old) (R.remaining reader.new)) }
     ensures end { IfOk result (λ ended. ended ≡ true → IsAtEnd (R.remaining reader.new)) }
 {
@@ -222,7 +222,7 @@ fn read_in_line<T: Threads + Runtime, R: Read>(
     work: &mut Work,
 ) -> io::Result<Option<Vec<u8>>>
     requires { plan.level < 40 }
-    ensures carries { (x : List ℕ) (n : ℕ) → Carries hasher.old.mode plan.level hasher.old line.old.items x n work.old → length x ≡ 1024 * 2 ^ plan.level
+    ensures carries { (x : List ℕ) (n : ℕ) → Carries hasher.old.mode plan.level hasher.old line.old.items x n work.old → length x ≡ chunk_len * 2 ^ plan.level
         → IfOk result (λ last. (y : List ℕ) × Carries hasher.old.mode plan.level hasher.new line.new.items (x ++ y) n work.new
         × Consumes (R.remaining reader.old) (R.remaining reader.new) (y ++ last_of last) × (length (x ++ y) + length (last_of last) < 2 ^ 64)) }
     ensures end { IfOk result (λ last. last ≢ None → IsAtEnd (R.remaining reader.new)) }

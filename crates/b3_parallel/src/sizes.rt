@@ -1,6 +1,7 @@
 //! How an input is cut, and for how many threads.
 
 ghost use Rattle.std.specs.Prelude.{◌≡◌, ℕ, ◌+◌, ◌*◌, ◌^◌, ◌<◌, ◌≤◌, IfSome, min};
+ghost use Rattle.b3_core.specs.Tree.{chunk_len};
 
 use b3_core::CHUNK_LEN;
 use std::thread::{Threads, available_parallelism};
@@ -30,7 +31,7 @@ pub(crate) fn piece_len() -> usize
 /// The bytes of 2^level chunks.
 pub(crate) fn bytes_of(level: u32) -> usize
     requires { level < 53 }
-    ensures value { result ≡ 1024 * 2 ^ level }
+    ensures value { result ≡ chunk_len * 2 ^ level }
     ensures above { 0 < result }
 {
     CHUNK_LEN << level

@@ -1,7 +1,7 @@
 //! Blocks of a source, each taken by the next thread that is free.
 
 ghost use Rattle.std.specs.Prelude.{◌≡◌, ℕ, ◌+◌, ◌*◌, ◌^◌, ◌<◌, ◌≤◌, IfSome, List, Option, length};
-ghost use Rattle.b3_core.specs.Tree.{Keying};
+ghost use Rattle.b3_core.specs.Tree.{Keying, chunk_len};
 ghost use Rattle.b3_parallel.specs.inner.Rounds.{ArePlaced, IsPlaced};
 
 use crate::reading::fill_block;
@@ -37,7 +37,7 @@ fn place_block<S: Source>(
     work: Work,
 ) -> Option<Placed>
     requires level { level < 53 }
-    requires len { length block.old.items ≡ 1024 * 2 ^ level }
+    requires len { length block.old.items ≡ chunk_len * 2 ^ level }
     requires place { (place + 1) * 2 ^ level ≤ 2 ^ 53 }
     requires none { work ≡ 0 }
     ensures len { length block.new.items ≡ length block.old.items }

@@ -2,7 +2,7 @@
 
 ghost use Rattle.std.specs.Prelude.{◌≡◌, ℕ, ◌+◌, ◌*◌, ◌/◌, ◌^◌, ◌<◌, ◌++◌, IfSome, List, length};
 ghost use Rattle.b3_core.specs.Hashers.{HasRoomFor, Holds, CountsRest, kept_work};
-ghost use Rattle.b3_core.specs.Tree.{IsSubtree};
+ghost use Rattle.b3_core.specs.Tree.{IsSubtree, chunk_len};
 ghost use Rattle.b3_core.specs.Work.{NeverFalls};
 
 use crate::parts::{append_all, parts_of};
@@ -69,7 +69,7 @@ fn update_in_parts<T: Threads + Sync + Runtime>(
 )
     requires level { level < 53 }
     requires fits { HasRoomFor level hasher.old }
-    requires subtree { IsSubtree (1024 * 2 ^ level) (hasher.old.whole / 1024) }
+    requires subtree { IsSubtree (chunk_len * 2 ^ level) (hasher.old.whole / chunk_len) }
     ensures mode { hasher.new.mode ≡ hasher.old.mode }
     ensures bytes { (x : List ℕ) → Holds hasher.old x → length x + length bytes.now < 2 ^ 64 → Holds hasher.new (x ++ bytes.now) }
     ensures count { (x : List ℕ) → Holds hasher.old x → length x + length bytes.now < 2 ^ 64

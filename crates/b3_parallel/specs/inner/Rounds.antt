@@ -2,7 +2,7 @@
 use Rattle.std.specs.Prelude.{◌≡◌, ℕ, ◌*◌, ◌^◌, List, [], ◌∷◌, Option, Some, None, IfSome, length, take, drop}
 use Rattle.std.specs.Global.{Vec}
 use Rattle.b3_core.specs.Hashers.{Hashing}
-use Rattle.b3_core.specs.Tree.{Keying}
+use Rattle.b3_core.specs.Tree.{Keying, chunk_len}
 use Rattle.b3_parallel.specs.inner.Blocks.{IsHashed}
 use Rattle.b3_parallel.specs.inner.Lines.{Carries}
 use Rattle.b3_parallel.specs.declared.taking.Placed.{Placed}
@@ -15,7 +15,7 @@ StandsAt (Some all) start x = take (length x) (drop start all) ≡ x
 -- what was made of a block of 2^k chunks, behind as many blocks as its place says
 abbrev pub IsPlaced : Keying → Option (List ℕ) → ℕ → Placed → Type 0
 IsPlaced p known k s =
-    (x : List ℕ) × (length x ≡ 1024 * 2 ^ k) × IsHashed p x (s.place * 2 ^ k) s.top s.work × StandsAt known (1024 * (s.place * 2 ^ k)) x
+    (x : List ℕ) × (length x ≡ chunk_len * 2 ^ k) × IsHashed p x (s.place * 2 ^ k) s.top s.work × StandsAt known (chunk_len * (s.place * 2 ^ k)) x
 
 -- what a thread made, of blocks in any order
 abbrev pub ArePlaced : Keying → Option (List ℕ) → ℕ → List Placed → Type 0
@@ -35,4 +35,4 @@ AreSlots p known k (s ∷ rest) = IfSome s (IsPlaced p known k) × AreSlots p kn
 -- a hasher was given the first bytes, `count` blocks of 2^k chunks; the compressions were n before them and are m
 abbrev pub HasFront : Keying → Option (List ℕ) → ℕ → Hashing → ℕ → ℕ → ℕ → Type 0
 HasFront p known k h count n m =
-    (x : List ℕ) × Carries p k h [] x n m × (length x ≡ 1024 * (count * 2 ^ k)) × StandsAt known 0 x
+    (x : List ℕ) × Carries p k h [] x n m × (length x ≡ chunk_len * (count * 2 ^ k)) × StandsAt known 0 x
