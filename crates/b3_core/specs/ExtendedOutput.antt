@@ -3,7 +3,7 @@ use Rattle.std.specs.Prelude.{ℕ, ◌+◌, ◌-◌, ◌/◌, ◌%◌, ◌^◌, 
 use Rattle.std.specs.List.{range_with_len}
 use Rattle.std.specs.Int.{w32, to_le_bytes}
 use Rattle.b3_core.specs.Compression.{compress_of, root_flag}
-use Rattle.b3_core.specs.Tree.{Inputs}
+use Rattle.b3_core.specs.Tree.{Inputs, block_size}
 
 -- byte i of the words w, each with its low byte first
 abbrev pub byte_of : List ℕ → ℕ → ℕ
@@ -16,7 +16,7 @@ root_words_of n t = compress_of n.chaining_value n.block_words t n.block_len (n.
 
 -- byte i of the extended output of the root n
 unfoldable pub output_byte : Inputs → ℕ → ℕ
-output_byte n i = byte_of (root_words_of n (i / 64)) (i % 64)
+output_byte n i = byte_of (root_words_of n (i / block_size)) (i % block_size)
 
 -- len bytes of the extended output, from byte i on
 abbrev pub output_of : Inputs → ℕ → ℕ → List ℕ
@@ -31,6 +31,6 @@ pub record Reader : Type 0 where
 abbrev pub output_left : Reader → List ℕ
 output_left r = output_of r.root r.position (2 ^ 64 - 1 - r.position)
 
--- the blocks of 64 bytes that len bytes from byte i on touch
+-- the blocks that len bytes from byte i on touch
 abbrev pub blocks_touched : ℕ → ℕ → ℕ
-blocks_touched i len = if nat_eq len 0 then 0 else (i + len - 1) / 64 + 1 - i / 64
+blocks_touched i len = if nat_eq len 0 then 0 else (i + len - 1) / block_size + 1 - i / block_size

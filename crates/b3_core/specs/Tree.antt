@@ -26,9 +26,12 @@ chaining_value_of n = take 8 (node_words n)
 
 -- ---- chunks (section 2.4)
 
--- the bytes of a chunk; the last of an input may have fewer (section 2.1)
+-- the bytes of a chunk, and of a block; the last of an input, and of a chunk, may have fewer (section 2.1)
 abbrev pub chunk_len : ℕ
 chunk_len = 1024
+
+abbrev pub block_size : ℕ
+block_size = 64
 
 -- the word at byte i, low byte first
 abbrev pub word_at : List ℕ → ℕ → ℕ
@@ -38,7 +41,7 @@ word_at x i = from_le_bytes w32
 -- the words of a block of at most 64 bytes, filled with zeros
 abbrev pub block_words_of : List ℕ → List ℕ
 block_words_of x =
-    let z = x ++ replicate (64 - length x) 0 in
+    let z = x ++ replicate (block_size - length x) 0 in
     word_at z 0 ∷ word_at z 4 ∷ word_at z 8 ∷ word_at z 12
     ∷ word_at z 16 ∷ word_at z 20 ∷ word_at z 24 ∷ word_at z 28
     ∷ word_at z 32 ∷ word_at z 36 ∷ word_at z 40 ∷ word_at z 44
@@ -46,7 +49,7 @@ block_words_of x =
 
 -- block j of a chunk
 abbrev pub block : List ℕ → ℕ → List ℕ
-block x j = take 64 (drop (64 * j) x)
+block x j = take block_size (drop (block_size * j) x)
 
 -- the flag of a chunk's first block
 abbrev pub start_flag : ℕ → ℕ
@@ -55,11 +58,11 @@ start_flag j = if nat_eq j 0 then chunk_start else 0
 -- the chaining value after the first j blocks of chunk c, none of which is its last
 unfoldable pub chain : List ℕ → ℕ → Keying → ℕ → List ℕ
 chain x c p zero = p.key
-chain x c p (suc j) = take 8 (compress_of (chain x c p j) (block_words_of (block x j)) c 64 (p.flag + start_flag j))
+chain x c p (suc j) = take 8 (compress_of (chain x c p j) (block_words_of (block x j)) c block_size (p.flag + start_flag j))
 
 -- the last block of a chunk of n bytes; no bytes are one empty block
 abbrev pub last_block : ℕ → ℕ
-last_block n = (n - 1) / 64
+last_block n = (n - 1) / block_size
 
 -- a chunk's last compression: chunk c with the bytes x, of which there are at most chunk_len
 unfoldable pub chunk_top : List ℕ → ℕ → Keying → Inputs
@@ -69,7 +72,7 @@ chunk_top x c p =
       chaining_value = chain x c p j;
       block_words = block_words_of (block x j);
       counter = c;
-      block_len = length x - 64 * j;
+      block_len = length x - block_size * j;
       flags = p.flag + start_flag j + chunk_end;
     }
 
@@ -81,7 +84,7 @@ parent_top left right p = record {
   chaining_value = p.key;
   block_words = chaining_value_of left ++ chaining_value_of right;
   counter = 0;
-  block_len = 64;
+  block_len = block_size;
   flags = p.flag + parent_flag;
 }
 

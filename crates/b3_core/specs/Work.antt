@@ -1,6 +1,6 @@
 -- Counts of compressions.
 use Rattle.std.specs.Prelude.{ℕ, ◌≤◌, ◌+◌, ◌-◌, ◌/◌, ◌^◌, min, max}
-use Rattle.b3_core.specs.Tree.{chunk_count}
+use Rattle.b3_core.specs.Tree.{block_size, chunk_count}
 
 -- a count of n compressions, at most 2 ^ 64 - 1, after k more: it stays at its greatest value
 abbrev pub counted : ℕ → ℕ → ℕ
@@ -12,7 +12,7 @@ NeverFalls n m = n ≤ m
 
 -- the blocks of n bytes; no bytes are one empty block
 abbrev pub block_count : ℕ → ℕ
-block_count n = max 1 ((n + 63) / 64)
+block_count n = max 1 ((n + (block_size - 1)) / block_size)
 
 -- the compressions of the hash of n bytes: one for each block, and one for each parent
 abbrev pub hash_work : ℕ → ℕ

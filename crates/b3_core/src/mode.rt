@@ -1,6 +1,7 @@
 //! The modes of the hash (section 2.3): the key words, and the flag of each compression.
 
 ghost use Rattle.std.specs.Prelude.{◌≡◌, ◌≤◌, MatchOption, Some, false, nat_lt, true};
+ghost use Rattle.b3_core.specs.Compression.{derive_key_material_flag};
 ghost use Rattle.b3_core.specs.Modes.{hash_mode, keyed_mode};
 ghost use Rattle.b3_core.specs.Texts.{mode_name, mode_text};
 ghost use Rattle.b3_core.specs.Tree.{Keying};
@@ -47,8 +48,8 @@ impl Mode {
 
     /// The mode with these key words and this flag, if the flag can be a mode's.
     pub(crate) fn of_words(key: [u32; 8], flag: u32) -> Option<Mode>
-        ensures { MatchOption result (nat_lt 64 flag ≡ true)
-            (λ mode. (nat_lt 64 flag ≡ false) × (mode ≡ record { key = key; flag = flag })) }
+        ensures { MatchOption result (nat_lt derive_key_material_flag flag ≡ true)
+            (λ mode. (nat_lt derive_key_material_flag flag ≡ false) × (mode ≡ record { key = key; flag = flag })) }
     {
         if flag > DERIVE_KEY_MATERIAL {
             return None;
@@ -66,7 +67,7 @@ impl Mode {
     /// The flag that each compression of the mode has; 0 is none.
     pub(crate) fn flag(&self) -> u32
         ensures value { result ≡ self.now.flag }
-        ensures below { result ≤ 64 }
+        ensures below { result ≤ derive_key_material_flag }
     {
         self.flag
     }

@@ -2,7 +2,7 @@
 
 ghost use Rattle.std.specs.Prelude.{◌≡◌, ℕ, ◌+◌, ◌*◌, ◌^◌, ◌<◌, ◌≤◌, Some, length, slice_index};
 ghost use Rattle.b3_core.specs.ExtendedOutput.{output_of, root_words_of};
-ghost use Rattle.b3_core.specs.Tree.{Inputs, parent_top, chaining_value_of};
+ghost use Rattle.b3_core.specs.Tree.{Inputs, parent_top, chaining_value_of, block_size};
 ghost use Rattle.b3_core.specs.Texts.{top_text};
 ghost use Rattle.b3_core.specs.Work.{counted};
 
@@ -90,7 +90,7 @@ impl Top {
 
     /// The 64 bytes of block `i` of the extended output of this node as the root (section 2.6).
     pub(crate) fn output_block(&self, i: u64, work: &mut Work) -> [u8; 64]
-        ensures bytes { result ≡ output_of self.now (64 * i) 64 }
+        ensures bytes { result ≡ output_of self.now (block_size * i) block_size }
         ensures count { work.new ≡ counted work.old 1 }
     {
         bytes_of(self.root_words(i, work))

@@ -4,7 +4,7 @@ ghost use Rattle.std.specs.Prelude.{◌≡◌, ◌+◌, ◌-◌, ◌≤◌, ◌+
 ghost use Rattle.std.specs.List.{range_with_len};
 ghost use Rattle.b3_core.specs.ExtendedOutput.{byte_of};
 ghost use Rattle.b3_core.specs.Modes.{key_words_of};
-ghost use Rattle.b3_core.specs.Tree.{word_at, block_words_of};
+ghost use Rattle.b3_core.specs.Tree.{word_at, block_words_of, block_size};
 
 use byteorder::{ByteOrder, LittleEndian};
 
@@ -20,7 +20,7 @@ pub(crate) fn word(bytes: &[u8], at: usize) -> u32
 #[inline(always)]
 #[rattlefmt::skip]
 pub(crate) fn words_of_block(bytes: &[u8]) -> [u32; 16]
-    requires { length bytes.now ≡ 64 }
+    requires { length bytes.now ≡ block_size }
     ensures { result ≡ block_words_of bytes.now }
 {
     [
@@ -33,8 +33,8 @@ pub(crate) fn words_of_block(bytes: &[u8]) -> [u32; 16]
 
 // A block, filled with zeros.
 fn padded(bytes: &[u8]) -> [u8; 64]
-    requires { length bytes.now ≤ 64 }
-    ensures { result ≡ bytes.now ++ replicate (64 - length bytes.now) 0 }
+    requires { length bytes.now ≤ block_size }
+    ensures { result ≡ bytes.now ++ replicate (block_size - length bytes.now) 0 }
 {
     let mut block = [0u8; 64];
     block[..bytes.len()].copy_from_slice(bytes);
@@ -43,7 +43,7 @@ fn padded(bytes: &[u8]) -> [u8; 64]
 
 /// The words of a block that may be short.
 pub(crate) fn words_of_short_block(bytes: &[u8]) -> [u32; 16]
-    requires { length bytes.now ≤ 64 }
+    requires { length bytes.now ≤ block_size }
     ensures { result ≡ block_words_of bytes.now }
 {
     let block = padded(bytes);
@@ -74,7 +74,7 @@ pub(crate) fn joined(left: [u32; 8], right: [u32; 8]) -> [u32; 16]
 
 /// The bytes of sixteen words.
 pub(crate) fn bytes_of(words: [u32; 16]) -> [u8; 64]
-    ensures { result ≡ map (byte_of words) (range_with_len 0 64) }
+    ensures { result ≡ map (byte_of words) (range_with_len 0 block_size) }
 {
     let mut out = [0u8; 64];
     'words: for i in 0..16 {

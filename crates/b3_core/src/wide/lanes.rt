@@ -4,7 +4,7 @@ ghost use Rattle.std.specs.Prelude.{◌≡◌, ℕ, ◌+◌, ◌*◌, ◌/◌, �
 ghost use Rattle.b3_core.specs.Compression.{columns, diagonals, round, permute, start_state, compress_of, output_words};
 ghost use Rattle.b3_core.specs.Lanes.{chunk_bytes, chunk_at};
 ghost use Rattle.b3_core.specs.inner.Lanes.{lane};
-ghost use Rattle.b3_core.specs.Tree.{Inputs, chaining_value_of, parent_top, block, block_words_of, chain, chunk_len};
+ghost use Rattle.b3_core.specs.Tree.{Inputs, chaining_value_of, parent_top, block, block_words_of, chain, chunk_len, block_size};
 ghost use Rattle.b3_core.specs.Work.{counted};
 
 use crate::compression::{CHUNK_END, IV, PARENT, start_flag};
@@ -84,7 +84,7 @@ fn permute<V: Words>(m: [V; 16]) -> [V; 16]
 #[rattlefmt::skip]
 fn start_states<V: Words>(h: [V; 8], t_low: V, t_high: V, d: u32) -> [V; 16]
     ensures { (j t : ℕ) → j < V.LANES → V.word t_low j ≡ t % 2 ^ 32 → V.word t_high j ≡ t / 2 ^ 32
-        → lane V.word j result ≡ start_state (lane V.word j h) t 64 d }
+        → lane V.word j result ≡ start_state (lane V.word j h) t block_size d }
 {
     let i0 = V::splat(IV[0]);
     let i1 = V::splat(IV[1]);
@@ -111,7 +111,7 @@ fn compress<V: ByteTurns, const STEP: usize>(
     work: &mut Work,
 )
     ensures values { (j t : ℕ) → j < V.LANES → V.word t_low j ≡ t % 2 ^ 32 → V.word t_high j ≡ t / 2 ^ 32
-        → lane V.word j h.new ≡ take 8 (compress_of (lane V.word j h.old) (lane V.word j m0) t 64 d) }
+        → lane V.word j h.new ≡ take 8 (compress_of (lane V.word j h.old) (lane V.word j m0) t block_size d) }
     ensures count { work.new ≡ counted work.old V.LANES }
 {
     let v0 = start_states(*h, t_low, t_high, d);
@@ -196,7 +196,7 @@ fn compress_block<V: Chunks, const STEP: usize>(
     requires len { chunk_len + chunk_len * (STEP * V.LANES) ≤ length bytes.now + chunk_len * STEP }
     requires block { k < 16 }
     ensures values { (j t : ℕ) → j < V.LANES → V.word t_low j ≡ t % 2 ^ 32 → V.word t_high j ≡ t / 2 ^ 32
-        → lane V.word j h.new ≡ take 8 (compress_of (lane V.word j h.old) (block_words_of (block (chunk_bytes bytes.now (STEP * j)) k)) t 64 d) }
+        → lane V.word j h.new ≡ take 8 (compress_of (lane V.word j h.old) (block_words_of (block (chunk_bytes bytes.now (STEP * j)) k)) t block_size d) }
     ensures count { work.new ≡ counted work.old V.LANES }
 {
     let m = blocks_at::<V, STEP>(bytes, k);

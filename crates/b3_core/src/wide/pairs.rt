@@ -3,7 +3,7 @@
 ghost use Rattle.std.specs.Prelude.{◌≡◌, ℕ, ◌+◌, ◌*◌, ◌/◌, ◌%◌, ◌^◌, ◌<◌, ◌≤◌, ◌++◌, length, slice_index};
 ghost use Rattle.b3_core.specs.Lanes.{chunk_bytes, chunk_at};
 ghost use Rattle.b3_core.specs.inner.Rows.{IsRowOf, rows_message, rows_value};
-ghost use Rattle.b3_core.specs.Tree.{Inputs, block, block_words_of, chaining_value_of, parent_top};
+ghost use Rattle.b3_core.specs.Tree.{Inputs, block, block_size, block_words_of, chaining_value_of, parent_top};
 ghost use Rattle.b3_core.specs.Work.{counted};
 
 use crate::compression::{CHUNK_END, CHUNK_LEN, PARENT, compress_rows, high, low, start_flag};
@@ -28,7 +28,7 @@ fn keys(key: [u32; 8]) -> (u32x8, u32x8)
 #[rattlefmt::skip]
 fn last_rows(number: u64, flags: u32) -> u32x8
     requires { number + 1 < 2 ^ 64 }
-    ensures { (i : ℕ) → 4 * i + 3 < 8 → IsRowOf slice_index i result ((number + i) % 2 ^ 32) ((number + i) / 2 ^ 32) 64 flags }
+    ensures { (i : ℕ) → 4 * i + 3 < 8 → IsRowOf slice_index i result ((number + i) % 2 ^ 32) ((number + i) / 2 ^ 32) block_size flags }
 {
     u32x8::from_array([
         low(number), high(number), 64, flags,
