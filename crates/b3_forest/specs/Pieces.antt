@@ -2,7 +2,7 @@
 -- bytes, which are none where the chunk isn't held.
 use Rattle.std.specs.Prelude.{◌≡◌, ℕ, zero, suc, ◌+◌, ◌-◌, ◌*◌, ◌/◌, ◌^◌, nat_lt, Bool, true, false, ◌&&◌, List, [], ◌∷◌, ◌++◌, length}
 use Rattle.b3_core.specs.Modes.{hash_mode}
-use Rattle.b3_core.specs.Tree.{chunk_len, tree_top}
+use Rattle.b3_core.specs.Tree.{block_size, chunk_len, tree_top}
 use Rattle.store_upload.specs.Uploads.{Fits, most_bytes}
 use Rattle.b3_forest.specs.Parts.{PlannedPart, chunks_of}
 use Rattle.b3_forest.specs.declared.piece.Piece.{Piece}
@@ -44,7 +44,7 @@ piece_count x = length (pieces_of x root_level 0)
 -- the compressions of n bytes' chunks and their c pieces: for each chunk its blocks less one, and two for each chunk
 -- beyond the number of pieces
 abbrev pub part_work : ℕ → ℕ → ℕ
-part_work n c = (n + 63) / 64 + (n + (chunk_len - 1)) / chunk_len - 2 * c
+part_work n c = (n + (block_size - 1)) / block_size + (n + (chunk_len - 1)) / chunk_len - 2 * c
 
 -- what a prepared part keeps: it fits its plan, and has the pieces of its own chunks
 abbrev pub IsPrepared : PlannedPart → List Piece → Type 0
