@@ -50,7 +50,7 @@ fn lane_pairs<V: Words>(
 
 // The level at which so many bytes are eight times 2^level whole chunks.
 fn eighth_level(len: usize) -> Option<u32>
-    ensures { IfSome result (λ level. len ≡ 8192 * 2 ^ level) }
+    ensures { IfSome result (λ level. len ≡ 8 * chunk_len * 2 ^ level) }
 {
     let mut level = 0;
     let mut whole = 8 * CHUNK_LEN;
@@ -64,7 +64,7 @@ fn eighth_level(len: usize) -> Option<u32>
 // The chaining values of eight times four whole chunks, the first with the given number. A lane keeps to its four chunks, one
 // after the other, so that the processor reads each of eight places forwards, and fetches ahead.
 fn page_values(mode: &Mode, bytes: &[u8], number: u64, work: &mut Work) -> [u32x8; 8]
-    requires len { length bytes.now ≡ 32768 }
+    requires len { length bytes.now ≡ 32 * chunk_len }
     requires number { number + 32 < 2 ^ 64 }
     ensures values { (j : ℕ) → j < 8 → lane slice_index j result ≡ chaining_value_of (group_top 4 bytes.now number mode.now j) }
     ensures count { work.new ≡ counted work.old 536 }
@@ -80,7 +80,7 @@ fn page_values(mode: &Mode, bytes: &[u8], number: u64, work: &mut Work) -> [u32x
 
 // The chaining values of the eight eighths of bytes, of 2^level whole chunks each; the first chunk has the given number.
 fn eighth_values(mode: &Mode, bytes: &[u8], level: u32, number: u64, work: &mut Work) -> [u32x8; 8]
-    requires len { length bytes.now ≡ 8192 * 2 ^ level }
+    requires len { length bytes.now ≡ 8 * chunk_len * 2 ^ level }
     requires number { number + length bytes.now / chunk_len < 2 ^ 64 }
     ensures values { (j : ℕ) → j < 8 → lane slice_index j result ≡ chaining_value_of (group_top (2 ^ level) bytes.now number mode.now j) }
     ensures count { work.new ≡ counted work.old (136 * 2 ^ level - 8) }
@@ -101,7 +101,7 @@ fn eighth_values(mode: &Mode, bytes: &[u8], level: u32, number: u64, work: &mut 
 
 // The top of the tree over eight times 2^level whole chunks, the first with the given number.
 fn whole_top(mode: &Mode, bytes: &[u8], level: u32, number: u64, work: &mut Work) -> Top
-    requires len { length bytes.now ≡ 8192 * 2 ^ level }
+    requires len { length bytes.now ≡ 8 * chunk_len * 2 ^ level }
     requires number { number + length bytes.now / chunk_len < 2 ^ 64 }
     ensures node { result ≡ tree_top bytes.now number mode.now }
     ensures count { work.new ≡ counted work.old (hash_work (length bytes.now) - 1) }
@@ -115,7 +115,7 @@ fn whole_top(mode: &Mode, bytes: &[u8], level: u32, number: u64, work: &mut Work
 
 // The top of the tree over four whole chunks, the first with the given number.
 fn four_top(mode: &Mode, bytes: &[u8], number: u64, work: &mut Work) -> Top
-    requires len { length bytes.now ≡ 4096 }
+    requires len { length bytes.now ≡ 4 * chunk_len }
     requires number { number + 4 < 2 ^ 64 }
     ensures node { result ≡ tree_top bytes.now number mode.now }
     ensures count { work.new ≡ counted work.old 66 }
@@ -127,7 +127,7 @@ fn four_top(mode: &Mode, bytes: &[u8], number: u64, work: &mut Work) -> Top
 
 // The top of the tree over two whole chunks, the first with the given number.
 fn two_top(mode: &Mode, bytes: &[u8], number: u64, work: &mut Work) -> Top
-    requires len { length bytes.now ≡ 2048 }
+    requires len { length bytes.now ≡ 2 * chunk_len }
     requires number { number + 2 < 2 ^ 64 }
     ensures node { result ≡ tree_top bytes.now number mode.now }
     ensures count { work.new ≡ counted work.old 32 }

@@ -1,9 +1,9 @@
 //! Eight chunks at a time.
 
-ghost use Rattle.std.specs.Prelude.{◌≡◌, ◌+◌, ◌-◌, ◌^◌, ◌<◌, ◌≤◌, length, slice_index};
+ghost use Rattle.std.specs.Prelude.{◌≡◌, ◌+◌, ◌-◌, ◌*◌, ◌^◌, ◌<◌, ◌≤◌, length, slice_index};
 ghost use Rattle.b3_core.specs.Lanes.{chunk_bytes, chunk_at, eight_chunks};
 ghost use Rattle.b3_core.specs.inner.Lanes.{lane};
-ghost use Rattle.b3_core.specs.Tree.{chain};
+ghost use Rattle.b3_core.specs.Tree.{chain, chunk_len};
 ghost use Rattle.b3_core.specs.Work.{counted};
 
 use crate::compression::{BLOCK_LEN, CHUNK_END, CHUNK_LEN};
@@ -36,7 +36,7 @@ impl Top {
 
     // The node of chunk `i` of eight, from the chaining values before their last blocks.
     fn of_lane(mode: &Mode, bytes: &[u8], number: u64, values: &[u32x8; 8], i: usize) -> Top
-        requires eight { length bytes.now ≡ 8192 }
+        requires eight { length bytes.now ≡ 8 * chunk_len }
         requires index { i < 8 }
         requires number { number ≤ 2 ^ 64 - 8 }
         ensures { lane slice_index i values.now ≡ chain (chunk_bytes bytes.now i) (number + i) mode.now 15

@@ -3,7 +3,7 @@
 ghost use Rattle.std.specs.Prelude.{◌≡◌, ℕ, ◌+◌, ◌*◌, ◌/◌, ◌%◌, ◌^◌, ◌<◌, ◌≤◌, ◌++◌, length, slice_index};
 ghost use Rattle.b3_core.specs.Lanes.{chunk_bytes, chunk_at};
 ghost use Rattle.b3_core.specs.inner.Rows.{IsRowOf, rows_message, rows_value};
-ghost use Rattle.b3_core.specs.Tree.{Inputs, block, block_size, block_words_of, chaining_value_of, parent_top};
+ghost use Rattle.b3_core.specs.Tree.{Inputs, block, block_size, block_words_of, chaining_value_of, chunk_len, parent_top};
 ghost use Rattle.b3_core.specs.Work.{counted};
 
 use crate::compression::{CHUNK_END, CHUNK_LEN, PARENT, compress_rows, high, low, start_flag};
@@ -39,7 +39,7 @@ fn last_rows(number: u64, flags: u32) -> u32x8
 // Block `k` of each of two chunks.
 #[inline(always)]
 fn blocks_at(bytes: &[u8], k: usize) -> (u32x8, u32x8, u32x8, u32x8)
-    requires len { 2048 ≤ length bytes.now }
+    requires len { 2 * chunk_len ≤ length bytes.now }
     requires block { k < 16 }
     ensures { (i : ℕ) → 4 * i + 3 < 8 → rows_message slice_index i result ≡ block_words_of (block (chunk_bytes bytes.now i) k) }
 {
@@ -73,7 +73,7 @@ pub(crate) fn pair_values(
     number: u64,
     work: &mut Work,
 ) -> ([u32; 8], [u32; 8])
-    requires len { 2048 ≤ length bytes.now }
+    requires len { 2 * chunk_len ≤ length bytes.now }
     requires number { number + 2 < 2 ^ 64 }
     ensures first { result.0 ≡ chaining_value_of (chunk_at bytes.now number mode.now 0) }
     ensures second { result.1 ≡ chaining_value_of (chunk_at bytes.now number mode.now 1) }
