@@ -1,17 +1,18 @@
 -- Sums of files, one file longer.
-use Rattle.std.proofs.Common.{◌≡◌, ◌∙◌, ◌&&◌, ℕ, ◌+◌, ◌<◌, Bool, true, false, List, [], ◌∷◌, ◌++◌, Option, Result, Ok, Err, length, take, drop, get_or, ap, sym, subst, refl, append_assoc, append-nil, take-append-drop}
-use Rattle.std.specs.Prelude.{if◌then◌else◌}
+use Rattle.std.proofs.Common.{◌≡◌, ◌∙◌, ◌&&◌, ℕ, ◌+◌, ◌<◌, Bool, true, false, List, [], ◌∷◌, ◌++◌, Option, Result, Ok, Err, length, take, drop, get_or, ap, inr, sym, subst, refl, append_assoc, append-nil, take-append-drop}
+use Rattle.std.specs.Prelude.{◌≢◌, if◌then◌else◌}
 use Rattle.std.specs.Io.KnownBytes.{Appends}
 use Rattle.std.proofs.KnownBytes.{Appends-trans}
 use Rattle.std.proofs.lemmas.List.{drop_more, take_more}
 use Rattle.b3_core.specs.Tree.{Inputs}
 use Rattle.edge.specs.declared.outcome.Cause.{Cause}
-use Rattle.edge.specs.declared.outcome.Cause.TheVariants.{OutOfMemory}
+use Rattle.edge.specs.declared.outcome.Cause.TheVariants.{CannotRead, CannotWrite, OutOfMemory}
 use Rattle.edge.specs.declared.outcome.Verdict.{Verdict}
 use Rattle.edge.specs.declared.outcome.Verdict.TheVariants.{Good, Refused}
 use Rattle.store_engines.specs.declared.sources.FileFault.{FileFault}
 use Rattle.store_engines.specs.declared.sources.Reason.{Reason}
-use Rattle.store_engines.specs.Sums.{RootAnswer, AreRootAnswers, IsRootAnswer, IsStoppedAt, IsSumStopped, root_answer_text, root_answers_text, root_answers_verdict, has_root}
+use Rattle.store_engines.specs.Sums.{RootAnswer, AreRootAnswers, IsRootAnswer, IsStoppedAt, IsSumStopped, root_answer_text, root_answers_text, root_answers_verdict, root_text, has_root}
+use Rattle.store_engines.specs.Writes.{WroteSome}
 use Rattle.store_engines.specs.inner.Sums.{IsSumOf, both}
 
 module _ {S : Type 0} (gives : S → List ℕ → Result Inputs FileFault → S → Type 0) (tells : S → List ℕ → Reason → S → Type 0) where
@@ -62,17 +63,26 @@ one_name_more gives tells len old mid new names i name verdict found after befor
       worst ∙ ap (λ (v : Verdict). both v found) h.3 ∙ ap (both (root_answers_verdict h.0)) a.good ∙ verdict_push h.0 a.answer,
     )
 
+-- there was a root, and what is written of it could not all be had or written
+pub stopped_writing : {S : Type 0} (gives : S → List ℕ → Result Inputs FileFault → S → Type 0) (len : Option ℕ) (old new : S) (name : List ℕ) (root : Inputs) (before after : Option (List ℕ)) (cause : Cause)
+    → gives old name (Ok root) new → cause ≢ CannotRead → (cause ≡ OutOfMemory → after ≡ before) → (cause ≡ CannotWrite → WroteSome before after (root_text len name root))
+    → IsStoppedAt gives len cause old name new before after
+stopped_writing gives len old new name root before after CannotRead given read none some = absurd (read refl)
+stopped_writing gives len old new name root before after CannotWrite given read none some = (root, given, some refl)
+stopped_writing gives len old new name root before after OutOfMemory given read none some = (inr (root, given), none refl)
+
 pub stopped_at : {S : Type 0} (gives : S → List ℕ → Result Inputs FileFault → S → Type 0) (tells : S → List ℕ → Reason → S → Type 0) (len : Option ℕ) (old mid new : S) (names : List (List ℕ)) (i : ℕ) (name : List ℕ) (verdict : Verdict) (before grown last : Option (List ℕ)) (cause : Cause)
-    → i < length names → name ≡ get_or names i name → IsUpTo gives tells len old names i mid verdict before grown → IsStoppedAt gives cause mid name new → (cause ≡ OutOfMemory → last ≡ grown)
+    → i < length names → name ≡ get_or names i name → IsUpTo gives tells len old names i mid verdict before grown → IsStoppedAt gives len cause mid name new grown last
     → IsSumStopped gives tells len old names cause new before last
-stopped_at gives tells len old mid new names i name verdict before grown last cause lt is h stop same = record {
+stopped_at gives tells len old mid new names i name verdict before grown last cause lt is h stop = record {
   front = take i names;
   name = name;
   back = drop (i + 1) names;
   answers = h.0;
   mid = mid;
+  grown = grown;
   all = ap (λ (n : List ℕ). take i names ++ n ∷ drop (i + 1) names) is ∙ ap (λ (ns : List (List ℕ)). take i names ++ ns) (sym (drop_more names i name lt)) ∙ take-append-drop i names;
   answered = h.1;
+  wrote = h.2;
   stopped = stop;
-  wrote = λ memory. subst (λ (o : Option (List ℕ)). Appends before o (root_answers_text len (take i names) h.0)) (sym (same memory)) h.2;
 }

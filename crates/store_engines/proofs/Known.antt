@@ -1,7 +1,8 @@
 -- What is known of an input that was read, and of an output that was flushed.
-use Rattle.std.proofs.Common.{◌≡◌, ◌∙◌, ℕ, List, [], Option, Some, None, append-nil, subst, sym}
+use Rattle.std.proofs.Common.{◌≡◌, ℕ, List, [], Option, Some, None, append-nil, subst, sym}
 use Rattle.std.specs.Prelude.{IfSome}
 use Rattle.std.specs.Io.KnownBytes.{Appends, Keeps}
+use Rattle.std.proofs.KnownBytes.{Appends-kept}
 use Rattle.b3_check.specs.declared.file.NumberedLine.{NumberedLine}
 use Rattle.b3_check.specs.declared.report.Shown.{Shown}
 use Rattle.b3_check.specs.Reports.{Answer, IsReport, Verdict, report_text}
@@ -11,12 +12,6 @@ use Rattle.store_engines.specs.Checks.{IsCut}
 pub known : (input : Option (List ℕ)) (bytes : List ℕ) (P : List ℕ → Type 0) → IfSome input (λ left. bytes ≡ left) → P bytes → IfSome input P
 known None bytes P is h = tt
 known (Some left) bytes P is h = subst P is h
-
-kept_behind : (a b c : Option (List ℕ)) (text : List ℕ) → Appends a b text → Keeps b c → Appends a c text
-kept_behind None b c text p q = tt
-kept_behind (Some x) None c text p q = absurd p
-kept_behind (Some x) (Some y) None text p q = absurd q
-kept_behind (Some x) (Some y) (Some z) text p q = q ∙ p
 
 -- a report went out, and could not be flushed
 pub cut_behind : {S : Type 0} (gives : S → List ℕ → Answer → S → Type 0) (shown : Shown) (old : S) (lines : List NumberedLine) (new : S) (before grown last : Option (List ℕ)) (verdicts : List Verdict)
@@ -28,5 +23,5 @@ cut_behind gives shown old lines new before grown last verdicts asked went kept 
   rest = [];
   all = append-nil lines;
   asked = asked;
-  went = record { front = report_text shown verdicts; is = sym (append-nil (report_text shown verdicts)); went = kept_behind before grown last (report_text shown verdicts) went kept };
+  went = record { front = report_text shown verdicts; is = sym (append-nil (report_text shown verdicts)); went = Appends-kept before grown last (report_text shown verdicts) went kept };
 }

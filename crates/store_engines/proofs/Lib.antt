@@ -1,4 +1,5 @@
 pub mod FileSums
 pub mod Known
 pub mod ListNames
+pub mod Writes
 pub mod UploadTexts

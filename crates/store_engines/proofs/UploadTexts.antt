@@ -1,64 +1,111 @@
 -- What an upload writes.
 use Rattle.std.proofs.Common.{◌≡◌, ◌++◌, arith, codes, inl, inr, refl, ℕ, Bool, true, false, List, Option, Some, None, Result, Ok, Err, ap, ap₂, subst, sym, [], length, ◌∙◌}
-use Rattle.std.specs.Prelude.{IfSome, OnOk, if◌then◌else◌, option_map}
+use Rattle.std.specs.Prelude.{IfSome, OnErr, OnOk, if◌then◌else◌, nat_lt, option_map}
 use Rattle.std.specs.Option.{option_map_or}
 use Rattle.std.specs.Io.KnownBytes.{Appends}
 use Rattle.b3_core.specs.Modes.{hash_of}
 use Rattle.store_books.specs.declared.refusal.Refusal.{Refusal}
-use Rattle.store_books.specs.declared.refusal.Refusal.TheVariants.{NoTenant, NotHeld}
-use Rattle.store_books.specs.Books.{is_absent, is_held_by, object_at}
+use Rattle.store_books.specs.declared.refusal.Refusal.TheVariants.{JournalFull, LimitTooLarge, NoTenant, NotHeld, TenantsFull}
+use Rattle.store_books.specs.Books.{is_absent, is_held_by, most_limit, most_workers, object_at}
 use Rattle.store_books.specs.Commands.{holding_refusal}
 use Rattle.store_books.specs.Forgetting.{bare_object}
 use Rattle.store_books.proofs.Commands.{passed}
 use Rattle.store_books.proofs.Forgets.{object_same}
 use Rattle.store_core.specs.Carried.{told_of}
-use Rattle.store_core.specs.Commands.{Tells, fetch_in, unless}
+use Rattle.store_core.specs.Commands.{Acceptance, StepsAs, Tells, fetch_in, unless}
 use Rattle.store_core.specs.Model.{ModelObject, ModelStore, Shown}
 use Rattle.store_upload.proofs.Places.{not_some}
 use Rattle.store_ledger.specs.declared.holding.Holding.{Holding}
-use Rattle.store_shared.specs.Cuts.{cut_of}
+use Rattle.store_shared.specs.Cuts.{IsBadCut, cut_of}
 use Rattle.store_shared.specs.declared.fault.UploadFaultKind.{UploadFaultKind}
-use Rattle.store_shared.specs.declared.fault.UploadFaultKind.TheVariants.{BadCut, Stopped}
+use Rattle.store_shared.specs.declared.fault.UploadFaultKind.TheVariants.{BadCut, Stopped, StrangePart}
 use Rattle.store_shared.specs.declared.fault.UploadFaultKind.TheVariants as kinds
 use Rattle.store_shared.specs.Gates.{IsOwnFault}
-use Rattle.store_engines.specs.Uploads.{HasObject, MayFail, SomeRefusal, WroteRefusal, WroteUpload, is_memory, uploaded_text}
+use Rattle.store_engines.specs.Uploads.{HasObject, IsUnopened, IsUploadText, MayFail, SomeRefusal, WroteBeginning, WroteMemory, failed_text, is_memory, uploaded_text}
+use Rattle.store_engines.specs.Writes.{WroteSome}
+use Rattle.store_engines.proofs.Writes.{wrote_none}
 use Rattle.store_engines.specs.inner.Uploads.{IsFiled, IsTold}
 use Rattle.edge.specs.declared.outcome.Cause.{Cause}
-use Rattle.edge.specs.declared.outcome.Cause.TheVariants.{OutOfMemory}
+use Rattle.edge.specs.declared.outcome.Cause.TheVariants.{CannotWrite, OutOfMemory}
 use Rattle.edge.specs.declared.outcome.Verdict.{Verdict}
 use Rattle.edge.specs.declared.outcome.Verdict.TheVariants.{Refused}
 use Rattle.edge.specs.declared.options.UploadOptions.{UploadOptions}
 
+-- ---- a failed upload
+
 -- a refusal that was told, and is not want of memory, is some refusal
-pub told : (o : UploadOptions) (r : Result Verdict Cause) (kind : UploadFaultKind) (old new : Option (List ℕ)) → MayFail o kind → OnOk r (WroteRefusal kind old new) → (is_memory kind ≡ true → r ≡ Err OutOfMemory) → r ≡ Ok Refused
+pub told : (o : UploadOptions) (r : Result Verdict Cause) (kind : UploadFaultKind) (old new : Option (List ℕ)) → MayFail o kind → OnOk r (Appends old new (failed_text kind)) → (is_memory kind ≡ true → r ≡ Err OutOfMemory) → r ≡ Ok Refused
     → SomeRefusal o old new
 told o r kind old new may wrote memory is = go (is_memory kind) refl
   where
     go : (b : Bool) → is_memory kind ≡ b → SomeRefusal o old new
     go true e = let stopped = memory e in absurd (cc)
-    go false e = (kind, may, e, rw is at wrote)
+    go false e = (failed_text kind, (kind, may, e, refl), rw is at wrote)
+
+-- nothing was written for want of memory
+pub no_memory : (old new : Option (List ℕ)) → new ≡ old → WroteMemory old new
+no_memory old new same = (kinds.NoMemory, refl, subst (λ (a : Option (List ℕ)). WroteSome old a (failed_text kinds.NoMemory)) (sym same) (wrote_none old (failed_text kinds.NoMemory)))
+
+-- nothing else was told of a want of memory
+pub told_memory : (r : Result Verdict Cause) (kind : UploadFaultKind) (old new : Option (List ℕ)) → OnErr r (WroteSome old new (failed_text kind)) → (is_memory kind ≡ false → r ≡ Err OutOfMemory → new ≡ old) → r ≡ Err OutOfMemory
+    → WroteMemory old new
+told_memory r kind old new wrote other is = go (is_memory kind) refl
+  where
+    go : (b : Bool) → is_memory kind ≡ b → WroteMemory old new
+    go true e = (kind, e, rw is at wrote)
+    go false e = no_memory old new (other e is)
+
+-- of a refusal that is no want of memory a beginning went out
+pub told_some : (o : UploadOptions) (r : Result Verdict Cause) (kind : UploadFaultKind) (old new known : Option (List ℕ)) → MayFail o kind → OnErr r (WroteSome old new (failed_text kind)) → (is_memory kind ≡ true → r ≡ Err OutOfMemory) → r ≡ Err CannotWrite
+    → IfSome known (λ input. WroteBeginning o input old new)
+told_some o r kind old new None may wrote memory is = tt
+told_some o r kind old new (Some input) may wrote memory is = go (is_memory kind) refl
+  where
+    go : (b : Bool) → is_memory kind ≡ b → WroteBeginning o input old new
+    go true e = let stopped = memory e in absurd (cc)
+    go false e = (failed_text kind, inr (kind, may, e, refl), rw is at wrote)
+
+-- the store opens its tenant, whose limit is none too large, or is full
+pub unopened : {R M : Type 0} (seen : R → M) (limit : ℕ) (a : Acceptance M) (old new : Shown) (full many : Bool) (refusal : Refusal) → nat_lt most_limit limit ≡ false
+    → StepsAs seen (unless (if many then Some TenantsFull else if nat_lt most_limit limit then Some LimitTooLarge else if full then Some JournalFull else None) a) old (Err refusal) new → IsUnopened (kinds.Refused refusal)
+unopened seen limit a old new full many refusal low step = go many (nat_lt most_limit limit) full low step
+  where
+    go : (x y z : Bool) → y ≡ false → StepsAs seen (unless (if x then Some TenantsFull else if y then Some LimitTooLarge else if z then Some JournalFull else None) a) old (Err refusal) new → IsUnopened (kinds.Refused refusal)
+    go true y z e h = subst (λ (r : Refusal). IsUnopened (kinds.Refused r)) (sym h.0) tt
+    go false true z e h = absurd (cc)
+    go false false true e h = subst (λ (r : Refusal). IsUnopened (kinds.Refused r)) (sym h.0) tt
+    go false false false e h = subst (λ (r : Refusal). IsUnopened (kinds.Refused r)) (sym h.0) tt
 
 -- no cut is at fault
-pub own_may : (o : UploadOptions) (kind : UploadFaultKind) → IsOwnFault kind → MayFail o kind
-own_may o kinds.BadCut own = absurd own
-own_may o kinds.Stopped own = own
-own_may o (kinds.GateFault part code) own = own
-own_may o (kinds.Refused refusal) own = own
-own_may o kinds.NoMemory own = own
-own_may o kinds.StrangePart own = own
+pub own_may : (o : UploadOptions) (kind : UploadFaultKind) → IsOwnFault kind → (IsBadCut o.part_chunks o.workers most_workers → IsUnopened kind) → MayFail o kind
+own_may o kinds.BadCut own bad = absurd own
+own_may o kinds.Stopped own bad = absurd own
+own_may o (kinds.GateFault part code) own bad = absurd own
+own_may o (kinds.Refused refusal) own bad = (own, bad)
+own_may o kinds.NoMemory own bad = (own, bad)
+own_may o kinds.StrangePart own bad = (own, bad)
 
--- what was written of an input that is known
-pub wrote : (o : UploadOptions) (known : Option (List ℕ)) (input text address : List ℕ) (share : Holding) (shown : Shown) (old new : Option (List ℕ))
-    → IfSome known (λ left. input ≡ left) → address ≡ hash_of input → share.bytes ≡ length input → share.calls ≡ length (cut_of input o.part_chunks)
-    → IsTold o.journal address share shown text → Appends old new text → IfSome known (λ left. WroteUpload o left old new)
-wrote o None input text address share shown old new same hash bytes calls told appends = tt
-wrote o (Some left) input text address share shown old new same hash bytes calls told appends =
-    subst (λ (x : List ℕ). WroteUpload o x old new) same (record {
-      entries = shown.journal;
-      journal = record { left = told.left; legal = told.legal; filed = subst (λ (a : List ℕ). HasObject told.left a (length input)) hash (subst (HasObject told.left address) bytes told.filed); bytes = told.bytes ∙ bytes; calls = told.calls ∙ calls };
-      wrote = subst (Appends old new) (told.text_is ∙ ap (λ (a : List ℕ). uploaded_text o.journal a share.bytes share.calls shown.journal) hash
-          ∙ ap₂ (λ (n m : ℕ). uploaded_text o.journal (hash_of input) n m shown.journal) bytes calls) appends;
-    })
+-- a cut is at fault exactly where it is bad, and the gate never
+pub cut_may : (o : UploadOptions) (kind : UploadFaultKind) → (IsBadCut o.part_chunks o.workers most_workers → kind ≡ kinds.BadCut) → (kind ≡ kinds.BadCut → IsBadCut o.part_chunks o.workers most_workers)
+    → (kind ≡ kinds.Stopped → ⊥) → ((part code : ℕ) → kind ≡ kinds.GateFault part code → ⊥) → MayFail o kind
+cut_may o kinds.BadCut bad good stopped gate = good refl
+cut_may o kinds.Stopped bad good stopped gate = absurd (stopped refl)
+cut_may o (kinds.GateFault part code) bad good stopped gate = absurd (gate part code refl)
+cut_may o (kinds.Refused refusal) bad good stopped gate = (tt, λ b. let e = bad b in absurd (cc))
+cut_may o kinds.NoMemory bad good stopped gate = (tt, λ b. let e = bad b in absurd (cc))
+cut_may o kinds.StrangePart bad good stopped gate = (tt, λ b. let e = bad b in absurd (cc))
+
+-- ---- an upload that was filed
+
+-- what is told of a store whose upload was filed is a text of its input
+pub is_upload_text : (o : UploadOptions) (input text address : List ℕ) (share : Holding) (shown : Shown) → address ≡ hash_of input → share.bytes ≡ length input → share.calls ≡ length (cut_of input o.part_chunks)
+    → IsTold o.journal address share shown text → IsUploadText o input text
+is_upload_text o input text address share shown hash bytes calls told = record {
+  entries = shown.journal;
+  journal = record { left = told.left; legal = told.legal; filed = subst (λ (a : List ℕ). HasObject told.left a (length input)) hash (subst (HasObject told.left address) bytes told.filed); bytes = told.bytes ∙ bytes; calls = told.calls ∙ calls };
+  is = told.text_is ∙ ap (λ (a : List ℕ). uploaded_text o.journal a share.bytes share.calls shown.journal) hash
+      ∙ ap₂ (λ (n m : ℕ). uploaded_text o.journal (hash_of input) n m shown.journal) bytes calls;
+}
 
 -- what is filed is left by the journal
 pub has_object : (s : ModelStore) (address : List ℕ) (n : ℕ) → IsFiled s address n → HasObject (told_of s) address n
@@ -96,4 +143,7 @@ sixteen_workers (inr (inr (inl no_worker))) = absurd (omega (arith, no_worker))
 sixteen_workers (inr (inr (inr many_workers))) = absurd (omega (arith, many_workers))
 
 never_stopped : MayFail (by_workers 16) Stopped → ⊥
-never_stopped stopped = stopped
+never_stopped stopped = stopped.0
+
+bad_but_strange : MayFail (by_workers 17) StrangePart → ⊥
+bad_but_strange strange = strange.1 (inr (inr (inr (omega arith))))

@@ -14,6 +14,7 @@ use Rattle.edge.specs.declared.outcome.Verdict.{Verdict}
 use Rattle.edge.specs.declared.outcome.Verdict.TheVariants.{Good, Refused}
 use Rattle.edge.specs.declared.options.SumMode.{SumMode}
 use Rattle.edge.specs.declared.options.SumMode.TheVariants.{Hash, Keyed, Derive}
+use Rattle.store_engines.specs.Writes.{WroteSome}
 use Rattle.store_engines.specs.declared.sources.FileFault.{FileFault}
 use Rattle.store_engines.specs.declared.sources.Reason.{Reason}
 use Rattle.store_engines.specs.declared.sources.Reason.TheVariants.{IsFolder, Missing, NoPermission, NotUtf8, Unreadable}
@@ -80,24 +81,25 @@ has_root (Err reason) = false
 abbrev pub root_answers_verdict : List RootAnswer → Verdict
 root_answers_verdict answers = if list_all has_root answers then Good else Refused
 
--- What stopped it, at a name: the source had no memory for it, or there was a root for it, and no memory for the line or a write that
--- failed.
-abbrev pub IsStoppedAt : {S : Type 0} → (S → List ℕ → Result Inputs FileFault → S → Type 0) → Cause → S → List ℕ → S → Type 0
-IsStoppedAt gives CannotRead old name new = ⊥
-IsStoppedAt gives CannotWrite old name new = (root : Inputs) × gives old name (Ok root) new
-IsStoppedAt gives OutOfMemory old name new = gives old name (Err NoMemory) new ⊎ ((root : Inputs) × gives old name (Ok root) new)
+-- What stopped it, at a name: there was a root for it, and of what is written of that a beginning went out; or there was no memory, in the
+-- source or for what is written of a root, and nothing went out.
+abbrev pub IsStoppedAt : {S : Type 0} → (S → List ℕ → Result Inputs FileFault → S → Type 0) → Option ℕ → Cause → S → List ℕ → S → Option (List ℕ) → Option (List ℕ) → Type 0
+IsStoppedAt gives length CannotRead old name new before after = ⊥
+IsStoppedAt gives length CannotWrite old name new before after = (root : Inputs) × gives old name (Ok root) new × WroteSome before after (root_text length name root)
+IsStoppedAt gives length OutOfMemory old name new before after = (gives old name (Err NoMemory) new ⊎ ((root : Inputs) × gives old name (Ok root) new)) × (after ≡ before)
 
--- The names before the one that it stopped at were answered, and for want of memory no more than what is written of them was.
+-- The names before the one that it stopped at were answered, and what is written of them was.
 pub record IsSumStopped {S : Type 0} (gives : S → List ℕ → Result Inputs FileFault → S → Type 0) (tells : S → List ℕ → Reason → S → Type 0) (length : Option ℕ) (old : S) (names : List (List ℕ)) (cause : Cause) (new : S) (before after : Option (List ℕ)) : Type 0 where
   pub front : List (List ℕ)
   pub name : List ℕ
   pub back : List (List ℕ)
   pub answers : List RootAnswer
   pub mid : S
+  pub grown : Option (List ℕ)
   pub all : front ++ name ∷ back ≡ names
   pub answered : AreRootAnswers gives tells old front answers mid
-  pub stopped : IsStoppedAt gives cause mid name new
-  pub wrote : cause ≡ OutOfMemory → Appends before after (root_answers_text length front answers)
+  pub wrote : Appends before grown (root_answers_text length front answers)
+  pub stopped : IsStoppedAt gives length cause mid name new grown after
 
 -- what may be answered of a file's name: a name that is not UTF-8 has no root
 abbrev pub IsRootOfFile : List ℕ → Result Inputs FileFault → Type 0

@@ -1,5 +1,5 @@
 -- What `upload` writes.
-use Rattle.std.specs.Prelude.{◌≡◌, ℕ, Bool, true, false, List, ◌++◌, Option, Some, Ok, [], codes, length}
+use Rattle.std.specs.Prelude.{◌≡◌, ◌⊎◌, ℕ, Bool, true, false, List, ◌++◌, Option, Some, Ok, [], codes, length}
 use Rattle.std.specs.Io.KnownBytes.{Appends}
 use Rattle.b3_check.specs.Lines.{written_line}
 use Rattle.b3_core.specs.Modes.{hash_of}
@@ -17,6 +17,7 @@ use Rattle.store_shared.specs.Gates.{IsOwnFault}
 use Rattle.store_shared.specs.declared.fault.UploadFaultKind.{UploadFaultKind}
 use Rattle.store_shared.specs.declared.fault.UploadFaultKind.TheVariants.{BadCut, NoMemory, Refused}
 use Rattle.store_engines.specs.Audits.{accepted_text}
+use Rattle.store_engines.specs.Writes.{WroteSome}
 use Rattle.edge.specs.declared.options.UploadOptions.{UploadOptions}
 
 -- the journal's text, where it is asked for
@@ -42,11 +43,15 @@ pub record IsJournal (part_chunks : ℕ) (input : List ℕ) (entries : List Entr
   pub bytes : (accepted_of entries).bytes ≡ length input
   pub calls : (accepted_of entries).calls ≡ length (cut_of input part_chunks)
 
--- the writer grew by what is written of an input that was filed
-pub record WroteUpload (o : UploadOptions) (input : List ℕ) (old new : Option (List ℕ)) : Type 0 where
+-- a text that is written of an input that was filed
+pub record IsUploadText (o : UploadOptions) (input text : List ℕ) : Type 0 where
   pub entries : List Entry
   pub journal : IsJournal o.part_chunks input entries
-  pub wrote : Appends old new (uploaded_text o.journal (hash_of input) (length input) (length (cut_of input o.part_chunks)) entries)
+  pub is : text ≡ uploaded_text o.journal (hash_of input) (length input) (length (cut_of input o.part_chunks)) entries
+
+-- the writer grew by it
+abbrev pub WroteUpload : UploadOptions → List ℕ → Option (List ℕ) → Option (List ℕ) → Type 0
+WroteUpload o input old new = (text : List ℕ) × IsUploadText o input text × Appends old new text
 
 -- ---- failed uploads
 
@@ -56,15 +61,37 @@ is_memory NoMemory = true
 is_memory (Refused refusals.NoMemory) = true
 is_memory _ = false
 
--- the writer grew by the line of a failed upload
-abbrev pub WroteRefusal : UploadFaultKind → Option (List ℕ) → Option (List ℕ) → Type 0
-WroteRefusal kind old new = Appends old new (codes "refused " ++ (fault_text kind ++ codes "\n"))
+-- the line of a failed upload
+abbrev pub failed_text : UploadFaultKind → List ℕ
+failed_text kind = codes "refused " ++ (fault_text kind ++ codes "\n")
 
--- why an upload by these options may fail, whose gate passes all parts: a cut is bad only where it is
+-- why the store opened no tenant for the upload
+abbrev pub IsUnopened : UploadFaultKind → Type 0
+IsUnopened (Refused refusals.TenantsFull) = Unit {0}
+IsUnopened (Refused refusals.JournalFull) = Unit {0}
+IsUnopened (Refused refusals.NoMemory) = Unit {0}
+IsUnopened _ = ⊥
+
+-- Why an upload by these options may fail, whose gate passes all parts: as a bad cut only where the cut is bad, and there in no other way
+-- once the store opened a tenant.
 abbrev pub MayFail : UploadOptions → UploadFaultKind → Type 0
 MayFail o BadCut = IsBadCut o.part_chunks o.workers most_workers
-MayFail o kind = IsOwnFault kind
+MayFail o kind = IsOwnFault kind × (IsBadCut o.part_chunks o.workers most_workers → IsUnopened kind)
 
--- the writer grew by the line of an upload by these options that failed, and not for want of memory
+-- the line of an upload by these options that failed, and not for want of memory
+abbrev pub IsRefusedText : UploadOptions → List ℕ → Type 0
+IsRefusedText o text = (kind : UploadFaultKind) × MayFail o kind × (is_memory kind ≡ false) × (text ≡ failed_text kind)
+
+-- the writer grew by it
 abbrev pub SomeRefusal : UploadOptions → Option (List ℕ) → Option (List ℕ) → Type 0
-SomeRefusal o old new = (kind : UploadFaultKind) × MayFail o kind × (is_memory kind ≡ false) × WroteRefusal kind old new
+SomeRefusal o old new = (text : List ℕ) × IsRefusedText o text × Appends old new text
+
+-- ---- uploads that were stopped
+
+-- of the line of a want of memory a beginning went out, which may be nothing, or all of it
+abbrev pub WroteMemory : Option (List ℕ) → Option (List ℕ) → Type 0
+WroteMemory old new = (kind : UploadFaultKind) × (is_memory kind ≡ true) × WroteSome old new (failed_text kind)
+
+-- a beginning went out of what is written of an input
+abbrev pub WroteBeginning : UploadOptions → List ℕ → Option (List ℕ) → Option (List ℕ) → Type 0
+WroteBeginning o input old new = (text : List ℕ) × (IsUploadText o input text ⊎ IsRefusedText o text) × WroteSome old new text

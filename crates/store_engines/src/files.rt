@@ -1,12 +1,11 @@
 //! The system's files, by their names.
 
-ghost use Rattle.std.specs.Prelude.{◌≡◌, ◌↔◌, ◌⊎◌, ℕ, List, None, Err, IfNone, IfOk, IfSome};
+ghost use Rattle.std.specs.Prelude.{◌≡◌, ◌↔◌, ℕ, List, None, Err, IfNone, IfOk, IfSome, OnOk};
 ghost use Rattle.std.specs.Io.KnownBytes.{IsAtEnd};
 ghost use Rattle.std.specs.IoError.{error_kind};
-ghost use Rattle.std.specs.Str.{IsUtf8};
 ghost use Rattle.b3_core.specs.Tree.{tree_top};
 ghost use Rattle.store_engines.specs.Files.{IsSomeRoot};
-ghost use Rattle.store_engines.specs.Sums.{IsRootOfSome, sum_mode};
+ghost use Rattle.store_engines.specs.Sums.{IsRootOfFile, IsRootOfSome, sum_mode};
 ghost use Rattle.store_engines.specs.declared.sources.FileFault.TheVariants.{Failed, NoMemory};
 ghost use Rattle.store_engines.specs.declared.sources.Reason.TheVariants.{IsFolder, Missing, NoPermission, NotUtf8};
 
@@ -83,6 +82,7 @@ impl<T: Threads + Runtime> FileHasher<'_, T> {
     fn stream_root<I: Read>(&mut self, input: &mut I) -> Result<Top, FileFault>
         ensures root { IsRootOfSome self.old.mode result }
         ensures mode { self.new.mode ≡ self.old.mode }
+        ensures end { OnOk result (IsAtEnd (I.remaining input.new)) }
         ensures read { result ≡ Err (Failed NotUtf8) → ⊥ }
     {
         let (starter, alloc, mode) = (self.starter, self.rt.alloc(), self.mode);
@@ -122,7 +122,7 @@ impl<T: Threads + Runtime> FileHasher<'_, T> {
     fn file_root(&mut self, name: &[u8]) -> Result<Top, FileFault>
         ensures root { IsRootOfSome self.old.mode result }
         ensures mode { self.new.mode ≡ self.old.mode }
-        ensures utf8 { IsUtf8 name.now ⊎ (result ≡ Err (Failed NotUtf8)) }
+        ensures utf8 { IsRootOfFile name.now result }
     {
         let Ok(path) = str::from_utf8(name) else {
             return Err(FileFault::Failed(Reason::NotUtf8));
@@ -273,7 +273,7 @@ impl<'a, T: Threads + Runtime> SystemFiles<'a, T> {
     fn root_of_file(&mut self, name: &[u8]) -> Result<Top, FileFault>
         ensures root { IsRootOfSome self.old.mode result }
         ensures mode { self.new.mode ≡ self.old.mode }
-        ensures utf8 { IsUtf8 name.now ⊎ (result ≡ Err (Failed NotUtf8)) }
+        ensures utf8 { IsRootOfFile name.now result }
     {
         match self.known_root(name) {
             Some(root) => Ok(root),
@@ -343,13 +343,17 @@ fn write_reason<E: Write>(name: &[u8], reason: Reason, told: &mut E) -> io::Resu
 
 impl<T: Threads + Runtime, I: Standing + Drop, E: Write + Drop> Sources
     for SystemInputs<'_, T, I, E> {
-    ghost use Rattle.std.specs.Prelude.{◌≡◌, ◌≢◌, codes};
+    ghost use Rattle.std.specs.Prelude.{◌≡◌, ◌≢◌, OnOk, codes};
+    ghost use Rattle.std.specs.Io.KnownBytes.{IsAtEnd};
     ghost use Rattle.store_engines.specs.Sums.{IsRootOfFile, IsRootOfSome};
 
-    // Of a name but `-` the input gives nothing.
-    ghost gives = { λ old name answer new. IsRootOfSome old.files.mode answer × (name ≢ codes "-" → IsRootOfFile name answer × (new.input ≡ old.input)) × (new.files.mode ≡ old.files.mode) };
+    // Of a name but `-` the input gives nothing, and by a root of `-` it is at its end. Nothing is told.
+    ghost gives = { λ old name answer new. IsRootOfSome old.files.mode answer
+        × (name ≢ codes "-" → IsRootOfFile name answer × (new.input ≡ old.input))
+        × (name ≡ codes "-" → OnOk answer (IsAtEnd (I.remaining new.input)))
+        × (new.files.mode ≡ old.files.mode) × (new.told ≡ old.told) };
 
-    ghost tells = { λ old name reason new. new.files.mode ≡ old.files.mode };
+    ghost tells = { λ old name reason new. (new.files ≡ old.files) × (new.input ≡ old.input) };
 
     fn expect(&mut self, names: &[Name]) {
         self.files.expect_names(names);

@@ -1,6 +1,7 @@
 //! Reading a key from a file.
 
-ghost use Rattle.std.specs.Prelude.{◌≡◌, IfOk, IfSome};
+ghost use Rattle.std.specs.Prelude.{◌≡◌, ◌≢◌, IfErr, IfOk, IfSome, OnOk};
+ghost use Rattle.std.specs.Io.KnownBytes.{IsAtEnd};
 ghost use Rattle.store_engines.specs.Keys.{key_at, without_feed};
 
 use crate::streams::read_all;
@@ -10,9 +11,11 @@ use std::alloc::Global;
 use std::io::Read;
 
 /// The key that all input is: 32 bytes as they stand, or 64 hexadecimal digits of either case, behind which one line feed may stand.
-/// `None` where it is neither.
+/// `None` where it is neither. It stops at the first read that fails, or where memory is refused.
 pub fn read_key<R: Read>(alloc: Global, reader: &mut R) -> Result<Option<[u8; 32]>, Cause>
-    ensures { IfOk result (λ key. IfSome (R.remaining reader.old) (λ text. key ≡ key_at text)) }
+    ensures key { IfOk result (λ key. IfSome (R.remaining reader.old) (λ text. key ≡ key_at text)) }
+    ensures end { OnOk result (IsAtEnd (R.remaining reader.new)) }
+    ensures cause { IfErr result (λ cause. cause ≢ Cause.CannotWrite) }
 {
     let text = read_all(alloc, reader)?;
     Ok(key_of(text.as_slice()))

@@ -1,6 +1,7 @@
 //! Reading names from a list.
 
-ghost use Rattle.std.specs.Prelude.{◌≡◌, ◌++◌, ℕ, All, List, [], Option, Ok, None, true, false, IfOk, IfSome, map, option_map};
+ghost use Rattle.std.specs.Prelude.{◌≡◌, ◌≢◌, ◌++◌, ℕ, All, List, [], Option, Ok, None, true, false, IfErr, IfOk, IfSome, OnOk, map, option_map};
+ghost use Rattle.std.specs.Io.KnownBytes.{IsAtEnd};
 ghost use Rattle.b3_check.specs.Names.{IsName};
 ghost use Rattle.store_engines.specs.Lists.{name_in_front, end_of, names_at, names_from};
 
@@ -11,13 +12,15 @@ use std::alloc::{AllocError, Global};
 use std::io::Read;
 
 /// The names in all input, each ended by a line feed, or by a byte 0 where `has_nuls`; the last may lack its end. Empty ones are left
-/// out. `None` where a name has a byte 0.
+/// out. `None` where a name has a byte 0. It stops at the first read that fails, or where memory is refused.
 pub fn read_names<R: Read>(
     alloc: Global,
     reader: &mut R,
     has_nuls: bool,
 ) -> Result<Option<Vec<Name>>, Cause>
-    ensures { IfOk result (λ names. IfSome (R.remaining reader.old) (λ text. option_map (λ v. v.items) names ≡ names_at has_nuls text)) }
+    ensures names { IfOk result (λ names. IfSome (R.remaining reader.old) (λ text. option_map (λ v. v.items) names ≡ names_at has_nuls text)) }
+    ensures end { OnOk result (IsAtEnd (R.remaining reader.new)) }
+    ensures cause { IfErr result (λ cause. cause ≢ Cause.CannotWrite) }
 {
     let text = read_all(alloc, reader)?;
     let end = if has_nuls { 0 } else { b'\n' };

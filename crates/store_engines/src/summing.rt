@@ -1,6 +1,6 @@
 //! The engine of `sum`.
 
-ghost use Rattle.std.specs.Prelude.{◌≡◌, ◌≢◌, ◌++◌, ℕ, List, IfErr, IfOk, IfSome, OnOk, codes};
+ghost use Rattle.std.specs.Prelude.{◌≡◌, ◌≢◌, ◌++◌, ℕ, List, Err, IfErr, IfOk, IfSome, OnOk, codes};
 ghost use Rattle.std.specs.Io.KnownBytes.{Appends, IsAtEnd};
 ghost use Rattle.hex.specs.Hex.{encode_lower};
 ghost use Rattle.b3_check.specs.Lines.{written_line};
@@ -8,14 +8,15 @@ ghost use Rattle.b3_check.specs.Names.{IsName};
 ghost use Rattle.b3_core.specs.ExtendedOutput.{output_of};
 ghost use Rattle.b3_core.specs.Tree.{tree_top};
 ghost use Rattle.store_engines.specs.Sums.{RootAnswer, AreRootAnswers, IsStoppedAt, IsSumStopped, root_answers_text, root_answers_verdict, sum_mode, root_text, sum_text};
+ghost use Rattle.store_engines.specs.Writes.{WroteSome};
 ghost use Rattle.store_engines.specs.inner.Sums.{IsSumOf, both};
 
 use crate::sources::{FileFault, Sources};
-use crate::streams::read_cause;
+use crate::streams::{read_cause, write_text};
 use b3_check::{Line, Name};
 use b3_core::{Mode, OutputReader, Runtime, Top, Work};
 use b3_parallel::hash_all;
-use edge::{Cause, SumMode, Verdict, write_all};
+use edge::{Cause, SumMode, Verdict};
 use std::alloc::{AllocError, Global};
 use std::io::{Read, Write};
 use std::thread::Threads;
@@ -100,7 +101,7 @@ fn text_of(
 /// Writes what is written of the input of which this is the root: without a length the check line of its hash and the name, with one the
 /// digits of so many bytes of the extended output, and a line feed.
 ///
-/// It stops where memory is refused, with nothing written, or where a write fails.
+/// It stops where memory is refused, with nothing written, or where a write fails: then a beginning of that went out.
 pub fn write_root<W: Write>(
     alloc: Global,
     length: Option<u32>,
@@ -113,9 +114,10 @@ pub fn write_root<W: Write>(
     ensures written { OnOk result (Appends (W.contents writer.old) (W.contents writer.new) (root_text length name.now root)) }
     ensures cause { IfErr result (λ cause. cause ≢ Cause.CannotRead) }
     ensures silent { IfErr result (λ cause. cause ≡ Cause.OutOfMemory → W.contents writer.new ≡ W.contents writer.old) }
+    ensures failed { result ≡ Err Cause.CannotWrite → WroteSome (W.contents writer.old) (W.contents writer.new) (root_text length name.now root) }
 {
     let text = text_of(alloc, length, name, root, work)?;
-    write_all(writer, &text)
+    write_text(writer, &text)
 }
 
 /// Writes the hash of all its input, as it is asked for.
@@ -127,7 +129,7 @@ pub fn write_root<W: Write>(
 /// at work.
 ///
 /// It stops at the first read or write that fails, or where memory is refused. It writes nothing before it has
-/// read everything.
+/// read everything, and behind a failed write a beginning of that went out.
 pub fn sum<T: Threads + Runtime, R: Read, W: Write>(
     rt: &T,
     alloc: Global,
@@ -141,6 +143,8 @@ pub fn sum<T: Threads + Runtime, R: Read, W: Write>(
         Appends (W.contents writer.old) (W.contents writer.new) (sum_text request.now.length request.now.name.now (sum_mode request.now.mode) input))) }
     ensures end { OnOk result (IsAtEnd (R.remaining reader.new)) }
     ensures silent { IfErr result (λ cause. cause ≢ Cause.CannotWrite → W.contents writer.new ≡ W.contents writer.old) }
+    ensures failed { result ≡ Err Cause.CannotWrite → IfSome (R.remaining reader.old) (λ input.
+        WroteSome (W.contents writer.old) (W.contents writer.new) (sum_text request.now.length request.now.name.now (sum_mode request.now.mode) input)) }
 {
     let mode = mode_of(request.mode, work);
     let root = match hash_all(rt, alloc, &mode, reader, request.threads, work) {
@@ -155,7 +159,8 @@ pub fn sum<T: Threads + Runtime, R: Read, W: Write>(
 /// bytes of the extended output. Where there is no root for a name, the sources are told, nothing is written of it, and the next name is
 /// next. `Good` where there is a root for each. Before each name it tells the sources which names come next.
 ///
-/// It stops at the first write that fails, or where memory is refused, to the sources too.
+/// It stops at the first write that fails, or where memory is refused, to the sources too. What is written of the names before went out
+/// then, and of the name that it stopped at a beginning where a write failed, and else nothing.
 pub fn sum_files<S: Sources, W: Write>(
     alloc: Global,
     length: Option<u32>,
@@ -197,8 +202,7 @@ fn sum_file<S: Sources, W: Write>(
     work: &mut Work,
 ) -> Result<Verdict, Cause>
     ensures summed { IfOk result (IsSumOf S.gives S.tells length sources.old name.now sources.new (W.contents writer.old) (W.contents writer.new)) }
-    ensures stopped { IfErr result (λ cause. IsStoppedAt S.gives cause sources.old name.now sources.new) }
-    ensures silent { IfErr result (λ cause. cause ≡ Cause.OutOfMemory → W.contents writer.new ≡ W.contents writer.old) }
+    ensures stopped { IfErr result (λ cause. IsStoppedAt S.gives length cause sources.old name.now sources.new (W.contents writer.old) (W.contents writer.new)) }
 {
     let bytes = name.as_bytes();
     match sources.root_of(bytes) {

@@ -1,21 +1,22 @@
 //! The engine of `upload`.
 
-ghost use Rattle.std.specs.Prelude.{◌≡◌, ◌≢◌, ◌<◌, ◌++◌, codes, false, true, IfErr, IfOk, IfSome, OnOk, Err, Ok};
+ghost use Rattle.std.specs.Prelude.{◌≡◌, ◌≢◌, ◌<◌, ◌++◌, codes, false, true, IfErr, IfOk, IfSome, OnErr, OnOk, Err, Ok};
 ghost use Rattle.std.specs.Io.KnownBytes.{Appends, IsAtEnd};
 ghost use Rattle.store_books.specs.Books.{most_workers};
 ghost use Rattle.store_ledger.specs.Shares.{all_parts};
 ghost use Rattle.store_shared.specs.Cuts.{IsBadCut};
 ghost use Rattle.store_shared.specs.Gates.{IsOwnFault};
-ghost use Rattle.store_engines.specs.Uploads.{SomeRefusal, WroteRefusal, WroteUpload, is_memory, journal_part};
+ghost use Rattle.store_engines.specs.Uploads.{SomeRefusal, WroteBeginning, WroteMemory, WroteUpload, failed_text, is_memory, journal_part};
+ghost use Rattle.store_engines.specs.Writes.{WroteSome};
 ghost use Rattle.store_engines.specs.inner.Uploads.{IsFiled, IsTold};
 
 use crate::auditing::accepted_line;
 use crate::journals::text_of;
-use crate::streams::read_stretches;
+use crate::streams::{read_stretches, write_text};
 use crate::summing::line_of;
 use b3_core::{CHUNK_LEN, Runtime};
 use b3_forest::{Lent, MOST_PART_BYTES};
-use edge::{Cause, UploadOptions, Verdict, write_all};
+use edge::{Cause, UploadOptions, Verdict};
 use std::alloc::{AllocError, Global};
 use std::io::{Read, Write};
 use std::sync::Wait;
@@ -37,7 +38,8 @@ fn is_memory(kind: &UploadFaultKind) -> bool
 
 // Tells a failed upload. Want of memory is the engine's cause, also where a write fails behind it, and all else a refusal.
 fn refuse<W: Write>(alloc: Global, kind: UploadFaultKind, writer: &mut W) -> Result<Verdict, Cause>
-    ensures told { OnOk result (WroteRefusal kind (W.contents writer.old) (W.contents writer.new)) }
+    ensures told { OnOk result (Appends (W.contents writer.old) (W.contents writer.new) (failed_text kind)) }
+    ensures failed { OnErr result (WroteSome (W.contents writer.old) (W.contents writer.new) (failed_text kind)) }
     ensures verdict { IfOk result (λ verdict. verdict ≡ Verdict.Refused) }
     ensures memory { is_memory kind ≡ true → result ≡ Err Cause.OutOfMemory }
     ensures other { is_memory kind ≡ false → result ≡ Err Cause.OutOfMemory → W.contents writer.new ≡ W.contents writer.old }
@@ -45,7 +47,7 @@ fn refuse<W: Write>(alloc: Global, kind: UploadFaultKind, writer: &mut W) -> Res
 {
     let memory = is_memory(&kind);
     let text = format!(in alloc; "refused {kind}\n")?;
-    let written = write_all(writer, text.as_bytes());
+    let written = write_text(writer, text.as_bytes());
     if memory {
         return Err(Cause::OutOfMemory);
     }
@@ -129,8 +131,11 @@ fn stretch_len(part_chunks: u32) -> usize
 /// and the journal's text where it is asked for. A failed upload is told as `refused` and its name: U1 with the store's
 /// refusal, U2 to U6.
 ///
+/// A bad cut is told as U2 and nothing else, unless the store refuses its tenant by S2 or S13.
+///
 /// It stops at the first read or write that fails, or where memory is refused; `refused U5` and `refused U1 S14` are written
-/// first, and want of memory is told also where that write fails. It writes nothing before it has read everything. The two
+/// first, and want of memory is told also where that write fails. It writes nothing before it has read everything. For want of
+/// memory it wrote nothing but a beginning of such a line, and behind a failed write a beginning of what is written. The two
 /// blanks are for the store's book.
 pub fn upload<L: Ledgers, T: Threads + Wait + Sync + Runtime, R: Read, W: Write>(
     rt: &T,
@@ -149,6 +154,9 @@ pub fn upload<L: Ledgers, T: Threads + Wait + Sync + Runtime, R: Read, W: Write>
     ensures bad_cut { IsBadCut options.part_chunks options.workers most_workers → result ≢ Ok Verdict.Good }
     ensures end { OnOk result (IsAtEnd (R.remaining reader.new)) }
     ensures silent { result ≡ Err Cause.CannotRead → W.contents writer.new ≡ W.contents writer.old }
+    ensures memory { result ≡ Err Cause.OutOfMemory → WroteMemory (W.contents writer.old) (W.contents writer.new) }
+    ensures failed { result ≡ Err Cause.CannotWrite → IfSome (R.remaining reader.old) (λ input.
+        WroteBeginning options input (W.contents writer.old) (W.contents writer.new)) }
 {
     let input = read_stretches(alloc, reader, stretch_len(options.part_chunks))?;
     let (shared, share): (Shared<L>, Share<L>) = Shared::new(alloc, Limits::full(), bytes, calls);
@@ -171,7 +179,7 @@ pub fn upload<L: Ledgers, T: Threads + Wait + Sync + Runtime, R: Read, W: Write>
                 return refuse(alloc, kind, writer);
             }
             let text = uploaded_text(alloc, options.journal, sealed.address, locked, share)?;
-            write_all(writer, text.as_slice())?;
+            write_text(writer, text.as_slice())?;
             Ok(Verdict::Good)
         }
         Err(fault) => refuse(alloc, fault.kind, writer),

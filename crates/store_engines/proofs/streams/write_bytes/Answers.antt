@@ -1,0 +1,22 @@
+use Rattle.std.proofs.Common.{◌-◌, ◌≤◌, length, drop, arith, length-drop}
+use Rattle.std.proofs.lemmas.List.{take_all}
+use Rattle.b3_check.proofs.CutOffs.{AllBut-none, AllBut-some, AllBut-kept}
+use Rattle.store_engines.proofs.streams.write_bytes.Goals as goal
+use Rattle.store_engines.proofs.streams.write_bytes.Goals.{in-Ok, in-Err}
+
+pub loop-init : goal.loop-init
+loop-init g c = AllBut-none (g.W.Write.contents c.args.writer.now) c.args.bytes.now
+
+pub loop-preserved : goal.loop-preserved
+loop-preserved g c =
+    let old = g.W.Write.contents c.args.writer.now in
+    let mid = g.W.Write.contents c.loop.writer in
+    let new = g.W.Write.contents c.write.new.self in
+    let rest = c.loop.rest.now in
+    elim c.match-write.branch [
+      | in-Ok w ↦
+          let behind = drop w.in-Ok.count rest in
+          let short : length behind ≤ length rest - w.in-Ok.count = omega (arith, length-drop w.in-Ok.count rest) in
+          rw (w.rest-is, take_all (length rest - w.in-Ok.count) behind short) (AllBut-some old mid new c.args.bytes.now rest w.in-Ok.count c.loop.invariant w.in-Ok.ensures.bytes)
+      | in-Err w ↦ rw (w.rest-is) (AllBut-kept old mid new c.args.bytes.now rest c.loop.invariant w.in-Err.ensures.bytes)
+    ]
