@@ -236,7 +236,7 @@ class Store:
         return Usage(*map(int, words[0::2]))
 
     def list(self, tenant):
-        """The lengths of the objects that a tenant holds, by address, in the order of the addresses."""
+        """The lengths of the objects that a tenant holds, by address, in the order in which they were filed."""
         return {address: int(length) for address, length in self._rows("list", f"list {tenant}")}
 
     def uploads(self, tenant):
