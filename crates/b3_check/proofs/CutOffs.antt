@@ -1,33 +1,14 @@
 -- What went out of a text, step by step.
-use Rattle.std.proofs.Common.{◌≡◌, ◌∙◌, ℕ, ◌+◌, ◌<◌, List, [], ◌∷◌, ◌++◌, Option, None, Some, length, get_or, take, drop, refl, sym, ap, subst, arith, append_assoc, append-nil, length-append, take-append-drop}
+use Rattle.std.proofs.Common.{◌≡◌, ◌∙◌, ℕ, ◌+◌, ◌<◌, List, [], ◌∷◌, ◌++◌, Option, length, get_or, take, drop, sym, ap, subst, arith, append_assoc, append-nil, length-append, take-append-drop}
 use Rattle.std.specs.Prelude.{Result, Ok, Err, OnErr}
-use Rattle.std.specs.Io.KnownBytes.{Appends, Keeps}
+use Rattle.std.specs.Io.KnownBytes.{Appends}
 use Rattle.std.specs.List.{flat_map}
-use Rattle.std.proofs.KnownBytes.{Appends-nil, Appends-trans}
+use Rattle.std.proofs.KnownBytes.{Appends-trans}
 use Rattle.std.proofs.lemmas.Grind.{flat_map-append}
 use Rattle.std.proofs.lemmas.List.{drop_more}
-use Rattle.b3_check.specs.Output.{AllBut, IsCutOff}
+use Rattle.edge.specs.Output.{AllBut, IsCutOff}
 
 -- ---- one text
-
-pub AllBut-none : (a : Option (List ℕ)) (text : List ℕ) → AllBut a a text text
-AllBut-none a text = record { front = []; is = refl; went = Appends-nil a }
-
-pub AllBut-some : (old mid new : Option (List ℕ)) (text rest : List ℕ) (n : ℕ) → AllBut old mid text rest → Appends mid new (take n rest) → AllBut old new text (drop n rest)
-AllBut-some old mid new text rest n h more = record {
-  front = h.front ++ take n rest;
-  is = h.is ∙ ap (λ z. h.front ++ z) (sym (take-append-drop n rest)) ∙ sym (append_assoc h.front (take n rest) (drop n rest));
-  went = Appends-trans old mid new h.front (take n rest) h.went more;
-}
-
-Appends-kept : (a b c : Option (List ℕ)) (bs : List ℕ) → Appends a b bs → Keeps b c → Appends a c bs
-Appends-kept None b c bs p q = tt
-Appends-kept (Some x) None c bs p q = absurd p
-Appends-kept (Some x) (Some y) None bs p q = absurd q
-Appends-kept (Some x) (Some y) (Some z) bs p q = q ∙ p
-
-pub AllBut-kept : (old mid new : Option (List ℕ)) (text rest : List ℕ) → AllBut old mid text rest → Keeps mid new → AllBut old new text rest
-AllBut-kept old mid new text rest h same = record { front = h.front; is = h.is; went = Appends-kept old mid new h.front h.went same }
 
 pub AllBut-all : (old new : Option (List ℕ)) (text rest : List ℕ) → AllBut old new text rest → length rest ≡ 0 → Appends old new text
 AllBut-all old new text [] h none = subst (Appends old new) (sym (h.is ∙ append-nil h.front)) h.went

@@ -1,5 +1,5 @@
 -- Reports, one line longer, and where one ended.
-use Rattle.std.proofs.Common.{◌≡◌, ◌∙◌, ℕ, ◌+◌, ◌<◌, ◌≤◌, Bool, true, false, List, [], ◌∷◌, ◌++◌, Option, length, take, drop, get_or, ap, sym, subst, refl, arith, append_assoc, append-nil, take-append-drop, take_all}
+use Rattle.std.proofs.Common.{◌≡◌, ◌∙◌, ℕ, ◌+◌, ◌<◌, ◌≤◌, List, [], ◌∷◌, ◌++◌, Option, length, take, drop, get_or, ap, sym, subst, refl, arith, append_assoc, append-nil, take-append-drop, take_all}
 use Rattle.std.specs.Io.KnownBytes.{Appends}
 use Rattle.std.proofs.KnownBytes.{Appends-trans}
 use Rattle.std.proofs.lemmas.Grind.{flat_map-append}
@@ -10,7 +10,7 @@ use Rattle.b3_check.specs.declared.file.NumberedLine.{NumberedLine}
 use Rattle.b3_check.specs.declared.report.Counts.{Counts}
 use Rattle.b3_check.specs.declared.report.Found.TheVariants.{Bad, Good, Missing, Unreadable}
 use Rattle.b3_check.specs.declared.report.Shown.{Shown}
-use Rattle.b3_check.specs.Output.{IsCutOff}
+use Rattle.edge.specs.Output.{IsCutOff}
 use Rattle.b3_check.specs.Reports.{Answer, IsBroken, IsEnded, IsReport, Verdict, with_verdicts, with_verdict, counts_of, lines_text, shown_counts, shown_line}
 use Rattle.b3_check.specs.inner.Reports.{AreAtMost, IsLineAsked, IsLineEnded}
 use Rattle.b3_check.specs.Reports.Verdict.{faulty, named}

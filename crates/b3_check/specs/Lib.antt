@@ -1,7 +1,6 @@
 -- What a reader has to believe, each file behind those that it rests on.
 pub mod Faults
 pub mod Names
-pub mod Output
 pub mod Lines
 pub mod Files
 pub mod Reports

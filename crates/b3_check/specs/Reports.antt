@@ -19,7 +19,7 @@ use Rattle.std.specs.Io.KnownBytes.{Appends}
 use Rattle.b3_check.specs.Faults.{code_of}
 use Rattle.edge.specs.Lines.{line_feed}
 use Rattle.b3_check.specs.Names.{escaped, mark_of}
-use Rattle.b3_check.specs.Output.{IsCutOff}
+use Rattle.edge.specs.Output.{IsCutOff}
 
 -- ---- verdicts
 

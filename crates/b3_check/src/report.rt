@@ -2,7 +2,7 @@
 
 ghost use Rattle.std.specs.Prelude.{◌≡◌, ◌↔◌, ◌+◌, ◌-◌, ◌^◌, ℕ, List, OnErr, OnOk, IsTrue};
 ghost use Rattle.std.specs.Io.KnownBytes.{Appends};
-ghost use Rattle.b3_check.specs.Output.{IsCutOff};
+ghost use Rattle.edge.specs.Output.{IsCutOff};
 ghost use Rattle.b3_check.specs.Reports.{Verdict, with_verdict, counts_text, fault_line, shown_counts, shown_line, shows, verdict_text};
 ghost use Rattle.b3_check.specs.inner.Reports.{AreAtMost};
 ghost use Rattle.b3_check.specs.Reports.Verdict.{faulty, named};

@@ -6,12 +6,13 @@ ghost use Rattle.hex.specs.Hex.{IsBytes, encode_lower};
 ghost use Rattle.b3_check.specs.Files.{all_good, file_at};
 ghost use Rattle.b3_check.specs.Lines.{IsLawful, written_line, written_lines};
 ghost use Rattle.b3_check.specs.Names.{IsName, escaped, mark_of, needs_escapes, unit_of};
-ghost use Rattle.b3_check.specs.Output.{IsCutOff};
+ghost use Rattle.edge.specs.Output.{IsCutOff};
 ghost use Rattle.b3_check.specs.Reports.{named_text};
 
 use crate::line::Line;
 use crate::name::Name;
-use crate::output::{write_all, write_pieces};
+use crate::output::write_pieces;
+use edge::write_whole;
 use std::alloc::{AllocError, Global};
 use std::io;
 use std::io::Write;
@@ -80,7 +81,7 @@ pub(crate) fn write_named<'a, W: Write>(
     let name = name.as_bytes();
     write_pieces(writer, &[mark_of(name), what, gap])?;
     write_escaped(name, writer)?;
-    write_all(writer, b"\n")
+    write_whole(writer, b"\n")
 }
 
 // The backslash that begins a line whose name is written with escapes.
@@ -106,7 +107,7 @@ fn write_escaped<W: Write>(name: &[u8], writer: &mut W) -> io::Result<()>
     if needs_escapes(name) {
         write_units(name, writer)
     } else {
-        write_all(writer, name)
+        write_whole(writer, name)
     }
 }
 
@@ -125,9 +126,9 @@ fn write_unit<W: Write>(byte: u8, writer: &mut W) -> io::Result<()>
     ensures failed { OnErr result (IsCutOff (W.contents writer.old) (W.contents writer.new) (unit_of byte)) }
 {
     match byte {
-        b'\\' => write_all(writer, b"\\\\"),
-        b'\n' => write_all(writer, b"\\n"),
-        b'\r' => write_all(writer, b"\\r"),
-        _ => write_all(writer, &[byte]),
+        b'\\' => write_whole(writer, b"\\\\"),
+        b'\n' => write_whole(writer, b"\\n"),
+        b'\r' => write_whole(writer, b"\\r"),
+        _ => write_whole(writer, &[byte]),
     }
 }

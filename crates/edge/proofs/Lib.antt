@@ -5,4 +5,5 @@ pub mod Joining
 pub mod FirstLines
 pub mod LineParts
 pub mod Numbers
+pub mod Output
 pub mod Steps

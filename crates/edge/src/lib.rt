@@ -1,6 +1,7 @@
 //! What each engine needs of the world outside.
 //!
-//! - `Cause` says what stopped an engine, `Verdict` how one that came to its end found its input; `write_all`, or `write_bytes` and `flush`, write an output.
+//! - `Cause` says what stopped an engine, `Verdict` how one that came to its end found its input; `write_all`, or `write_bytes` and
+//!   `flush`, write an output, and `write_whole` tells the writer's own error.
 //! - `SumMode` and `UploadOptions` are what words ask of an engine.
 //! - `read_line` reads a line within a limit, `first_line` cuts one off bytes that are at hand. A line feed ends a line, and the last one may
 //!   lack it (`specs/Lines.antt`).
@@ -20,4 +21,4 @@ pub use fields::{cut_at, number, three_numbers, two_numbers};
 pub use lines::{first_line, len_through, read_line};
 pub use options::{SumMode, UploadOptions};
 pub use outcome::{Cause, Verdict};
-pub use streams::{flush, write_all, write_bytes};
+pub use streams::{flush, write_all, write_bytes, write_whole};

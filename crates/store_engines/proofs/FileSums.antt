@@ -12,7 +12,7 @@ use Rattle.edge.specs.declared.outcome.Verdict.TheVariants.{Good, Refused}
 use Rattle.store_engines.specs.declared.sources.FileFault.{FileFault}
 use Rattle.store_engines.specs.declared.sources.Reason.{Reason}
 use Rattle.store_engines.specs.Sums.{RootAnswer, AreRootAnswers, IsRootAnswer, IsStoppedAt, IsSumStopped, root_answer_text, root_answers_text, root_answers_verdict, root_text, has_root}
-use Rattle.store_engines.specs.Writes.{WroteSome}
+use Rattle.edge.specs.Output.{WroteSome}
 use Rattle.store_engines.specs.inner.Sums.{IsSumOf, both}
 
 module _ {S : Type 0} (gives : S → List ℕ → Result Inputs FileFault → S → Type 0) (tells : S → List ℕ → Reason → S → Type 0) where

@@ -22,7 +22,7 @@ use Rattle.store_shared.specs.declared.fault.UploadFaultKind.TheVariants.{BadCut
 use Rattle.store_shared.specs.declared.fault.UploadFaultKind.TheVariants as kinds
 use Rattle.store_shared.specs.Gates.{IsOwnFault}
 use Rattle.store_engines.specs.Uploads.{HasObject, IsUnopened, IsUploadText, MayFail, SomeRefusal, WroteBeginning, WroteMemory, failed_text, is_memory, uploaded_text}
-use Rattle.store_engines.specs.Writes.{WroteSome}
+use Rattle.edge.specs.Output.{WroteSome}
 use Rattle.store_engines.proofs.Writes.{wrote_none}
 use Rattle.store_engines.specs.inner.Uploads.{IsFiled, IsTold}
 use Rattle.edge.specs.declared.outcome.Cause.{Cause}

@@ -7,7 +7,7 @@ use Rattle.b3_check.specs.declared.names.NameFault.TheVariants.{NoMemory, Unread
 use Rattle.b3_check.specs.declared.report.Counts.{Counts}
 use Rattle.b3_check.specs.declared.report.Shown.{Shown}
 use Rattle.b3_check.specs.Files.{file_at}
-use Rattle.b3_check.specs.Output.{AllBut}
+use Rattle.edge.specs.Output.{AllBut}
 use Rattle.b3_check.specs.Reports.{Answer, EndsForMemory, IsReport, Verdict as LineVerdict, counts_of, report_text}
 use Rattle.b3_core.specs.Modes.{digest_of}
 use Rattle.b3_core.specs.Tree.{Keying}

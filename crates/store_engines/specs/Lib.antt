@@ -1,5 +1,4 @@
 -- What a reader has to believe, each file behind those that it rests on.
-pub mod Writes
 pub mod Checks
 pub mod Files
 pub mod Journals

@@ -14,7 +14,7 @@ use Rattle.edge.specs.declared.outcome.Verdict.{Verdict}
 use Rattle.edge.specs.declared.outcome.Verdict.TheVariants.{Good, Refused}
 use Rattle.edge.specs.declared.options.SumMode.{SumMode}
 use Rattle.edge.specs.declared.options.SumMode.TheVariants.{Hash, Keyed, Derive}
-use Rattle.store_engines.specs.Writes.{WroteSome}
+use Rattle.edge.specs.Output.{WroteSome}
 use Rattle.store_engines.specs.declared.sources.FileFault.{FileFault}
 use Rattle.store_engines.specs.declared.sources.Reason.{Reason}
 use Rattle.store_engines.specs.declared.sources.Reason.TheVariants.{IsFolder, Missing, NoPermission, NotUtf8, Unreadable}

@@ -17,7 +17,7 @@ use Rattle.store_shared.specs.Gates.{IsOwnFault}
 use Rattle.store_shared.specs.declared.fault.UploadFaultKind.{UploadFaultKind}
 use Rattle.store_shared.specs.declared.fault.UploadFaultKind.TheVariants.{BadCut, NoMemory, Refused}
 use Rattle.store_engines.specs.Audits.{accepted_text}
-use Rattle.store_engines.specs.Writes.{WroteSome}
+use Rattle.edge.specs.Output.{WroteSome}
 use Rattle.edge.specs.declared.options.UploadOptions.{UploadOptions}
 
 -- the journal's text, where it is asked for

@@ -1,16 +1,14 @@
-//! Reading all of an input, and writing an output.
+//! Reading all of an input.
 
-ghost use Rattle.std.specs.Prelude.{◌≡◌, ◌≢◌, ◌↔◌, ◌<◌, ◌≤◌, IfSome, OnErr, OnOk, IfOk, IfErr, take, vec_len};
-ghost use Rattle.std.specs.Io.KnownBytes.{Appends, Consumes, IsAtEnd, Keeps};
+ghost use Rattle.std.specs.Prelude.{◌≡◌, ◌≢◌, ◌↔◌, ◌<◌, ◌≤◌, IfSome, OnOk, IfOk, IfErr, take, vec_len};
+ghost use Rattle.std.specs.Io.KnownBytes.{Consumes, IsAtEnd, Keeps};
 ghost use Rattle.std.specs.IoError.{error_kind};
-ghost use Rattle.b3_check.specs.Output.{IsCutOff};
-ghost use Rattle.store_engines.specs.Writes.{WroteSome};
 
 use b3_forest::{Stretches, StretchesBuilder};
 use edge::Cause;
 use std::alloc::Global;
 use std::io;
-use std::io::{Error, ErrorKind, Read, Write};
+use std::io::{Error, ErrorKind, Read};
 
 // How many bytes are read at a time that go into stretches.
 fn at_a_time() -> usize
@@ -80,42 +78,4 @@ fn read_some<R: Read>(reader: &mut R, buffer: &mut Vec<u8>) -> io::Result<usize>
     ensures kept { IfErr result (λ _. Keeps (R.remaining reader.old) (R.remaining reader.new)) }
 {
     reader.read(buffer.as_mut_slice())
-}
-
-/// Writes a text, and flushes. Behind a failed write or flush a beginning of it went out.
-pub(crate) fn write_text<W: Write>(writer: &mut W, text: &[u8]) -> Result<(), Cause>
-    ensures written { OnOk result (Appends (W.contents writer.old) (W.contents writer.new) text.now) }
-    ensures failed { OnErr result (WroteSome (W.contents writer.old) (W.contents writer.new) text.now) }
-    ensures cause { IfErr result (λ cause. cause ≡ Cause.CannotWrite) }
-{
-    write_bytes(writer, text)?;
-    match writer.flush() {
-        Ok(()) => Ok(()),
-        Err(_) => Err(Cause::CannotWrite),
-    }
-}
-
-// Writes all of `bytes`, or a beginning of them and not all.
-fn write_bytes<W: Write>(writer: &mut W, bytes: &[u8]) -> Result<(), Cause>
-    ensures written { OnOk result (Appends (W.contents writer.old) (W.contents writer.new) bytes.now) }
-    ensures failed { OnErr result (IsCutOff (W.contents writer.old) (W.contents writer.new) bytes.now) }
-    ensures cause { IfErr result (λ cause. cause ≡ Cause.CannotWrite) }
-{
-    let mut rest = bytes;
-    for _ in 0..u64::MAX {
-        if rest.is_empty() {
-            break;
-        }
-        match writer.write(rest) {
-            Ok(0) => return Err(Cause::CannotWrite),
-            Ok(count) => rest = &rest[count..],
-            Err(error) if error.kind() == ErrorKind::Interrupted => {}
-            Err(_) => return Err(Cause::CannotWrite),
-        }
-    }
-    if rest.is_empty() {
-        Ok(())
-    } else {
-        Err(Cause::CannotWrite)
-    }
 }

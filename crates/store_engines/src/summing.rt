@@ -8,15 +8,15 @@ ghost use Rattle.b3_check.specs.Names.{IsName};
 ghost use Rattle.b3_core.specs.ExtendedOutput.{output_of};
 ghost use Rattle.b3_core.specs.Tree.{tree_top};
 ghost use Rattle.store_engines.specs.Sums.{RootAnswer, AreRootAnswers, IsStoppedAt, IsSumStopped, root_answers_text, root_answers_verdict, sum_mode, root_text, sum_text};
-ghost use Rattle.store_engines.specs.Writes.{WroteSome};
+ghost use Rattle.edge.specs.Output.{WroteSome};
 ghost use Rattle.store_engines.specs.inner.Sums.{IsSumOf, both};
 
 use crate::sources::{FileFault, Sources};
-use crate::streams::{read_cause, write_text};
+use crate::streams::read_cause;
 use b3_check::{Line, Name};
 use b3_core::{Mode, OutputReader, Runtime, Top, Work};
 use b3_parallel::hash_all;
-use edge::{Cause, SumMode, Verdict};
+use edge::{Cause, SumMode, Verdict, write_all};
 use std::alloc::{AllocError, Global};
 use std::io::{Read, Write};
 use std::thread::Threads;
@@ -117,7 +117,7 @@ pub fn write_root<W: Write>(
     ensures failed { result ≡ Err Cause.CannotWrite → WroteSome (W.contents writer.old) (W.contents writer.new) (root_text length name.now root) }
 {
     let text = text_of(alloc, length, name, root, work)?;
-    write_text(writer, &text)
+    write_all(writer, &text)
 }
 
 /// Writes the hash of all its input, as it is asked for.

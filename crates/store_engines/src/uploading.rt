@@ -7,16 +7,16 @@ ghost use Rattle.store_ledger.specs.Shares.{all_parts};
 ghost use Rattle.store_shared.specs.Cuts.{IsBadCut};
 ghost use Rattle.store_shared.specs.Gates.{IsOwnFault};
 ghost use Rattle.store_engines.specs.Uploads.{SomeRefusal, WroteBeginning, WroteMemory, WroteUpload, failed_text, is_memory, journal_part};
-ghost use Rattle.store_engines.specs.Writes.{WroteSome};
+ghost use Rattle.edge.specs.Output.{WroteSome};
 ghost use Rattle.store_engines.specs.inner.Uploads.{IsFiled, IsTold};
 
 use crate::auditing::accepted_line;
 use crate::journals::text_of;
-use crate::streams::{read_stretches, write_text};
+use crate::streams::read_stretches;
 use crate::summing::line_of;
 use b3_core::{CHUNK_LEN, Runtime};
 use b3_forest::{Lent, MOST_PART_BYTES};
-use edge::{Cause, UploadOptions, Verdict};
+use edge::{Cause, UploadOptions, Verdict, write_all};
 use std::alloc::{AllocError, Global};
 use std::io::{Read, Write};
 use std::sync::Wait;
@@ -47,7 +47,7 @@ fn refuse<W: Write>(alloc: Global, kind: UploadFaultKind, writer: &mut W) -> Res
 {
     let memory = is_memory(&kind);
     let text = format!(in alloc; "refused {kind}\n")?;
-    let written = write_text(writer, text.as_bytes());
+    let written = write_all(writer, text.as_bytes());
     if memory {
         return Err(Cause::OutOfMemory);
     }
@@ -179,7 +179,7 @@ pub fn upload<L: Ledgers, T: Threads + Wait + Sync + Runtime, R: Read, W: Write>
                 return refuse(alloc, kind, writer);
             }
             let text = uploaded_text(alloc, options.journal, sealed.address, locked, share)?;
-            write_text(writer, text.as_slice())?;
+            write_all(writer, text.as_slice())?;
             Ok(Verdict::Good)
         }
         Err(fault) => refuse(alloc, fault.kind, writer),

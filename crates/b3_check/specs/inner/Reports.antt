@@ -7,7 +7,7 @@ use Rattle.b3_check.specs.declared.report.Shown.{Shown}
 use Rattle.edge.specs.declared.outcome.Cause.{Cause}
 use Rattle.edge.specs.declared.outcome.Cause.TheVariants.{CannotRead, CannotWrite, OutOfMemory}
 use Rattle.std.specs.Io.KnownBytes.{Appends}
-use Rattle.b3_check.specs.Output.{IsCutOff}
+use Rattle.edge.specs.Output.{IsCutOff}
 use Rattle.b3_check.specs.Reports.{Verdict, Answer, IsVerdictBy, IsRefusedFor, with_verdict, shown_line}
 
 -- ---- counts

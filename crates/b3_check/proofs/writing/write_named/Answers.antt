@@ -2,7 +2,7 @@ use Rattle.std.proofs.Common.{◌≡◌, ◌∙◌, ap, subst, ℕ, List, [], �
 use Rattle.std.specs.Io.KnownBytes.{Appends}
 use Rattle.std.proofs.lemmas.Result.{err_from_is_err_and}
 use Rattle.b3_check.specs.Names.{escaped, mark_of}
-use Rattle.b3_check.specs.Output.{IsCutOff}
+use Rattle.edge.specs.Output.{IsCutOff}
 use Rattle.b3_check.proofs.CutOffs.{cut_in_end, cut_in_name, cut_in_word}
 use Rattle.b3_check.proofs.writing.write_named.Goals as goal
 
@@ -30,5 +30,5 @@ returns-clause-failed g c =
     let mid = g.W.Write.contents c.write_pieces.new.writer in
     let then = g.W.Write.contents c.write_escaped.new.writer in
     let is : c.mark_of.result.now ≡ mark_of name = c.mark_of.ensures ∙ ap mark_of c.as_bytes-name.ensures.value in
-    cut_in_end c.write_all.result (g.W.Write.contents c.args.writer.now) mid then (g.W.Write.contents c.write_all.new.writer) c.mark_of.result.now (mark_of name) c.args.what.now c.args.gap.now (escaped name) (10 ∷ []) is
-    c.in_ok-write_pieces.ensures.written (subst (λ (n : List ℕ). Appends mid then (escaped n)) c.as_bytes-name.ensures.value c.in_ok-write_escaped.ensures.written) c.write_all.ensures.failed
+    cut_in_end c.write_whole.result (g.W.Write.contents c.args.writer.now) mid then (g.W.Write.contents c.write_whole.new.writer) c.mark_of.result.now (mark_of name) c.args.what.now c.args.gap.now (escaped name) (10 ∷ []) is
+    c.in_ok-write_pieces.ensures.written (subst (λ (n : List ℕ). Appends mid then (escaped n)) c.as_bytes-name.ensures.value c.in_ok-write_escaped.ensures.written) c.write_whole.ensures.failed

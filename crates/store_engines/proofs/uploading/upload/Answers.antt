@@ -6,7 +6,7 @@ use Rattle.store_books.specs.Books.{most_workers}
 use Rattle.store_shared.specs.Cuts.{IsBadCut, cut_of}
 use Rattle.store_shared.specs.declared.fault.UploadFaultKind.TheVariants as kinds
 use Rattle.store_engines.specs.Uploads.{WroteBeginning, WroteUpload}
-use Rattle.store_engines.specs.Writes.{WroteSome}
+use Rattle.edge.specs.Output.{WroteSome}
 use Rattle.store_engines.specs.inner.Uploads.{IsTold}
 use Rattle.std.specs.Io.KnownBytes.{Appends}
 use Rattle.store_engines.proofs.Known.{known}
@@ -35,14 +35,14 @@ returns-in_err-input-clause-memory g c = λ _. no_memory _ _ refl
 pub returns-in_err-text-in-Ok-uploaded-clause-memory : goal.returns-in_err-text-in-Ok-uploaded-clause-memory
 returns-in_err-text-in-Ok-uploaded-clause-memory g c = λ _. no_memory _ _ refl
 
-pub returns-in_err-write_text-in-Ok-uploaded-clause-failed : goal.returns-in_err-write_text-in-Ok-uploaded-clause-failed
-returns-in_err-write_text-in-Ok-uploaded-clause-failed g c = λ _.
+pub returns-in_err-write_all-in-Ok-uploaded-clause-failed : goal.returns-in_err-write_all-in-Ok-uploaded-clause-failed
+returns-in_err-write_all-in-Ok-uploaded-clause-failed g c = λ _.
     let input = c.in_ok-input.input.bytes in
     let o = c.args.options in
     let share = c.upload-share.result.0 in
     let text = c.in_ok-text-in-Ok-uploaded.text.items in
     let before = g.W.Write.contents c.args.writer.now in
-    let last = g.W.Write.contents c.write_text.new.writer in
+    let last = g.W.Write.contents c.write_all.new.writer in
     let same : IfSome (g.R.Read.remaining c.args.reader.now) (λ left. input ≡ left) = search rules in
     let address : c.in-Ok-uploaded.sealed.address ≡ hash_of input = search rules in
     let bytes : share.bytes ≡ length input = search rules in
@@ -63,8 +63,8 @@ returns-in-Ok-uploaded-clause-written g c = λ _.
     let bytes : share.bytes ≡ length input = search rules in
     let calls : share.calls ≡ length (cut_of input o.part_chunks) = search rules in
     let is : IsTold o.journal c.in-Ok-uploaded.sealed.address share c.close-locked.result text = search rules in
-    let appends : Appends (g.W.Write.contents c.args.writer.now) (g.W.Write.contents c.write_text.new.writer) text = search rules in
-    known (g.R.Read.remaining c.args.reader.now) input (λ left. WroteUpload o left (g.W.Write.contents c.args.writer.now) (g.W.Write.contents c.write_text.new.writer)) same
+    let appends : Appends (g.W.Write.contents c.args.writer.now) (g.W.Write.contents c.write_all.new.writer) text = search rules in
+    known (g.R.Read.remaining c.args.reader.now) input (λ left. WroteUpload o left (g.W.Write.contents c.args.writer.now) (g.W.Write.contents c.write_all.new.writer)) same
     (text, is_upload_text o input text c.in-Ok-uploaded.sealed.address share c.close-locked.result address bytes calls is, appends)
 
 -- ---- one that wasn't

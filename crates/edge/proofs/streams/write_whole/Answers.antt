@@ -1,8 +1,8 @@
 use Rattle.std.proofs.Common.{◌-◌, ◌≤◌, length, drop, arith, length-drop}
 use Rattle.std.proofs.lemmas.List.{take_all}
-use Rattle.b3_check.proofs.CutOffs.{AllBut-none, AllBut-some, AllBut-kept}
-use Rattle.store_engines.proofs.streams.write_bytes.Goals as goal
-use Rattle.store_engines.proofs.streams.write_bytes.Goals.{in-Ok, in-Err}
+use Rattle.edge.proofs.Output.{AllBut-none, AllBut-some, AllBut-kept}
+use Rattle.edge.proofs.streams.write_whole.Goals as goal
+use Rattle.edge.proofs.streams.write_whole.Goals.{in-Ok, in-Err}
 
 pub loop-init : goal.loop-init
 loop-init g c = AllBut-none (g.W.Write.contents c.args.writer.now) c.args.bytes.now

@@ -13,3 +13,7 @@ pub record IsCutOff (old new : Option (List ℕ)) (text : List ℕ) : Type 0 whe
   pub rest : List ℕ
   pub some : 0 < length rest
   pub front : AllBut old new text rest
+
+-- a beginning of the text went out: none of it, some, or all
+abbrev pub WroteSome : Option (List ℕ) → Option (List ℕ) → List ℕ → Type 0
+WroteSome old new text = (rest : List ℕ) × AllBut old new text rest
