@@ -1,7 +1,7 @@
 -- The content of a complete upload.
-use Rattle.std.proofs.Common.{◌≡◌, ◌∙◌, ◌+◌, ◌<◌, ◌≤◌, ℕ, List, [], ◌∷◌, Option, Some, None, refl, ap, sym, arith, length, subst, inl, inr}
+use Rattle.std.proofs.Common.{◌≡◌, ◌∙◌, ◌+◌, ◌<◌, ◌≤◌, ℕ, List, [], ◌∷◌, Option, Some, None, refl, ap, sym, arith, length, inl, inr}
 use Rattle.std.specs.Prelude.{IfSome}
-use Rattle.std.proofs.lemmas.Bool.{cases_eq, ltb-false}
+use Rattle.std.proofs.lemmas.Bool.{cases_eq}
 use Rattle.b3_core.specs.ExtendedOutput.{output_of}
 use Rattle.b3_core.specs.Modes.{digest_of, hash_mode, hash_of}
 use Rattle.b3_core.specs.Tree.{tree_top}
@@ -15,7 +15,7 @@ use Rattle.store_books.proofs.Commands.{found_among, none_mapped}
 use Rattle.store_core.specs.Commands.{content_in, opened}
 use Rattle.store_core.specs.Model.{AreJoined, ModelStore}
 use Rattle.store_core.specs.inner.Model.{ModelUpload, content}
-use Rattle.store_upload.specs.Uploads.{ArePlaced, Upload, end_of, finish_refusal, first_gap, last_end, length_of}
+use Rattle.store_upload.specs.Uploads.{ArePlaced, Upload, end_of, finish_refusal, first_gap, length_of}
 use Rattle.store_upload.proofs.Complete.{gap_here, gap_stops}
 
 pub top_is : (x : List ℕ) → output_of (tree_top x 0 hash_mode) 0 32 ≡ hash_of x

@@ -1,8 +1,8 @@
 -- Some of the bytes that stand one behind another: so many from an offset on.
-use Rattle.std.proofs.Common.{◌≡◌, ◌∙◌, ◌+◌, ◌-◌, ◌<◌, ◌≤◌, ◌++◌, ℕ, List, [], ◌∷◌, inl, inr, min, refl, ap, sym, append-nil, append_assoc, arith, drop, get_or, length, length-append, length-drop, map, take, take-take, take_all}
+use Rattle.std.proofs.Common.{◌≡◌, ◌∙◌, ◌+◌, ◌-◌, ◌<◌, ◌≤◌, ◌++◌, ℕ, List, [], ◌∷◌, inl, inr, min, refl, ap, sym, append-nil, append_assoc, arith, drop, get_or, length, map, take, take_all}
 use Rattle.std.specs.Arc.{arc_value}
 use Rattle.std.proofs.lemmas.Bool.{cases_lt}
-use Rattle.std.proofs.lemmas.List.{at_drop_more, drop-append-le, drop_all, length-take, take-append-le}
+use Rattle.std.proofs.lemmas.List.{at_drop_more, drop-append-le, drop_all, take-append-le}
 use Rattle.std.proofs.lemmas.Slice.{drop-append-drop}
 use Rattle.std.proofs.Math.Seq.{drop-append-add, take-append-add, take-append_seam}
 use Rattle.b3_forest.specs.declared.segment.Segment.{Segment}

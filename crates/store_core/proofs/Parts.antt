@@ -1,5 +1,5 @@
 -- Parts that are not refused.
-use Rattle.std.proofs.Common.{◌≡◌, ◌∙◌, ℕ, Option, Some, None, refl, ap, sym, length, inl, inr, true}
+use Rattle.std.proofs.Common.{◌≡◌, ◌∙◌, ℕ, Option, Some, None, refl, sym, length, inl, inr, true}
 use Rattle.std.proofs.lemmas.Bool.{cases_Bool}
 use Rattle.b3_forest.specs.Parts.{PlannedPart}
 use Rattle.store_books.specs.declared.refusal.Refusal.TheVariants.{NoUpload, WrongPlan}

@@ -1,7 +1,6 @@
 -- The law of a store goes on along every run.
 use Rattle.std.proofs.Common.{◌≡◌, ◌∙◌, ℕ, List, [], ◌∷◌, Option, Some, None, refl, ap, sym, length, subst, Ok, Err}
 use Rattle.std.specs.Prelude.{Result, if◌then◌else◌}
-use Rattle.std.specs.Option.{option_map_or}
 use Rattle.b3_core.specs.Modes.{hash_of}
 use Rattle.b3_forest.specs.Parts.{PlannedPart}
 use Rattle.store_books.specs.declared.refusal.Refusal.{Refusal}
@@ -9,10 +8,11 @@ use Rattle.store_books.specs.Books.{object_at, upload_at}
 use Rattle.store_books.specs.Commands.{abort_refusal, begin_refusal, end_refusal, file_refusal, forget_refusal, limit_refusal, put_refusal, ready_refusal, tenant_refusal}
 use Rattle.b3_forest.proofs.Ends.{same_plan_is}
 use Rattle.store_core.specs.Carried.{IsCarried}
-use Rattle.store_core.specs.Commands.{Acceptance, ModelSealed, StepsAs, address_in, address_refused, advanced, and_then, as_is, content_in, filed_in, part_refused, sealed_by, unless}
+use Rattle.store_core.specs.Commands.{Acceptance, StepsAs, address_in, address_refused, advanced, and_then, as_is, content_in, filed_in, part_refused, sealed_by, unless}
 use Rattle.store_core.specs.Model.{ModelObject, ModelStore, Shown}
 use Rattle.store_core.specs.inner.Model.{ModelUpload}
-use Rattle.store_core.specs.Runs.{Command, FitsItsPlan, Reply, Run, RunsCarry, Step, abort, begin, begin_open, fetch, fix, forget, holds, journal, list, open_tenant, plan, put, replied, seal, seal_as, set_limit, tenants, totals, uploads, usage}
+use Rattle.store_core.specs.Runs.{Call, FitsItsPlan, Reply, Run, RunsCarry, Step, ask, change, put, replied}
+use Rattle.store_core.specs.declared.command.Command.TheVariants as commands
 use Rattle.store_core.proofs.Carried.{abort_carried, begun_carried, fix_carried, forget_carried, known_carried, limit_carried, new_carried, put_carried, tenant_carried}
 use Rattle.store_core.proofs.Contents.{long_found}
 use Rattle.store_core.proofs.Parts.{is_for_plan}
@@ -79,44 +79,36 @@ filed_carried old number h ready =
 
 -- ---- one step
 
-step_carries : (old new : Shown) (command : Command) (reply : Result Reply Refusal) → IsCarried old → Step old command reply new → IsCarried new
-step_carries old new (open_tenant limit) reply h step =
+step_carries : (old new : Shown) (call : Call) (reply : Result Reply Refusal) → IsCarried old → Step old call reply new → IsCarried new
+step_carries old new (change (commands.OpenTenant limit)) reply h step =
     kept_on as_is _ old new reply (accepts_replied old _ _ (accepts_unless old (tenant_refusal old.state limit) _ (λ free. tenant_carried old limit h free))) h step
-step_carries old new (set_limit tenant limit) reply h step =
+step_carries old new (change (commands.SetLimit tenant limit)) reply h step =
     kept_on as_is _ old new reply (accepts_replied old _ _ (accepts_unless old (limit_refusal length old.state tenant limit) _ (λ free. limit_carried old tenant limit h free))) h step
-step_carries old new (begin tenant len) reply h step =
+step_carries old new (change (commands.Begin tenant len)) reply h step =
     kept_on as_is _ old new reply (accepts_replied old _ _ (accepts_unless old (begin_refusal length old.state tenant len) _ (λ free. begun_carried old tenant (closed_plan len) h free))) h step
-step_carries old new (begin_open tenant at_most) reply h step =
+step_carries old new (change (commands.BeginOpen tenant at_most)) reply h step =
     kept_on as_is _ old new reply (accepts_replied old _ _ (accepts_unless old (begin_refusal length old.state tenant at_most) _ (λ free. begun_carried old tenant (open_plan at_most) h free))) h step
-step_carries old new (fix upload len) reply h step =
+step_carries old new (change (commands.Fix upload len)) reply h step =
     kept_on as_is _ old new reply (accepts_replied old _ _ (accepts_unless old (end_refusal length old.state upload len) _ (λ free. fix_carried old upload len h free))) h step
 step_carries old new (put upload part) reply h step =
     kept_on as_is _ old new reply
     (accepts_replied old _ _ (accepts_unless old (part_refused old.state upload part) _ (λ free. let p = is_put old.state upload part step.0 free in put_carried old upload part.part.offset part.part.bytes h p.fits p.free))) h step.1
-step_carries old new (seal upload) reply h step =
+step_carries old new (change (commands.Seal upload)) reply h step =
     kept_on as_is _ old new reply (accepts_replied old _ _ (accepts_then old (ready_refusal length old.state upload) (filed_in old.state upload) (λ ready. filed_carried old upload h ready))) h step
-step_carries old new (seal_as upload address) reply h step =
+step_carries old new (change (commands.SealAs upload address)) reply h step =
     kept_on as_is _ old new reply
     (accepts_replied old _ _ (accepts_then old (ready_refusal length old.state upload) _ (λ ready. accepts_then old (address_refused old.state upload address) (filed_in old.state upload) (λ same. filed_carried old upload h ready)))) h step
-step_carries old new (abort upload) reply h step =
+step_carries old new (change (commands.Abort upload)) reply h step =
     kept_on as_is _ old new reply (accepts_replied old _ _ (accepts_unless old (abort_refusal old.state upload) _ (λ free. abort_carried old upload h free))) h step
-step_carries old new (forget tenant address) reply h step =
+step_carries old new (change (commands.Forget tenant address)) reply h step =
     kept_on as_is _ old new reply (accepts_replied old _ _ (accepts_unless old (forget_refusal hash_of old.state tenant address) _ (λ free. forget_carried old tenant address h free))) h step
-step_carries old new (fetch tenant address) reply h step = subst (λ x. IsCarried x) (sym step.1) h
-step_carries old new (usage tenant) reply h step = subst (λ x. IsCarried x) (sym step.1) h
-step_carries old new (plan upload) reply h step = subst (λ x. IsCarried x) (sym step.1) h
-step_carries old new (list tenant) reply h step = subst (λ x. IsCarried x) (sym step.1) h
-step_carries old new (holds tenant address) reply h step = subst (λ x. IsCarried x) (sym step.1) h
-step_carries old new (uploads tenant) reply h step = subst (λ x. IsCarried x) (sym step.1) h
-step_carries old new tenants reply h step = subst (λ x. IsCarried x) (sym step.1) h
-step_carries old new totals reply h step = subst (λ x. IsCarried x) (sym step.1) h
-step_carries old new journal reply h step = subst (λ x. IsCarried x) (sym step.1) h
+step_carries old new (ask question) reply h step = subst (λ x. IsCarried x) (sym step.1) h
 
-run_carries : (old new : Shown) (commands : List Command) (replies : List (Result Reply Refusal)) → IsCarried old → Run old commands replies new → IsCarried new
+run_carries : (old new : Shown) (calls : List Call) (replies : List (Result Reply Refusal)) → IsCarried old → Run old calls replies new → IsCarried new
 run_carries old new [] [] h run = subst (λ x. IsCarried x) (sym run) h
 run_carries old new [] (reply ∷ replies) h run = absurd run
-run_carries old new (command ∷ commands) [] h run = absurd run
-run_carries old new (command ∷ commands) (reply ∷ replies) h run = run_carries run.0 new commands replies (step_carries old run.0 command reply h run.1) run.2
+run_carries old new (call ∷ calls) [] h run = absurd run
+run_carries old new (call ∷ calls) (reply ∷ replies) h run = run_carries run.0 new calls replies (step_carries old run.0 call reply h run.1) run.2
 
 pub runs_carry : RunsCarry
-runs_carry old new commands replies h run = let now = run_carries old new commands replies h run in (now, replayed_totals new now)
+runs_carry old new calls replies h run = let now = run_carries old new calls replies h run in (now, replayed_totals new now)

@@ -1,7 +1,7 @@
 -- Commands on the store, and questions. A command is refused as the books refuse it, or is accepted: it answers, leaves the books that it
 -- leaves there, and has an entry in the journal. A refused command and a question change nothing.
 use Rattle.std.specs.Prelude.{◌≡◌, ◌+◌, ◌-◌, ◌*◌, ◌==◌, ℕ, Bool, true, false, List, [], ◌∷◌, ◌++◌, Option, Some, None, Result, Ok, Err, length, if◌then◌else◌, nat_le}
-use Rattle.std.specs.Option.{option_map_or, option_or}
+use Rattle.std.specs.Option.{option_map_or}
 use Rattle.std.specs.Str.{bytes_eq}
 use Rattle.b3_core.specs.Modes.{hash_of}
 use Rattle.b3_forest.specs.Parts.{PlannedPart}
@@ -16,7 +16,7 @@ use Rattle.store_books.specs.Questions as books
 use Rattle.store_core.specs.declared.refusal.PutRefused.{PutRefused}
 use Rattle.store_core.specs.declared.store.Held.{Held}
 use Rattle.store_core.specs.Model.{ModelObject, ModelStore, Shown}
-use Rattle.store_core.specs.inner.Model.{ModelUpload, content}
+use Rattle.store_core.specs.inner.Model.{content}
 use Rattle.store_journal.specs.declared.entry.Entry.{Entry}
 use Rattle.store_journal.specs.declared.entry.Entry.TheVariants as entry
 use Rattle.store_upload.specs.Uploads.{Upload, UploadPlan, closed_plan, first_missing, held_bytes, new_upload, open_plan, same_plan}

@@ -2,6 +2,6 @@
 pub mod Model
 pub mod Commands
 pub mod Carried
-pub mod Seen
 pub mod Runs
+pub mod Seen
 pub mod inner

@@ -1,9 +1,13 @@
--- Replies as the model has them: objects as their bytes.
+-- What the code replies, as the model has it: objects as their bytes.
 use Rattle.std.specs.Prelude.{ℕ, List, Option, option_map}
 use Rattle.std.specs.Arc.{arc_value}
 use Rattle.std.specs.declared.sync.Arc.{Arc}
+use Rattle.store_core.specs.declared.reply.Reply.{Reply as CodeReply}
+use Rattle.store_core.specs.declared.reply.Reply.TheVariants as replies
 use Rattle.store_core.specs.declared.store.Sealed.{Sealed}
 use Rattle.store_core.specs.Commands.{ModelSealed}
+use Rattle.store_core.specs.Model.{Shown}
+use Rattle.store_core.specs.Runs.{Reply, begun_upload, done, now_held, now_sealed, opened_tenant, the_bytes, the_journal, the_length, the_list, the_plan, the_tenants, the_totals, the_uploads, the_usage}
 
 -- a seal's reply, whose object is seen as its bytes
 abbrev pub sealed_seen : Sealed → ModelSealed
@@ -12,3 +16,20 @@ sealed_seen s = record { address = s.address; new = s.new; bytes = arc_value s.o
 -- a forget's reply, whose object is seen as its bytes
 abbrev pub gone_seen : {Z : Type 0} → Option (Arc (List ℕ) Z) → Option (List ℕ)
 gone_seen gone = option_map (λ object. arc_value object) gone
+
+-- the reply of a store that shows this; the journal stays in the store
+abbrev pub reply_of : Shown → CodeReply → Reply
+reply_of shown (replies.Tenant number) = opened_tenant number
+reply_of shown (replies.Upload number plan) = begun_upload number plan
+reply_of shown (replies.Held held) = now_held held
+reply_of shown (replies.Sealed sealed) = now_sealed (sealed_seen sealed)
+reply_of shown replies.Done = done
+reply_of shown (replies.Object object) = the_bytes (arc_value object)
+reply_of shown (replies.Usage use_told) = the_usage use_told
+reply_of shown (replies.Plan plan) = the_plan plan
+reply_of shown (replies.List objects) = the_list objects.items
+reply_of shown (replies.Length len) = the_length len
+reply_of shown (replies.Uploads open_uploads) = the_uploads open_uploads.items
+reply_of shown (replies.Tenants usages) = the_tenants usages.items
+reply_of shown (replies.Totals sums) = the_totals sums
+reply_of shown replies.Journal = the_journal shown.journal

@@ -5,10 +5,13 @@ use Rattle.std.specs.Fmt.{decimal}
 use Rattle.std.proofs.lemmas.Fmt.{length-decimal-le}
 use Rattle.hex.proofs.HexLemmas.{decode_sized-ok}
 use Rattle.edge.specs.Fields.{three_fields, two_fields}
-use Rattle.store_core.specs.Runs.{Command, abort, begin, begin_open, fetch, fix, forget, holds, journal, list, open_tenant, plan, put, seal, seal_as, set_limit, tenants, totals, uploads, usage}
-use Rattle.store_script.specs.Grammar.{ScriptCommand, asks, command_at, puts}
+use Rattle.store_core.specs.declared.command.Command.{Command}
+use Rattle.store_core.specs.declared.command.Command.TheVariants as commands
+use Rattle.store_core.specs.declared.command.Question.{Question}
+use Rattle.store_core.specs.declared.command.Question.TheVariants as questions
+use Rattle.store_script.specs.Grammar.{ScriptCommand, asks, command_at, does, puts}
 use Rattle.store_script.specs.Lines.{most_line}
-use Rattle.store_script.specs.Spelling.{IsAsked, IsNumberAndAddress, IsPart, IsSpelled, LongIsNone}
+use Rattle.store_script.specs.Spelling.{SpellsQuestion, SpellsCommand, IsNumberAndAddress, IsPart, IsSpelled, LongIsNone}
 use Rattle.store_script.proofs.Read.{found}
 
 digits_few : (n : ℕ) → n < 2 ^ 64 → length (decimal n) ≤ 20
@@ -33,26 +36,24 @@ held line word n address h few =
     let digits : length h.0 ≤ 64 = omega (arith, decode_sized-ok h.0 32 address h.3) in
     omega (arith, ap length h.1, length-append word (two_fields (decimal n) h.0), two_few (decimal n) h.0 20 64 (digits_few n h.2) digits, few)
 
-asked : (line : List ℕ) (command : Command) → IsAsked line command → length line ≤ most_line
-asked line (open_tenant n) h = one line (codes "tenant ") n h.0 h.1 (omega arith)
-asked line (set_limit a b) h = two line (codes "limit ") a b h.0 h.1 h.2 (omega arith)
-asked line (begin a b) h = two line (codes "begin ") a b h.0 h.1 h.2 (omega arith)
-asked line (begin_open a b) h = two line (codes "open ") a b h.0 h.1 h.2 (omega arith)
-asked line (fix a b) h = two line (codes "fix ") a b h.0 h.1 h.2 (omega arith)
-asked line (put upload part) h = absurd h
-asked line (seal n) h = one line (codes "seal ") n h.0 h.1 (omega arith)
-asked line (seal_as n a) h = held line (codes "sealas ") n a h (omega arith)
-asked line (abort n) h = one line (codes "abort ") n h.0 h.1 (omega arith)
-asked line (forget n a) h = held line (codes "forget ") n a h (omega arith)
-asked line (fetch n a) h = held line (codes "fetch ") n a h (omega arith)
-asked line (usage n) h = one line (codes "usage ") n h.0 h.1 (omega arith)
-asked line (plan upload) h = absurd h
-asked line (list n) h = one line (codes "list ") n h.0 h.1 (omega arith)
-asked line (holds n a) h = absurd h
-asked line (uploads n) h = absurd h
-asked line tenants h = absurd h
-asked line totals h = omega (arith, ap length h)
-asked line journal h = omega (arith, ap length h)
+done : (line : List ℕ) (command : Command) → SpellsCommand line command → length line ≤ most_line
+done line (commands.OpenTenant n) h = one line (codes "tenant ") n h.0 h.1 (omega arith)
+done line (commands.SetLimit a b) h = two line (codes "limit ") a b h.0 h.1 h.2 (omega arith)
+done line (commands.Begin a b) h = two line (codes "begin ") a b h.0 h.1 h.2 (omega arith)
+done line (commands.BeginOpen a b) h = two line (codes "open ") a b h.0 h.1 h.2 (omega arith)
+done line (commands.Fix a b) h = two line (codes "fix ") a b h.0 h.1 h.2 (omega arith)
+done line (commands.Seal n) h = one line (codes "seal ") n h.0 h.1 (omega arith)
+done line (commands.SealAs n a) h = held line (codes "sealas ") n a h (omega arith)
+done line (commands.Abort n) h = one line (codes "abort ") n h.0 h.1 (omega arith)
+done line (commands.Forget n a) h = held line (codes "forget ") n a h (omega arith)
+
+asked : (line : List ℕ) (question : Question) → SpellsQuestion line question → length line ≤ most_line
+asked line (questions.Fetch n a) h = held line (codes "fetch ") n a h (omega arith)
+asked line (questions.Usage n) h = one line (codes "usage ") n h.0 h.1 (omega arith)
+asked line (questions.List n) h = one line (codes "list ") n h.0 h.1 (omega arith)
+asked line questions.Totals h = omega (arith, ap length h)
+asked line questions.Journal h = omega (arith, ap length h)
+asked line _ h = absurd h
 
 field_few : (offset : ℕ) (field bytes : List ℕ) → IsPart offset field bytes → length field ≤ 33554434
 field_few offset field bytes (inl h) = omega (arith, ap length h.1, length-append (codes "x:") h.0, h.2)
@@ -62,7 +63,8 @@ three_few : (a b c : List ℕ) (n : ℕ) → length a ≤ 20 → length b ≤ 20
 three_few a b c n few less least = omega (arith, length-append a (32 ∷ (b ++ 32 ∷ c)), length-append b (32 ∷ c), few, less, least)
 
 spelled : (line : List ℕ) (command : ScriptCommand) → IsSpelled line command → length line ≤ most_line
-spelled line (asks command) h = asked line command h
+spelled line (does command) h = done line command h
+spelled line (asks question) h = asked line question h
 spelled line (puts upload offset bytes) h =
     omega (arith, ap length h.1, length-append (codes "put ") (three_fields (decimal upload) (decimal offset) h.0), three_few (decimal upload) (decimal offset) h.0 33554434 (digits_few upload h.2) (digits_few offset h.3) (field_few offset h.0 bytes h.4))
 

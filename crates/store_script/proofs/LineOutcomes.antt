@@ -10,17 +10,20 @@ use Rattle.store_upload.specs.declared.refusal.PartFault.TheVariants as faults
 use Rattle.store_books.specs.declared.refusal.Refusal.{Refusal}
 use Rattle.store_core.specs.Commands.{plan_in, reply_seen}
 use Rattle.store_core.specs.Model.{Shown}
-use Rattle.store_core.specs.Runs.{Command, Reply, Step, plan, put, the_plan, told}
-use Rattle.store_script.specs.Grammar.{ScriptCommand, asks, command_at, puts}
+use Rattle.store_core.specs.Seen.{reply_of}
+use Rattle.store_core.specs.declared.reply.Reply.{Reply as CodeReply}
+use Rattle.store_core.specs.declared.command.Command.{Command}
+use Rattle.store_core.specs.declared.command.Question.{Question}
+use Rattle.store_core.specs.declared.command.Question.TheVariants.{Plan}
+use Rattle.store_core.specs.Runs.{Answers, Reply, Step, ask, change, put, the_plan, told}
+use Rattle.store_script.specs.Grammar.{ScriptCommand, asks, command_at, does, puts}
 use Rattle.store_script.specs.Lines.{AnswersRead}
 use Rattle.store_script.proofs.Lengths.{long_is_none}
 use Rattle.store_script.specs.Script.{Answered, IsTurnOfCommand, IsTurnOfMade, IsTurnOf, IsTurnOfPut, Turn, bad, fault_ending, reply_ending, skipped, took, unmade}
 use Rattle.store_script.specs.Texts.{answer_text, unmade_text, refused_text}
 use Rattle.store_script.specs.Answers.{told_ending, told_text}
-use Rattle.store_script.specs.Commands.{reply_of}
 use Rattle.store_script.specs.declared.answer.Answer.{Answer}
 use Rattle.store_script.specs.declared.answer.Answer.TheVariants as answers
-use Rattle.store_script.specs.declared.reply.Reply.{Reply as CodeReply}
 use Rattle.store_script.specs.declared.ending.Ending.{Ending}
 use Rattle.store_script.specs.declared.ending.Ending.TheVariants as endings
 
@@ -56,8 +59,8 @@ by_plan old new upload offset bytes turn planned is h = subst (λ r. IsTurnOfPut
 -- S7
 pub no_plan : (old : Shown) (upload offset : ℕ) (bytes : List ℕ) (refusal : Refusal) (text : List ℕ) (ending : Ending) → Err refusal ≡ plan_in old.state upload → Says (Err refusal) text ending → Answered (PutTurn old upload offset bytes old) text ending
 no_plan old upload offset bytes refusal text ending is says = record {
-  turn = took (plan upload) (Err refusal);
-  is = by_plan old old upload offset bytes (took (plan upload) (Err refusal)) (Err refusal) is (refl, (ap (told the_plan) is, refl));
+  turn = took (ask (Plan upload)) (Err refusal);
+  is = by_plan old old upload offset bytes (took (ask (Plan upload)) (Err refusal)) (Err refusal) is (refl, (ap (told the_plan) is, refl));
   text_is = says.0;
   ending_is = says.1;
 }
@@ -104,10 +107,18 @@ nothing old (b ∷ line) text ending none text_is ending_is = absurd (omega (ari
 pub no_command : (old : Shown) (line text : List ℕ) (ending : Ending) → 0 < length line → None ≡ command_at line → SaysBad text ending → Answered (LineTurn old line old) text ending
 no_command old line text ending some is says = record { turn = bad; is = plays old old line bad None some is (refl, refl); text_is = says.0; ending_is = says.1 }
 
-pub asked : (old new : Shown) (line text : List ℕ) (ending : Ending) (command : Command) (reply : Result Reply Refusal) → 0 < length line → Some (asks command) ≡ command_at line → Step old command reply new → Says reply text ending → Answered (LineTurn old line new) text ending
-asked old new line text ending command reply some is step says = record {
-  turn = took command reply;
-  is = plays old new line (took command reply) (Some (asks command)) some is (refl, step);
+pub done : (old new : Shown) (line text : List ℕ) (ending : Ending) (command : Command) (reply : Result Reply Refusal) → 0 < length line → Some (does command) ≡ command_at line → Step old (change command) reply new → Says reply text ending → Answered (LineTurn old line new) text ending
+done old new line text ending command reply some is step says = record {
+  turn = took (change command) reply;
+  is = plays old new line (took (change command) reply) (Some (does command)) some is (refl, step);
+  text_is = says.0;
+  ending_is = says.1;
+}
+
+pub asked : (old : Shown) (line text : List ℕ) (ending : Ending) (question : Question) (reply : Result Reply Refusal) → 0 < length line → Some (asks question) ≡ command_at line → Answers old question reply → Says reply text ending → Answered (LineTurn old line old) text ending
+asked old line text ending question reply some is answers says = record {
+  turn = took (ask question) reply;
+  is = plays old old line (took (ask question) reply) (Some (asks question)) some is (refl, (answers, refl));
   text_is = says.0;
   ending_is = says.1;
 }

@@ -1,6 +1,6 @@
 -- A line is read exactly where it is spelled so.
 use Rattle.std.proofs.Common.{◌≡◌, ◌∙◌, ◌<◌, ◌≤◌, ◌^◌, ℕ, Bool, true, List, ◌∷◌, ◌++◌, Some, None, Ok, Err, Result, refl, ap, sym, subst, arith, cond, codes, inl, inr, length, nat_le}
-use Rattle.std.specs.Prelude.{Option, option_map}
+use Rattle.std.specs.Prelude.{Option}
 use Rattle.std.specs.Fmt.{decimal}
 use Rattle.std.specs.Str.{bytes_eq}
 use Rattle.std.proofs.lemmas.Bool.{leb-true, le-leb}
@@ -8,12 +8,15 @@ use Rattle.std.proofs.lemmas.Slice.Eq.{bytes_eq-Decides}
 use Rattle.hex.specs.Hex.{decode_of, decode_sized}
 use Rattle.hex.specs.declared.error.FromHexError.{FromHexError}
 use Rattle.edge.specs.Fields.{cut_at, number_at, space, three_fields, two_fields, two_numbers_at}
-use Rattle.store_core.specs.Runs.{Command, abort, begin, begin_open, fetch, fix, forget, holds, journal, list, open_tenant, plan, put, seal, seal_as, set_limit, tenants, totals, uploads, usage}
+use Rattle.store_core.specs.declared.command.Command.{Command}
+use Rattle.store_core.specs.declared.command.Command.TheVariants as commands
+use Rattle.store_core.specs.declared.command.Question.{Question}
+use Rattle.store_core.specs.declared.command.Question.TheVariants as questions
 use Rattle.edge.proofs.FieldTexts.{cut_again, cut_found, decimal_spaceless, number_again, two_again, two_found}
 use Rattle.edge.proofs.Steps.{bind_is, bind_some, chosen, none_some, some_is}
 use Rattle.edge.proofs.Numbers.{read_back}
-use Rattle.store_script.specs.Grammar.{ScriptCommand, abort_command, address_of_digits, asks, asks_of_kind, begin_command, begin_open_command, part_bytes_at, bytes_of_kind, colon, command_at, cut_line_at, decoded, digits_at, fetch_command, fix_command, forget_command, held_at, list_command, most_digits, most_pattern, open_tenant_command, pattern_at, pattern_of, puts, puts_at, seal_as_command, seal_command, set_limit_command, usage_command, word_command}
-use Rattle.store_script.specs.Spelling.{IsAsked, IsPart, IsSpelled}
+use Rattle.store_script.specs.Grammar.{ScriptCommand, abort_command, address_of_digits, asks, asks_of_kind, does, begin_command, begin_open_command, part_bytes_at, bytes_of_kind, colon, command_at, cut_line_at, decoded, digits_at, fetch_command, fix_command, forget_command, held_at, list_command, most_digits, most_pattern, open_tenant_command, pattern_at, pattern_of, puts, puts_at, seal_as_command, seal_command, set_limit_command, usage_command, word_command}
+use Rattle.store_script.specs.Spelling.{SpellsQuestion, SpellsCommand, IsPart, IsSpelled}
 
 -- ---- fields
 
@@ -50,32 +53,32 @@ held_again number digits address lt read =
 
 -- ---- commands of one number, of two, and of a number and an address
 
-one_found : (word fields : List ℕ) (ask : ℕ → Command) (command : Command) → ((n : ℕ) → (word ++ fields ≡ word ++ decimal n) × (n < 2 ^ 64) → IsAsked (word ++ fields) (ask n))
-    → (n : ℕ) × (number_at fields ≡ Some n) × (Some (ask n) ≡ Some command) → IsAsked (word ++ fields) command
+one_found : (word fields : List ℕ) (ask : ℕ → ScriptCommand) (command : ScriptCommand) → ((n : ℕ) → (word ++ fields ≡ word ++ decimal n) × (n < 2 ^ 64) → IsSpelled (word ++ fields) (ask n))
+    → (n : ℕ) × (number_at fields ≡ Some n) × (Some (ask n) ≡ Some command) → IsSpelled (word ++ fields) command
 one_found word fields ask command f n =
     let read = read_back fields n.0 n.1 in
-    subst (IsAsked (word ++ fields)) (some_is _ _ n.2) (f n.0 (ap (λ (w : List ℕ). word ++ w) (sym read.0), read.1))
+    subst (IsSpelled (word ++ fields)) (some_is _ _ n.2) (f n.0 (ap (λ (w : List ℕ). word ++ w) (sym read.0), read.1))
 
-two_numbers_found : (word fields : List ℕ) (ask : ℕ → ℕ → Command) (command : Command) → ((a b : ℕ) → (word ++ fields ≡ word ++ two_fields (decimal a) (decimal b)) × (a < 2 ^ 64) × (b < 2 ^ 64) → IsAsked (word ++ fields) (ask a b))
-    → (x : ℕ × ℕ) × (two_numbers_at fields ≡ Some x) × (Some (ask x.0 x.1) ≡ Some command) → IsAsked (word ++ fields) command
+two_numbers_found : (word fields : List ℕ) (ask : ℕ → ℕ → ScriptCommand) (command : ScriptCommand) → ((a b : ℕ) → (word ++ fields ≡ word ++ two_fields (decimal a) (decimal b)) × (a < 2 ^ 64) × (b < 2 ^ 64) → IsSpelled (word ++ fields) (ask a b))
+    → (x : ℕ × ℕ) × (two_numbers_at fields ≡ Some x) × (Some (ask x.0 x.1) ≡ Some command) → IsSpelled (word ++ fields) command
 two_numbers_found word fields ask command f x =
     let read = two_found fields x.0 x.1 in
-    subst (IsAsked (word ++ fields)) (some_is _ _ x.2) (f x.0.0 x.0.1 (ap (λ (w : List ℕ). word ++ w) (sym read.0), read.1, read.2))
+    subst (IsSpelled (word ++ fields)) (some_is _ _ x.2) (f x.0.0 x.0.1 (ap (λ (w : List ℕ). word ++ w) (sym read.0), read.1, read.2))
 
-held_command_found : (word fields : List ℕ) (ask : ℕ → List ℕ → Command) (command : Command)
-    → ((n : ℕ) (address : List ℕ) → (digits : List ℕ) × (word ++ fields ≡ word ++ two_fields (decimal n) digits) × (n < 2 ^ 64) × (decode_sized digits 32 ≡ Ok address) → IsAsked (word ++ fields) (ask n address))
-    → (x : ℕ × List ℕ) × (held_at fields ≡ Some x) × (Some (ask x.0 x.1) ≡ Some command) → IsAsked (word ++ fields) command
+held_command_found : (word fields : List ℕ) (ask : ℕ → List ℕ → ScriptCommand) (command : ScriptCommand)
+    → ((n : ℕ) (address : List ℕ) → (digits : List ℕ) × (word ++ fields ≡ word ++ two_fields (decimal n) digits) × (n < 2 ^ 64) × (decode_sized digits 32 ≡ Ok address) → IsSpelled (word ++ fields) (ask n address))
+    → (x : ℕ × List ℕ) × (held_at fields ≡ Some x) × (Some (ask x.0 x.1) ≡ Some command) → IsSpelled (word ++ fields) command
 held_command_found word fields ask command f x =
     let read = held_found fields x.0 x.1 in
-    subst (IsAsked (word ++ fields)) (some_is _ _ x.2) (f x.0.0 x.0.1 (read.0, ap (λ (w : List ℕ). word ++ w) read.1, read.2, read.3))
+    subst (IsSpelled (word ++ fields)) (some_is _ _ x.2) (f x.0.0 x.0.1 (read.0, ap (λ (w : List ℕ). word ++ w) read.1, read.2, read.3))
 
 -- ---- one word after another
 
 -- the command is spelled by the word and the fields
-abbrev IsBy : List ℕ → List ℕ → Command → Type 0
-IsBy kind fields command = IsAsked (kind ++ space ∷ fields) command
+abbrev IsBy : List ℕ → List ℕ → ScriptCommand → Type 0
+IsBy kind fields command = IsSpelled (kind ++ space ∷ fields) command
 
-by_kind : (kind word fields : List ℕ) (this other : Option Command) (command : Command) → (this ≡ Some command → IsBy word fields command) → (other ≡ Some command → IsBy kind fields command)
+by_kind : (kind word fields : List ℕ) (this other : Option ScriptCommand) (command : ScriptCommand) → (this ≡ Some command → IsBy word fields command) → (other ≡ Some command → IsBy kind fields command)
     → cond (bytes_eq kind word) this other ≡ Some command → IsBy kind fields command
 by_kind kind word fields this other command f g h =
     elim (chosen (bytes_eq kind word) this other (Some command) h) [
@@ -83,43 +86,43 @@ by_kind kind word fields this other command f g h =
       | inr p ↦ g p.1
     ]
 
-tenant_found : (fields : List ℕ) (command : Command) → open_tenant_command fields ≡ Some command → IsBy (codes "tenant") fields command
-tenant_found fields command h = one_found (codes "tenant ") fields open_tenant command (λ n k. k) (bind_some (number_at fields) _ command h)
+tenant_found : (fields : List ℕ) (command : ScriptCommand) → open_tenant_command fields ≡ Some command → IsBy (codes "tenant") fields command
+tenant_found fields command h = one_found (codes "tenant ") fields (λ n. does (commands.OpenTenant n)) command (λ n k. k) (bind_some (number_at fields) _ command h)
 
-seal_found : (fields : List ℕ) (command : Command) → seal_command fields ≡ Some command → IsBy (codes "seal") fields command
-seal_found fields command h = one_found (codes "seal ") fields seal command (λ n k. k) (bind_some (number_at fields) _ command h)
+seal_found : (fields : List ℕ) (command : ScriptCommand) → seal_command fields ≡ Some command → IsBy (codes "seal") fields command
+seal_found fields command h = one_found (codes "seal ") fields (λ n. does (commands.Seal n)) command (λ n k. k) (bind_some (number_at fields) _ command h)
 
-abort_found : (fields : List ℕ) (command : Command) → abort_command fields ≡ Some command → IsBy (codes "abort") fields command
-abort_found fields command h = one_found (codes "abort ") fields abort command (λ n k. k) (bind_some (number_at fields) _ command h)
+abort_found : (fields : List ℕ) (command : ScriptCommand) → abort_command fields ≡ Some command → IsBy (codes "abort") fields command
+abort_found fields command h = one_found (codes "abort ") fields (λ n. does (commands.Abort n)) command (λ n k. k) (bind_some (number_at fields) _ command h)
 
-usage_found : (fields : List ℕ) (command : Command) → usage_command fields ≡ Some command → IsBy (codes "usage") fields command
-usage_found fields command h = one_found (codes "usage ") fields usage command (λ n k. k) (bind_some (number_at fields) _ command h)
+usage_found : (fields : List ℕ) (command : ScriptCommand) → usage_command fields ≡ Some command → IsBy (codes "usage") fields command
+usage_found fields command h = one_found (codes "usage ") fields (λ n. asks (questions.Usage n)) command (λ n k. k) (bind_some (number_at fields) _ command h)
 
-list_found : (fields : List ℕ) (command : Command) → list_command fields ≡ Some command → IsBy (codes "list") fields command
-list_found fields command h = one_found (codes "list ") fields list command (λ n k. k) (bind_some (number_at fields) _ command h)
+list_found : (fields : List ℕ) (command : ScriptCommand) → list_command fields ≡ Some command → IsBy (codes "list") fields command
+list_found fields command h = one_found (codes "list ") fields (λ n. asks (questions.List n)) command (λ n k. k) (bind_some (number_at fields) _ command h)
 
-limit_found : (fields : List ℕ) (command : Command) → set_limit_command fields ≡ Some command → IsBy (codes "limit") fields command
-limit_found fields command h = two_numbers_found (codes "limit ") fields set_limit command (λ a b k. k) (bind_some (two_numbers_at fields) _ command h)
+limit_found : (fields : List ℕ) (command : ScriptCommand) → set_limit_command fields ≡ Some command → IsBy (codes "limit") fields command
+limit_found fields command h = two_numbers_found (codes "limit ") fields (λ a b. does (commands.SetLimit a b)) command (λ a b k. k) (bind_some (two_numbers_at fields) _ command h)
 
-begin_found : (fields : List ℕ) (command : Command) → begin_command fields ≡ Some command → IsBy (codes "begin") fields command
-begin_found fields command h = two_numbers_found (codes "begin ") fields begin command (λ a b k. k) (bind_some (two_numbers_at fields) _ command h)
+begin_found : (fields : List ℕ) (command : ScriptCommand) → begin_command fields ≡ Some command → IsBy (codes "begin") fields command
+begin_found fields command h = two_numbers_found (codes "begin ") fields (λ a b. does (commands.Begin a b)) command (λ a b k. k) (bind_some (two_numbers_at fields) _ command h)
 
-open_found : (fields : List ℕ) (command : Command) → begin_open_command fields ≡ Some command → IsBy (codes "open") fields command
-open_found fields command h = two_numbers_found (codes "open ") fields begin_open command (λ a b k. k) (bind_some (two_numbers_at fields) _ command h)
+open_found : (fields : List ℕ) (command : ScriptCommand) → begin_open_command fields ≡ Some command → IsBy (codes "open") fields command
+open_found fields command h = two_numbers_found (codes "open ") fields (λ a b. does (commands.BeginOpen a b)) command (λ a b k. k) (bind_some (two_numbers_at fields) _ command h)
 
-fix_found : (fields : List ℕ) (command : Command) → fix_command fields ≡ Some command → IsBy (codes "fix") fields command
-fix_found fields command h = two_numbers_found (codes "fix ") fields fix command (λ a b k. k) (bind_some (two_numbers_at fields) _ command h)
+fix_found : (fields : List ℕ) (command : ScriptCommand) → fix_command fields ≡ Some command → IsBy (codes "fix") fields command
+fix_found fields command h = two_numbers_found (codes "fix ") fields (λ a b. does (commands.Fix a b)) command (λ a b k. k) (bind_some (two_numbers_at fields) _ command h)
 
-sealas_found : (fields : List ℕ) (command : Command) → seal_as_command fields ≡ Some command → IsBy (codes "sealas") fields command
-sealas_found fields command h = held_command_found (codes "sealas ") fields seal_as command (λ n a k. k) (bind_some (held_at fields) _ command h)
+sealas_found : (fields : List ℕ) (command : ScriptCommand) → seal_as_command fields ≡ Some command → IsBy (codes "sealas") fields command
+sealas_found fields command h = held_command_found (codes "sealas ") fields (λ n a. does (commands.SealAs n a)) command (λ n a k. k) (bind_some (held_at fields) _ command h)
 
-forget_found : (fields : List ℕ) (command : Command) → forget_command fields ≡ Some command → IsBy (codes "forget") fields command
-forget_found fields command h = held_command_found (codes "forget ") fields forget command (λ n a k. k) (bind_some (held_at fields) _ command h)
+forget_found : (fields : List ℕ) (command : ScriptCommand) → forget_command fields ≡ Some command → IsBy (codes "forget") fields command
+forget_found fields command h = held_command_found (codes "forget ") fields (λ n a. does (commands.Forget n a)) command (λ n a k. k) (bind_some (held_at fields) _ command h)
 
-fetch_found : (fields : List ℕ) (command : Command) → fetch_command fields ≡ Some command → IsBy (codes "fetch") fields command
-fetch_found fields command h = held_command_found (codes "fetch ") fields fetch command (λ n a k. k) (bind_some (held_at fields) _ command h)
+fetch_found : (fields : List ℕ) (command : ScriptCommand) → fetch_command fields ≡ Some command → IsBy (codes "fetch") fields command
+fetch_found fields command h = held_command_found (codes "fetch ") fields (λ n a. asks (questions.Fetch n a)) command (λ n a k. k) (bind_some (held_at fields) _ command h)
 
-asks_found : (kind fields : List ℕ) (command : Command) → asks_of_kind kind fields ≡ Some command → IsBy kind fields command
+asks_found : (kind fields : List ℕ) (command : ScriptCommand) → asks_of_kind kind fields ≡ Some command → IsBy kind fields command
 unfolding asks_of_kind
 asks_found kind fields command =
     by_kind kind (codes "tenant") fields _ _ command (tenant_found fields command)
@@ -136,13 +139,13 @@ asks_found kind fields command =
     (by_kind kind (codes "list") fields _ _ command (list_found fields command)
     (λ h. absurd (none_some command h)))))))))))))
 
-word_found : (word : List ℕ) (command : Command) → word_command word ≡ Some command → IsAsked word command
+word_found : (word : List ℕ) (command : ScriptCommand) → word_command word ≡ Some command → IsSpelled word command
 word_found word command h =
-    elim (chosen (bytes_eq word (codes "stat")) (Some totals) _ (Some command) h) [
-      | inl p ↦ subst (IsAsked word) (some_is _ _ p.1) ((bytes_eq-Decides word (codes "stat")).0 p.0)
+    elim (chosen (bytes_eq word (codes "stat")) (Some (asks questions.Totals)) _ (Some command) h) [
+      | inl p ↦ subst (IsSpelled word) (some_is _ _ p.1) ((bytes_eq-Decides word (codes "stat")).0 p.0)
       | inr q ↦
-          elim (chosen (bytes_eq word (codes "journal")) (Some journal) None (Some command) q.1) [
-            | inl p ↦ subst (IsAsked word) (some_is _ _ p.1) ((bytes_eq-Decides word (codes "journal")).0 p.0)
+          elim (chosen (bytes_eq word (codes "journal")) (Some (asks questions.Journal)) None (Some command) q.1) [
+            | inl p ↦ subst (IsSpelled word) (some_is _ _ p.1) ((bytes_eq-Decides word (codes "journal")).0 p.0)
             | inr p ↦ absurd (none_some command p.1)
           ]
     ]
@@ -208,18 +211,14 @@ puts_found fields command h =
 
 -- ---- a line
 
-asked : (o : Option Command) (line : List ℕ) (command : ScriptCommand) → ((c : Command) → o ≡ Some c → IsAsked line c) → option_map asks o ≡ Some command → IsSpelled line command
-asked None line command f h = absurd (none_some command h)
-asked (Some c) line command f h = subst (IsSpelled line) (some_is _ _ h) (f c refl)
-
 line_found : (line : List ℕ) (cut : Option (List ℕ × List ℕ)) (command : ScriptCommand) → cut_at space line ≡ cut → cut_line_at line cut ≡ Some command → IsSpelled line command
 unfolding cut_line_at
-line_found line None command is h = asked (word_command line) line command (word_found line) h
+line_found line None command is h = word_found line command h
 line_found line (Some cut) command is h =
     let whole = cut_found space line cut is in
     subst (λ (w : List ℕ). IsSpelled w command) whole (elim (chosen (bytes_eq cut.0 (codes "put")) (puts_at cut.1) _ (Some command) h) [
       | inl p ↦ subst (λ (w : List ℕ). IsSpelled (w ++ space ∷ cut.1) command) (sym ((bytes_eq-Decides cut.0 (codes "put")).0 p.0)) (puts_found cut.1 command p.1)
-      | inr p ↦ asked (asks_of_kind cut.0 cut.1) (cut.0 ++ space ∷ cut.1) command (asks_found cut.0 cut.1) p.1
+      | inr p ↦ asks_found cut.0 cut.1 command p.1
     ])
 
 pub found : (line : List ℕ) (command : ScriptCommand) → command_at line ≡ Some command → IsSpelled line command
@@ -244,29 +243,29 @@ puts_again upload offset field bytes u o part =
     ∙ bind_is (cut_at space (two_fields (decimal offset) field)) _ (decimal offset, field) (cut_again space (decimal offset) field (decimal_spaceless offset o))
     ∙ bind_is (number_at (decimal offset)) _ offset (number_again offset o) ∙ bind_is (part_bytes_at offset field) _ bytes (bytes_again offset field bytes part)
 
-asked_again : (line : List ℕ) (command : Command) → IsAsked line command → command_at line ≡ Some (asks command)
+done_again : (line : List ℕ) (command : Command) → SpellsCommand line command → command_at line ≡ Some (does command)
 unfolding cut_line_at asks_of_kind
-asked_again line (open_tenant n) h = ap command_at h.0 ∙ ap (option_map asks) (bind_is (number_at (decimal n)) _ n (number_again n h.1))
-asked_again line (set_limit a b) h = ap command_at h.0 ∙ ap (option_map asks) (bind_is (two_numbers_at (two_fields (decimal a) (decimal b))) _ (a, b) (two_again a b h.1 h.2))
-asked_again line (begin a b) h = ap command_at h.0 ∙ ap (option_map asks) (bind_is (two_numbers_at (two_fields (decimal a) (decimal b))) _ (a, b) (two_again a b h.1 h.2))
-asked_again line (begin_open a b) h = ap command_at h.0 ∙ ap (option_map asks) (bind_is (two_numbers_at (two_fields (decimal a) (decimal b))) _ (a, b) (two_again a b h.1 h.2))
-asked_again line (fix a b) h = ap command_at h.0 ∙ ap (option_map asks) (bind_is (two_numbers_at (two_fields (decimal a) (decimal b))) _ (a, b) (two_again a b h.1 h.2))
-asked_again line (put upload part) h = absurd h
-asked_again line (seal n) h = ap command_at h.0 ∙ ap (option_map asks) (bind_is (number_at (decimal n)) _ n (number_again n h.1))
-asked_again line (seal_as n a) h = ap command_at h.1 ∙ ap (option_map asks) (bind_is (held_at (two_fields (decimal n) h.0)) _ (n, a) (held_again n h.0 a h.2 h.3))
-asked_again line (abort n) h = ap command_at h.0 ∙ ap (option_map asks) (bind_is (number_at (decimal n)) _ n (number_again n h.1))
-asked_again line (forget n a) h = ap command_at h.1 ∙ ap (option_map asks) (bind_is (held_at (two_fields (decimal n) h.0)) _ (n, a) (held_again n h.0 a h.2 h.3))
-asked_again line (fetch n a) h = ap command_at h.1 ∙ ap (option_map asks) (bind_is (held_at (two_fields (decimal n) h.0)) _ (n, a) (held_again n h.0 a h.2 h.3))
-asked_again line (usage n) h = ap command_at h.0 ∙ ap (option_map asks) (bind_is (number_at (decimal n)) _ n (number_again n h.1))
-asked_again line (plan upload) h = absurd h
-asked_again line (list n) h = ap command_at h.0 ∙ ap (option_map asks) (bind_is (number_at (decimal n)) _ n (number_again n h.1))
-asked_again line (holds tenant address) h = absurd h
-asked_again line (uploads tenant) h = absurd h
-asked_again line tenants h = absurd h
-asked_again line totals h = ap command_at h
-asked_again line journal h = ap command_at h
+done_again line (commands.OpenTenant n) h = ap command_at h.0 ∙ bind_is (number_at (decimal n)) _ n (number_again n h.1)
+done_again line (commands.SetLimit a b) h = ap command_at h.0 ∙ bind_is (two_numbers_at (two_fields (decimal a) (decimal b))) _ (a, b) (two_again a b h.1 h.2)
+done_again line (commands.Begin a b) h = ap command_at h.0 ∙ bind_is (two_numbers_at (two_fields (decimal a) (decimal b))) _ (a, b) (two_again a b h.1 h.2)
+done_again line (commands.BeginOpen a b) h = ap command_at h.0 ∙ bind_is (two_numbers_at (two_fields (decimal a) (decimal b))) _ (a, b) (two_again a b h.1 h.2)
+done_again line (commands.Fix a b) h = ap command_at h.0 ∙ bind_is (two_numbers_at (two_fields (decimal a) (decimal b))) _ (a, b) (two_again a b h.1 h.2)
+done_again line (commands.Seal n) h = ap command_at h.0 ∙ bind_is (number_at (decimal n)) _ n (number_again n h.1)
+done_again line (commands.SealAs n a) h = ap command_at h.1 ∙ bind_is (held_at (two_fields (decimal n) h.0)) _ (n, a) (held_again n h.0 a h.2 h.3)
+done_again line (commands.Abort n) h = ap command_at h.0 ∙ bind_is (number_at (decimal n)) _ n (number_again n h.1)
+done_again line (commands.Forget n a) h = ap command_at h.1 ∙ bind_is (held_at (two_fields (decimal n) h.0)) _ (n, a) (held_again n h.0 a h.2 h.3)
+
+asked_again : (line : List ℕ) (question : Question) → SpellsQuestion line question → command_at line ≡ Some (asks question)
+unfolding cut_line_at asks_of_kind
+asked_again line (questions.Fetch n a) h = ap command_at h.1 ∙ bind_is (held_at (two_fields (decimal n) h.0)) _ (n, a) (held_again n h.0 a h.2 h.3)
+asked_again line (questions.Usage n) h = ap command_at h.0 ∙ bind_is (number_at (decimal n)) _ n (number_again n h.1)
+asked_again line (questions.List n) h = ap command_at h.0 ∙ bind_is (number_at (decimal n)) _ n (number_again n h.1)
+asked_again line questions.Totals h = ap command_at h
+asked_again line questions.Journal h = ap command_at h
+asked_again line _ h = absurd h
 
 pub again : (line : List ℕ) (command : ScriptCommand) → IsSpelled line command → command_at line ≡ Some command
 unfolding cut_line_at
-again line (asks command) h = asked_again line command h
+again line (does command) h = done_again line command h
+again line (asks question) h = asked_again line question h
 again line (puts upload offset bytes) h = ap command_at h.1 ∙ puts_again upload offset h.0 bytes h.2 h.3 h.4

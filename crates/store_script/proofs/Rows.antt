@@ -7,8 +7,10 @@ use Rattle.store_upload.specs.declared.refusal.PartFault.TheVariants as faults
 use Rattle.store_upload.specs.Uploads.{closed_plan}
 use Rattle.store_books.specs.declared.refusal.Refusal.TheVariants as refusals
 use Rattle.edge.specs.Lines.{lines_of}
-use Rattle.store_core.specs.Runs.{begin, begin_open, fix, now_held, now_sealed, open_tenant, opened_tenant, seal_as, set_limit, the_bytes, the_list, totals}
-use Rattle.store_script.specs.Grammar.{ScriptCommand, address_of_digits, asks, asks_of_kind, bytes_of_kind, command_at, cut_line_at, pattern_of, puts}
+use Rattle.store_core.specs.declared.command.Command.TheVariants as commands
+use Rattle.store_core.specs.declared.command.Question.TheVariants as questions
+use Rattle.store_core.specs.Runs.{ask, now_held, now_sealed, opened_tenant, the_bytes, the_list}
+use Rattle.store_script.specs.Grammar.{ScriptCommand, address_of_digits, asks, asks_of_kind, bytes_of_kind, command_at, cut_line_at, does, pattern_of, puts}
 use Rattle.store_script.specs.Script.{bad, ending_of, skipped, took, turn_text, unmade}
 use Rattle.store_script.specs.Texts.{answer_text}
 use Rattle.store_script.specs.declared.ending.Ending.TheVariants as endings
@@ -29,31 +31,31 @@ address_digits = codes "000102030405060708090A0b0C0d0E0f101112131415161718191a1B
 abbrev address_bytes : List ℕ
 address_bytes = 0 ∷ 1 ∷ 2 ∷ 3 ∷ 4 ∷ 5 ∷ 6 ∷ 7 ∷ 8 ∷ 9 ∷ 10 ∷ 11 ∷ 12 ∷ 13 ∷ 14 ∷ 15 ∷ 16 ∷ 17 ∷ 18 ∷ 19 ∷ 20 ∷ 21 ∷ 22 ∷ 23 ∷ 24 ∷ 25 ∷ 26 ∷ 27 ∷ 28 ∷ 29 ∷ 30 ∷ 31 ∷ []
 
-opens : command_at (codes "tenant 4096") ≡ Some (asks (open_tenant 4096))
+opens : command_at (codes "tenant 4096") ≡ Some (does (commands.OpenTenant 4096))
 unfolding on_literals
 opens = refl
 
-begins : command_at (codes "begin 0 18446744073709551615") ≡ Some (asks (begin 0 18446744073709551615))
+begins : command_at (codes "begin 0 18446744073709551615") ≡ Some (does (commands.Begin 0 18446744073709551615))
 unfolding on_literals
 begins = refl
 
-begins_open : command_at (codes "open 0 4096") ≡ Some (asks (begin_open 0 4096))
+begins_open : command_at (codes "open 0 4096") ≡ Some (does (commands.BeginOpen 0 4096))
 unfolding on_literals
 begins_open = refl
 
-fixes : command_at (codes "fix 3 2048") ≡ Some (asks (fix 3 2048))
+fixes : command_at (codes "fix 3 2048") ≡ Some (does (commands.Fix 3 2048))
 unfolding on_literals
 fixes = refl
 
-limits : command_at (codes "limit 3 0") ≡ Some (asks (set_limit 3 0))
+limits : command_at (codes "limit 3 0") ≡ Some (does (commands.SetLimit 3 0))
 unfolding on_literals
 limits = refl
 
-asks_totals : command_at (codes "stat") ≡ Some (asks totals)
+asks_totals : command_at (codes "stat") ≡ Some (asks questions.Totals)
 unfolding on_literals
 asks_totals = refl
 
-seals_as : command_at (codes "sealas 7 " ++ address_digits) ≡ Some (asks (seal_as 7 address_bytes))
+seals_as : command_at (codes "sealas 7 " ++ address_digits) ≡ Some (does (commands.SealAs 7 address_bytes))
 unfolding on_literals
 seals_as = refl
 
@@ -158,8 +160,8 @@ three_lines : lines_of (codes "a\n\nb") ≡ codes "a" ∷ [] ∷ codes "b" ∷ [
 unfolding on_literals
 three_lines = refl
 
-ends_refused : ending_of (skipped ∷ bad ∷ took totals (Ok (opened_tenant 0)) ∷ []) ≡ endings.Refused
+ends_refused : ending_of (skipped ∷ bad ∷ took (ask questions.Totals) (Ok (opened_tenant 0)) ∷ []) ≡ endings.Refused
 ends_refused = refl
 
-ends_without_memory : ending_of (took totals (Err refusals.NoMemory) ∷ bad ∷ []) ≡ endings.OutOfMemory
+ends_without_memory : ending_of (took (ask questions.Totals) (Err refusals.NoMemory) ∷ bad ∷ []) ≡ endings.OutOfMemory
 ends_without_memory = refl

@@ -17,10 +17,11 @@ use Rattle.edge.specs.Lines.{lines_of}
 use Rattle.edge.proofs.FirstLines.{lines_next, none_left, nothing_is}
 use Rattle.edge.proofs.Joining.{appends_more, appends_none}
 use Rattle.store_core.specs.Model.{Shown, start}
-use Rattle.store_core.specs.Runs.{Command, Run, Step, plan}
-use Rattle.store_script.specs.Grammar.{ScriptCommand, asks, command_at, puts}
+use Rattle.store_core.specs.declared.command.Question.TheVariants.{Plan}
+use Rattle.store_core.specs.Runs.{Call, Run, Step, ask, change}
+use Rattle.store_script.specs.Grammar.{ScriptCommand, asks, command_at, does, puts}
 use Rattle.store_script.specs.Lines.{AnswersRead, IsReadLine}
-use Rattle.store_script.specs.Script.{AreTurnsOf, AreAnswered, IsTurnOfCommand, IsScriptBegun, IsTurnOfMade, IsTurnOf, IsTurnOfPart, IsTurnOfPut, Ran, RanOut, RanSome, IsTurnOfStep, Turn, bad, commands_of, ending_of, failed_write, ran_all, ran_some, replies_of, skipped, took, turn_ending, turn_text, unmade, verdict_ending, widest_start, worse}
+use Rattle.store_script.specs.Script.{AreTurnsOf, AreAnswered, IsTurnOfCommand, IsScriptBegun, IsTurnOfMade, IsTurnOf, IsTurnOfPart, IsTurnOfPut, Ran, RanOut, RanSome, IsTurnOfStep, Turn, bad, calls_of, ending_of, failed_write, ran_all, ran_some, replies_of, skipped, took, turn_ending, turn_text, unmade, verdict_ending, widest_start, worse}
 use Rattle.store_script.specs.inner.Script.{ended_as, first_cause}
 use Rattle.store_script.specs.declared.ending.Ending.{Ending}
 use Rattle.store_script.specs.declared.ending.Ending.TheVariants as endings
@@ -65,44 +66,45 @@ abbrev pub Came : Shown → Turn → Shown → Type 0
 Came old skipped new = new ≡ old
 Came old bad new = new ≡ old
 Came old (unmade fault) new = new ≡ old
-Came old (took command reply) new = Step old command reply new
+Came old (took call reply) new = Step old call reply new
 
-pub came_takes : (old new : Shown) (command : Command) (turn : Turn) → IsTurnOfStep old command turn new → Came old turn new
-came_takes old new command skipped h = absurd h
-came_takes old new command bad h = absurd h
-came_takes old new command (unmade fault) h = absurd h
-came_takes old new command (took asked reply) h = subst (λ (c : Command). Step old c reply new) (sym h.0) h.1
+pub came_takes : (old new : Shown) (call : Call) (turn : Turn) → IsTurnOfStep old call turn new → Came old turn new
+came_takes old new call skipped h = absurd h
+came_takes old new call bad h = absurd h
+came_takes old new call (unmade fault) h = absurd h
+came_takes old new call (took asked reply) h = subst (λ (c : Call). Step old c reply new) (sym h.0) h.1
 
 came_puts : (old new : Shown) (upload : ℕ) (part : PlannedPart) (turn : Turn) → IsTurnOfPart old upload part turn new → Came old turn new
 came_puts old new upload part skipped h = absurd h
 came_puts old new upload part bad h = absurd h
 came_puts old new upload part (unmade fault) h = h.1
-came_puts old new upload part (took asked reply) h = subst (λ (c : Command). Step old c reply new) (sym h.0) h.1
+came_puts old new upload part (took asked reply) h = subst (λ (c : Call). Step old c reply new) (sym h.0) h.1
 
 came_makes : (old new : Shown) (upload : ℕ) (part : PlannedPart) (refused : Option PartFault) (turn : Turn) → IsTurnOfMade old upload part refused turn new → Came old turn new
 came_makes old new upload part (Some fault) turn h = subst (λ (t : Turn). Came old t new) (sym h.0) h.1
 came_makes old new upload part None turn h = came_puts old new upload part turn h
 
 pub came_put : (old new : Shown) (upload offset : ℕ) (bytes : List ℕ) (made_by : Result UploadPlan Refusal) (turn : Turn) → IsTurnOfPut old upload offset bytes made_by turn new → Came old turn new
-came_put old new upload offset bytes (Err refusal) turn h = came_takes old new (plan upload) turn h
+came_put old new upload offset bytes (Err refusal) turn h = came_takes old new (ask (Plan upload)) turn h
 came_put old new upload offset bytes (Ok made_for) turn h = came_makes old new upload (planned made_for offset bytes) (part_refusal made_for offset (length bytes)) turn h
 
 came_does : (old new : Shown) (command : Option ScriptCommand) (turn : Turn) → IsTurnOfCommand old command turn new → Came old turn new
 came_does old new None turn h = subst (λ (t : Turn). Came old t new) (sym h.0) h.1
-came_does old new (Some (asks command)) turn h = came_takes old new command turn h
+came_does old new (Some (does command)) turn h = came_takes old new (change command) turn h
+came_does old new (Some (asks question)) turn h = came_takes old new (ask question) turn h
 came_does old new (Some (puts upload offset bytes)) turn h = came_put old new upload offset bytes (plan_in old.state upload) turn h
 
 pub came : (old new : Shown) (line : List ℕ) (turn : Turn) → IsTurnOf old line turn new → Came old turn new
 came old new [] turn h = subst (λ (t : Turn). Came old t new) (sym h.0) h.1
 came old new (b ∷ line) turn h = came_does old new (command_at (b ∷ line)) turn h
 
-run_on : (old mid new : Shown) (turn : Turn) (turns : List Turn) → Came old turn mid → Run mid (commands_of turns) (replies_of turns) new → Run old (commands_of (turn ∷ turns)) (replies_of (turn ∷ turns)) new
-run_on old mid new skipped turns h r = subst (λ (s : Shown). Run s (commands_of turns) (replies_of turns) new) h r
-run_on old mid new bad turns h r = subst (λ (s : Shown). Run s (commands_of turns) (replies_of turns) new) h r
-run_on old mid new (unmade fault) turns h r = subst (λ (s : Shown). Run s (commands_of turns) (replies_of turns) new) h r
-run_on old mid new (took command reply) turns h r = (mid, h, r)
+run_on : (old mid new : Shown) (turn : Turn) (turns : List Turn) → Came old turn mid → Run mid (calls_of turns) (replies_of turns) new → Run old (calls_of (turn ∷ turns)) (replies_of (turn ∷ turns)) new
+run_on old mid new skipped turns h r = subst (λ (s : Shown). Run s (calls_of turns) (replies_of turns) new) h r
+run_on old mid new bad turns h r = subst (λ (s : Shown). Run s (calls_of turns) (replies_of turns) new) h r
+run_on old mid new (unmade fault) turns h r = subst (λ (s : Shown). Run s (calls_of turns) (replies_of turns) new) h r
+run_on old mid new (took call reply) turns h r = (mid, h, r)
 
-runs : (old new : Shown) (lines : List (List ℕ)) (turns : List Turn) → AreTurnsOf old lines turns new → Run old (commands_of turns) (replies_of turns) new
+runs : (old new : Shown) (lines : List (List ℕ)) (turns : List Turn) → AreTurnsOf old lines turns new → Run old (calls_of turns) (replies_of turns) new
 runs old new [] [] h = h
 runs old new [] (turn ∷ turns) h = absurd h
 runs old new (line ∷ lines) [] h = absurd h
@@ -140,7 +142,7 @@ are_answered front turns store ending plays is = record {
   end = store;
   plays = plays;
   run = runs widest_start store front turns plays;
-  law = (runs_carry widest_start store (commands_of turns) (replies_of turns) (empty_carried most_tenants most_entries most_workers (omega arith) (omega arith)) (runs widest_start store front turns plays)).0;
+  law = (runs_carry widest_start store (calls_of turns) (replies_of turns) (empty_carried most_tenants most_entries most_workers (omega arith) (omega arith)) (runs widest_start store front turns plays)).0;
   text_is = refl;
   ending_is = is;
 }

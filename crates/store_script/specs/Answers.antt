@@ -2,7 +2,7 @@
 use Rattle.std.specs.Prelude.{ℕ, List, [], codes}
 use Rattle.store_core.specs.Commands.{reply_seen}
 use Rattle.store_core.specs.Model.{Shown}
-use Rattle.store_script.specs.Commands.{reply_of}
+use Rattle.store_core.specs.Seen.{reply_of}
 use Rattle.store_script.specs.Script.{fault_ending, reply_ending}
 use Rattle.store_script.specs.Texts.{answer_text, refused_text, unmade_text}
 use Rattle.store_script.specs.declared.answer.Answer.{Answer}

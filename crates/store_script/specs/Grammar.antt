@@ -1,14 +1,18 @@
 -- What a line of a script asks for.
-use Rattle.std.specs.Prelude.{ℕ, zero, suc, ◌+◌, ◌%◌, List, [], ◌∷◌, Option, Some, None, Result, Ok, Err, if◌then◌else◌, nat_le, codes, length, option_map}
+use Rattle.std.specs.Prelude.{ℕ, zero, suc, ◌+◌, ◌%◌, List, [], ◌∷◌, Option, Some, None, Result, Ok, Err, if◌then◌else◌, nat_le, codes, length}
 use Rattle.std.specs.Str.{bytes_eq}
 use Rattle.hex.specs.Hex.{decode_of, decode_sized}
 use Rattle.hex.specs.declared.error.FromHexError.{FromHexError}
 use Rattle.edge.specs.Fields.{◌>>=◌, cut_at, number_at, space, two_numbers_at}
-use Rattle.store_core.specs.Runs.{Command, abort, begin, begin_open, fetch, fix, forget, journal, list, open_tenant, seal, seal_as, set_limit, totals, usage}
+use Rattle.store_core.specs.declared.command.Command.{Command}
+use Rattle.store_core.specs.declared.command.Command.TheVariants as commands
+use Rattle.store_core.specs.declared.command.Question.{Question}
+use Rattle.store_core.specs.declared.command.Question.TheVariants as questions
 
 -- a command or a question of the store; or a part's upload, offset and bytes: before it is put, the upload's plan is asked for
 pub data ScriptCommand : Type 0 where
-  asks : Command → ScriptCommand
+  does : Command → ScriptCommand
+  asks : Question → ScriptCommand
   puts : ℕ → ℕ → List ℕ → ScriptCommand
 
 -- ---- the fields of a command
@@ -81,68 +85,68 @@ puts_at fields = do
 -- ---- a line
 
 -- of fields behind each word
-abbrev pub open_tenant_command : List ℕ → Option Command
+abbrev pub open_tenant_command : List ℕ → Option ScriptCommand
 open_tenant_command fields = do
   limit ← number_at fields
-  Some (open_tenant limit)
+  Some (does (commands.OpenTenant limit))
 
-abbrev pub set_limit_command : List ℕ → Option Command
+abbrev pub set_limit_command : List ℕ → Option ScriptCommand
 set_limit_command fields = do
   numbers ← two_numbers_at fields
-  Some (set_limit numbers.0 numbers.1)
+  Some (does (commands.SetLimit numbers.0 numbers.1))
 
-abbrev pub begin_command : List ℕ → Option Command
+abbrev pub begin_command : List ℕ → Option ScriptCommand
 begin_command fields = do
   numbers ← two_numbers_at fields
-  Some (begin numbers.0 numbers.1)
+  Some (does (commands.Begin numbers.0 numbers.1))
 
-abbrev pub begin_open_command : List ℕ → Option Command
+abbrev pub begin_open_command : List ℕ → Option ScriptCommand
 begin_open_command fields = do
   numbers ← two_numbers_at fields
-  Some (begin_open numbers.0 numbers.1)
+  Some (does (commands.BeginOpen numbers.0 numbers.1))
 
-abbrev pub fix_command : List ℕ → Option Command
+abbrev pub fix_command : List ℕ → Option ScriptCommand
 fix_command fields = do
   numbers ← two_numbers_at fields
-  Some (fix numbers.0 numbers.1)
+  Some (does (commands.Fix numbers.0 numbers.1))
 
-abbrev pub seal_command : List ℕ → Option Command
+abbrev pub seal_command : List ℕ → Option ScriptCommand
 seal_command fields = do
   upload ← number_at fields
-  Some (seal upload)
+  Some (does (commands.Seal upload))
 
-abbrev pub seal_as_command : List ℕ → Option Command
+abbrev pub seal_as_command : List ℕ → Option ScriptCommand
 seal_as_command fields = do
   held ← held_at fields
-  Some (seal_as held.0 held.1)
+  Some (does (commands.SealAs held.0 held.1))
 
-abbrev pub abort_command : List ℕ → Option Command
+abbrev pub abort_command : List ℕ → Option ScriptCommand
 abort_command fields = do
   upload ← number_at fields
-  Some (abort upload)
+  Some (does (commands.Abort upload))
 
-abbrev pub forget_command : List ℕ → Option Command
+abbrev pub forget_command : List ℕ → Option ScriptCommand
 forget_command fields = do
   held ← held_at fields
-  Some (forget held.0 held.1)
+  Some (does (commands.Forget held.0 held.1))
 
-abbrev pub fetch_command : List ℕ → Option Command
+abbrev pub fetch_command : List ℕ → Option ScriptCommand
 fetch_command fields = do
   held ← held_at fields
-  Some (fetch held.0 held.1)
+  Some (asks (questions.Fetch held.0 held.1))
 
-abbrev pub usage_command : List ℕ → Option Command
+abbrev pub usage_command : List ℕ → Option ScriptCommand
 usage_command fields = do
   tenant ← number_at fields
-  Some (usage tenant)
+  Some (asks (questions.Usage tenant))
 
-abbrev pub list_command : List ℕ → Option Command
+abbrev pub list_command : List ℕ → Option ScriptCommand
 list_command fields = do
   tenant ← number_at fields
-  Some (list tenant)
+  Some (asks (questions.List tenant))
 
 -- the command of a word and the fields behind it
-unfoldable pub asks_of_kind : List ℕ → List ℕ → Option Command
+unfoldable pub asks_of_kind : List ℕ → List ℕ → Option ScriptCommand
 asks_of_kind kind fields =
     if bytes_eq kind (codes "tenant") then open_tenant_command fields
     else if bytes_eq kind (codes "limit") then set_limit_command fields
@@ -159,13 +163,13 @@ asks_of_kind kind fields =
     else None
 
 -- the command of a line that is one word
-abbrev pub word_command : List ℕ → Option Command
-word_command word = if bytes_eq word (codes "stat") then Some totals else if bytes_eq word (codes "journal") then Some journal else None
+abbrev pub word_command : List ℕ → Option ScriptCommand
+word_command word = if bytes_eq word (codes "stat") then Some (asks questions.Totals) else if bytes_eq word (codes "journal") then Some (asks questions.Journal) else None
 
 -- the command of a line that is cut behind its first word
 unfoldable pub cut_line_at : List ℕ → Option (List ℕ × List ℕ) → Option ScriptCommand
-cut_line_at line None = option_map asks (word_command line)
-cut_line_at line (Some cut) = if bytes_eq cut.0 (codes "put") then puts_at cut.1 else option_map asks (asks_of_kind cut.0 cut.1)
+cut_line_at line None = word_command line
+cut_line_at line (Some cut) = if bytes_eq cut.0 (codes "put") then puts_at cut.1 else asks_of_kind cut.0 cut.1
 
 -- the command of a line without its line feed, unless the line is outside the grammar
 abbrev pub command_at : List ℕ → Option ScriptCommand

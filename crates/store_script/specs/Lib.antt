@@ -1,7 +1,6 @@
 -- What a reader has to believe, each file behind those that it rests on; inner is what only proofs and functions within use.
 pub mod Grammar
 pub mod Texts
-pub mod Commands
 pub mod Script
 pub mod Lines
 pub mod Answers

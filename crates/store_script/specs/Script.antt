@@ -13,8 +13,9 @@ use Rattle.store_core.specs.Commands.{plan_in}
 use Rattle.edge.specs.Lines.{lines_of}
 use Rattle.store_books.specs.Books.{empty_books, most_entries, most_tenants, most_workers}
 use Rattle.store_core.specs.Model.{Shown}
-use Rattle.store_core.specs.Runs.{Command, Reply, Run, Step, plan, put}
-use Rattle.store_script.specs.Grammar.{ScriptCommand, asks, command_at, puts}
+use Rattle.store_core.specs.declared.command.Question.TheVariants.{Plan}
+use Rattle.store_core.specs.Runs.{Call, Reply, Run, Step, ask, change, put}
+use Rattle.store_script.specs.Grammar.{ScriptCommand, asks, command_at, does, puts}
 use Rattle.store_script.specs.Texts.{answer_text, unmade_text, refused_text}
 use Rattle.store_script.specs.declared.ending.Ending.{Ending}
 use Rattle.store_script.specs.declared.ending.Ending.TheVariants as endings
@@ -29,14 +30,14 @@ pub data Turn : Type 0 where
   skipped : Turn
   bad : Turn
   unmade : PartFault → Turn
-  took : Command → Result Reply Refusal → Turn
+  took : Call → Result Reply Refusal → Turn
 
 -- its answer
 abbrev pub turn_text : Turn → List ℕ
 turn_text skipped = []
 turn_text bad = codes "bad\n"
 turn_text (unmade fault) = refused_text (unmade_text fault)
-turn_text (took command reply) = answer_text reply
+turn_text (took call reply) = answer_text reply
 
 -- how a run with this turn ends at best
 abbrev pub refusal_ending : Refusal → Ending
@@ -55,12 +56,12 @@ abbrev pub turn_ending : Turn → Ending
 turn_ending skipped = endings.Good
 turn_ending bad = endings.Refused
 turn_ending (unmade fault) = fault_ending fault
-turn_ending (took command reply) = reply_ending reply
+turn_ending (took call reply) = reply_ending reply
 
 -- this step alone
-abbrev pub IsTurnOfStep : Shown → Command → Turn → Shown → Type 0
-IsTurnOfStep old command (took asked reply) new = (asked ≡ command) × Step old command reply new
-IsTurnOfStep old command _ new = ⊥
+abbrev pub IsTurnOfStep : Shown → Call → Turn → Shown → Type 0
+IsTurnOfStep old call (took asked reply) new = (asked ≡ call) × Step old call reply new
+IsTurnOfStep old call _ new = ⊥
 
 -- a part that nothing refuses is put, unless memory is refused where it is made
 abbrev pub IsTurnOfPart : Shown → ℕ → PlannedPart → Turn → Shown → Type 0
@@ -75,12 +76,13 @@ IsTurnOfMade old upload part None turn new = IsTurnOfPart old upload part turn n
 
 -- first the upload's plan is asked for
 abbrev pub IsTurnOfPut : Shown → ℕ → ℕ → List ℕ → Result UploadPlan Refusal → Turn → Shown → Type 0
-IsTurnOfPut old upload offset bytes (Err refusal) turn new = IsTurnOfStep old (plan upload) turn new
+IsTurnOfPut old upload offset bytes (Err refusal) turn new = IsTurnOfStep old (ask (Plan upload)) turn new
 IsTurnOfPut old upload offset bytes (Ok made_for) turn new = IsTurnOfMade old upload (planned made_for offset bytes) (part_refusal made_for offset (length bytes)) turn new
 
 abbrev pub IsTurnOfCommand : Shown → Option ScriptCommand → Turn → Shown → Type 0
 IsTurnOfCommand old None turn new = (turn ≡ bad) × (new ≡ old)
-IsTurnOfCommand old (Some (asks command)) turn new = IsTurnOfStep old command turn new
+IsTurnOfCommand old (Some (does command)) turn new = IsTurnOfStep old (change command) turn new
+IsTurnOfCommand old (Some (asks question)) turn new = IsTurnOfStep old (ask question) turn new
 IsTurnOfCommand old (Some (puts upload offset bytes)) turn new = IsTurnOfPut old upload offset bytes (plan_in old.state upload) turn new
 
 -- what a line comes to in a store, and what it leaves
@@ -105,14 +107,14 @@ AreTurnsOf old (line ∷ lines) [] new = ⊥
 AreTurnsOf old (line ∷ lines) (turn ∷ turns) new = (then : Shown) × IsTurnOf old line turn then × AreTurnsOf then lines turns new
 
 -- the steps among turns, and their replies
-abbrev pub commands_of : List Turn → List Command
-commands_of [] = []
-commands_of (took command reply ∷ turns) = command ∷ commands_of turns
-commands_of (_ ∷ turns) = commands_of turns
+abbrev pub calls_of : List Turn → List Call
+calls_of [] = []
+calls_of (took call reply ∷ turns) = call ∷ calls_of turns
+calls_of (_ ∷ turns) = calls_of turns
 
 abbrev pub replies_of : List Turn → List (Result Reply Refusal)
 replies_of [] = []
-replies_of (took command reply ∷ turns) = reply ∷ replies_of turns
+replies_of (took call reply ∷ turns) = reply ∷ replies_of turns
 replies_of (_ ∷ turns) = replies_of turns
 
 -- the worse of two endings
@@ -142,7 +144,7 @@ pub record AreAnswered (lines : List (List ℕ)) (output : List ℕ) (ending : E
   pub turns : List Turn
   pub end : Shown
   pub plays : AreTurnsOf widest_start lines turns end
-  pub run : Run widest_start (commands_of turns) (replies_of turns) end
+  pub run : Run widest_start (calls_of turns) (replies_of turns) end
   pub law : IsCarried end
   pub text_is : output ≡ flat_map turn_text turns
   pub ending_is : ending ≡ ending_of turns

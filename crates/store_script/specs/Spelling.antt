@@ -3,35 +3,37 @@ use Rattle.std.specs.Prelude.{◌≡◌, ◌+◌, ◌%◌, ◌<◌, ◌≤◌, �
 use Rattle.std.specs.Fmt.{decimal}
 use Rattle.hex.specs.Hex.{decode_of, decode_sized}
 use Rattle.edge.specs.Fields.{three_fields, two_fields}
-use Rattle.store_core.specs.Runs.{Command, abort, begin, begin_open, fetch, fix, forget, holds, journal, list, open_tenant, plan, put, seal, seal_as, set_limit, tenants, totals, uploads, usage}
+use Rattle.store_core.specs.declared.command.Command.{Command}
+use Rattle.store_core.specs.declared.command.Command.TheVariants as commands
+use Rattle.store_core.specs.declared.command.Question.{Question}
+use Rattle.store_core.specs.declared.command.Question.TheVariants as questions
 use Rattle.store_script.specs.Lines.{most_line}
-use Rattle.store_script.specs.Grammar.{ScriptCommand, asks, command_at, most_digits, most_pattern, pattern_of, puts}
+use Rattle.store_script.specs.Grammar.{ScriptCommand, asks, command_at, does, most_digits, most_pattern, pattern_of, puts}
 
 -- a word, a number, and an address in 64 digits of either case
 abbrev pub IsNumberAndAddress : List ℕ → List ℕ → ℕ → List ℕ → Type 0
 IsNumberAndAddress line word number address = (digits : List ℕ) × (line ≡ word ++ two_fields (decimal number) digits) × (number < 2 ^ 64) × (decode_sized digits 32 ≡ Ok address)
 
--- the line spells the command; a plan is not asked for by a line of its own, and three questions are a session's
-abbrev pub IsAsked : List ℕ → Command → Type 0
-IsAsked line (open_tenant limit) = (line ≡ codes "tenant " ++ decimal limit) × (limit < 2 ^ 64)
-IsAsked line (set_limit tenant limit) = (line ≡ codes "limit " ++ two_fields (decimal tenant) (decimal limit)) × (tenant < 2 ^ 64) × (limit < 2 ^ 64)
-IsAsked line (begin tenant len) = (line ≡ codes "begin " ++ two_fields (decimal tenant) (decimal len)) × (tenant < 2 ^ 64) × (len < 2 ^ 64)
-IsAsked line (begin_open tenant at_most) = (line ≡ codes "open " ++ two_fields (decimal tenant) (decimal at_most)) × (tenant < 2 ^ 64) × (at_most < 2 ^ 64)
-IsAsked line (fix upload len) = (line ≡ codes "fix " ++ two_fields (decimal upload) (decimal len)) × (upload < 2 ^ 64) × (len < 2 ^ 64)
-IsAsked line (put upload part) = ⊥
-IsAsked line (seal upload) = (line ≡ codes "seal " ++ decimal upload) × (upload < 2 ^ 64)
-IsAsked line (seal_as upload address) = IsNumberAndAddress line (codes "sealas ") upload address
-IsAsked line (abort upload) = (line ≡ codes "abort " ++ decimal upload) × (upload < 2 ^ 64)
-IsAsked line (forget tenant address) = IsNumberAndAddress line (codes "forget ") tenant address
-IsAsked line (fetch tenant address) = IsNumberAndAddress line (codes "fetch ") tenant address
-IsAsked line (usage tenant) = (line ≡ codes "usage " ++ decimal tenant) × (tenant < 2 ^ 64)
-IsAsked line (plan upload) = ⊥
-IsAsked line (list tenant) = (line ≡ codes "list " ++ decimal tenant) × (tenant < 2 ^ 64)
-IsAsked line (holds tenant address) = ⊥
-IsAsked line (uploads tenant) = ⊥
-IsAsked line tenants = ⊥
-IsAsked line totals = line ≡ codes "stat"
-IsAsked line journal = line ≡ codes "journal"
+-- the line spells the command
+abbrev pub SpellsCommand : List ℕ → Command → Type 0
+SpellsCommand line (commands.OpenTenant limit) = (line ≡ codes "tenant " ++ decimal limit) × (limit < 2 ^ 64)
+SpellsCommand line (commands.SetLimit tenant limit) = (line ≡ codes "limit " ++ two_fields (decimal tenant) (decimal limit)) × (tenant < 2 ^ 64) × (limit < 2 ^ 64)
+SpellsCommand line (commands.Begin tenant len) = (line ≡ codes "begin " ++ two_fields (decimal tenant) (decimal len)) × (tenant < 2 ^ 64) × (len < 2 ^ 64)
+SpellsCommand line (commands.BeginOpen tenant at_most) = (line ≡ codes "open " ++ two_fields (decimal tenant) (decimal at_most)) × (tenant < 2 ^ 64) × (at_most < 2 ^ 64)
+SpellsCommand line (commands.Fix upload len) = (line ≡ codes "fix " ++ two_fields (decimal upload) (decimal len)) × (upload < 2 ^ 64) × (len < 2 ^ 64)
+SpellsCommand line (commands.Seal upload) = (line ≡ codes "seal " ++ decimal upload) × (upload < 2 ^ 64)
+SpellsCommand line (commands.SealAs upload address) = IsNumberAndAddress line (codes "sealas ") upload address
+SpellsCommand line (commands.Abort upload) = (line ≡ codes "abort " ++ decimal upload) × (upload < 2 ^ 64)
+SpellsCommand line (commands.Forget tenant address) = IsNumberAndAddress line (codes "forget ") tenant address
+
+-- the line spells the question; a script asks these alone
+abbrev pub SpellsQuestion : List ℕ → Question → Type 0
+SpellsQuestion line (questions.Fetch tenant address) = IsNumberAndAddress line (codes "fetch ") tenant address
+SpellsQuestion line (questions.Usage tenant) = (line ≡ codes "usage " ++ decimal tenant) × (tenant < 2 ^ 64)
+SpellsQuestion line (questions.List tenant) = (line ≡ codes "list " ++ decimal tenant) × (tenant < 2 ^ 64)
+SpellsQuestion line questions.Totals = line ≡ codes "stat"
+SpellsQuestion line questions.Journal = line ≡ codes "journal"
+SpellsQuestion line _ = ⊥
 
 -- the field spells a part's bytes: by their digits, or as so many of the pattern from the offset on
 abbrev pub IsDigits : List ℕ → List ℕ → Type 0
@@ -45,7 +47,8 @@ IsPart offset field bytes = IsDigits field bytes ⊎ IsPattern offset field byte
 
 -- the line spells what it asks for
 abbrev pub IsSpelled : List ℕ → ScriptCommand → Type 0
-IsSpelled line (asks command) = IsAsked line command
+IsSpelled line (does command) = SpellsCommand line command
+IsSpelled line (asks question) = SpellsQuestion line question
 IsSpelled line (puts upload offset bytes) = (field : List ℕ) × (line ≡ codes "put " ++ three_fields (decimal upload) (decimal offset) field) × (upload < 2 ^ 64) × (offset < 2 ^ 64) × IsPart offset field bytes
 
 -- what is read is spelled so

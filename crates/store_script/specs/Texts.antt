@@ -21,6 +21,10 @@ use Rattle.store_core.specs.Runs.{Reply, begun_upload, done, now_held, now_seale
 
 -- ---- replies: each line with its line feed
 
+-- a line of a word, its space behind it, and a number
+abbrev pub numbered : List ℕ → ℕ → List ℕ
+numbered word number = word ++ (decimal number ++ codes "\n")
+
 -- how many bytes an upload holds, and its least offset that is not held
 abbrev pub held_text : ℕ → Option ℕ → List ℕ
 held_text held None = codes "held " ++ (decimal held ++ codes " all\n")
@@ -48,11 +52,7 @@ listed_line object = encode_lower object.0 ++ (codes " " ++ (decimal object.1 ++
 
 -- how many objects there are, and the line of each
 abbrev pub list_text : List (List ℕ × ℕ) → List ℕ
-list_text objects = codes "list " ++ (decimal (length objects) ++ (codes "\n" ++ flat_map listed_line objects))
-
--- how many bytes a held object has
-abbrev pub length_text : ℕ → List ℕ
-length_text len = codes "has " ++ (decimal len ++ codes "\n")
+list_text objects = numbered (codes "list ") (length objects) ++ flat_map listed_line objects
 
 -- an upload's end, or one dash where it isn't fixed
 abbrev pub end_text : Option ℕ → List ℕ
@@ -65,7 +65,7 @@ open_upload_line u = decimal u.upload ++ (codes " " ++ (decimal u.bound ++ (code
 
 -- how many open uploads there are, and the line of each
 abbrev pub uploads_text : List OpenUpload → List ℕ
-uploads_text uploads = codes "uploads " ++ (decimal (length uploads) ++ (codes "\n" ++ flat_map open_upload_line uploads))
+uploads_text uploads = numbered (codes "uploads ") (length uploads) ++ flat_map open_upload_line uploads
 
 -- a tenant's number, its use, its reservation and its limit, in a line
 abbrev pub tenant_line : ℕ → Usage → List ℕ
@@ -78,18 +78,18 @@ tenant_lines number (u ∷ usages) = tenant_line number u ++ tenant_lines (numbe
 
 -- how many tenants there are, and the line of each
 abbrev pub tenants_text : List Usage → List ℕ
-tenants_text usages = codes "tenants " ++ (decimal (length usages) ++ (codes "\n" ++ tenant_lines 0 usages))
+tenants_text usages = numbered (codes "tenants ") (length usages) ++ tenant_lines 0 usages
 
 abbrev pub totals_line : Totals → List ℕ
 totals_line t = totals_text t ++ codes "\n"
 
 -- how many entries there are, and the line of each
 abbrev pub entries_text : List Entry → List ℕ
-entries_text entries = codes "journal " ++ (decimal (length entries) ++ (codes "\n" ++ entry_lines entries))
+entries_text entries = numbered (codes "journal ") (length entries) ++ entry_lines entries
 
 abbrev pub reply_text : Reply → List ℕ
-reply_text (opened_tenant number) = codes "tenant " ++ (decimal number ++ codes "\n")
-reply_text (begun_upload number plan) = codes "upload " ++ (decimal number ++ codes "\n")
+reply_text (opened_tenant number) = numbered (codes "tenant ") number
+reply_text (begun_upload number plan) = numbered (codes "upload ") number
 reply_text (now_held h) = held_text h.held h.missing
 reply_text (now_sealed s) = sealed_text s
 reply_text done = codes "ok\n"
@@ -97,7 +97,7 @@ reply_text (the_bytes bytes) = object_text bytes
 reply_text (the_usage u) = usage_text u
 reply_text (the_plan plan) = codes "ok\n"
 reply_text (the_list objects) = list_text objects
-reply_text (the_length len) = length_text len
+reply_text (the_length len) = numbered (codes "has ") len
 reply_text (the_uploads uploads) = uploads_text uploads
 reply_text (the_tenants usages) = tenants_text usages
 reply_text (the_totals t) = totals_line t

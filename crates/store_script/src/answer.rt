@@ -6,7 +6,8 @@ ghost use Rattle.b3_forest.specs.Parts.{planned};
 ghost use Rattle.store_upload.specs.Uploads.{part_refusal};
 ghost use Rattle.store_core.specs.Commands.{plan_in, reply_seen};
 ghost use Rattle.store_script.specs.Answers.{told_ending, told_text};
-ghost use Rattle.store_script.specs.Commands.{reply_of};
+ghost use Rattle.store_core.specs.Runs.{Step, put};
+ghost use Rattle.store_core.specs.Seen.{reply_of};
 ghost use Rattle.store_script.specs.Lines.{AnswersRead};
 ghost use Rattle.store_script.specs.Script.{Answered, IsTurnOf, IsTurnOfPut, fault_ending, reply_ending};
 ghost use Rattle.std.specs.Io.BufRead.{strip_last};
@@ -14,15 +15,13 @@ ghost use Rattle.std.specs.Io.BufRead.{strip_last};
 use crate::command::ScriptCommand;
 use crate::ending::Ending;
 use crate::reading::read_command;
-use crate::reply::Reply;
-use crate::stepping::{put, step};
 use crate::texts::{write_answer, write_bad, write_unmade};
 use b3_core::Work;
 use b3_forest::{PartFault, Prepared};
 use edge::Cause;
 use std::alloc::{AllocError, Global};
 use std::io::Write;
-use store_core::{Refusal, Store, UploadId};
+use store_core::{Refusal, Reply, Store, UploadId};
 
 /// The most bytes of a command's line with its line feed.
 pub const MOST_LINE: usize = 33_554_481;
@@ -126,7 +125,8 @@ fn answer_line(
     }
     match read_command(alloc, line)? {
         None => Ok(Answer::Bad),
-        Some(ScriptCommand::Asks(command)) => Ok(Answer::Replied(step(store, command, work))),
+        Some(ScriptCommand::Does(command)) => Ok(Answer::Replied(store.step(command, work))),
+        Some(ScriptCommand::Asks(question)) => Ok(Answer::Replied(store.ask(question))),
         Some(
             ScriptCommand::Puts {
                 upload,
@@ -156,4 +156,21 @@ pub fn put_part(
         Ok(part) => Answer::Replied(put(store, upload, part, work)),
         Err(refused) => Answer::Unmade(refused.fault),
     }
+}
+
+// Puts a part.
+fn put(
+    store: &mut Store,
+    upload: UploadId,
+    part: Prepared,
+    work: &mut Work,
+) -> Result<Reply, Refusal>
+    ensures { Step store.old (put upload part) (reply_seen (reply_of store.new) result) store.new }
+{
+    // For the proof alone: a part that was prepared fits its plan.
+    let _fitting = part.fitting();
+    let held = store
+        .put(upload, part, work)
+        .map_err(|refused| refused.refusal)?;
+    Ok(Reply::Held(held))
 }

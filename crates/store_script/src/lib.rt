@@ -44,17 +44,12 @@ mod ending;
 mod engine;
 mod laws;
 mod reading;
-mod reply;
-mod stepping;
 mod texts;
 
 pub use answer::{Answer, MOST_LINE, answer_read, put_part, without_end};
-pub use command::Command;
 pub use edge::{Cause, Verdict};
 pub use ending::Ending;
 pub use engine::run;
 pub use laws::script_laws;
 pub use reading::{address, number_and_address};
-pub use reply::Reply;
-pub use stepping::step;
 pub use texts::{write_journal, write_refusal};

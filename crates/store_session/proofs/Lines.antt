@@ -1,5 +1,5 @@
 -- What is kept of a line.
-use Rattle.std.proofs.Common.{◌≡◌, ◌∙◌, ◌+◌, ◌-◌, ◌<◌, ◌≤◌, ◌++◌, [], min, ℕ, Bool, true, false, List, Some, None, Option, ap, append-nil, arith, inl, inr, length, length-append, refl, subst, sym, take, take_all, true≢false}
+use Rattle.std.proofs.Common.{◌≡◌, ◌∙◌, ◌+◌, ◌-◌, ◌<◌, ◌≤◌, ◌++◌, [], min, ℕ, Bool, true, false, List, None, Option, ap, arith, inl, inr, length, length-append, refl, sym, take, take_all, true≢false}
 use Rattle.std.specs.Prelude.{◌⊎◌, nat_lt}
 use Rattle.std.specs.Io.BufRead.{strip_last}
 use Rattle.std.specs.Io.Iter.{u64_saturate}

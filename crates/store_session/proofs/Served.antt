@@ -1,28 +1,28 @@
 -- What one line comes to.
-use Rattle.std.proofs.Common.{◌≡◌, ◌∙◌, ◌<◌, ◌≤◌, [], ℕ, Bool, true, false, List, Ok, Err, Some, None, Option, ap, arith, drop, length, length-take-le, refl, subst, sym, take}
+use Rattle.std.proofs.Common.{◌≡◌, ◌∙◌, ◌<◌, ◌≤◌, ℕ, Bool, true, false, List, Ok, Err, Some, None, Option, ap, drop, length, length-take-le, refl, subst, sym, take}
 use Rattle.std.specs.Prelude.{IfOk, IfSome, Result, unwrap_or}
-use Rattle.std.specs.Io.BufRead.{strip_last}
 use Rattle.std.specs.Io.KnownBytes.{Appends}
 use Rattle.std.proofs.KnownBytes.{Appends-nil}
 use Rattle.store_books.specs.declared.refusal.Refusal.{Refusal}
-use Rattle.store_core.specs.Commands.{plan_in, reply_seen}
+use Rattle.store_core.specs.Commands.{reply_seen}
 use Rattle.store_core.specs.Model.{Shown}
-use Rattle.store_core.specs.Runs.{Command, Reply, Step}
+use Rattle.store_core.specs.Runs.{Answers, ask}
+use Rattle.store_core.specs.Seen.{reply_of}
+use Rattle.store_core.specs.declared.command.Question.{Question}
+use Rattle.store_core.specs.declared.reply.Reply.{Reply as CodeReply}
 use Rattle.store_script.specs.Answers.{told_ending, told_text}
-use Rattle.store_script.specs.Commands.{reply_of}
 use Rattle.store_script.specs.Lines.{AnswersRead}
-use Rattle.store_script.specs.Script.{Answered, IsTurnOfPut, took}
+use Rattle.store_script.specs.Script.{Answered, took}
 use Rattle.store_script.specs.declared.answer.Answer.{Answer}
 use Rattle.store_script.specs.declared.answer.Answer.TheVariants as answers
-use Rattle.store_script.specs.declared.reply.Reply.{Reply as CodeReply}
 use Rattle.store_script.proofs.LineOutcomes.{PutTurn}
 use Rattle.store_upload.specs.Uploads.{UploadPlan, part_refusal}
 use Rattle.store_upload.specs.declared.refusal.PartFault.{PartFault}
 use Rattle.store_upload.specs.declared.refusal.PartFault.TheVariants as faults
-use Rattle.store_session.specs.inner.Reads.{Copied, Dropped, IsLineRead}
+use Rattle.store_session.specs.inner.Reads.{Copied, Dropped}
 use Rattle.store_session.specs.Requests.{request_in}
 use Rattle.store_session.specs.inner.Requests.{AsksFor}
-use Rattle.store_session.specs.Session.{MeetsRequest, InScript, IsShort, PutsRaw, Replies, SessionTurn, as_script, no_memory, session_turn_text}
+use Rattle.store_session.specs.Session.{IsTurnOfQuestion, IsTurnOfRequest, SessionTurn, as_script, no_memory, session_turn_text, told_as}
 use Rattle.store_session.specs.inner.Session.{AnswersLine, Receives, Serves, ServesPut, ServesRead, ServesRequest, Told}
 use Rattle.store_session.specs.declared.reading.LineRead.{LineRead}
 use Rattle.store_session.specs.declared.request.Request.{Request}
@@ -38,13 +38,14 @@ pub answered_line : (old new : Shown) (read : LineRead) (kept : List ℕ) (answe
 answered_line old new read kept answer was is is_kept h wrote = record {
   answers = λ whole r.
       let a = h.answers whole (r.count_is, r.kept_is is_kept) in
-      record { turn = as_script a.turn; is = a.is; wrote = subst (λ (t : List ℕ). Appends was is t) a.text_is wrote };
+      record { turn = told_as as_script a.turn; is = (refl, a.is); wrote = subst (λ (t : List ℕ). Appends was is t) a.text_is wrote };
 }
 
 -- ---- a question
 
-pub replied : (old new : Shown) (command : Command) (reply : Result CodeReply Refusal) (was is : Option (List ℕ)) → Step old command (reply_seen (reply_of new) reply) new → Appends was is (told_text new (answers.Replied reply)) → Told (λ turn. Replies old command turn new) was is
-replied old new command reply was is step wrote = record { turn = as_script (took command (reply_seen (reply_of new) reply)); is = (refl, step); wrote = wrote }
+pub replied : (shown : Shown) (question : Question) (reply : Result CodeReply Refusal) (was is : Option (List ℕ)) → Answers shown question (reply_seen (reply_of shown) reply) → Appends was is (told_text shown (answers.Replied reply))
+    → Told (λ turn. IsTurnOfQuestion as_script shown question turn shown) was is
+replied shown question reply was is answer wrote = record { turn = told_as as_script (took (ask question) (reply_seen (reply_of shown) reply)); is = (refl, (refl, (answer, refl))); wrote = wrote }
 
 -- ---- the bytes of a part
 
@@ -80,7 +81,7 @@ pub served_put : (now left was is : Option (List ℕ)) (old new : Shown) (upload
 served_put None left was is old new upload offset len got answer same h wrote = tt
 served_put (Some behind) left was is old new upload offset len got answer same h wrote =
     let h2 = subst (λ (o : Option Answer). Receives o old upload offset len behind new left) same h in
-    (h2.0, h2.1, record { turn = as_script h2.2.turn; is = h2.2.is; wrote = subst (λ (t : List ℕ). Appends was is t) h2.2.text_is wrote })
+    (h2.0, h2.1, record { turn = told_as as_script h2.2.turn; is = (refl, h2.2.is); wrote = subst (λ (t : List ℕ). Appends was is t) h2.2.text_is wrote })
 
 pub short_put : (now left was : Option (List ℕ)) (old new : Shown) (upload offset len : ℕ) (got : Option Answer) → got ≡ None → IfSome now (λ behind. Receives got old upload offset len behind new left)
     → IfSome now (λ behind. ServesPut false old upload offset len behind new left was was)
@@ -96,7 +97,7 @@ served_script (Some behind) was is old new read kept request same asks h = recor
   serves = λ whole r.
       let told = h.answers whole r in
       let none : None ≡ request_in whole = sym same ∙ asks.asks whole r in
-      (behind, refl, record { turn = told.turn; is = subst (λ (q : Option Request). MeetsRequest old q whole behind told.turn new behind) none (told.is, refl); wrote = told.wrote });
+      (behind, refl, record { turn = told.turn; is = subst (λ (q : Option Request). IsTurnOfRequest old q whole behind told.turn new behind) none (told.is, refl); wrote = told.wrote });
 }
 
 served_known : (is_whole : Bool) (now left was is : Option (List ℕ)) (old new : Shown) (read : LineRead) (kept : List ℕ) (got : Option Request) (request : Request) → got ≡ Some request → AsksFor read kept got
@@ -111,7 +112,7 @@ pub served_request : {E : Type 0} (r : Result Bool E) (now left was is : Option 
 served_request (Err e) now left was is old new read kept got request same asks h = tt
 served_request (Ok is_whole) now left was is old new read kept got request same asks h = served_known is_whole now left was is old new read kept got request same asks h
 
-pub served_by : (now was is : Option (List ℕ)) (old new : Shown) (request : Request) (Is : SessionTurn → Type 0) → ((whole behind : List ℕ) (turn : SessionTurn) → Is turn → MeetsRequest old (Some request) whole behind turn new behind) → Told Is was is
+pub served_by : (now was is : Option (List ℕ)) (old new : Shown) (request : Request) (Is : SessionTurn → Type 0) → ((whole behind : List ℕ) (turn : SessionTurn) → Is turn → IsTurnOfRequest old (Some request) whole behind turn new behind) → Told Is was is
     → IfSome now (λ behind. ServesRequest true old request behind new now was is)
 served_by None was is old new request Is does told = tt
 served_by (Some behind) was is old new request Is does told = record {

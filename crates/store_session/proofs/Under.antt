@@ -1,28 +1,27 @@
 -- How far a session has come.
-use Rattle.std.proofs.Common.{◌≡◌, ◌∙◌, ◌<◌, ◌++◌, ◌∷◌, ◌^◌, [], ℕ, Bool, true, false, List, Some, None, Option, ap, append-nil, arith, drop, length, refl, subst, sym, take}
-use Rattle.std.specs.Prelude.{IfSome, Result}
+use Rattle.std.proofs.Common.{◌≡◌, ◌∙◌, ◌<◌, ◌++◌, ◌∷◌, ◌^◌, [], ℕ, Bool, true, false, List, Some, None, Option, ap, append-nil, arith, length, refl, subst, sym, take}
+use Rattle.std.specs.Prelude.{IfSome}
 use Rattle.std.specs.List.{flat_map}
 use Rattle.std.specs.Io.BufRead.{DropsThrough, drop_through, strip_last, take_through}
-use Rattle.std.specs.Io.Iter.{u64_saturate}
 use Rattle.std.specs.Io.KnownBytes.{Appends}
 use Rattle.std.proofs.BufReadLemmas.{take_through-nil, take_through_nonempty}
 use Rattle.std.proofs.KnownBytes.{Appends-nil, Appends-trans}
 use Rattle.std.proofs.lemmas.List.Concat.{flat_map-append}
 use Rattle.edge.specs.declared.outcome.Verdict.TheVariants as verdicts
 use Rattle.store_books.specs.Books.{most_entries, most_tenants, most_workers}
-use Rattle.store_books.specs.declared.refusal.Refusal.{Refusal}
 use Rattle.store_core.specs.Commands.{plan_in}
 use Rattle.store_core.specs.Model.{Shown}
-use Rattle.store_core.specs.Runs.{Command, Reply, Run, Step, fetch, journal}
+use Rattle.store_core.specs.Runs.{Run, ask}
+use Rattle.store_core.specs.declared.command.Question.{Question}
+use Rattle.store_core.specs.declared.command.Question.TheVariants as questions
 use Rattle.store_core.proofs.Runs.{runs_carry}
 use Rattle.store_core.proofs.Carried.{empty_carried}
-use Rattle.store_script.specs.Commands.{command_seen}
 use Rattle.store_script.specs.Script.{widest_start}
 use Rattle.store_script.specs.Script as script
 use Rattle.store_script.proofs.ScriptSteps.{Came, came, came_put, came_takes}
 use Rattle.store_session.specs.inner.Reads.{IsLineRead}
 use Rattle.store_session.specs.Requests.{request_in}
-use Rattle.store_session.specs.Session.{MeetLines, AreServed, MeetsRequest, GivesRange, InScript, IsShort, MeetsLine, PutsRaw, ServedAll, ServedSome, Replies, TellsFrom, SessionTurn, as_script, session_commands, gave, no_memory, session_replies, told_from, session_turn_text}
+use Rattle.store_session.specs.Session.{AreServed, AreSessionTurns, IsToldAs, IsTurnOfFirstLine, IsTurnOfRequest, IsTurnOfScriptLine, Manner, ServedAll, ServedSome, SessionTurn, no_memory, session_calls, session_replies, session_turn_text, told_as}
 use Rattle.store_session.specs.inner.Session.{Serves, ServesRead}
 use Rattle.store_session.specs.declared.reading.LineRead.{LineRead}
 use Rattle.store_session.specs.declared.request.Request.{Request}
@@ -32,69 +31,46 @@ use Rattle.store_session.specs.declared.request.Request.TheVariants.{Asks, Entri
 
 -- a step, or nothing
 abbrev CameTo : Shown → SessionTurn → Shown → Type 0
-CameTo old (as_script turn) new = Came old turn new
 CameTo old no_memory new = new ≡ old
-CameTo old (gave range command reply) new = Step old command reply new
-CameTo old (told_from from reply) new = Step old journal reply new
+CameTo old (told_as manner turn) new = Came old turn new
 
-in_script : (old new : Shown) (line : List ℕ) (turn : SessionTurn) → InScript old line turn new → CameTo old turn new
-in_script old new line (as_script turn) h = came old new line turn h
-in_script old new line no_memory h = h
-in_script old new line (gave range command reply) h = absurd h
-in_script old new line (told_from from reply) h = absurd h
+of_script_line : (old new : Shown) (line : List ℕ) (turn : SessionTurn) → IsTurnOfScriptLine old line turn new → CameTo old turn new
+of_script_line old new line no_memory h = h
+of_script_line old new line (told_as manner turn) h = came old new line turn h.1
 
-puts_raw : (old new : Shown) (upload offset : ℕ) (bytes : List ℕ) (turn : SessionTurn) → PutsRaw old upload offset bytes turn new → CameTo old turn new
-puts_raw old new upload offset bytes (as_script turn) h = came_put old new upload offset bytes (plan_in old.state upload) turn h
-puts_raw old new upload offset bytes no_memory h = absurd h
-puts_raw old new upload offset bytes (gave range command reply) h = absurd h
-puts_raw old new upload offset bytes (told_from from reply) h = absurd h
+of_told : (old new : Shown) (manner : Manner) (Is : script.Turn → Type 0) (turn : SessionTurn) → ((t : script.Turn) → Is t → Came old t new) → IsToldAs manner Is turn → CameTo old turn new
+of_told old new manner Is no_memory f h = absurd h
+of_told old new manner Is (told_as told turn) f h = f turn h.1
 
-replies : (old new : Shown) (command : Command) (turn : SessionTurn) → Replies old command turn new → CameTo old turn new
-replies old new command (as_script turn) h = came_takes old new command turn h
-replies old new command no_memory h = absurd h
-replies old new command (gave range asked reply) h = absurd h
-replies old new command (told_from from reply) h = absurd h
+of_question : (old new : Shown) (manner : Manner) (question : Question) (turn : SessionTurn) → IsToldAs manner (λ t. script.IsTurnOfStep old (ask question) t new) turn → CameTo old turn new
+of_question old new manner question turn h = of_told old new manner _ turn (λ t is. came_takes old new (ask question) t is) h
 
-gives : (old new : Shown) (range : Option _) (command : Command) (turn : SessionTurn) → GivesRange old range command turn new → CameTo old turn new
-gives old new range command (as_script turn) h = absurd h
-gives old new range command no_memory h = absurd h
-gives old new range command (gave given asked reply) h = subst (λ (c : Command). Step old c reply new) (sym h.1) h.2
-gives old new range command (told_from from reply) h = absurd h
+came_does : (old new : Shown) (request : Option Request) (whole behind : List ℕ) (turn : SessionTurn) (rest : List ℕ) → IsTurnOfRequest old request whole behind turn new rest → CameTo old turn new
+came_does old new None whole behind turn rest h = of_script_line old new (strip_last 10 whole) turn h.0
+came_does old new (Some (Put upload offset len)) whole behind turn rest h = of_told old new _ _ turn (λ t is. came_put old new upload offset (take len behind) (plan_in old.state upload) t is) h.0
+came_does old new (Some (Fetch wanted)) whole behind turn rest h = of_question old new _ (questions.Fetch wanted.tenant wanted.address) turn h.0
+came_does old new (Some (Asks question)) whole behind turn rest h = of_question old new _ question turn h.0
+came_does old new (Some (Entries from)) whole behind turn rest h = of_question old new _ questions.Journal turn h.0
 
-tells_from : (old new : Shown) (from : ℕ) (turn : SessionTurn) → TellsFrom old from turn new → CameTo old turn new
-tells_from old new from (as_script turn) h = absurd h
-tells_from old new from no_memory h = absurd h
-tells_from old new from (gave given asked reply) h = absurd h
-tells_from old new from (told_from start reply) h = h.1
+script_on : (old mid new : Shown) (manner : Manner) (turn : script.Turn) (turns : List SessionTurn) → Came old turn mid → Run mid (session_calls turns) (session_replies turns) new → Run old (session_calls (told_as manner turn ∷ turns)) (session_replies (told_as manner turn ∷ turns)) new
+script_on old mid new manner script.skipped turns h r = subst (λ (s : Shown). Run s (session_calls turns) (session_replies turns) new) h r
+script_on old mid new manner script.bad turns h r = subst (λ (s : Shown). Run s (session_calls turns) (session_replies turns) new) h r
+script_on old mid new manner (script.unmade fault) turns h r = subst (λ (s : Shown). Run s (session_calls turns) (session_replies turns) new) h r
+script_on old mid new manner (script.took call reply) turns h r = (mid, h, r)
 
-came_does : (old new : Shown) (request : Option Request) (whole behind : List ℕ) (turn : SessionTurn) (rest : List ℕ) → MeetsRequest old request whole behind turn new rest → CameTo old turn new
-came_does old new None whole behind turn rest h = in_script old new (strip_last 10 whole) turn h.0
-came_does old new (Some (Put upload offset len)) whole behind turn rest h = puts_raw old new upload offset (take len behind) turn h.0
-came_does old new (Some (Fetch wanted)) whole behind turn rest h = gives old new wanted.range (fetch wanted.tenant wanted.address) turn h.0
-came_does old new (Some (Asks command)) whole behind turn rest h = replies old new (command_seen command) turn h.0
-came_does old new (Some (Entries from)) whole behind turn rest h = tells_from old new from turn h.0
+run_on : (old mid new : Shown) (turn : SessionTurn) (turns : List SessionTurn) → CameTo old turn mid → Run mid (session_calls turns) (session_replies turns) new → Run old (session_calls (turn ∷ turns)) (session_replies (turn ∷ turns)) new
+run_on old mid new no_memory turns h r = subst (λ (s : Shown). Run s (session_calls turns) (session_replies turns) new) h r
+run_on old mid new (told_as manner turn) turns h r = script_on old mid new manner turn turns h r
 
-script_on : (old mid new : Shown) (turn : script.Turn) (turns : List SessionTurn) → Came old turn mid → Run mid (session_commands turns) (session_replies turns) new → Run old (session_commands (as_script turn ∷ turns)) (session_replies (as_script turn ∷ turns)) new
-script_on old mid new script.skipped turns h r = subst (λ (s : Shown). Run s (session_commands turns) (session_replies turns) new) h r
-script_on old mid new script.bad turns h r = subst (λ (s : Shown). Run s (session_commands turns) (session_replies turns) new) h r
-script_on old mid new (script.unmade fault) turns h r = subst (λ (s : Shown). Run s (session_commands turns) (session_replies turns) new) h r
-script_on old mid new (script.took command reply) turns h r = (mid, h, r)
-
-run_on : (old mid new : Shown) (turn : SessionTurn) (turns : List SessionTurn) → CameTo old turn mid → Run mid (session_commands turns) (session_replies turns) new → Run old (session_commands (turn ∷ turns)) (session_replies (turn ∷ turns)) new
-run_on old mid new (as_script turn) turns h r = script_on old mid new turn turns h r
-run_on old mid new no_memory turns h r = subst (λ (s : Shown). Run s (session_commands turns) (session_replies turns) new) h r
-run_on old mid new (gave range command reply) turns h r = (mid, h, r)
-run_on old mid new (told_from from reply) turns h r = (mid, h, r)
-
-runs : (old new : Shown) (input rest : List ℕ) (turns : List SessionTurn) → MeetLines old input turns new rest → Run old (session_commands turns) (session_replies turns) new
+runs : (old new : Shown) (input rest : List ℕ) (turns : List SessionTurn) → AreSessionTurns old input turns new rest → Run old (session_calls turns) (session_replies turns) new
 runs old new input rest [] h = h.0
 runs old new input rest (turn ∷ turns) h = run_on old h.0 new turn turns (came_does old h.0 (request_in (take_through 10 input)) (take_through 10 input) (drop_through 10 input) turn h.1 h.2.1) (runs h.0 new h.1 rest turns h.3)
 
 -- ---- a line more
 
-more_play : (old mid new : Shown) (input behind rest : List ℕ) (turns : List SessionTurn) (turn : SessionTurn) → MeetLines old input turns mid behind → MeetsLine mid behind turn new rest → MeetLines old input (turns ++ turn ∷ []) new rest
+more_play : (old mid new : Shown) (input behind rest : List ℕ) (turns : List SessionTurn) (turn : SessionTurn) → AreSessionTurns old input turns mid behind → IsTurnOfFirstLine mid behind turn new rest → AreSessionTurns old input (turns ++ turn ∷ []) new rest
 more_play old mid new input behind rest [] turn h p =
-    let from : MeetsLine old input turn new rest = subst (λ (k : Shown). MeetsLine k input turn new rest) h.0 (subst (λ (b : List ℕ). MeetsLine mid b turn new rest) h.1 p) in
+    let from : IsTurnOfFirstLine old input turn new rest = subst (λ (k : Shown). IsTurnOfFirstLine k input turn new rest) h.0 (subst (λ (b : List ℕ). IsTurnOfFirstLine mid b turn new rest) h.1 p) in
     (new, rest, from, (refl, refl))
 more_play old mid new input behind rest (t ∷ turns) turn h p = (h.0, h.1, h.2, more_play h.0 mid new h.1 behind rest turns turn h.3 p)
 
@@ -108,14 +84,14 @@ pub record IsUnder (now was is : Option (List ℕ)) (store : Shown) (input : Lis
   pub rest : List ℕ
   pub left : now ≡ Some rest
   pub turns : List SessionTurn
-  pub plays : MeetLines widest_start input turns store rest
+  pub plays : AreSessionTurns widest_start input turns store rest
   pub wrote : Appends was is (flat_map session_turn_text turns)
 
 pub begun : (old was : Option (List ℕ)) (store : Shown) → store ≡ widest_start → IfSome old (IsUnder old was was store)
 begun None was store is = tt
 begun (Some input) was store is = record { rest = input; left = refl; turns = []; plays = (is, refl); wrote = Appends-nil was }
 
-are_answered : (input rest : List ℕ) (turns : List SessionTurn) (store : Shown) → MeetLines widest_start input turns store rest → AreServed input (flat_map session_turn_text turns) rest
+are_answered : (input rest : List ℕ) (turns : List SessionTurn) (store : Shown) → AreSessionTurns widest_start input turns store rest → AreServed input (flat_map session_turn_text turns) rest
 are_answered input rest turns store plays =
     let run = runs widest_start store input rest turns plays in
     record {
@@ -123,7 +99,7 @@ are_answered input rest turns store plays =
       end = store;
       plays = plays;
       run = run;
-      law = (runs_carry widest_start store (session_commands turns) (session_replies turns) (empty_carried most_tenants most_entries most_workers (omega arith) (omega arith)) run).0;
+      law = (runs_carry widest_start store (session_calls turns) (session_replies turns) (empty_carried most_tenants most_entries most_workers (omega arith) (omega arith)) run).0;
       text_is = refl;
     }
 

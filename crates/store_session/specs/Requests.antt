@@ -4,7 +4,7 @@ use Rattle.std.specs.Io.BufRead.{strip_last}
 use Rattle.std.specs.Str.{bytes_eq}
 use Rattle.edge.specs.Fields.{◌>>=◌, cut_at, number_at, space, three_numbers_at, two_numbers_at}
 use Rattle.store_script.specs.Grammar.{address_of_digits, held_at}
-use Rattle.store_script.specs.declared.command.Command.TheVariants.{Holds, Tenants, Uploads}
+use Rattle.store_core.specs.declared.command.Question.TheVariants.{Holds, Tenants, Uploads}
 use Rattle.store_session.specs.Reads.{most_request}
 use Rattle.store_session.specs.declared.request.Request.{Request}
 use Rattle.store_session.specs.declared.request.Request.TheVariants.{Asks, Entries, Fetch, Put}

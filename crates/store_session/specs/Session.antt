@@ -1,5 +1,5 @@
 -- A session: lines, some with so many raw bytes behind them as they say, and their answers.
-use Rattle.std.specs.Prelude.{◌≡◌, ◌<◌, ◌≤◌, ℕ, List, [], ◌∷◌, ◌++◌, Option, Some, None, Result, Ok, Err, codes, drop, length, take}
+use Rattle.std.specs.Prelude.{◌≡◌, ◌<◌, ◌≤◌, ℕ, List, [], ◌∷◌, ◌++◌, Option, Some, None, Result, Ok, codes, drop, length, take}
 use Rattle.std.specs.Fmt.{decimal}
 use Rattle.std.specs.List.{flat_map}
 use Rattle.std.specs.Io.BufRead.{drop_through, strip_last, take_through}
@@ -12,8 +12,9 @@ use Rattle.store_books.specs.declared.refusal.Refusal.TheVariants as refusals
 use Rattle.store_core.specs.Carried.{IsCarried}
 use Rattle.store_core.specs.Commands.{plan_in}
 use Rattle.store_core.specs.Model.{Shown}
-use Rattle.store_core.specs.Runs.{Command, Reply, Run, Step, fetch, journal, the_bytes, the_journal}
-use Rattle.store_script.specs.Commands.{command_seen}
+use Rattle.store_core.specs.Runs.{Call, Reply, Run, ask, the_bytes, the_journal}
+use Rattle.store_core.specs.declared.command.Question.{Question}
+use Rattle.store_core.specs.declared.command.Question.TheVariants as questions
 use Rattle.store_script.specs.Script.{IsTurnOfPut, widest_start}
 use Rattle.store_script.specs.Script as script
 use Rattle.store_script.specs.Texts.{entries_text, refused_text, reply_text}
@@ -24,13 +25,16 @@ use Rattle.store_session.specs.declared.request.Request.TheVariants.{Asks, Entri
 
 -- ---- answers
 
--- What a line comes to: what it comes to in a script; want of memory for the line; a fetch of which a range is given; or the journal,
--- of which the entries from a number on are told.
+-- how a reply is told: as a script tells it; an object by those of its bytes that are asked for; the journal from an entry on
+pub data Manner : Type 0 where
+  as_script : Manner
+  as_range : Option Range → Manner
+  as_entries : ℕ → Manner
+
+-- what a line comes to: want of memory for it, or what a line of a script comes to, told in a manner
 pub data SessionTurn : Type 0 where
-  as_script : script.Turn → SessionTurn
   no_memory : SessionTurn
-  gave : Option Range → Command → Result Reply Refusal → SessionTurn
-  told_from : ℕ → Result Reply Refusal → SessionTurn
+  told_as : Manner → script.Turn → SessionTurn
 
 -- those of an object's bytes that are asked for, cut at its end
 abbrev pub ranged : Option Range → List ℕ → List ℕ
@@ -49,53 +53,45 @@ abbrev pub later_text : ℕ → Reply → List ℕ
 later_text from (the_journal entries) = entries_text (drop from entries)
 later_text from reply = reply_text reply
 
--- a reply that is told so, or the refusal
-abbrev pub told_by : (Reply → List ℕ) → Result Reply Refusal → List ℕ
-told_by text (Ok reply) = text reply
-told_by text (Err refusal) = refused_text (refusal_text refusal)
+-- a turn whose reply is told so
+abbrev pub told_by : (Reply → List ℕ) → script.Turn → List ℕ
+told_by text (script.took call (Ok reply)) = text reply
+told_by text turn = script.turn_text turn
 
 abbrev pub session_turn_text : SessionTurn → List ℕ
-session_turn_text (as_script turn) = script.turn_text turn
 session_turn_text no_memory = refused_text (refusal_text refusals.NoMemory)
-session_turn_text (gave range command reply) = told_by (range_text range) reply
-session_turn_text (told_from from reply) = told_by (later_text from) reply
+session_turn_text (told_as as_script turn) = script.turn_text turn
+session_turn_text (told_as (as_range range) turn) = told_by (range_text range) turn
+session_turn_text (told_as (as_entries from) turn) = told_by (later_text from) turn
 
 -- ---- one line
 
 -- a line of a script comes to what it comes to there, unless memory is refused for it
-abbrev pub InScript : Shown → List ℕ → SessionTurn → Shown → Type 0
-InScript old line no_memory new = new ≡ old
-InScript old line (as_script turn) new = script.IsTurnOf old line turn new
-InScript old line _ new = ⊥
+abbrev pub IsTurnOfScriptLine : Shown → List ℕ → SessionTurn → Shown → Type 0
+IsTurnOfScriptLine old line no_memory new = new ≡ old
+IsTurnOfScriptLine old line (told_as manner turn) new = (manner ≡ as_script) × script.IsTurnOf old line turn new
+
+-- a turn of which this holds is told in this manner
+abbrev pub IsToldAs : Manner → (script.Turn → Type 0) → SessionTurn → Type 0
+IsToldAs manner Is no_memory = ⊥
+IsToldAs manner Is (told_as told turn) = (told ≡ manner) × Is turn
+
+-- a question, whose answer is told in this manner
+abbrev pub IsTurnOfQuestion : Manner → Shown → Question → SessionTurn → Shown → Type 0
+IsTurnOfQuestion manner old question turn new = IsToldAs manner (λ t. script.IsTurnOfStep old (ask question) t new) turn
 
 -- a part's bytes are put as a script's are
-abbrev pub PutsRaw : Shown → ℕ → ℕ → List ℕ → SessionTurn → Shown → Type 0
-PutsRaw old upload offset bytes (as_script turn) new = IsTurnOfPut old upload offset bytes (plan_in old.state upload) turn new
-PutsRaw old upload offset bytes _ new = ⊥
-
--- a question
-abbrev pub Replies : Shown → Command → SessionTurn → Shown → Type 0
-Replies old command (as_script turn) new = script.IsTurnOfStep old command turn new
-Replies old command _ new = ⊥
-
--- a fetch, of which a range is given
-abbrev pub GivesRange : Shown → Option Range → Command → SessionTurn → Shown → Type 0
-GivesRange old range command (gave given asked reply) new = (given ≡ range) × (asked ≡ command) × Step old command reply new
-GivesRange old range command _ new = ⊥
-
--- the journal, from an entry on
-abbrev pub TellsFrom : Shown → ℕ → SessionTurn → Shown → Type 0
-TellsFrom old from (told_from start reply) new = (start ≡ from) × Step old journal reply new
-TellsFrom old from _ new = ⊥
+abbrev pub IsTurnOfBytes : Shown → ℕ → ℕ → List ℕ → SessionTurn → Shown → Type 0
+IsTurnOfBytes old upload offset bytes turn new = IsToldAs as_script (λ t. IsTurnOfPut old upload offset bytes (plan_in old.state upload) t new) turn
 
 -- What a line with this request comes to, what it leaves, and the bytes that are left of those behind it. A part takes its bytes, whatever
 -- it comes to.
-abbrev pub MeetsRequest : Shown → Option Request → List ℕ → List ℕ → SessionTurn → Shown → List ℕ → Type 0
-MeetsRequest old None whole behind turn new rest = InScript old (strip_last 10 whole) turn new × (rest ≡ behind)
-MeetsRequest old (Some (Put upload offset len)) whole behind turn new rest = PutsRaw old upload offset (take len behind) turn new × (len ≤ length behind) × (rest ≡ drop len behind)
-MeetsRequest old (Some (Fetch wanted)) whole behind turn new rest = GivesRange old wanted.range (fetch wanted.tenant wanted.address) turn new × (rest ≡ behind)
-MeetsRequest old (Some (Asks command)) whole behind turn new rest = Replies old (command_seen command) turn new × (rest ≡ behind)
-MeetsRequest old (Some (Entries from)) whole behind turn new rest = TellsFrom old from turn new × (rest ≡ behind)
+abbrev pub IsTurnOfRequest : Shown → Option Request → List ℕ → List ℕ → SessionTurn → Shown → List ℕ → Type 0
+IsTurnOfRequest old None whole behind turn new rest = IsTurnOfScriptLine old (strip_last 10 whole) turn new × (rest ≡ behind)
+IsTurnOfRequest old (Some (Put upload offset len)) whole behind turn new rest = IsTurnOfBytes old upload offset (take len behind) turn new × (len ≤ length behind) × (rest ≡ drop len behind)
+IsTurnOfRequest old (Some (Fetch wanted)) whole behind turn new rest = IsTurnOfQuestion (as_range wanted.range) old (questions.Fetch wanted.tenant wanted.address) turn new × (rest ≡ behind)
+IsTurnOfRequest old (Some (Asks question)) whole behind turn new rest = IsTurnOfQuestion as_script old question turn new × (rest ≡ behind)
+IsTurnOfRequest old (Some (Entries from)) whole behind turn new rest = IsTurnOfQuestion (as_entries from) old questions.Journal turn new × (rest ≡ behind)
 
 -- the request's bytes are cut off
 abbrev pub IsShort : Option Request → List ℕ → Type 0
@@ -103,38 +99,34 @@ IsShort (Some (Put upload offset len)) behind = length behind < len
 IsShort _ behind = ⊥
 
 -- what the first line of the input comes to
-abbrev pub MeetsLine : Shown → List ℕ → SessionTurn → Shown → List ℕ → Type 0
-MeetsLine old input turn new rest = (0 < length input) × MeetsRequest old (request_in (take_through 10 input)) (take_through 10 input) (drop_through 10 input) turn new rest
+abbrev pub IsTurnOfFirstLine : Shown → List ℕ → SessionTurn → Shown → List ℕ → Type 0
+IsTurnOfFirstLine old input turn new rest = (0 < length input) × IsTurnOfRequest old (request_in (take_through 10 input)) (take_through 10 input) (drop_through 10 input) turn new rest
 
 -- ---- a session
 
 -- lines in order, each with its turn, and the bytes that are left behind them
-abbrev pub MeetLines : Shown → List ℕ → List SessionTurn → Shown → List ℕ → Type 0
-MeetLines old input [] new rest = (new ≡ old) × (rest ≡ input)
-MeetLines old input (turn ∷ turns) new rest = (mid : Shown) × (behind : List ℕ) × MeetsLine old input turn mid behind × MeetLines mid behind turns new rest
+abbrev pub AreSessionTurns : Shown → List ℕ → List SessionTurn → Shown → List ℕ → Type 0
+AreSessionTurns old input [] new rest = (new ≡ old) × (rest ≡ input)
+AreSessionTurns old input (turn ∷ turns) new rest = (mid : Shown) × (behind : List ℕ) × IsTurnOfFirstLine old input turn mid behind × AreSessionTurns mid behind turns new rest
 
 -- the steps among turns, and their replies
-abbrev pub session_commands : List SessionTurn → List Command
-session_commands [] = []
-session_commands (as_script turn ∷ turns) = script.commands_of (turn ∷ []) ++ session_commands turns
-session_commands (no_memory ∷ turns) = session_commands turns
-session_commands (gave range command reply ∷ turns) = command ∷ session_commands turns
-session_commands (told_from from reply ∷ turns) = journal ∷ session_commands turns
+abbrev pub session_calls : List SessionTurn → List Call
+session_calls [] = []
+session_calls (no_memory ∷ turns) = session_calls turns
+session_calls (told_as manner turn ∷ turns) = script.calls_of (turn ∷ []) ++ session_calls turns
 
 abbrev pub session_replies : List SessionTurn → List (Result Reply Refusal)
 session_replies [] = []
-session_replies (as_script turn ∷ turns) = script.replies_of (turn ∷ []) ++ session_replies turns
 session_replies (no_memory ∷ turns) = session_replies turns
-session_replies (gave range command reply ∷ turns) = reply ∷ session_replies turns
-session_replies (told_from from reply ∷ turns) = reply ∷ session_replies turns
+session_replies (told_as manner turn ∷ turns) = script.replies_of (turn ∷ []) ++ session_replies turns
 
 -- Lines of a beginning of the input were answered in order, from the empty store: what they came to, and what is left behind them. The
 -- steps among them are a run of the store, and the law of a store holds behind it.
 pub record AreServed (input output rest : List ℕ) : Type 0 where
   pub turns : List SessionTurn
   pub end : Shown
-  pub plays : MeetLines widest_start input turns end rest
-  pub run : Run widest_start (session_commands turns) (session_replies turns) end
+  pub plays : AreSessionTurns widest_start input turns end rest
+  pub run : Run widest_start (session_calls turns) (session_replies turns) end
   pub law : IsCarried end
   pub text_is : output ≡ flat_map session_turn_text turns
 
@@ -163,4 +155,4 @@ pub record ServedAll (input : List ℕ) (old new : Option (List ℕ)) (verdict :
 -- what the lines of an input take of it hangs on the input alone, and not on what is kept or on refusals of memory
 abbrev pub FramesAlike : Type 0
 FramesAlike = (old new old2 new2 : Shown) (input : List ℕ) (turns turns2 : List SessionTurn) (rest rest2 : List ℕ)
-    → MeetLines old input turns new rest → MeetLines old2 input turns2 new2 rest2 → length turns ≡ length turns2 → rest ≡ rest2
+    → AreSessionTurns old input turns new rest → AreSessionTurns old2 input turns2 new2 rest2 → length turns ≡ length turns2 → rest ≡ rest2

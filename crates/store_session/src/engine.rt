@@ -1,9 +1,8 @@
 //! The engine.
 
 ghost use Rattle.std.specs.Prelude.{◌≡◌, ◌≢◌, ◌<◌, IfErr, IfOk, IfSome, Err, OnOk};
-ghost use Rattle.store_script.specs.Commands.{command_seen};
 ghost use Rattle.store_script.specs.Script.{widest_start};
-ghost use Rattle.store_session.specs.Session.{ServedAll, ServedSome, Replies};
+ghost use Rattle.store_session.specs.Session.{IsTurnOfQuestion, ServedAll, ServedSome, as_script};
 ghost use Rattle.store_session.specs.inner.Session.{AnswersLine, ServesPut, ServesRead, ServesRequest, Told};
 
 use crate::giving::{give, refuse, tell, tell_from};
@@ -14,8 +13,8 @@ use b3_core::Work;
 use edge::{Cause, Verdict};
 use std::alloc::Global;
 use std::io::{BufRead, Write};
-use store_core::{Limits, Refusal, Store, UploadId};
-use store_script::{Answer, Command, answer_read, step};
+use store_core::{Limits, Question, Refusal, Store, UploadId};
+use store_script::{Answer, answer_read};
 
 /// Runs a session on an empty store with the widest limits: reads it line by line, with the bytes behind a `putb`, and writes the answer
 /// when these were read. The writer is flushed behind each answer. `Good` at the end of the input, `Refused` where that is within the bytes of
@@ -113,8 +112,8 @@ fn serve_request<R: BufRead, W: Write>(
             give(writer, store, wanted)?;
             Ok(true)
         }
-        Request::Asks(command) => {
-            ask(store, writer, command, work)?;
+        Request::Asks(question) => {
+            ask(store, writer, question)?;
             Ok(true)
         }
         Request::Entries { from } => {
@@ -147,17 +146,11 @@ fn answer_line<W: Write>(
 }
 
 // Answers a question.
-fn ask<W: Write>(
-    store: &mut Store,
-    writer: &mut W,
-    command: Command,
-    work: &mut Work,
-) -> Result<(), Cause>
-    ensures asked { OnOk result (Told (λ turn. Replies store.old (command_seen command) turn store.new) (W.contents writer.old) (W.contents writer.new)) }
+fn ask<W: Write>(store: &Store, writer: &mut W, question: Question) -> Result<(), Cause>
+    ensures asked { OnOk result (Told (λ turn. IsTurnOfQuestion as_script store.now question turn store.now) (W.contents writer.old) (W.contents writer.new)) }
     ensures cause { IfErr result (λ cause. cause ≡ Cause.CannotWrite) }
 {
-    let reply = step(store, command, work);
-    tell(writer, store, Answer::Replied(reply))
+    tell(writer, store, Answer::Replied(store.ask(question)))
 }
 
 // Takes the bytes of a part, puts it, and answers. False where they are cut off.

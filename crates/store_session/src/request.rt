@@ -8,8 +8,8 @@ ghost use Rattle.store_session.specs.inner.Requests.{AsksFor};
 
 use crate::reading::LineRead;
 use edge::{cut_at, number, three_numbers, two_numbers};
-use store_core::{Address, TenantId};
-use store_script::{Command, address, number_and_address, without_end};
+use store_core::{Address, Question, TenantId};
+use store_script::{address, number_and_address, without_end};
 
 /// The most bytes of a line with a request of its own, with its line feed.
 pub(crate) const MOST_REQUEST: usize = 200;
@@ -37,7 +37,7 @@ pub(crate) enum Request {
     /// Bytes of an object.
     Fetch(Wanted),
     /// A question of the store.
-    Asks(Command),
+    Asks(Question),
     /// The journal's entries from this number on.
     Entries { from: u64 },
 }
@@ -60,7 +60,7 @@ fn read_request(line: &[u8]) -> Option<Request>
 {
     match cut_at(line, b' ') {
         Some((kind, fields)) => request_of_kind(kind, fields),
-        None if line == b"tenants".as_slice() => Some(Request::Asks(Command::Tenants)),
+        None if line == b"tenants".as_slice() => Some(Request::Asks(Question::Tenants)),
         None => None,
     }
 }
@@ -136,14 +136,14 @@ fn holds(fields: &[u8]) -> Option<Request>
 {
     let (tenant, address) = number_and_address(fields)?;
     let tenant = TenantId::new(tenant);
-    Some(Request::Asks(Command::Holds { tenant, address }))
+    Some(Request::Asks(Question::Holds { tenant, address }))
 }
 
 fn uploads(fields: &[u8]) -> Option<Request>
     ensures { result ≡ uploads_at fields.now }
 {
     let tenant = TenantId::new(number(fields)?);
-    Some(Request::Asks(Command::Uploads { tenant }))
+    Some(Request::Asks(Question::Uploads { tenant }))
 }
 
 fn entries(fields: &[u8]) -> Option<Request>

@@ -11,7 +11,7 @@ use Rattle.store_session.specs.inner.Reads.{IsLineRead}
 use Rattle.store_session.specs.Requests.{request_in}
 use Rattle.store_session.specs.declared.reading.LineRead.{LineRead}
 use Rattle.store_session.specs.declared.request.Request.{Request}
-use Rattle.store_session.specs.Session.{SessionTurn, session_turn_text, InScript, PutsRaw, MeetsRequest, IsShort}
+use Rattle.store_session.specs.Session.{IsShort, IsTurnOfBytes, IsTurnOfRequest, IsTurnOfScriptLine, SessionTurn, session_turn_text}
 
 -- ---- what the code's calls do
 
@@ -23,11 +23,11 @@ pub record Told (Is : SessionTurn → Type 0) (old new : Option (List ℕ)) : Ty
 
 -- a line of a script was answered, which was read so
 pub record AnswersLine (old new : Shown) (read : LineRead) (kept : List ℕ) (was is : Option (List ℕ)) : Type 0 where
-  pub answers : (whole : List ℕ) → IsLineRead whole read kept → Told (λ turn. InScript old (strip_last 10 whole) turn new) was is
+  pub answers : (whole : List ℕ) → IsLineRead whole read kept → Told (λ turn. IsTurnOfScriptLine old (strip_last 10 whole) turn new) was is
 
 -- one line was served, or its bytes are cut off
 abbrev pub Serves : Bool → Shown → Option Request → List ℕ → List ℕ → Shown → Option (List ℕ) → Option (List ℕ) → Option (List ℕ) → Type 0
-Serves true old request whole behind new left was is = (rest : List ℕ) × (left ≡ Some rest) × Told (λ turn. MeetsRequest old request whole behind turn new rest) was is
+Serves true old request whole behind new left was is = (rest : List ℕ) × (left ≡ Some rest) × Told (λ turn. IsTurnOfRequest old request whole behind turn new rest) was is
 Serves false old request whole behind new left was is = IsShort request behind × Appends was is []
 
 -- the same of a request, whatever line spelled it
@@ -40,7 +40,7 @@ pub record ServesRead (is_whole : Bool) (old : Shown) (read : LineRead) (kept be
 
 -- a part was served, or its bytes are cut off
 abbrev pub ServesPut : Bool → Shown → ℕ → ℕ → ℕ → List ℕ → Shown → Option (List ℕ) → Option (List ℕ) → Option (List ℕ) → Type 0
-ServesPut true old upload offset len behind new left was is = (len ≤ length behind) × (left ≡ Some (drop len behind)) × Told (λ turn. PutsRaw old upload offset (take len behind) turn new) was is
+ServesPut true old upload offset len behind new left was is = (len ≤ length behind) × (left ≡ Some (drop len behind)) × Told (λ turn. IsTurnOfBytes old upload offset (take len behind) turn new) was is
 ServesPut false old upload offset len behind new left was is = (length behind < len) × Appends was is []
 
 -- the bytes behind a put were taken, and what it came to

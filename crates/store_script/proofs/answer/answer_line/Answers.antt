@@ -1,10 +1,8 @@
 use Rattle.std.proofs.Common.{rules, ◌≡◌, ◌<◌, None, Some, length, refl}
 use Rattle.store_core.specs.Commands.{reply_seen}
-use Rattle.store_script.specs.Answers.{told_ending, told_text}
-use Rattle.store_script.specs.Commands.{command_seen, reply_of}
-use Rattle.store_script.specs.inner.Commands.{script_seen}
-use Rattle.store_script.specs.Grammar.{asks, command_at, puts}
-use Rattle.store_script.proofs.LineOutcomes.{asked, no_command, nothing, put_asked, says}
+use Rattle.store_core.specs.Seen.{reply_of}
+use Rattle.store_script.specs.Grammar.{asks, command_at, does}
+use Rattle.store_script.proofs.LineOutcomes.{asked, done, no_command, nothing, says}
 use Rattle.store_script.proofs.answer.answer_line.Goals as goal
 
 pub returns-then-is_empty-clause-answered : goal.returns-then-is_empty-clause-answered
@@ -16,10 +14,17 @@ returns-in-None-clause-answered c =
     let is : None ≡ command_at c.args.line.now = rw c.in-None.is at c.in_ok-read_command.ensures in
     no_command c.args.store.now c.args.line.now _ _ some is (refl, refl)
 
+pub returns-in-Some-Does-clause-answered : goal.returns-in-Some-Does-clause-answered
+returns-in-Some-Does-clause-answered c =
+    let old = c.args.store.now in
+    let new = c.step.new.self in
+    let some : 0 < length c.args.line.now = search rules in
+    let is : Some (does c.in-Some-Does.command) ≡ command_at c.args.line.now = rw (c.in-Some-Does.is, c.in-Some-Does.field-0-is) at c.in_ok-read_command.ensures in
+    done old new c.args.line.now _ _ c.in-Some-Does.command (reply_seen (reply_of new) c.step.result) some is c.step.ensures (says new c.step.result)
+
 pub returns-in-Some-Asks-clause-answered : goal.returns-in-Some-Asks-clause-answered
 returns-in-Some-Asks-clause-answered c =
     let old = c.args.store.now in
-    let new = c.step.new.store in
     let some : 0 < length c.args.line.now = search rules in
-    let is : Some (asks (command_seen c.in-Some-Asks.command)) ≡ command_at c.args.line.now = rw (c.in-Some-Asks.is, c.in-Some-Asks.field-0-is) at c.in_ok-read_command.ensures in
-    asked old new c.args.line.now _ _ (command_seen c.in-Some-Asks.command) (reply_seen (reply_of new) c.step.result) some is c.step.ensures (says new c.step.result)
+    let is : Some (asks c.in-Some-Asks.question) ≡ command_at c.args.line.now = rw (c.in-Some-Asks.is, c.in-Some-Asks.field-0-is) at c.in_ok-read_command.ensures in
+    asked old c.args.line.now _ _ c.in-Some-Asks.question (reply_seen (reply_of old) c.ask.result) some is c.ask.ensures (says old c.ask.result)

@@ -1,7 +1,7 @@
 use Rattle.std.proofs.Common.{rules, ◌≡◌, None, Err, length, refl}
 use Rattle.store_upload.specs.Uploads.{part_refusal}
 use Rattle.store_core.specs.Commands.{reply_seen}
-use Rattle.store_script.specs.Commands.{reply_of}
+use Rattle.store_core.specs.Seen.{reply_of}
 use Rattle.store_script.proofs.LineOutcomes.{made, no_part, no_plan, says}
 use Rattle.store_script.proofs.answer.put_part.Goals as goal
 

@@ -1,4 +1,4 @@
-use Rattle.std.proofs.Common.{arith, rules, ◌≡◌, ◌≢◌, ◌≤◌, ◌∙◌, ◌++◌, ap, length, length-append, refl, sym, take, true≢false, vec_capacity}
+use Rattle.std.proofs.Common.{arith, rules, ◌≡◌, ◌≢◌, ◌≤◌, ◌∙◌, ◌++◌, length, length-append, sym, true≢false, vec_capacity}
 use Rattle.std.proofs.lemmas.List.Elements.{All-append}
 use Rattle.std.specs.Io.Iter.{u64_saturate}
 use Rattle.std.specs.Io.BufRead.{take_through}

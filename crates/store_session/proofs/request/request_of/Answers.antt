@@ -1,5 +1,4 @@
-use Rattle.std.proofs.Common.{rules, arith, ◌≡◌, ◌≤◌, ◌<◌, false, true}
-use Rattle.std.specs.Io.BufRead.{strip_last}
+use Rattle.std.proofs.Common.{rules, arith, ◌≡◌, ◌≤◌, ◌<◌, false}
 use Rattle.store_session.proofs.Lines.{asks_none, asks_this}
 use Rattle.store_session.proofs.request.request_of.Goals as goal
 

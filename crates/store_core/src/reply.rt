@@ -1,8 +1,10 @@
 //! What the store replies.
 
+use crate::object::Object;
+use crate::store::{Held, Sealed};
 use b3_forest::Plan;
 use std::sync::Arc;
-use store_core::{Address, Held, Object, OpenUpload, Sealed, TenantId, Totals, UploadId, Usage};
+use store_books::{Address, OpenUpload, TenantId, Totals, UploadId, Usage};
 
 /// What an accepted command or an answered question tells. `Journal` stands for the journal that the store keeps.
 #[derive(Drop)]
@@ -14,6 +16,7 @@ pub enum Reply {
     Done,
     Object(Arc<Object>),
     Usage(Usage),
+    Plan(Plan),
     List(Vec<(Address, u64)>),
     Length(u64),
     Uploads(Vec<OpenUpload>),
