@@ -1,5 +1,5 @@
 -- The subcommand that a parse entered, from what the getters say.
-use Rattle.std.proofs.Common.{◌≡◌, ◌∙◌, ℕ, Bool, true, false, List, [], Option, Some, None, ap, sym, subst, codes, inl, inr, refl, rules, map, length, get_or, arith}
+use Rattle.std.proofs.Common.{◌≡◌, ◌∙◌, ℕ, Bool, true, false, List, [], Option, Some, None, ap, sym, subst, codes, inl, inr, refl, rules, map, arith}
 use Rattle.std.specs.Borrow.{Bor}
 use Rattle.std.specs.Prelude.{All, option_map, IfSome, OnOk, Result, Ok, Err}
 use Rattle.std.proofs.Math.ListN.{get_or-map, length-map}

@@ -9,6 +9,13 @@ use Rattle.store_upload.specs.Uploads.{most_part_chunks}
 abbrev pub most_threads : ℕ
 most_threads = 16
 
+-- the workers of an upload, and the chunks of its parts, where no option says them
+abbrev pub usual_workers : ℕ
+usual_workers = 4
+
+abbrev pub usual_part_chunks : ℕ
+usual_part_chunks = 64
+
 -- the most bytes of the extended output that are written as digits
 abbrev pub most_output_len : ℕ
 most_output_len = 65536

@@ -7,6 +7,7 @@ use Rattle.clap.specs.Words.{Row, Text, all_of, first_of, one_of}
 use Rattle.edge.specs.declared.options.SumMode.{SumMode}
 use Rattle.edge.specs.declared.options.SumMode.TheVariants.{Hash, Keyed, Derive}
 use Rattle.hex.specs.Hex.{decode_sized}
+use Rattle.store_command_line.specs.CommandLine.{usual_part_chunks, usual_workers}
 use Rattle.store_command_line.specs.declared.said.AskedMode.{AskedMode}
 use Rattle.store_command_line.specs.declared.said.AskedMode.TheVariants.{Known, KeyFile}
 use Rattle.store_command_line.specs.declared.said.AskedUpload.{AskedUpload}
@@ -83,8 +84,8 @@ pub record SaysSum (o : SumOptions) (rows : List Row) : Type 0 where
   pub no_progress : SaysFlag (one_of (codes "no-progress") rows) o.no_progress
 
 pub record SaysUpload (asked : AskedUpload) (rows : List Row) : Type 0 where
-  pub workers : SpellsOr 4 (first_of (codes "workers") rows) asked.options.workers
-  pub part_chunks : SpellsOr 64 (first_of (codes "part-chunks") rows) asked.options.part_chunks
+  pub workers : SpellsOr usual_workers (first_of (codes "workers") rows) asked.options.workers
+  pub part_chunks : SpellsOr usual_part_chunks (first_of (codes "part-chunks") rows) asked.options.part_chunks
   pub journal : SaysFlag (one_of (codes "journal") rows) asked.options.journal
   pub no_progress : SaysFlag (one_of (codes "no-progress") rows) asked.no_progress
 

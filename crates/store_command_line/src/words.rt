@@ -32,6 +32,11 @@ use store_upload::MOST_PART_CHUNKS;
 // The most threads that hash an input, and the most workers of an upload.
 const MOST_THREADS: u32 = 16;
 
+// The workers of an upload, and the chunks of its parts, where no option says them.
+const USUAL_WORKERS: u32 = 4;
+
+const USUAL_PART_CHUNKS: u32 = 64;
+
 // The most bytes of the extended output that are written as digits.
 const MOST_OUTPUT_LEN: u32 = 65536;
 
@@ -350,8 +355,9 @@ fn upload_options(alloc: Global, found: &ArgMatches<'_>) -> Result<AskedUpload, 
     ensures range { IfOk result (λ asked. AreWithin asked.options) }
     ensures only { (asked : SaidUpload) → SaysUpload asked (rows_of (found_of found.now)) → AreWithin asked.options → IsNotUsage result }
 {
-    let workers = number_or(alloc, found, "workers", MOST_THREADS, 4)?;
-    let part_chunks = number_or(alloc, found, "part-chunks", MOST_PART_CHUNKS as u32, 64)?;
+    let workers = number_or(alloc, found, "workers", MOST_THREADS, USUAL_WORKERS)?;
+    let most = MOST_PART_CHUNKS as u32;
+    let part_chunks = number_or(alloc, found, "part-chunks", most, USUAL_PART_CHUNKS)?;
     let options = UploadOptions {
         workers,
         part_chunks,
