@@ -1,8 +1,6 @@
-use Rattle.std.proofs.Common.{rules, ◌≡◌, ◌∙◌, ◌++◌, [], ◌∷◌, Ok, ap, arith, sym}
-use Rattle.std.specs.Prelude.{Result}
+use Rattle.std.proofs.Common.{rules, ◌≡◌, ◌∙◌, ◌++◌, [], ◌∷◌, ap, arith, sym}
 use Rattle.std.proofs.lemmas.List.FromFn.{map-range_with_len_more}
-use Rattle.store_books.specs.declared.books.Usage.{Usage}
-use Rattle.store_books.specs.Questions.{usage_in, usage_of}
+use Rattle.store_books.specs.Questions.{usage_of}
 use Rattle.store_books.proofs.books.Books.usages.Goals as goal
 
 pub loop-tenant-preserved : goal.loop-tenant-preserved
