@@ -4,7 +4,6 @@ use Rattle.b3_core.specs.Hashers.{Hashing}
 use Rattle.b3_parallel.specs.inner.Blocks.{HasRead}
 use Rattle.b3_parallel.proofs.Consuming.{all_of_them, both_read, most_of, nothing_given, top_of_read}
 use Rattle.b3_parallel.proofs.reading.hash_in_blocks.Goals as goal
-use Rattle.b3_parallel.proofs.reading.hash_in_blocks.Goals.{After-hash_in_line}
 
 -- a block is small
 small : (k : ℕ) → k < 40 → 2 ^ k ≤ 2 ^ 39
