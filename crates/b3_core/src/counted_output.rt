@@ -1,6 +1,6 @@
 //! The extended output as a reader of bytes.
 
-ghost use Rattle.std.specs.Prelude.{◌≡◌, ℕ, ◌+◌, ◌-◌, ◌^◌, IfOk, Some};
+ghost use Rattle.std.specs.Prelude.{◌≡◌, ℕ, ◌+◌, ◌-◌, ◌^◌, IfOk, Ok, Some, length, min};
 ghost use Rattle.std.specs.Io.{ReadsAtMost};
 ghost use Rattle.std.specs.Io.KnownBytes.{ReadConsumes};
 ghost use Rattle.b3_core.specs.ExtendedOutput.{Reader, blocks_touched, output_left};
@@ -44,8 +44,9 @@ impl CountedOutput {
 impl Read for CountedOutput {
     ghost remaining = { λ b. Some (output_left b.0) };
 
-    /// Reads as many bytes as `buf` has room for, and none only at the output's end or without room.
+    /// Reads as many bytes as `buf` has room for, or all that are left where these are fewer. It never fails.
     fn read(&mut self, buf: &mut [u8]) -> io::Result<usize>
+        ensures all { result ≡ Ok (min (length buf.old) (2 ^ 64 - 1 - self.old.0.position)) }
         ensures bound { ReadsAtMost result buf.new }
         ensures bytes { ReadConsumes (Some (output_left self.old.0)) (Some (output_left self.new.0)) result buf.new }
         ensures moved { IfOk result (λ n. self.new.0 ≡ record self.old.0 { position = self.old.0.position + n }) }
