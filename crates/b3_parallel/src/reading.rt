@@ -4,7 +4,7 @@ ghost use Rattle.std.specs.Prelude.{◌≡◌, ◌≢◌, ℕ, ◌+◌, ◌-◌,
 ghost use Rattle.std.specs.Io.KnownBytes.{Consumes, IsAtEnd, Keeps};
 ghost use Rattle.b3_core.specs.Hashers.{count_of};
 ghost use Rattle.b3_core.specs.Tree.{Keying, chunk_len, tree_top};
-ghost use Rattle.b3_core.specs.Work.{counted, hash_work};
+ghost use Rattle.b3_core.specs.Work.{NeverFalls, counted, hash_work};
 ghost use Rattle.b3_parallel.specs.inner.Blocks.{HasRead, IsGiven};
 ghost use Rattle.b3_parallel.specs.inner.Lines.{Carries, last_of};
 
@@ -139,8 +139,12 @@ pub fn hash_all<T: Threads + Runtime, R: Read>(
     ensures node { IfOk result (λ top. (input : List ℕ) × (top ≡ tree_top input 0 mode.now) × Consumes (R.remaining reader.old) (R.remaining reader.new) input
         × (work.new ≡ counted work.old (hash_work (length input) - 1))) }
     ensures end { OnOk result (IsAtEnd (R.remaining reader.new)) }
+    ensures never_falls { NeverFalls work.old work.new }
 {
-    hash_in_blocks(rt, alloc, mode, reader, threads, BLOCK_LEVEL, work)
+    let mut own = Work::new(rt);
+    let made = hash_in_blocks(rt, alloc, mode, reader, threads, BLOCK_LEVEL, &mut own);
+    work.absorb(own);
+    made
 }
 
 // The same in blocks of 2^level chunks.
