@@ -1,6 +1,6 @@
 //! How an input is cut, and for how many threads.
 
-ghost use Rattle.std.specs.Prelude.{◌≡◌, ℕ, ◌+◌, ◌*◌, ◌^◌, ◌<◌, ◌≤◌, IfSome, min};
+ghost use Rattle.std.specs.Prelude.{◌≡◌, ℕ, ◌+◌, ◌*◌, ◌^◌, ◌<◌, ◌≤◌, IfNone, IfSome, min};
 ghost use Rattle.b3_core.specs.Tree.{chunk_len};
 
 use b3_core::CHUNK_LEN;
@@ -57,6 +57,7 @@ pub(crate) fn block_limit(level: u32) -> u64
 /// How many threads hash: as many as are asked for, or as the processor has, and no more than 16.
 pub fn thread_count<T: Threads>(rt: &T, asked: Option<u32>) -> usize
     ensures asked { IfSome asked (λ n. result ≡ min n 16) }
+    ensures some { IfNone asked (0 < result) }
     ensures bounded { result ≤ 16 }
 {
     let count = match asked {
