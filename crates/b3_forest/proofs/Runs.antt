@@ -1,5 +1,5 @@
 -- Where bytes stand that are kept in stretches of one length, and in runs.
-use Rattle.std.proofs.Common.{◌≡◌, ℕ, zero, suc, ◌+◌, ◌-◌, ◌*◌, ◌/◌, ◌%◌, ◌<◌, ◌≤◌, ◌++◌, List, [], ◌∷◌, length, take, drop, arith, ap, ap₂, subst, sym, ◌∙◌}
+use Rattle.std.proofs.Common.{◌≡◌, ℕ, zero, suc, ◌+◌, ◌-◌, ◌*◌, ◌/◌, ◌%◌, ◌<◌, ◌≤◌, ◌++◌, List, [], ◌∷◌, length, min, take, drop, arith, ap, ap₂, subst, sym, ◌∙◌}
 use Rattle.std.specs.Prelude.{All, flat_map, get_or, ◌↔◌}
 use Rattle.std.proofs.lemmas.List.{append_assoc, flat_map_more, drop-append-le, drop-drop, drop-take, length-append, length-drop, length-take-le, take-take}
 use Rattle.std.proofs.lemmas.List.Concat.{flat_map-cons}
@@ -88,6 +88,53 @@ last_stands f n at xs last all number aligned =
 -- a number of stretches that an offset is behind
 pub before : (n at k : ℕ) → k ≤ at / n → k * n ≤ at
 before n at k low = omega (arith, mul-le-mul_right n low, div-mul-le_self at n)
+
+-- ---- how long they are
+
+-- the rest of a full stretch, of which more bytes stand behind
+pub full_length : {X : Type 0} (f : X → List ℕ) (n at : ℕ) (xs : List X) (last : List ℕ) (d : X) → 0 < n → AreOf f n xs → at / n < length xs
+    → length (drop (at % n) (f (get_or xs (at / n) d))) ≡ min (n - at % n) (length (flat_map f xs ++ last) - at)
+full_length f n at xs last d some all low =
+    let q = at / n in
+    let stretch = f (get_or xs q d) in
+    let len = All-get_or (λ x. length (f x) ≡ n) xs q d low all in
+    let left = length-drop (at % n) stretch in
+    let sum = length-append (flat_map f xs) last in
+    let whole = their_length f n xs all in
+    let place : q * n + at % n ≡ at = div-add-mod' at n in
+    let next : (q + 1) * n ≤ length xs * n = mul-le-mul_right n (omega (arith, low)) in
+    let more : (q + 1) * n ≡ q * n + n = omega arith in
+    let less = mod-lt at some in
+    omega (arith, len, left, sum, whole, place, next, more, less)
+
+-- the rest of the last one
+pub last_length : {X : Type 0} (f : X → List ℕ) (n at : ℕ) (xs : List X) (last : List ℕ) → 0 < n → AreOf f n xs → length last ≤ n → length xs ≤ at / n
+    → length (drop (at - length xs * n) last) ≡ min (n - at % n) (length (flat_map f xs ++ last) - at)
+last_length f n at xs last some all short low =
+    let left = length-drop (at - length xs * n) last in
+    let sum = length-append (flat_map f xs) last in
+    let whole = their_length f n xs all in
+    let place : at / n * n + at % n ≡ at = div-add-mod' at n in
+    let behind : length xs * n ≤ at / n * n = mul-le-mul_right n low in
+    let less = mod-lt at some in
+    omega (arith, left, sum, whole, place, behind, short, less)
+
+-- all of it
+pub last_whole : {X : Type 0} (f : X → List ℕ) (n at : ℕ) (xs : List X) (last : List ℕ) → 0 < n → AreOf f n xs → length last ≤ n → at / n ≡ length xs → at % n ≡ 0
+    → length last ≡ min (n - at % n) (length (flat_map f xs ++ last) - at)
+last_whole f n at xs last some all short number aligned =
+    let place : at ≡ length xs * n = sym (div-add-mod' at n) ∙ ap₂ (λ k r. k * n + r) number aligned ∙ omega arith in
+    let none : at - length xs * n ≡ 0 = omega (arith, place) in
+    ap (λ i. length (drop i last)) (sym none) ∙ last_length f n at xs last some all short (omega (arith, number))
+
+-- all bytes end before an offset behind the last stretch
+pub all_before : {X : Type 0} (f : X → List ℕ) (n at : ℕ) (xs : List X) (last : List ℕ) → AreOf f n xs → length last ≤ n → length xs < at / n → length (flat_map f xs ++ last) ≤ at
+all_before f n at xs last all short low =
+    let sum = length-append (flat_map f xs) last in
+    let whole = their_length f n xs all in
+    let behind = before n at (length xs + 1) (omega (arith, low)) in
+    let more : (length xs + 1) * n ≡ length xs * n + n = omega arith in
+    omega (arith, sum, whole, behind, more, short)
 
 -- ---- runs joined
 

@@ -1,5 +1,5 @@
 -- Bytes in stretches of one length.
-use Rattle.std.specs.Prelude.{◌≡◌, ℕ, ◌<◌, ◌++◌, All, List, flat_map, length, take, drop}
+use Rattle.std.specs.Prelude.{◌≡◌, ℕ, ◌-◌, ◌%◌, ◌<◌, ◌++◌, All, List, flat_map, length, min, take, drop}
 use Rattle.std.specs.Arc.{arc_value}
 use Rattle.std.specs.Global.{Vec}
 use Rattle.std.specs.declared.sync.Arc.{Arc}
@@ -17,6 +17,10 @@ StandsAt bytes at own = own ≡ take (length own) (drop at bytes)
 pub record IsRun (bytes : List ℕ) (at : ℕ) (run : List ℕ) : Type 0 where
   pub same : StandsAt bytes at run
   pub some : at < length bytes → 0 < length run
+
+-- how many bytes stand from an offset to the end of its stretch
+abbrev pub left_of_stretch : Stretched → ℕ → ℕ
+left_of_stretch s at = min (s.each - at % s.each) (length s.bytes - at)
 
 -- ---- what is kept
 

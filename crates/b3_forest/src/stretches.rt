@@ -1,7 +1,7 @@
 //! Bytes in stretches of one length, which parts of an upload share.
 
-ghost use Rattle.std.specs.Prelude.{◌≡◌, ◌==◌, ◌<◌, ◌++◌, [], IfOk, IfSome, length};
-ghost use Rattle.b3_forest.specs.Stretches.{IsRun, StandsAt, stretch_bytes};
+ghost use Rattle.std.specs.Prelude.{◌≡◌, ◌==◌, ◌%◌, ◌<◌, ◌≤◌, ◌++◌, [], IfNone, IfOk, IfSome, length};
+ghost use Rattle.b3_forest.specs.Stretches.{IsRun, StandsAt, left_of_stretch, stretch_bytes};
 
 use std::alloc::{AllocError, Global};
 use std::marker::Model;
@@ -17,14 +17,14 @@ pub struct Stretches {
 }
 
 impl Model for Stretches {
-    ghost use Rattle.std.specs.Prelude.{◌≡◌, ◌<◌, length};
+    ghost use Rattle.std.specs.Prelude.{◌≡◌, ◌<◌, ◌≤◌, length};
     ghost use Rattle.b3_forest.specs.Stretches.{AreFull, Stretched, stretch_bytes, stretched};
 
     ghost Value = { Stretched };
 
     ghost view = { λ s. stretched s.stretch_len s.full.items (stretch_bytes s.last) };
 
-    ghost invariant = { λ s. (0 < s.stretch_len) × AreFull s.stretch_len s.full.items × (length (stretched s.stretch_len s.full.items (stretch_bytes s.last)).bytes ≡ s.len) };
+    ghost invariant = { λ s. (0 < s.stretch_len) × AreFull s.stretch_len s.full.items × (length (stretched s.stretch_len s.full.items (stretch_bytes s.last)).bytes ≡ s.len) × (length (stretch_bytes s.last) ≤ s.stretch_len) };
 }
 
 impl Stretches {
@@ -44,7 +44,8 @@ impl Stretches {
 
     /// The bytes from an offset to the end of their stretch; none where none stand there.
     pub fn run(&self, at: u64) -> &[u8]
-        ensures { IsRun self.now.bytes at result.now }
+        ensures run { IsRun self.now.bytes at result.now }
+        ensures len { length result.now ≡ left_of_stretch self.now at }
     {
         let number = at / self.stretch_len as u64;
         let full = self.full.len() as u64;
@@ -60,9 +61,11 @@ impl Stretches {
         }
     }
 
-    /// The stretch that begins at an offset, if one does.
+    /// The stretch that begins at an offset, if one with some bytes does.
     pub fn begun_at(&self, offset: u64) -> Option<&Arc<Vec<u8>>>
-        ensures { IfSome result (λ a. StandsAt self.now.bytes offset (stretch_bytes a.now)) }
+        ensures stands { IfSome result (λ a. StandsAt self.now.bytes offset (stretch_bytes a.now)) }
+        ensures whole { IfSome result (λ a. (offset % self.now.each ≡ 0) × (length (stretch_bytes a.now) ≡ left_of_stretch self.now offset)) }
+        ensures none { IfNone result (offset % self.now.each ≡ 0 → length self.now.bytes ≤ offset) }
     {
         if offset % self.stretch_len as u64 != 0 {
             return None;

@@ -1,4 +1,4 @@
-use Rattle.std.proofs.Common.{rules, ◌≡◌, ◌+◌, ◌*◌, length, arith}
+use Rattle.std.proofs.Common.{rules, ◌≡◌, ◌≤◌, ◌+◌, ◌*◌, length, arith}
 use Rattle.std.specs.Prelude.{flat_map}
 use Rattle.std.proofs.lemmas.List.{length-append}
 use Rattle.b3_forest.specs.Stretches.{stretch_bytes}
@@ -14,4 +14,5 @@ invariant_of-result c =
     let sum = length-append (flat_map stretch_bytes xs) last in
     let before : c.in-Some.before ≡ length xs * n = search rules in
     let more : c.in-Some-checked_add.len ≡ c.in-Some.before + length last = search rules in
-    (c.self.invariant.0, c.self.invariant.1, omega (arith, full, sum, before, more))
+    let short : length last ≤ n = search rules in
+    (c.self.invariant.0, c.self.invariant.1, omega (arith, full, sum, before, more), short)
