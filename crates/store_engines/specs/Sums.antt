@@ -1,5 +1,5 @@
 -- What `sum` writes.
-use Rattle.std.specs.Prelude.{◌≡◌, ◌⊎◌, ℕ, Bool, true, false, List, [], ◌∷◌, ◌++◌, Option, Some, None, Result, Ok, Err, codes, if◌then◌else◌}
+use Rattle.std.specs.Prelude.{◌≡◌, ◌≢◌, ◌⊎◌, ℕ, Bool, true, false, List, [], ◌∷◌, ◌++◌, Option, Some, None, Result, Ok, Err, codes, if◌then◌else◌}
 use Rattle.std.specs.List.{list_all}
 use Rattle.std.specs.Io.KnownBytes.{Appends}
 use Rattle.std.specs.Str.{IsUtf8}
@@ -101,9 +101,9 @@ pub record IsSumStopped {S : Type 0} (gives : S → List ℕ → Result Inputs F
   pub wrote : Appends before grown (root_answers_text length front answers)
   pub stopped : IsStoppedAt gives length cause mid name new grown after
 
--- what may be answered of a file's name: a name that is not UTF-8 has no root
+-- what may be answered of a file's name: exactly one that is not UTF-8 is told to be so, and has no root
 abbrev pub IsRootOfFile : List ℕ → Result Inputs FileFault → Type 0
-IsRootOfFile name answer = IsUtf8 name ⊎ (answer ≡ Err (Failed NotUtf8))
+IsRootOfFile name answer = (IsUtf8 name × (answer ≢ Err (Failed NotUtf8))) ⊎ ((IsUtf8 name → ⊥) × (answer ≡ Err (Failed NotUtf8)))
 
 -- what the system's files, or another source of some bytes, may answer in a mode: a root is that of some bytes
 abbrev pub IsRootOfSome : Keying → Result Inputs FileFault → Type 0

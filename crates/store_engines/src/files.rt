@@ -122,7 +122,7 @@ impl<T: Threads + Runtime> FileHasher<'_, T> {
     fn file_root(&mut self, name: &[u8]) -> Result<Top, FileFault>
         ensures root { IsRootOfSome self.old.mode result }
         ensures mode { self.new.mode ≡ self.old.mode }
-        ensures utf8 { IsRootOfFile name.now result }
+        ensures name { IsRootOfFile name.now result }
     {
         let Ok(path) = str::from_utf8(name) else {
             return Err(FileFault::Failed(Reason::NotUtf8));
@@ -273,7 +273,7 @@ impl<'a, T: Threads + Runtime> SystemFiles<'a, T> {
     fn root_of_file(&mut self, name: &[u8]) -> Result<Top, FileFault>
         ensures root { IsRootOfSome self.old.mode result }
         ensures mode { self.new.mode ≡ self.old.mode }
-        ensures utf8 { IsRootOfFile name.now result }
+        ensures name { IsRootOfFile name.now result }
     {
         match self.known_root(name) {
             Some(root) => Ok(root),
@@ -343,14 +343,16 @@ fn write_reason<E: Write>(name: &[u8], reason: Reason, told: &mut E) -> io::Resu
 
 impl<T: Threads + Runtime, I: Standing + Drop, E: Write + Drop> Sources
     for SystemInputs<'_, T, I, E> {
-    ghost use Rattle.std.specs.Prelude.{◌≡◌, ◌≢◌, OnOk, codes};
+    ghost use Rattle.std.specs.Prelude.{◌≡◌, ◌≢◌, Err, OnOk, codes};
     ghost use Rattle.std.specs.Io.KnownBytes.{IsAtEnd};
     ghost use Rattle.store_engines.specs.Sums.{IsRootOfFile, IsRootOfSome};
+    ghost use Rattle.store_engines.specs.declared.sources.FileFault.TheVariants.{Failed};
+    ghost use Rattle.store_engines.specs.declared.sources.Reason.TheVariants.{NotUtf8};
 
-    // Of a name but `-` the input gives nothing, and by a root of `-` it is at its end. Nothing is told.
+    // Of a name but `-` the input gives nothing, and by a root of `-`, which is UTF-8, it is at its end. Nothing is told.
     ghost gives = { λ old name answer new. IsRootOfSome old.files.mode answer
         × (name ≢ codes "-" → IsRootOfFile name answer × (new.input ≡ old.input))
-        × (name ≡ codes "-" → OnOk answer (IsAtEnd (I.remaining new.input)))
+        × (name ≡ codes "-" → OnOk answer (IsAtEnd (I.remaining new.input)) × (answer ≢ Err (Failed NotUtf8)))
         × (new.files.mode ≡ old.files.mode) × (new.told ≡ old.told) };
 
     ghost tells = { λ old name reason new. (new.files ≡ old.files) × (new.input ≡ old.input) };

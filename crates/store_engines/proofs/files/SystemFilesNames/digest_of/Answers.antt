@@ -7,6 +7,6 @@ pub returns-in-Ok : goal.returns-in-Ok
 unfolding digest_of
 returns-in-Ok g c =
     let root = c.in-Ok.ensures.root in (
-      (elim c.in-Ok.ensures.utf8 [ inl utf8 ↦ utf8 | inr other ↦ absurd (cc) ], (root.0, c.root32.ensures.bytes ∙ ap (λ top. output_of top 0 32) root.1)),
+      (elim c.in-Ok.ensures.name [ inl utf8 ↦ utf8.0 | inr other ↦ absurd (cc (other.1)) ], (root.0, c.root32.ensures.bytes ∙ ap (λ top. output_of top 0 32) root.1)),
       ap (λ setting. setting.mode) c.self.view_is ∙ c.in-Ok.ensures.mode,
     )
