@@ -46,7 +46,7 @@ impl Read for CountedOutput {
 
     /// Reads as many bytes as `buf` has room for, or all that are left where these are fewer. It never fails.
     fn read(&mut self, buf: &mut [u8]) -> io::Result<usize>
-        ensures all { result ≡ Ok (min (length buf.old) (2 ^ 64 - 1 - self.old.0.position)) }
+        ensures read { result ≡ Ok (min (length buf.old) (2 ^ 64 - 1 - self.old.0.position)) }
         ensures bound { ReadsAtMost result buf.new }
         ensures bytes { ReadConsumes (Some (output_left self.old.0)) (Some (output_left self.new.0)) result buf.new }
         ensures moved { IfOk result (λ n. self.new.0 ≡ record self.old.0 { position = self.old.0.position + n }) }

@@ -57,7 +57,7 @@ pub(crate) fn block_limit(level: u32) -> u64
 /// How many threads hash: as many as are asked for, or as the processor has, and no more than 16.
 pub fn thread_count<T: Threads>(rt: &T, asked: Option<u32>) -> usize
     ensures asked { IfSome asked (λ n. result ≡ min n 16) }
-    ensures some { IfNone asked (0 < result) }
+    ensures positive { IfNone asked (0 < result) }
     ensures bounded { result ≤ 16 }
 {
     let count = match asked {
