@@ -1,8 +1,8 @@
 -- What went out of a text, step by step.
-use Rattle.std.proofs.Common.{◌∙◌, ℕ, List, [], ◌++◌, Option, append_assoc, ap, drop, refl, sym, take, take-append-drop}
+use Rattle.std.proofs.Common.{◌∙◌, ℕ, List, [], ◌++◌, Option, append_assoc, ap, arith, drop, length-append, refl, sym, take, take-append-drop}
 use Rattle.std.specs.Io.KnownBytes.{Appends, Keeps}
 use Rattle.std.proofs.KnownBytes.{Appends-kept, Appends-nil, Appends-trans}
-use Rattle.edge.specs.Output.{AllBut}
+use Rattle.edge.specs.Output.{AllBut, IsCutOff}
 
 pub AllBut-none : (a : Option (List ℕ)) (text : List ℕ) → AllBut a a text text
 AllBut-none a text = record { front = []; is = refl; went = Appends-nil a }
@@ -16,3 +16,15 @@ AllBut-some old mid new text rest n h more = record {
 
 pub AllBut-kept : (old mid new : Option (List ℕ)) (text rest : List ℕ) → AllBut old mid text rest → Keeps mid new → AllBut old new text rest
 AllBut-kept old mid new text rest h same = record { front = h.front; is = h.is; went = Appends-kept old mid new h.front h.went same }
+
+-- a text was cut off in a part of it, before which all went out
+pub cut_between : (old mid new : Option (List ℕ)) (done part behind : List ℕ) → Appends old mid done → IsCutOff mid new part → IsCutOff old new (done ++ (part ++ behind))
+cut_between old mid new done part behind was h = record {
+  rest = h.rest ++ behind;
+  some = omega (arith, length-append h.rest behind, h.some);
+  front = record {
+    front = done ++ h.front.front;
+    is = ap (λ z. done ++ (z ++ behind)) h.front.is ∙ ap (λ z. done ++ z) (append_assoc h.front.front h.rest behind) ∙ sym (append_assoc done h.front.front (h.rest ++ behind));
+    went = Appends-trans old mid new done h.front.front was h.front.went;
+  };
+}

@@ -2,9 +2,10 @@
 //!
 //! A text whose digits are all good is decoded in one pass that asks for no digit by itself: whether each is one is gathered, and
 //! looked at behind the last. Any other text is given to `hex`, which tells the first fault.
-ghost use Rattle.std.specs.Prelude.{◌≡◌, ◌*◌, ◌%◌, ◌<◌, ◌≤◌, ◌⊎◌, IfErr, IfOk, IfSome, IsTrue, OnOk, Err, Ok, length, slice_index};
+ghost use Rattle.std.specs.Prelude.{◌≡◌, ◌*◌, ◌%◌, ◌<◌, ◌≤◌, ◌⊎◌, IfErr, IfOk, IfSome, IsTrue, OnErr, OnOk, Err, Ok, length, slice_index};
 ghost use Rattle.std.specs.Io.KnownBytes.{Appends};
 ghost use Rattle.hex.specs.Hex.{decode_of, decode_pairs, encode_lower, hex_digit_value, is_hex_digit, lower_digits};
+ghost use Rattle.edge.specs.Output.{IsCutOff};
 ghost use Rattle.hex.specs.declared.error.FromHexError.TheVariants.{OddLength, OutOfMemory};
 
 use crate::outcome::Cause;
@@ -86,10 +87,11 @@ fn digit(value: u8) -> u8
 }
 
 /// Writes two digits for each byte, in lower case, by way of `room`: half as many bytes at a time as it has room for digits. It takes no
-/// memory.
+/// memory. Behind a failed write a beginning of the digits went out.
 pub fn write_encoded<W: Write>(writer: &mut W, bytes: &[u8], room: &mut [u8]) -> Result<(), Cause>
     requires { 2 ≤ length room.old }
     ensures written { OnOk result (Appends (W.contents writer.old) (W.contents writer.new) (encode_lower bytes.now)) }
+    ensures failed { OnErr result (IsCutOff (W.contents writer.old) (W.contents writer.new) (encode_lower bytes.now)) }
     ensures cause { IfErr result (λ cause. cause ≡ Cause.CannotWrite) }
 {
     let mut rest = bytes;
@@ -105,6 +107,7 @@ pub fn write_encoded<W: Write>(writer: &mut W, bytes: &[u8], room: &mut [u8]) ->
 fn write_piece<W: Write>(writer: &mut W, bytes: &[u8], room: &mut [u8]) -> Result<(), Cause>
     requires { 2 * length bytes.now ≤ length room.old }
     ensures written { OnOk result (Appends (W.contents writer.old) (W.contents writer.new) (encode_lower bytes.now)) }
+    ensures failed { OnErr result (IsCutOff (W.contents writer.old) (W.contents writer.new) (encode_lower bytes.now)) }
     ensures cause { IfErr result (λ cause. cause ≡ Cause.CannotWrite) }
     ensures room { length room.new ≡ length room.old }
 {

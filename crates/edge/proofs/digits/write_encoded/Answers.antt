@@ -3,6 +3,9 @@ use Rattle.std.specs.Io.KnownBytes.{Appends}
 use Rattle.hex.specs.Hex.{encode_lower, lower_digits}
 use Rattle.edge.proofs.Encoding.{digits_append, no_digits}
 use Rattle.edge.proofs.Joining.{appends_more, appends_none}
+use Rattle.std.proofs.lemmas.Result.{err_from_is_err_and}
+use Rattle.edge.specs.Output.{IsCutOff}
+use Rattle.edge.proofs.Output.{cut_between}
 use Rattle.edge.proofs.digits.write_encoded.Goals as goal
 
 pub loop-rest-init : goal.loop-rest-init
@@ -22,3 +25,18 @@ loop-rest-preserved g c =
       subst (Appends (g.W.Write.contents c.args.writer.now) (g.W.Write.contents c.write_piece.new.writer)) (sym (digits_append lower_digits done front)) all,
       is ∙ ap (λ (w : _). done ++ w) whole ∙ sym (append_assoc done front c.split_at.result.1.now),
     )
+
+pub returns-in_err-write_piece-clause-failed : goal.returns-in_err-write_piece-clause-failed
+returns-in_err-write_piece-clause-failed g c =
+    let (done, wrote, is) = c.loop-rest.invariant in
+    let front = c.split_at.result.0.now in
+    let behind = c.split_at.result.1.now in
+    let rest = c.loop-rest.rest.now in
+    let front_is : front ≡ take c.min.result rest = search rules in
+    let back_is : behind ≡ drop c.min.result rest = search rules in
+    let whole : rest ≡ front ++ behind = rw (front_is, back_is) (sym (take-append-drop c.min.result rest)) in
+    let text : encode_lower done ++ (encode_lower front ++ encode_lower behind) ≡ encode_lower c.args.bytes.now =
+    ap (λ w. encode_lower done ++ w) (sym (digits_append lower_digits front behind)) ∙ sym (digits_append lower_digits done (front ++ behind)) ∙ ap encode_lower (ap (λ w. done ++ w) (sym whole) ∙ sym is) in
+    let p = err_from_is_err_and c.from_residual.result c.from_residual.ensures.1 in
+    rw (p.1) (subst (IsCutOff (g.W.Write.contents c.args.writer.now) (g.W.Write.contents c.write_piece.new.writer)) text
+    (cut_between (g.W.Write.contents c.args.writer.now) (g.W.Write.contents c.loop-rest.writer) (g.W.Write.contents c.write_piece.new.writer) (encode_lower done) (encode_lower front) (encode_lower behind) wrote c.in_err-write_piece.ensures.failed))
