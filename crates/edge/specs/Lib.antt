@@ -2,4 +2,5 @@
 pub mod Fields
 pub mod Lines
 pub mod Output
+pub mod Causes
 pub mod inner

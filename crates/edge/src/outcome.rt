@@ -1,10 +1,12 @@
 //! How an engine ends: its verdict, or what stopped it.
 
-ghost use Rattle.std.specs.Prelude.{◌≡◌};
+ghost use Rattle.std.specs.Prelude.{◌≡◌, Some};
+ghost use Rattle.edge.specs.Causes.{cause_text};
 ghost use Rattle.edge.specs.declared.outcome.Cause.TheVariants.{OutOfMemory};
 
 use std::alloc::AllocError;
-use thiserror::Error;
+use std::error::Error;
+use std::fmt;
 
 /// How an engine that came to its end found its input.
 #[derive(Clone, Copy, Debug, PartialEq, Eq)]
@@ -16,18 +18,30 @@ pub enum Verdict {
 }
 
 /// What stopped an engine, the first cause of it.
-#[derive(Clone, Copy, Debug, PartialEq, Eq, Error)]
+#[derive(Clone, Copy, Debug, PartialEq, Eq)]
 pub enum Cause {
     /// A read failed, or was given up.
-    #[error("cannot read")]
     CannotRead,
     /// A write failed.
-    #[error("cannot write")]
     CannotWrite,
     /// Memory was refused.
-    #[error("out of memory")]
     OutOfMemory,
 }
+
+/// `cannot read`, `cannot write` or `out of memory`.
+impl fmt::Display for Cause {
+    ghost output = { λ cause. Some (cause_text cause) };
+
+    fn fmt<W: fmt::Write>(&self, f: &mut fmt::Formatter<W>) -> fmt::Result {
+        match self {
+            Cause::CannotRead => write!(f, "cannot read"),
+            Cause::CannotWrite => write!(f, "cannot write"),
+            Cause::OutOfMemory => write!(f, "out of memory"),
+        }
+    }
+}
+
+impl Error for Cause {}
 
 impl From<AllocError> for Cause {
     ghost from_gives = { λ _ cause. cause ≡ OutOfMemory };
