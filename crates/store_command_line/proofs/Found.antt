@@ -1,16 +1,19 @@
 -- The subcommand that a parse entered, from what the getters say.
-use Rattle.std.proofs.Common.{◌≡◌, ◌∙◌, ℕ, Bool, true, false, List, [], Option, Some, None, ap, sym, subst, codes, inl, inr, refl, rules, map, arith}
+use Rattle.std.proofs.Common.{◌≡◌, ◌∙◌, ◌∷◌, ℕ, Bool, true, false, List, [], Option, Some, None, ap, sym, subst, codes, inl, inr, refl, rules, map, arith}
 use Rattle.std.specs.Borrow.{Bor}
-use Rattle.std.specs.Prelude.{All, option_map, IfSome, OnOk, Result, Ok, Err}
+use Rattle.std.specs.Prelude.{All, option_map, IfErr, IfSome, OnOk, Result, Ok, Err}
 use Rattle.std.proofs.Math.ListN.{get_or-map, length-map}
 use Rattle.std.proofs.lemmas.List.Elements.{All-map}
 use Rattle.b3_check.specs.Names.{IsName}
-use Rattle.store_command_line.specs.CommandLine.{IsTaken, command_line}
+use Rattle.store_command_line.specs.CommandLine.{AsksVersion, IsTaken, MayAskVersion, command_line}
 use Rattle.store_command_line.specs.Ranges.{AreNamed, IsWithin}
-use Rattle.store_command_line.specs.Stated.{SaysFlag, SaysInputs, SaysNumber, SpellsOr}
+use Rattle.store_command_line.specs.Stated.{IsFaultAt, SaysFlag, SaysInputs, SaysNumber, SpellsOr}
+use Rattle.store_command_line.specs.declared.said.Fault.{Fault}
+use Rattle.store_command_line.specs.declared.said.Fault.TheVariants.{NoMemory, Usage, Version}
+use Rattle.store_command_line.specs.inner.Faults.{IsNoVersion, TellsKind}
 use Rattle.store_command_line.specs.declared.said.SumInputs.{SumInputs}
 use Rattle.store_command_line.specs.declared.said.SumInputs.TheVariants.{Standard, Named, Listed}
-use Rattle.clap.specs.Words.{App, HasKind, Row, Text, fault_of, is_simple_and_free, kind_of, subcommand_name_of, subcommand_of, subcommand_rows_of}
+use Rattle.clap.specs.Words.{App, HasKind, IsAmong, Row, Text, fault_of, is_simple_and_free, kind_of, subcommand_name_of, subcommand_of, subcommand_rows_of}
 use Rattle.clap.specs.declared.error.Error.{Error}
 use Rattle.clap.specs.declared.error.kind.ErrorKind.TheVariants as kinds
 use Rattle.clap.specs.declared.parser.matches.ArgMatches.{ArgMatches}
@@ -57,6 +60,31 @@ memory a words e shape fails is = go (subst (λ ks. HasKind ks e) (ap (λ (b : A
     go : HasKind [] e → kind_of e ≡ kinds.OutOfMemory
     go (inl h) = h
     go (inr h) = absurd h
+
+-- what is told where a parse fails
+pub told_at : (a : App) (words : List Text) (e : Error) (fault : Fault) → a ≡ command_line → (is_simple_and_free a ≡ true → HasKind (fault_of a words) e)
+    → (kind_of e ≡ kinds.OutOfMemory → fault ≡ NoMemory) → TellsKind (kind_of e) fault → IsFaultAt words fault
+unfolding AsksVersion MayAskVersion
+told_at a words e fault shape fails short tells = go fault (subst (λ ks. HasKind ks e) (ap (λ (b : App). fault_of b words) shape) (fails (ap is_simple_and_free shape))) short tells
+  where
+    go : (f : Fault) → HasKind (fault_of command_line words) e → (kind_of e ≡ kinds.OutOfMemory → f ≡ NoMemory) → TellsKind (kind_of e) f → IsFaultAt words f
+    go (Version t) (inl h) short tells = absurd (cc)
+    go (Version t) (inr h) short tells = subst (λ k. IsAmong k (fault_of command_line words)) tells h
+    go (Usage t) (inl h) short tells = absurd (let is = short h in cc)
+    go (Usage t) (inr h) short tells = λ asks. none (subst (IsAmong (kind_of e)) asks h)
+      where
+        none : IsAmong (kind_of e) (kinds.DisplayVersion ∷ []) → ⊥
+        none (inl is) = tells is
+        none (inr impossible) = impossible
+    go NoMemory h short tells = tt
+
+-- what is told where it doesn't
+pub told_by : {T : Type 0} (r : Result T Fault) (words : List Text) → IsTaken words → IfErr r IsNoVersion → IfErr r (IsFaultAt words)
+unfolding IsTaken AsksVersion MayAskVersion
+told_by (Ok x) words is tells = tt
+told_by (Err (Version t)) words is tells = absurd tells
+told_by (Err (Usage t)) words is tells = λ asks. cc
+told_by (Err NoMemory) words is tells = tt
 
 -- what follows of the number that is spelled, where one is given
 pub spelled_or : (most other n : ℕ) (o : Option Text) (P : Type 0) → SpellsOr other o n → IsWithin most n → ((m : Option ℕ) → SaysNumber o m → IfSome m (IsWithin most) → P) → P

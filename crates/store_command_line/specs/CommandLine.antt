@@ -1,7 +1,8 @@
 -- The command line, as the program states it to clap.
-use Rattle.std.specs.Prelude.{◌≡◌, ℕ, List, [], Some, pos, true, codes}
-use Rattle.clap.specs.Words.{App, Rule, Text, fault_of, new_app, new_rule, with_rule, with_subcommand}
+use Rattle.std.specs.Prelude.{◌≡◌, ◌∷◌, ℕ, List, [], Some, pos, true, codes}
+use Rattle.clap.specs.Words.{App, IsAmong, Rule, Text, fault_of, new_app, new_rule, with_rule, with_subcommand}
 use Rattle.clap.specs.declared.builder.action.ArgAction.TheVariants.{Append, SetTrue}
+use Rattle.clap.specs.declared.error.kind.ErrorKind.TheVariants.{DisplayVersion}
 use Rattle.clap.specs.declared.builder.value_parser.ValueParser.TheVariants as vp
 use Rattle.store_upload.specs.Uploads.{most_part_chunks}
 
@@ -114,3 +115,11 @@ command_line = with_subcommand (with_subcommand (with_subcommand storing_line ch
 -- clap finds no fault in the words, of which the first is the program's name
 unfoldable pub IsTaken : List Text → Type 0
 IsTaken words = fault_of command_line words ≡ []
+
+-- clap finds that the words ask for the version, and nothing else
+unfoldable pub AsksVersion : List Text → Type 0
+AsksVersion words = fault_of command_line words ≡ DisplayVersion ∷ []
+
+-- clap finds that, or one of some others
+unfoldable pub MayAskVersion : List Text → Type 0
+MayAskVersion words = IsAmong DisplayVersion (fault_of command_line words)

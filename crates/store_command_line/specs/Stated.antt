@@ -7,13 +7,13 @@ use Rattle.clap.specs.Words.{Row, Text, all_of, first_of, one_of}
 use Rattle.edge.specs.declared.options.SumMode.{SumMode}
 use Rattle.edge.specs.declared.options.SumMode.TheVariants.{Hash, Keyed, Derive}
 use Rattle.hex.specs.Hex.{decode_sized}
-use Rattle.store_command_line.specs.CommandLine.{usual_part_chunks, usual_workers}
+use Rattle.store_command_line.specs.CommandLine.{AsksVersion, MayAskVersion, usual_part_chunks, usual_workers}
 use Rattle.store_command_line.specs.declared.said.AskedMode.{AskedMode}
 use Rattle.store_command_line.specs.declared.said.AskedMode.TheVariants.{Known, KeyFile}
 use Rattle.store_command_line.specs.declared.said.AskedUpload.{AskedUpload}
 use Rattle.store_command_line.specs.declared.said.CheckOptions.{CheckOptions}
 use Rattle.store_command_line.specs.declared.said.Fault.{Fault}
-use Rattle.store_command_line.specs.declared.said.Fault.TheVariants.{NoMemory}
+use Rattle.store_command_line.specs.declared.said.Fault.TheVariants.{NoMemory, Usage, Version}
 use Rattle.store_command_line.specs.declared.said.Input.{Input}
 use Rattle.store_command_line.specs.declared.said.Input.TheVariants as inputs
 use Rattle.store_command_line.specs.declared.said.Options.{Options}
@@ -121,3 +121,9 @@ Says Migrate found = (rows : List Row) × (found ≡ Some (codes "migrate", rows
 -- where there are no options, that is for want of memory
 abbrev pub IsNotUsage : {T : Type 0} → Result T Fault → Type 0
 IsNotUsage r = IfErr r (λ fault. fault ≡ NoMemory)
+
+-- the fault that words may have: no version where clap can't find that it is asked for, and no usage where it finds that alone
+abbrev pub IsFaultAt : List Text → Fault → Type 0
+IsFaultAt words (Version t) = MayAskVersion words
+IsFaultAt words (Usage t) = AsksVersion words → ⊥
+IsFaultAt words NoMemory = Unit {0}

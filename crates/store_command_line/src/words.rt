@@ -1,13 +1,14 @@
 //! What the words of the command line say.
 
-ghost use Rattle.std.specs.Prelude.{◌≡◌, ◌↔◌, ◌^◌, ◌≤◌, ℕ, All, true, List, Option, Some, None, IfOk, IfSome, IsErr, OnOk, codes, map, option_map};
+ghost use Rattle.std.specs.Prelude.{◌≡◌, ◌↔◌, ◌^◌, ◌≤◌, ℕ, All, true, List, Option, Some, None, IfErr, IfOk, IfSome, IsErr, OnOk, codes, map, option_map};
 ghost use Rattle.clap.specs.Values.{kind_of};
 ghost use Rattle.clap.specs.Words.{all_of, found_of, first_of, one_of, rows_of, subcommand_of, subcommand_rows_of};
 ghost use Rattle.b3_check.specs.Names.{IsName};
 ghost use Rattle.edge.specs.declared.options.SumMode.{SumMode as SaidMode};
 ghost use Rattle.store_command_line.specs.CommandLine.{IsTaken, command_line, most_threads};
 ghost use Rattle.store_command_line.specs.Ranges.{AreNamed, AreWithin, InRange, IsSumInRange, IsWithin};
-ghost use Rattle.store_command_line.specs.Stated.{IsNotUsage, IsNumber, NamesInput, Says, SaysAsked, SaysCheck, SaysFlag, SaysInput, SaysInputs, SaysMode, SaysName, SaysShown, SaysSum, SaysUpload, SaysNumber, SpellsOr};
+ghost use Rattle.store_command_line.specs.Stated.{IsFaultAt, IsNotUsage, IsNumber, NamesInput, Says, SaysAsked, SaysCheck, SaysFlag, SaysInput, SaysInputs, SaysMode, SaysName, SaysShown, SaysSum, SaysUpload, SaysNumber, SpellsOr};
+ghost use Rattle.store_command_line.specs.inner.Faults.{IsNoUsage, IsNoVersion, TellsKind};
 ghost use Rattle.store_command_line.specs.declared.said.AskedMode.{AskedMode as SaidAsked};
 ghost use Rattle.store_command_line.specs.declared.said.AskedUpload.{AskedUpload as SaidUpload};
 ghost use Rattle.store_command_line.specs.declared.said.CheckOptions.{CheckOptions as SaidCheck};
@@ -44,6 +45,7 @@ const MOST_OUTPUT_LEN: u32 = 65536;
 fn told(text: Result<String, AllocError>) -> Fault
     ensures usage { IfOk text (λ t. result ≡ Usage t) }
     ensures memory { IsErr text → result ≡ NoMemory }
+    ensures no_version { IsNoVersion result }
 {
     match text {
         Ok(text) => Fault::Usage(text),
@@ -66,7 +68,8 @@ fn error_text<S: AsStr>(alloc: Global, error: &Error, words: &[S]) -> Result<Str
 
 // Why there are no options where clap finds a fault in the words.
 fn fault_of<S: AsStr>(alloc: Global, error: &Error, words: &[S]) -> Fault
-    ensures { kind_of error.now ≡ ErrorKind.OutOfMemory → result ≡ NoMemory }
+    ensures memory { kind_of error.now ≡ ErrorKind.OutOfMemory → result ≡ NoMemory }
+    ensures version { TellsKind (kind_of error.now) result }
 {
     match error.kind() {
         ErrorKind::OutOfMemory => Fault::NoMemory,
@@ -76,7 +79,9 @@ fn fault_of<S: AsStr>(alloc: Global, error: &Error, words: &[S]) -> Fault
 }
 
 // The text of the version, where there was memory for it.
-fn version_told(text: Result<String, AllocError>) -> Fault {
+fn version_told(text: Result<String, AllocError>) -> Fault
+    ensures { IsNoUsage result }
+{
     match text {
         Ok(text) => Fault::Version(text),
         Err(_) => Fault::NoMemory,
@@ -84,7 +89,9 @@ fn version_told(text: Result<String, AllocError>) -> Fault {
 }
 
 // What is wrong with an option of a subcommand.
-fn usage(alloc: Global, subcommand: &str, wrong: &str) -> Fault {
+fn usage(alloc: Global, subcommand: &str, wrong: &str) -> Fault
+    ensures { IsNoVersion result }
+{
     told(format!(in alloc; "b3store: {wrong}; see b3store {subcommand} --help\n"))
 }
 
@@ -123,6 +130,7 @@ fn number_within(
     ensures range { IfOk result (λ n. IfSome n (IsWithin most)) }
     ensures only { (n : Option ℕ) → SaysNumber (first_of id.now (rows_of (found_of found.now))) n → IfSome n (IsWithin most)
         → IsNotUsage result }
+    ensures no_version { IfErr result IsNoVersion }
 {
     let Some(text) = text_of(found, id) else {
         return Ok(None);
@@ -143,6 +151,7 @@ fn sum_mode<'a>(alloc: Global, found: &ArgMatches<'a>) -> Result<SumMode<'a>, Fa
         SaysMode m (first_of (codes "key") rows) (first_of (codes "context") rows)) }
     ensures only { (m : SaidMode) → (let rows = rows_of (found_of found.now) in
         SaysMode m (first_of (codes "key") rows) (first_of (codes "context") rows)) → IsNotUsage result }
+    ensures no_version { IfErr result IsNoVersion }
 {
     match (text_of(found, "key"), text_of(found, "context")) {
         (None, None) => Ok(SumMode::Hash),
@@ -161,6 +170,7 @@ fn asked_mode<'a>(alloc: Global, found: &ArgMatches<'a>) -> Result<AskedMode<'a>
         SaysAsked m (first_of (codes "key") rows) (first_of (codes "context") rows) (first_of (codes "key-file") rows)) }
     ensures only { let rows = rows_of (found_of found.now) in (m : SaidAsked)
         → SaysAsked m (first_of (codes "key") rows) (first_of (codes "context") rows) (first_of (codes "key-file") rows) → IsNotUsage result }
+    ensures no_version { IfErr result IsNoVersion }
 {
     let Some(path) = text_of(found, "key-file") else {
         return Ok(AskedMode::Known(sum_mode(alloc, found)?));
@@ -188,6 +198,7 @@ fn sum_name<'a>(alloc: Global, found: &ArgMatches<'a>) -> Result<&'a str, Fault>
     ensures lawful { IfOk result (λ name. IsName name.now) }
     ensures only { (name : List ℕ) → SaysName name (first_of (codes "name") (rows_of (found_of found.now))) → IsName name
         → IsNotUsage result }
+    ensures no_version { IfErr result IsNoVersion }
 {
     let Some(name) = text_of(found, "name") else {
         return Ok("-");
@@ -232,6 +243,7 @@ fn named_inputs<'a>(alloc: Global, files: &[&'a str]) -> Result<SumInputs<'a>, F
     ensures says { IfOk result (λ inputs. (null : Option (List ℕ)) → SaysInputs inputs (Some (map (λ name. name.now) files.now)) None None null) }
     ensures lawful { IfOk result AreNamed }
     ensures only { All (λ name. IsName name.now) files.now → IsNotUsage result }
+    ensures no_version { IfErr result IsNoVersion }
 {
     if !are_names(files) {
         return Err(usage(alloc, "sum", "a file's name is not empty and has no byte 0"));
@@ -247,6 +259,7 @@ fn sum_inputs<'a>(alloc: Global, found: &ArgMatches<'a>) -> Result<SumInputs<'a>
     ensures only { let rows = rows_of (found_of found.now) in (i : SaidInputs)
         → SaysInputs i (all_of (codes "file") rows) (first_of (codes "name") rows) (first_of (codes "files-from") rows) (one_of (codes "null") rows)
         → AreNamed i → IsNotUsage result }
+    ensures no_version { IfErr result IsNoVersion }
 {
     let files = words_of(found, "file");
     let list = text_of(found, "files-from");
@@ -271,6 +284,7 @@ fn sum_options<'a>(alloc: Global, found: &ArgMatches<'a>) -> Result<SumOptions<'
     ensures says { IfOk result (λ o. SaysSum o (rows_of (found_of found.now))) }
     ensures range { IfOk result IsSumInRange }
     ensures only { (o : SaidSum) → SaysSum o (rows_of (found_of found.now)) → IsSumInRange o → IsNotUsage result }
+    ensures no_version { IfErr result IsNoVersion }
 {
     let mode = asked_mode(alloc, found)?;
     let length = number_within(alloc, found, "sum", "length", MOST_OUTPUT_LEN)?;
@@ -314,6 +328,7 @@ fn check_options<'a>(alloc: Global, found: &ArgMatches<'a>) -> Result<CheckOptio
     ensures says { IfOk result (λ o. SaysCheck o (rows_of (found_of found.now))) }
     ensures range { IfOk result (λ o. IfSome o.threads (IsWithin most_threads)) }
     ensures only { (o : SaidCheck) → SaysCheck o (rows_of (found_of found.now)) → IfSome o.threads (IsWithin most_threads) → IsNotUsage result }
+    ensures no_version { IfErr result IsNoVersion }
 {
     let threads = number_within(alloc, found, "check", "threads", MOST_THREADS)?;
     Ok(CheckOptions {
@@ -337,6 +352,7 @@ fn number_or(
     ensures range { IfOk result (IsWithin most) }
     ensures only { (n : ℕ) → SpellsOr other (first_of id.now (rows_of (found_of found.now))) n → IsWithin most n
         → IsNotUsage result }
+    ensures no_version { IfErr result IsNoVersion }
 {
     match number_within(alloc, found, "upload", id, most)? {
         Some(n) => Ok(n),
@@ -354,6 +370,7 @@ fn upload_options(alloc: Global, found: &ArgMatches<'_>) -> Result<AskedUpload, 
     ensures says { IfOk result (λ asked. SaysUpload asked (rows_of (found_of found.now))) }
     ensures range { IfOk result (λ asked. AreWithin asked.options) }
     ensures only { (asked : SaidUpload) → SaysUpload asked (rows_of (found_of found.now)) → AreWithin asked.options → IsNotUsage result }
+    ensures no_version { IfErr result IsNoVersion }
 {
     let workers = number_or(alloc, found, "workers", MOST_THREADS, USUAL_WORKERS)?;
     let most = MOST_PART_CHUNKS as u32;
@@ -381,6 +398,7 @@ fn options_of<'a>(alloc: Global, matches: &ArgMatches<'a>) -> Result<Options<'a>
     ensures says { IfOk result (λ o. Says o (subcommand_rows_of matches.now)) }
     ensures range { IfOk result InRange }
     ensures only { (o : Said) → Says o (subcommand_rows_of matches.now) → InRange o → IsNotUsage result }
+    ensures no_version { IfErr result IsNoVersion }
 {
     match entered(matches) {
         Some(("sum", found)) => Ok(Options::Sum(sum_options(alloc, found)?)),
@@ -407,6 +425,8 @@ pub fn options<'a, S: AsStr>(alloc: Global, words: &'a [S]) -> Result<Options<'a
     // Words in which clap finds no fault, and which say options within their ranges, are refused for want of memory alone.
     ensures only { (o : Said) → IsTaken (map S.text words.entry.now) → Says o (subcommand_of command_line (map S.text words.entry.now)) → InRange o
         → IsNotUsage result }
+    // The version is told where it is asked for, and there alone.
+    ensures version { IfErr result (IsFaultAt (map S.text words.entry.now)) }
 {
     let matches = match program(alloc)?.try_get_matches_from(words) {
         Ok(matches) => matches,

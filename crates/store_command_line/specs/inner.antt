@@ -1,0 +1,2 @@
+-- What only proofs and functions within use.
+pub mod Faults
