@@ -4,4 +4,5 @@ pub mod Commands
 pub mod Carried
 pub mod Runs
 pub mod Seen
+pub mod Texts
 pub mod inner

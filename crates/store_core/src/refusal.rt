@@ -2,6 +2,7 @@
 
 ghost use Rattle.std.specs.Prelude.{◌≡◌, Some};
 ghost use Rattle.store_books.specs.Refusals.{refusal_code, refusal_text};
+ghost use Rattle.store_core.specs.Texts.{put_refused_text};
 
 use b3_forest::Prepared;
 use std::error::Error;
@@ -35,8 +36,10 @@ impl fmt::Display for PutRefused {
 
 /// The refusal, without the part's bytes.
 impl fmt::Debug for PutRefused {
+    ghost debug_output = { λ refused. Some (put_refused_text refused.refusal) };
+
     fn fmt<W: fmt::Write>(&self, f: &mut fmt::Formatter<W>) -> fmt::Result {
-        write!(f, "PutRefused {{ refusal: {:?}, .. }}", self.refusal)
+        write!(f, "PutRefused {{ refusal: {}, .. }}", self.refusal)
     }
 }
 
