@@ -13,8 +13,8 @@ use Rattle.store_core.specs.declared.command.Question.{Question}
 use Rattle.store_core.specs.declared.command.Question.TheVariants as questions
 use Rattle.store_core.specs.declared.store.Held.{Held}
 use Rattle.store_core.specs.Carried.{HasTotals, IsCarried}
-use Rattle.store_core.specs.Commands.{Acceptance, StepsAs, ModelSealed, Tells, abort_in, as_is, begin_in, begin_open_in, fetch_in, fix_in, forget_in, holds_in, list_in, open_tenant_in, plan_in, put_in, seal_as_in, seal_in, set_limit_in, tenants_in, uploads_in}
-use Rattle.store_core.specs.Model.{Shown}
+use Rattle.store_core.specs.Commands.{Acceptance, StepsAs, ModelSealed, Tells, abort_in, as_is, begin_in, begin_open_in, fetch_in, fix_in, forget_in, holds_in, list_in, open_tenant_in, plan_in, put_in, seal_as_in, seal_in, seal_work_in, set_limit_in, tenants_in, uploads_in}
+use Rattle.store_core.specs.Model.{ModelStore, Shown}
 use Rattle.store_journal.specs.declared.entry.Entry.{Entry}
 use Rattle.store_upload.specs.Uploads.{Fits, UploadPlan}
 
@@ -82,6 +82,12 @@ Step old (change (commands.Abort upload)) reply new = StepsAs as_is (replied (λ
 Step old (change (commands.Forget tenant address)) reply new = StepsAs as_is (replied (λ _. done) (forget_in old.state tenant address)) old reply new
 Step old (put upload part) reply new = FitsItsPlan part × StepsAs as_is (replied now_held (put_in old.state upload part)) old reply new
 Step old (ask question) reply new = Answers old question reply × (new ≡ old)
+
+-- the compressions of a command: those of a seal, and else none
+abbrev pub step_work : ModelStore → Command → ℕ
+step_work s (commands.Seal upload) = seal_work_in s upload
+step_work s (commands.SealAs upload address) = seal_work_in s upload
+step_work s _ = 0
 
 -- Steps along a list of calls, with their replies in order. The journal grows by the entries of the acceptances, in order, and by
 -- nothing else.

@@ -1,8 +1,9 @@
 //! Commands and questions, done and asked by their values.
 
 ghost use Rattle.std.specs.Prelude.{◌≡◌};
-ghost use Rattle.store_core.specs.Commands.{reply_seen};
-ghost use Rattle.store_core.specs.Runs.{Answers, Step, change};
+ghost use Rattle.b3_core.specs.Work.{counted};
+ghost use Rattle.store_core.specs.Commands.{reply_seen, seal_work_in};
+ghost use Rattle.store_core.specs.Runs.{Answers, Step, change, step_work};
 ghost use Rattle.store_core.specs.Seen.{reply_of};
 ghost use Rattle.store_core.specs.declared.command.Command.TheVariants as commands;
 ghost use Rattle.store_core.specs.declared.command.Question.TheVariants as questions;
@@ -14,9 +15,10 @@ use b3_core::Work;
 use store_books::{Address, Refusal, TenantId, UploadId};
 
 impl Store {
-    /// Does a command.
+    /// Does a command. A seal makes its compressions, any other command none.
     pub fn step(&mut self, command: Command, work: &mut Work) -> Result<Reply, Refusal>
-        ensures { Step self.old (change command) (reply_seen (reply_of self.new) result) self.new }
+        ensures step { Step self.old (change command) (reply_seen (reply_of self.new) result) self.new }
+        ensures count { work.new ≡ counted work.old (step_work self.old.state command) }
     {
         match command {
             Command::OpenTenant { limit } => open_tenant(self, limit),
@@ -85,7 +87,8 @@ fn fix(store: &mut Store, upload: UploadId, len: u64) -> Result<Reply, Refusal>
 }
 
 fn seal(store: &mut Store, upload: UploadId, work: &mut Work) -> Result<Reply, Refusal>
-    ensures { Step store.old (change (commands.Seal upload)) (reply_seen (reply_of store.new) result) store.new }
+    ensures step { Step store.old (change (commands.Seal upload)) (reply_seen (reply_of store.new) result) store.new }
+    ensures count { work.new ≡ counted work.old (seal_work_in store.old.state upload) }
 {
     let sealed = store.seal(upload, work)?;
     Ok(Reply::Sealed(sealed))
@@ -97,7 +100,8 @@ fn seal_as(
     address: Address,
     work: &mut Work,
 ) -> Result<Reply, Refusal>
-    ensures { Step store.old (change (commands.SealAs upload address)) (reply_seen (reply_of store.new) result) store.new }
+    ensures step { Step store.old (change (commands.SealAs upload address)) (reply_seen (reply_of store.new) result) store.new }
+    ensures count { work.new ≡ counted work.old (seal_work_in store.old.state upload) }
 {
     let sealed = store.seal_as(upload, address, work)?;
     Ok(Reply::Sealed(sealed))

@@ -20,7 +20,7 @@ returns-in-Some-Does-clause-answered c =
     let new = c.step.new.self in
     let some : 0 < length c.args.line.now = search rules in
     let is : Some (does c.in-Some-Does.command) ≡ command_at c.args.line.now = rw (c.in-Some-Does.is, c.in-Some-Does.field-0-is) at c.in_ok-read_command.ensures in
-    done old new c.args.line.now _ _ c.in-Some-Does.command (reply_seen (reply_of new) c.step.result) some is c.step.ensures (says new c.step.result)
+    done old new c.args.line.now _ _ c.in-Some-Does.command (reply_seen (reply_of new) c.step.result) some is c.step.ensures.step (says new c.step.result)
 
 pub returns-in-Some-Asks-clause-answered : goal.returns-in-Some-Asks-clause-answered
 returns-in-Some-Asks-clause-answered c =
