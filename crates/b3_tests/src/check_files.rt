@@ -7,7 +7,7 @@ use b3_check::{
     CheckFile, Line, NameFault, Names, NumberedLine, ReadError, Shown, read_line, verify, write,
 };
 use std::alloc::{AllocError, Global};
-use std::io::Write;
+use std::io::{ErrorKind, Write};
 use std::marker::Model;
 use std::test::Fail;
 
@@ -194,7 +194,8 @@ fn a_failed_write_is_the_last(rt: HostRuntime) -> Result<(), Fail> {
     let lines = vec![in alloc; line_of_abc(alloc, b"x")?]?;
     for fails in 1..68u64 {
         let mut writer = FailingWriter { calls: 0, fails };
-        assert!(rt; write(lines.as_slice(), &mut writer).is_err());
+        let error = write(lines.as_slice(), &mut writer).err();
+        assert_eq!(rt; error.map(|error| error.kind()), Some(ErrorKind::Other));
         assert_eq!(rt; writer.calls, fails);
     }
     for fails in 1..77u64 {

@@ -51,13 +51,16 @@ impl Read for ByteReader<'_> {
     }
 }
 
-/// Takes one byte a write. The call with the number `fails_at`, from 0, be it a write or a flush, and all later ones fail.
+/// Takes one byte a write. The call with the number `fails_at`, from 0, be it a write or a flush, and all later ones fail. One that is
+/// interrupted answers `Interrupted` before it takes a byte.
 #[derive(Drop)]
 pub struct ByteWriter {
     pub taken: Vec<u8>,
     pub calls: u64,
     pub fails_at: u64,
     pub failed: u64,
+    pub is_interrupted: bool,
+    pub takes_next: bool,
 }
 
 impl ByteWriter {
@@ -67,6 +70,8 @@ impl ByteWriter {
             calls: 0,
             fails_at,
             failed: 0,
+            is_interrupted: false,
+            takes_next: false,
         }
     }
 
@@ -89,6 +94,10 @@ impl ByteWriter {
 impl Write for ByteWriter {
     fn write(&mut self, buf: &[u8]) -> io::Result<usize> {
         self.count()?;
+        self.takes_next = !self.takes_next;
+        if self.is_interrupted && self.takes_next {
+            return Err(io::Error::from(ErrorKind::Interrupted));
+        }
         if buf.is_empty() {
             return Ok(0);
         }

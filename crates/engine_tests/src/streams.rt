@@ -160,12 +160,13 @@ fn each_write_that_fails_is_the_last(rt: HostRuntime) {
 }
 
 #[test]
-fn one_byte_a_call_and_interrupted_reads_are_no_fault(rt: HostRuntime) {
+fn one_byte_a_call_and_interruptions_are_no_fault(rt: HostRuntime) {
     for engine in ENGINES {
         for is_interrupted in [false, true] {
             let mut names = NoNames::new(true);
             let mut reader = ByteReader::new(input(engine), u64::MAX, is_interrupted);
             let mut writer = ByteWriter::new(rt.alloc(), u64::MAX);
+            writer.is_interrupted = is_interrupted;
             let found = ended(&rt, engine, &mut names, &mut reader, &mut writer);
             let verdict = if engine == Engine::Check {
                 Verdict::Refused
