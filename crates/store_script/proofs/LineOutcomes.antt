@@ -1,9 +1,11 @@
 -- What a line comes to.
-use Rattle.std.proofs.Common.{◌≡◌, ◌∙◌, ◌+◌, ◌-◌, ◌<◌, ◌≤◌, ℕ, List, [], ◌∷◌, Some, None, Ok, Err, Result, refl, ap, sym, subst, arith, cond, length, take}
-use Rattle.std.specs.Prelude.{◌&&◌, ◌==◌, Bool, Option, IfOk, unwrap_or, codes, false, nat_lt, slice_index, true}
+use Rattle.std.proofs.Common.{◌≡◌, ◌∙◌, ◌+◌, ◌-◌, ◌<◌, ◌≤◌, ℕ, List, [], ◌∷◌, ◌++◌, Some, None, Ok, Err, Result, refl, ap, sym, subst, arith, cond, length, take}
+use Rattle.std.specs.Prelude.{◌&&◌, ◌==◌, Bool, Option, IfOk, OnErr, unwrap_or, codes, false, nat_lt, slice_index, true}
 use Rattle.std.specs.Io.BufRead.{strip_last}
 use Rattle.std.proofs.lemmas.List.{length-take, take_all}
 use Rattle.b3_forest.specs.Parts.{PlannedPart, planned}
+use Rattle.edge.specs.Fields.{cut_at, space}
+use Rattle.edge.proofs.FieldTexts.{cut_found}
 use Rattle.store_upload.specs.Uploads.{UploadPlan, part_refusal}
 use Rattle.store_upload.specs.declared.refusal.PartFault.{PartFault}
 use Rattle.store_upload.specs.declared.refusal.PartFault.TheVariants as faults
@@ -17,7 +19,7 @@ use Rattle.store_core.specs.declared.command.Question.{Question}
 use Rattle.store_core.specs.declared.command.Question.TheVariants.{Plan}
 use Rattle.store_core.specs.Runs.{Answers, Reply, Step, ask, change, put, the_plan, told}
 use Rattle.store_script.specs.Grammar.{ScriptCommand, asks, command_at, does, puts}
-use Rattle.store_script.specs.Lines.{AnswersRead}
+use Rattle.store_script.specs.Lines.{AnswersRead, IsPutLine, PutsRead}
 use Rattle.store_script.proofs.Lengths.{long_is_none}
 use Rattle.store_script.specs.Script.{Answered, IsTurnOfCommand, IsTurnOfMade, IsTurnOf, IsTurnOfPut, Turn, bad, fault_ending, reply_ending, skipped, took, unmade}
 use Rattle.store_script.specs.Texts.{answer_text, unmade_text, refused_text}
@@ -133,7 +135,7 @@ put_asked old new line text ending upload offset bytes some is h = record {
 
 -- ---- a line that was read
 
-strip_shorter : (xs : List ℕ) → length xs ≤ length (strip_last 10 xs) + 1
+pub strip_shorter : (xs : List ℕ) → length xs ≤ length (strip_last 10 xs) + 1
 strip_shorter xs = go (nat_lt 0 (length xs) && slice_index xs (length xs - 1) == 10)
   where
     go : (t : Bool) → length xs ≤ length (cond t (take (length xs - 1) xs) xs) + 1
@@ -157,4 +159,21 @@ short_line (Ok a) old new count kept line short is h = record {
   answers = λ whole read.
       let all : kept ≡ whole = read.1 ∙ take_all 33554481 whole (omega (arith, short, read.0)) in
       subst (λ (l : List ℕ). Answered (LineTurn old l new) (told_text new a) (told_ending a)) (is ∙ ap (strip_last 10) all) h;
+}
+
+-- ---- want of memory
+
+pub put_line : (line kind fields : List ℕ) → Some (kind, fields) ≡ cut_at space line → kind ≡ codes "put" → IsPutLine line
+put_line line kind fields cut is = (fields, sym (cut_found space line (kind, fields) (sym cut)) ∙ ap (λ (k : List ℕ). k ++ space ∷ fields) is)
+
+pub always : {A E P : Type 0} (r : Result A E) → P → OnErr r P
+always (Ok a) p = tt
+always (Err e) p = p
+
+pub short_put : {A E : Type 0} (r : Result A E) (count : ℕ) (kept line : List ℕ) → count ≤ 33554481 → line ≡ strip_last 10 kept → OnErr r (IsPutLine line) → OnErr r (PutsRead count kept)
+short_put (Ok a) count kept line short is h = tt
+short_put (Err e) count kept line short is h = record {
+  puts = λ whole read.
+      let all : kept ≡ whole = read.1 ∙ take_all 33554481 whole (omega (arith, short, read.0)) in
+      subst IsPutLine (is ∙ ap (strip_last 10) all) h;
 }

@@ -1,5 +1,5 @@
 -- A line that was read, of which no more is kept than a command's line may have.
-use Rattle.std.specs.Prelude.{◌≡◌, ℕ, List, length, take}
+use Rattle.std.specs.Prelude.{◌≡◌, ℕ, List, ◌++◌, codes, length, take}
 use Rattle.std.specs.Io.Iter.{u64_saturate}
 use Rattle.std.specs.Io.BufRead.{strip_last}
 use Rattle.store_core.specs.Model.{Shown}
@@ -14,6 +14,14 @@ most_line = 33554480
 abbrev pub IsReadLine : List ℕ → ℕ → List ℕ → Type 0
 IsReadLine whole count kept = (count ≡ u64_saturate (length whole)) × (kept ≡ take 33554481 whole)
 
+-- a line begins as one that puts a part, whose bytes take memory
+abbrev pub IsPutLine : List ℕ → Type 0
+IsPutLine line = (fields : List ℕ) × (line ≡ codes "put " ++ fields)
+
 -- what is answered to it
 pub record AnswersRead (old new : Shown) (count : ℕ) (kept text : List ℕ) (ending : Ending) : Type 0 where
   pub answers : (whole : List ℕ) → IsReadLine whole count kept → Answered (λ turn. IsTurnOf old (strip_last 10 whole) turn new) text ending
+
+-- it begins so
+pub record PutsRead (count : ℕ) (kept : List ℕ) : Type 0 where
+  pub puts : (whole : List ℕ) → IsReadLine whole count kept → IsPutLine (strip_last 10 whole)

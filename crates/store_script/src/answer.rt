@@ -8,7 +8,7 @@ ghost use Rattle.store_core.specs.Commands.{plan_in, reply_seen};
 ghost use Rattle.store_script.specs.Answers.{told_ending, told_text};
 ghost use Rattle.store_core.specs.Runs.{Step, put};
 ghost use Rattle.store_core.specs.Seen.{reply_of};
-ghost use Rattle.store_script.specs.Lines.{AnswersRead};
+ghost use Rattle.store_script.specs.Lines.{AnswersRead, IsPutLine, PutsRead};
 ghost use Rattle.store_script.specs.Script.{Answered, IsTurnOf, IsTurnOfPut, fault_ending, reply_ending};
 ghost use Rattle.std.specs.Io.BufRead.{strip_last};
 
@@ -93,6 +93,8 @@ pub fn answer_read(
     requires { 0 < count }
     ensures answered { IfOk result (λ answer. AnswersRead store.old store.new count line.now (told_text store.new answer) (told_ending answer)) }
     ensures unchanged { OnErr result (store.new ≡ store.old) }
+    // Memory is refused only for the bytes of a part.
+    ensures memory { OnErr result (PutsRead count line.now) }
 {
     if count > MOST_LINE {
         return Ok(Answer::Bad);
@@ -119,6 +121,7 @@ fn answer_line(
 ) -> Result<Answer, AllocError>
     ensures answered { IfOk result (λ answer. Answered (λ turn. IsTurnOf store.old line.now turn store.new) (told_text store.new answer) (told_ending answer)) }
     ensures unchanged { OnErr result (store.new ≡ store.old) }
+    ensures memory { OnErr result (IsPutLine line.now) }
 {
     if line.is_empty() {
         return Ok(Answer::Nothing);

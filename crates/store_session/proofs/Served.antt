@@ -1,6 +1,7 @@
 -- What one line comes to.
-use Rattle.std.proofs.Common.{◌≡◌, ◌∙◌, ◌<◌, ◌≤◌, ℕ, Bool, true, false, List, Ok, Err, Some, None, Option, ap, drop, length, length-take-le, refl, subst, sym, take}
+use Rattle.std.proofs.Common.{◌≡◌, ◌∙◌, ◌≤◌, ℕ, Bool, true, false, List, Ok, Err, Some, None, Option, ap, arith, drop, inl, inr, length, length-take-le, refl, subst, sym, take}
 use Rattle.std.specs.Prelude.{IfOk, IfSome, Result, unwrap_or}
+use Rattle.std.specs.Io.BufRead.{strip_last}
 use Rattle.std.specs.Io.KnownBytes.{Appends}
 use Rattle.std.proofs.KnownBytes.{Appends-nil}
 use Rattle.store_books.specs.declared.refusal.Refusal.{Refusal}
@@ -11,15 +12,16 @@ use Rattle.store_core.specs.Seen.{reply_of}
 use Rattle.store_core.specs.declared.command.Question.{Question}
 use Rattle.store_core.specs.declared.reply.Reply.{Reply as CodeReply}
 use Rattle.store_script.specs.Answers.{told_ending, told_text}
-use Rattle.store_script.specs.Lines.{AnswersRead}
+use Rattle.store_script.specs.Lines.{AnswersRead, PutsRead}
 use Rattle.store_script.specs.Script.{Answered, took}
 use Rattle.store_script.specs.declared.answer.Answer.{Answer}
 use Rattle.store_script.specs.declared.answer.Answer.TheVariants as answers
-use Rattle.store_script.proofs.LineOutcomes.{PutTurn}
+use Rattle.store_script.proofs.LineOutcomes.{PutTurn, strip_shorter}
 use Rattle.store_upload.specs.Uploads.{UploadPlan, part_refusal}
 use Rattle.store_upload.specs.declared.refusal.PartFault.{PartFault}
 use Rattle.store_upload.specs.declared.refusal.PartFault.TheVariants as faults
 use Rattle.store_session.specs.inner.Reads.{Copied, Dropped}
+use Rattle.store_session.specs.Reads.{most_request}
 use Rattle.store_session.specs.Requests.{request_in}
 use Rattle.store_session.specs.inner.Requests.{AsksFor}
 use Rattle.store_session.specs.Session.{IsTurnOfQuestion, IsTurnOfRequest, SessionTurn, as_script, no_memory, session_turn_text, told_as}
@@ -30,8 +32,19 @@ use Rattle.store_session.specs.declared.request.Request.TheVariants.{Put}
 
 -- ---- a line of a script
 
-pub lost_line : (old : Shown) (read : LineRead) (kept : List ℕ) (was is : Option (List ℕ)) → Appends was is (session_turn_text no_memory) → AnswersLine old old read kept was is
-lost_line old read kept was is wrote = record { answers = λ whole h. record { turn = no_memory; is = refl; wrote = wrote } }
+-- bytes were lost
+pub lost_line : (old : Shown) (read : LineRead) (kept : List ℕ) (was is : Option (List ℕ)) → read.is_kept ≡ false → Appends was is (session_turn_text no_memory) → AnswersLine old old read kept was is
+lost_line old read kept was is lost wrote = record {
+  answers = λ whole h.
+      let long : most_request ≤ length (strip_last 10 whole) = omega (arith, h.long lost, strip_shorter whole) in
+      record { turn = no_memory; is = (inl long, refl); wrote = wrote };
+}
+
+-- memory was refused for the bytes of a part
+pub lost_part : (old new : Shown) (read : LineRead) (kept : List ℕ) (was is : Option (List ℕ)) → read.is_kept ≡ true → new ≡ old → PutsRead read.count kept → Appends was is (session_turn_text no_memory) → AnswersLine old new read kept was is
+lost_part old new read kept was is is_kept same h wrote = record {
+  answers = λ whole r. record { turn = no_memory; is = (inr (h.puts whole (r.count_is, r.kept_is is_kept)), same); wrote = wrote };
+}
 
 -- all of its bytes were kept that a command's line may have
 pub answered_line : (old new : Shown) (read : LineRead) (kept : List ℕ) (answer : Answer) (was is : Option (List ℕ)) → read.is_kept ≡ true → AnswersRead old new read.count kept (told_text new answer) (told_ending answer) → Appends was is (told_text new answer) → AnswersLine old new read kept was is

@@ -1,5 +1,5 @@
 -- How far a session has come.
-use Rattle.std.proofs.Common.{◌≡◌, ◌∙◌, ◌<◌, ◌++◌, ◌∷◌, ◌^◌, [], ℕ, Bool, true, false, List, Some, None, Option, ap, append-nil, arith, length, refl, subst, sym, take}
+use Rattle.std.proofs.Common.{◌≡◌, ◌∙◌, ◌<◌, ◌++◌, ◌∷◌, [], ℕ, Bool, true, false, List, Some, None, Option, ap, append-nil, arith, length, refl, subst, sym, take}
 use Rattle.std.specs.Prelude.{IfSome}
 use Rattle.std.specs.List.{flat_map}
 use Rattle.std.specs.Io.BufRead.{DropsThrough, drop_through, strip_last, take_through}
@@ -35,7 +35,7 @@ CameTo old no_memory new = new ≡ old
 CameTo old (told_as manner turn) new = Came old turn new
 
 of_script_line : (old new : Shown) (line : List ℕ) (turn : SessionTurn) → IsTurnOfScriptLine old line turn new → CameTo old turn new
-of_script_line old new line no_memory h = h
+of_script_line old new line no_memory h = h.1
 of_script_line old new line (told_as manner turn) h = came old new line turn h.1
 
 of_told : (old new : Shown) (manner : Manner) (Is : script.Turn → Type 0) (turn : SessionTurn) → ((t : script.Turn) → Is t → Came old t new) → IsToldAs manner Is turn → CameTo old turn new

@@ -1,5 +1,5 @@
 -- A session: lines, some with so many raw bytes behind them as they say, and their answers.
-use Rattle.std.specs.Prelude.{◌≡◌, ◌<◌, ◌≤◌, ℕ, List, [], ◌∷◌, ◌++◌, Option, Some, None, Result, Ok, codes, drop, length, take}
+use Rattle.std.specs.Prelude.{◌≡◌, ◌<◌, ◌≤◌, ◌⊎◌, ℕ, List, [], ◌∷◌, ◌++◌, Option, Some, None, Result, Ok, codes, drop, length, take}
 use Rattle.std.specs.Fmt.{decimal}
 use Rattle.std.specs.List.{flat_map}
 use Rattle.std.specs.Io.BufRead.{drop_through, strip_last, take_through}
@@ -15,9 +15,11 @@ use Rattle.store_core.specs.Model.{Shown}
 use Rattle.store_core.specs.Runs.{Call, Reply, Run, ask, the_bytes, the_journal}
 use Rattle.store_core.specs.declared.command.Question.{Question}
 use Rattle.store_core.specs.declared.command.Question.TheVariants as questions
+use Rattle.store_script.specs.Lines.{IsPutLine}
 use Rattle.store_script.specs.Script.{IsTurnOfPut, widest_start}
 use Rattle.store_script.specs.Script as script
 use Rattle.store_script.specs.Texts.{entries_text, refused_text, reply_text}
+use Rattle.store_session.specs.Reads.{most_request}
 use Rattle.store_session.specs.Requests.{request_in}
 use Rattle.store_session.specs.declared.request.Range.{Range}
 use Rattle.store_session.specs.declared.request.Request.{Request}
@@ -66,9 +68,13 @@ session_turn_text (told_as (as_entries from) turn) = told_by (later_text from) t
 
 -- ---- one line
 
+-- reading a line of a script may take memory: where it is long, or puts a part
+abbrev pub MayTakeMemory : List ℕ → Type 0
+MayTakeMemory line = (most_request ≤ length line) ⊎ IsPutLine line
+
 -- a line of a script comes to what it comes to there, unless memory is refused for it
 abbrev pub IsTurnOfScriptLine : Shown → List ℕ → SessionTurn → Shown → Type 0
-IsTurnOfScriptLine old line no_memory new = new ≡ old
+IsTurnOfScriptLine old line no_memory new = MayTakeMemory line × (new ≡ old)
 IsTurnOfScriptLine old line (told_as manner turn) new = (manner ≡ as_script) × script.IsTurnOf old line turn new
 
 -- a turn of which this holds is told in this manner
