@@ -19,7 +19,7 @@ limit 3 18446744073709551615
 begin 0 1 2
 put 0 1024 1
 seal 4 0000000000000000000000000000000000000000000000000000000000000000 new
-seal 5 0000000000000000000000000000000000000000000000000000000000000000 known
+seal 18446744073709551615 0000000000000000000000000000000000000000000000000000000000000000 known
 abort 12
 forget 6 0000000000000000000000000000000000000000000000000000000000000000
 open 5 3 2048
@@ -32,7 +32,7 @@ Limit { tenant: TenantId { number: 3 }, limit: 18446744073709551615 }
 Begin { upload: UploadId { number: 0 }, tenant: TenantId { number: 1 }, len: 2 }
 Put { upload: UploadId { number: 0 }, offset: 1024, len: 1 }
 Seal { upload: UploadId { number: 4 }, address: Address { bytes: [0, 0, 0, 0, 0, 0, 0, 0, 0, 0, 0, 0, 0, 0, 0, 0, 0, 0, 0, 0, 0, 0, 0, 0, 0, 0, 0, 0, 0, 0, 0, 0] }, new: true }
-Seal { upload: UploadId { number: 5 }, address: Address { bytes: [0, 0, 0, 0, 0, 0, 0, 0, 0, 0, 0, 0, 0, 0, 0, 0, 0, 0, 0, 0, 0, 0, 0, 0, 0, 0, 0, 0, 0, 0, 0, 0] }, new: false }
+Seal { upload: UploadId { number: 18446744073709551615 }, address: Address { bytes: [0, 0, 0, 0, 0, 0, 0, 0, 0, 0, 0, 0, 0, 0, 0, 0, 0, 0, 0, 0, 0, 0, 0, 0, 0, 0, 0, 0, 0, 0, 0, 0] }, new: false }
 Abort { upload: UploadId { number: 12 } }
 Forget { tenant: TenantId { number: 6 }, address: Address { bytes: [0, 0, 0, 0, 0, 0, 0, 0, 0, 0, 0, 0, 0, 0, 0, 0, 0, 0, 0, 0, 0, 0, 0, 0, 0, 0, 0, 0, 0, 0, 0, 0] } }
 Open { upload: UploadId { number: 5 }, tenant: TenantId { number: 3 }, at_most: 2048 }
