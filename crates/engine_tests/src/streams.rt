@@ -4,9 +4,11 @@ use crate::fakes::{ByteReader, ByteWriter, NoNames};
 use crate::uploads::uploaded;
 use b3_check::Shown;
 use b3_core::{Runtime, Work};
+use b3_tests::pattern;
 use edge::{SumMode, UploadOptions};
 use std::io::BufReader;
 use std::sync::Wait;
+use std::test::Fail;
 use std::thread::Threads;
 use store_engines::{Cause, SumRequest, Verdict, audit, check, migrate, run, serve, sum};
 
@@ -37,7 +39,7 @@ fn input(engine: Engine) -> &'static [u8] {
         Engine::Audit | Engine::Migrate => b"tenant 0 5\n",
         Engine::Check => b"6437b3ac38465133ffb63b75273a8db548c558465d79db03fd359c6cd5bd9d85  f",
         Engine::Run => b"tenant 5\nbegin 0 1\n",
-        Engine::Serve => b"tenant 5\nopen 0 5\nputb 0 0 3\nabcuploads 0\n",
+        Engine::Serve => b"tenant 5\nopen 0 5\nputb 1 0 3\nabcputb 0 0 3\nabcuploads 0\n",
         Engine::Sum | Engine::Upload => b"abc",
     }
 }
@@ -49,7 +51,7 @@ fn output(engine: Engine) -> &'static [u8] {
         Engine::Check => b"missing f\ngood 0 bad 0 missing 1 unreadable 0 faults 0\n",
         Engine::Migrate => b"b3store-journal 2\ntenant 0 5\n",
         Engine::Run => b"tenant 0\nupload 0\n",
-        Engine::Serve => b"tenant 0\nupload 0\nheld 3 all\nuploads 1\n0 5 3 3\n",
+        Engine::Serve => b"tenant 0\nupload 0\nrefused S7\nheld 3 all\nuploads 1\n0 5 3 3\n",
         Engine::Sum => b"6437b3ac38465133ffb63b75273a8db548c558465d79db03fd359c6cd5bd9d85  -\n",
         Engine::Upload => {
             b"6437b3ac38465133ffb63b75273a8db548c558465d79db03fd359c6cd5bd9d85  -\naccepted 3 1\n"
@@ -62,21 +64,22 @@ fn output(engine: Engine) -> &'static [u8] {
 fn writes(engine: Engine) -> u64 {
     let flushes = match engine {
         Engine::Run => 2u64,
-        Engine::Serve => 4,
+        Engine::Serve => 5,
         _ => 1,
     };
     flushes.saturating_add(output(engine).len() as u64)
 }
 
 // What it writes where the read of this number fails, of one byte each. Lines are answered once they were read with the bytes behind
-// them: of a script these have 9 bytes and 10, of a session 9, 9, 14 and 10.
+// them: of a script these have 9 bytes and 10, of a session 9, 9, 14, 14 and 10.
 fn answered(engine: Engine, fails_at: u64) -> &'static [u8] {
     match engine {
         Engine::Run | Engine::Serve if fails_at < 9 => b"",
         Engine::Run if fails_at < 19 => b"tenant 0\n",
         Engine::Serve if fails_at < 18 => b"tenant 0\n",
         Engine::Serve if fails_at < 32 => b"tenant 0\nupload 0\n",
-        Engine::Serve if fails_at < 42 => b"tenant 0\nupload 0\nheld 3 all\n",
+        Engine::Serve if fails_at < 46 => b"tenant 0\nupload 0\nrefused S7\n",
+        Engine::Serve if fails_at < 56 => b"tenant 0\nupload 0\nrefused S7\nheld 3 all\n",
         Engine::Run | Engine::Serve => output(engine),
         _ => b"",
     }
@@ -177,4 +180,24 @@ fn one_byte_a_call_and_interruptions_are_no_fault(rt: HostRuntime) {
             assert_eq!(rt; writer.taken.as_slice(), output(engine));
         }
     }
+}
+
+// The check line of 2 MiB of the pattern and a byte.
+const LONG_LINE: &[u8] = b"52dc212cb4cc61cb94d25bd7b1d47b256e4c3a6d68956df50c235c37a2aeacd7  -\n";
+
+// What stands behind the first 2 MiB is read in blocks, for threads.
+#[test]
+fn a_long_input_is_read_on_behind_interruptions(rt: HostRuntime) -> Result<(), Fail> {
+    let input = pattern(rt.alloc(), 0, 2_097_153)?;
+    let two = SumRequest {
+        threads: Some(2),
+        ..PLAIN
+    };
+    let mut reader = ByteReader::new(&input, u64::MAX, true);
+    let mut writer = ByteWriter::new(rt.alloc(), u64::MAX);
+    let mut work = Work::new(&rt);
+    let found = sum(&rt, rt.alloc(), &two, &mut reader, &mut writer, &mut work);
+    assert_eq!(rt; found, Ok(()));
+    assert_eq!(rt; writer.taken.as_slice(), LONG_LINE);
+    Ok(())
 }
