@@ -92,6 +92,7 @@ fn two_halves<L: Ledgers + Send + Sync, R: Threads + Wait + Sync + AllocGlobal +
     assert!(rt; done_one && done_two);
     sealed_and_forgotten(rt, &shared, &mut share);
     let mut locked = shared.close();
+    assert_eq!(rt; locked.store().journal().len(), 7);
     let missing = NotWhole {
         bytes: 1024,
         calls: 1,
@@ -276,7 +277,9 @@ fn one_after_another<L: Ledgers, R: Wait + AllocGlobal + Runtime + Abort>(
         bytes: 3072,
         calls: 3,
     };
-    assert_eq!(rt; shared.close().settle(&mut share), Ok(all));
+    let mut locked = shared.close();
+    assert_eq!(rt; locked.store().journal().len(), 9);
+    assert_eq!(rt; locked.settle(&mut share), Ok(all));
     Ok(())
 }
 
