@@ -23,10 +23,11 @@ sys.dont_write_bytecode = True
 TESTS = os.path.dirname(os.path.dirname(os.path.abspath(__file__)))
 sys.path[1:1] = [os.path.join(TESTS, "common"), os.path.join(TESTS, "second_reading")]
 from commands import FILES, cases
+from preloaded import CannotPreload, Preloaded
 from python_needed import end_where_older
-from refusing import CannotRefuse, Refusing
 from test_programs import CRATES, NoTests, tests
 
+REFUSING = os.path.join(TESTS, "growths", "refusing.c")
 MOST_GROWTHS = 5000
 TELLS = b"b3store: out of memory\n"
 
@@ -67,14 +68,14 @@ def may_end(run, whole, case):
 
 def growths_of(refusing, case):
     """How many runs did as they must, how many of these ended for want of memory, and what the others did."""
-    undisturbed, _ = refusing.run(case.words, case.data, 0)
+    undisturbed, _ = refusing.run(case.words, case.data)
     whole = ending(undisturbed)
     if not is_answer(undisturbed, case.answer):
         return 0, 0, [f"where no growth is refused it ended {whole!r}, not {tuple(case.answer)!r}"]
     passed, ended, failed = 0, 0, []
     for growth in range(1, MOST_GROWTHS):
         try:
-            run, met = refusing.run(case.words, case.data, growth)
+            run, met = refusing.run(case.words, case.data, GROWTH=str(growth))
         except subprocess.TimeoutExpired:
             failed.append(f"growth {growth}: it did not end")
             continue
@@ -106,8 +107,8 @@ def try_case(refusing, case, tally):
 
 def try_all(options, folder, tally):
     try:
-        refusing = Refusing(folder)
-    except CannotRefuse as fault:
+        refusing = Preloaded(folder, REFUSING)
+    except CannotPreload as fault:
         tally.fail("all", fault)
         return
     for name, content in FILES.items():

@@ -1,5 +1,5 @@
 /* Answers null to one growth of the process that it is preloaded into: the one whose number, counted from 1, the environment
-   variable GROWTH has. It then writes a byte to the file descriptor in GROWTH_TOLD. */
+   variable GROWTH has. It then writes a byte to the file descriptor in DISTURBED. */
 #include <errno.h>
 #include <stdatomic.h>
 #include <stddef.h>
@@ -17,7 +17,7 @@ static int told;
 
 __attribute__((constructor)) static void begin(void) {
     const char *number = getenv("GROWTH");
-    const char *descriptor = getenv("GROWTH_TOLD");
+    const char *descriptor = getenv("DISTURBED");
     refused_growth = number ? atol(number) : 0;
     told = descriptor ? atoi(descriptor) : -1;
 }

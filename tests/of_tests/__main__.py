@@ -1,6 +1,6 @@
-"""python3 tests/of_tests: shows that tests/growths, tests/random, tests/memory, tests/program, tests/clients and tests/soak fail where they must: over
-`true` and `cat` in the program's place, where no growth can be refused, and where there is no C compiler or no test program. Each is run
-so, and must end with status 1 and a last line `N passed, M failed`, where M is not 0 and no more pass than is said here.
+"""python3 tests/of_tests: shows that tests/growths, tests/failures, tests/random, tests/memory, tests/program, tests/clients and tests/soak fail where
+they must: over `true` and `cat` in the program's place, where no growth can be refused, and where there is no C compiler or no test program. Each is
+run so, and must end with status 1 and a last line `N passed, M failed`, where M is not 0 and no more pass than is said here.
 
 A stand-in (stand_in.c) gives the answers that tests/growths wants, and grows once. With it tests/growths passes; linked statically
 it can't be refused that growth. The last line is `N passed, M failed`, which counts these trials. It needs a C compiler, `cc`.
@@ -129,12 +129,14 @@ def try_growths(trials, folder):
     how = "linked statically" if is_static else "that never grows, since cc -static builds none"
     trials.fails(f"growths over a stand-in {how}", [growths, linked, "--crates", crates[linked]], "no growth was refused")
     trials.fails("growths without a compiler", [growths, right, "--crates", crates[right]], "there is no C compiler", path=empty)
+    trials.fails("failures without a compiler", [os.path.join(TESTS, "failures"), right], "there is no C compiler", path=empty)
 
 
 def try_program(trials, name):
     program = shutil.which(name)
-    growths, random, memory = (os.path.join(TESTS, folder) for folder in ("growths", "random", "memory"))
+    growths, failures, random, memory = (os.path.join(TESTS, folder) for folder in ("growths", "failures", "random", "memory"))
     trials.fails(f"growths over {name}", [growths, program, "--program-alone"], "where no growth is refused")
+    trials.fails(f"failures over {name}", [failures, program])
     trials.fails(f"random over {name}", [random, program, "--cases", str(FEW_CASES)])
     trials.fails(f"memory over {name}", [memory, program, "--program-alone"], "it answered")
     trials.fails(f"program over {name}", [os.path.join(TESTS, "program"), program], most=MOST_OF_A_HUNDRED)

@@ -29,8 +29,8 @@ def text_of(lines):
     return "".join(line + "\n" for line in lines).encode()
 
 
-def requests_of(data):
-    """Each line that is not empty, with the bytes that it takes behind it: None where they are cut off."""
+def requests_with_ends(data):
+    """Each line that is not empty, the bytes that it takes after it, None where they are cut off, and where both end in the data."""
     at = 0
     while at < len(data):
         end = data.find(b"\n", at)
@@ -40,7 +40,12 @@ def requests_of(data):
         length = request[1][2] if request and request[0] == "putb" else 0
         taken, at = data[at : at + length], at + length
         if line:
-            yield line, taken if len(taken) == length else None
+            yield line, taken if len(taken) == length else None, at
+
+
+def requests_of(data):
+    """The same without the ends."""
+    return ((line, taken) for line, taken, _ in requests_with_ends(data))
 
 
 def content_answer(store, tenant, address, first, length):
@@ -79,3 +84,9 @@ def session_of(data):
             return output, 1
         output += told(store, line, taken)
     return output, 0
+
+
+def answers_within(data, count):
+    """The answers to the requests that end within so many bytes of a session."""
+    ends = [end for _, taken, end in requests_with_ends(data) if taken is not None and end <= count]
+    return session_of(data[: max(ends, default=0)])[0]

@@ -5,12 +5,11 @@ ghost use Rattle.b3_check.specs.Names.{IsName};
 ghost use Rattle.store_command_line.specs.Ranges.{IsSumInRange};
 
 use crate::extent::{Extent, Metered};
-use crate::standard::{StandardError, StandardInput};
+use crate::standard::{StandardError, StandardInput, StandardOutput};
 use crate::telling::{misused, opened, status, stopped};
 use b3_check::Name;
 use b3_core::{Runtime, Work};
 use edge::SumMode;
-use std::io;
 use std::io::{LineWriter, Read};
 use std::thread::Threads;
 use store_command_line::{AskedMode, CheckOptions, Input, NameList, SumInputs, SumOptions};
@@ -66,7 +65,7 @@ fn sum_standard<T: Threads + Runtime>(
     requires { IsName request.now.name.now }
 {
     let mut work = Work::new(rt);
-    let (mut input, mut writer) = (StandardInput::new(rt), io::writer(rt));
+    let (mut input, mut writer) = (StandardInput::new(rt), StandardOutput::new(rt));
     extent.note_bytes(input.len_left());
     let mut files = SystemFiles::new(rt, threads, request.mode, request.threads);
     if let Some(root) = files.root_of_file_input(&mut input) {
@@ -101,7 +100,7 @@ fn sum_named<T: Threads + Runtime>(
     options: &SumOptions<'_>,
     names: &[Name],
 ) -> Result<Verdict, Cause> {
-    let Ok(mut writer) = LineWriter::new(rt.alloc(), io::writer(rt)) else {
+    let Ok(mut writer) = LineWriter::new(rt.alloc(), StandardOutput::new(rt)) else {
         return Err(Cause::OutOfMemory);
     };
     let files = SystemFiles::new(rt, threads, mode, options.threads);
@@ -173,7 +172,7 @@ fn checked<T: Threads + Runtime, R: Read>(
     options: &CheckOptions<'_>,
     reader: &mut R,
 ) -> Result<Verdict, Cause> {
-    let Ok(mut writer) = LineWriter::new(rt.alloc(), io::writer(rt)) else {
+    let Ok(mut writer) = LineWriter::new(rt.alloc(), StandardOutput::new(rt)) else {
         return Err(Cause::OutOfMemory);
     };
     let files = SystemFiles::new(rt, threads, SumMode::Hash, options.threads);

@@ -14,8 +14,7 @@ use edge::UploadOptions;
 use extent::Extent;
 use inputs::{check_status, sum_status};
 use progress::with_progress;
-use standard::StandardInput;
-use std::io;
+use standard::{StandardInput, StandardOutput};
 use std::io::{BufReader, BufWriter, ErrorKind, IsTerminal};
 use std::marker::Brand;
 use std::process::ExitCode;
@@ -48,7 +47,7 @@ fn answered(rt: &HostRuntime) -> Result<Verdict, Cause> {
     let Ok(mut lines) = BufReader::new(rt.alloc(), rt.stdin()) else {
         return Err(Cause::OutOfMemory);
     };
-    let Ok(mut answers) = BufWriter::new(rt.alloc(), io::writer(rt)) else {
+    let Ok(mut answers) = BufWriter::new(rt.alloc(), StandardOutput::new(rt)) else {
         return Err(Cause::OutOfMemory);
     };
     let mut work = Work::new(rt);
@@ -60,7 +59,7 @@ fn served(rt: &HostRuntime) -> Result<Verdict, Cause> {
     let Ok(mut lines) = BufReader::with_capacity(rt.alloc(), AT_A_TIME, rt.stdin()) else {
         return Err(Cause::OutOfMemory);
     };
-    let Ok(mut answers) = BufWriter::new(rt.alloc(), io::writer(rt)) else {
+    let Ok(mut answers) = BufWriter::new(rt.alloc(), StandardOutput::new(rt)) else {
         return Err(Cause::OutOfMemory);
     };
     let mut work = Work::new(rt);
@@ -75,7 +74,7 @@ fn uploaded<T: Threads + Wait + Sync + Runtime>(
     options: UploadOptions,
 ) -> Result<Verdict, Cause> {
     extent.note_bytes(StandardInput::new(rt).len_left());
-    let (mut reader, mut writer) = (rt.stdin(), io::writer(rt));
+    let (mut reader, mut writer) = (rt.stdin(), StandardOutput::new(rt));
     let (bytes, calls) = (Blank::new(ALL_PARTS), Blank::new(ALL_PARTS));
     upload::<Brand, _, _, _>(
         threads,
@@ -98,7 +97,7 @@ fn perform<T: Threads + Wait + Sync + Runtime>(
     requires { InRange options.now }
 {
     let alloc = rt.alloc();
-    let (mut reader, mut writer) = (rt.stdin(), io::writer(rt));
+    let (mut reader, mut writer) = (rt.stdin(), StandardOutput::new(rt));
     match options {
         Options::Sum(options) => sum_status(rt, threads, extent, options),
         Options::Run => status(rt, answered(rt)),

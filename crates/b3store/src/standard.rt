@@ -1,7 +1,7 @@
 //! The standard streams.
 
 use std::fs::File;
-use std::io::{IsTerminal, Read, Write};
+use std::io::{ErrorKind, IsTerminal, Read, Write};
 use std::rt::Stdin;
 use std::{fs, io};
 use store_engines::Standing;
@@ -67,6 +67,40 @@ impl Standing for StandardInput<'_> {
 
     fn take_all(&mut self) {
         self.is_taken = true;
+    }
+}
+
+/// Standard output. After a failed write nothing more is written, so a buffer that is dropped with bytes left in it doesn't write them again.
+#[derive(Drop)]
+pub(crate) struct StandardOutput<'a> {
+    rt: &'a HostRuntime,
+    has_failed: bool,
+}
+
+impl<'a> StandardOutput<'a> {
+    pub(crate) fn new(rt: &'a HostRuntime) -> StandardOutput<'a> {
+        StandardOutput {
+            rt,
+            has_failed: false,
+        }
+    }
+}
+
+impl Write for StandardOutput<'_> {
+    fn write(&mut self, buf: &[u8]) -> io::Result<usize> {
+        if self.has_failed {
+            return Err(ErrorKind::Other.into());
+        }
+        let written = io::writer(self.rt).write(buf);
+        self.has_failed = match &written {
+            Ok(count) => *count == 0 && !buf.is_empty(),
+            Err(error) => error.kind() != ErrorKind::Interrupted,
+        };
+        written
+    }
+
+    fn flush(&mut self) -> io::Result<()> {
+        io::writer(self.rt).flush()
     }
 }
 
