@@ -22,7 +22,9 @@ use std::sync::Wait;
 use std::sync::ledger::Blank;
 use std::thread::Threads;
 use store_command_line::{Fault, Options, SumInputs, options};
-use store_engines::{ALL_PARTS, Cause, Verdict, audit, migrate, run, serve, upload};
+use store_engines::{ALL_PARTS, Cause, Verdict, audit, migrate, upload};
+use store_script::run;
+use store_session::serve;
 use telling::{GOOD, USAGE, status, stopped};
 
 // How many bytes a session reads at a time.

@@ -4,7 +4,8 @@
 use crate::fakes::FixedWriter;
 use b3_core::{Runtime, Work};
 use std::process::Abort;
-use store_engines::{Cause, Verdict, run};
+use store_engines::{Cause, Verdict};
+use store_script::run;
 
 // Two tenants that hold one object.
 const SHARED: &[u8] =

@@ -10,7 +10,9 @@ use std::io::BufReader;
 use std::sync::Wait;
 use std::test::Fail;
 use std::thread::Threads;
-use store_engines::{Cause, SumRequest, Verdict, audit, check, migrate, run, serve, sum};
+use store_engines::{Cause, SumRequest, Verdict, audit, check, migrate, sum};
+use store_script::run;
+use store_session::serve;
 
 #[derive(Clone, Copy, Debug, PartialEq, Eq)]
 enum Engine {

@@ -1,12 +1,11 @@
-//! The engines of the program's subcommands, each over a reader and a writer.
+//! The engines of the program's subcommands, each over a reader and a writer. That of a script is in `store_script`, and that of a session in
+//! `store_session`.
 //!
 //! | Engine | Reads | Writes |
 //! |---|---|---|
 //! | `sum` | bytes | their check line, or the first bytes of their extended output |
 //! | `sum_files` | what has each of some names | of each the same, as it is known |
 //! | `check` | check lines | of each whether the content of its name has its hash |
-//! | `run` | a script | its answers, from a store of its own |
-//! | `serve` | a session of a program | its answers, from a store of its own |
 //! | `upload` | bytes | their check line and the accounts of an upload by several workers |
 //! | `audit` | a journal's text | the totals that it leaves and what it says was accepted |
 //! | `migrate` | a journal's text | the text of version 2 of its entries |
@@ -17,8 +16,7 @@
 //! `read_key` and `read_names` read the key and the names that `sum` takes from files.
 //!
 //! Contracts know what a reader gives and what a writer took where their types tell it, as those of slices and of vectors do. The
-//! texts and verdicts are defined in `specs/`: `Sums`, `Checks`, `Uploads`, `Journals`, `Audits` and `Migrations`; those of a script
-//! in `store_script`, and those of a session in `store_session`.
+//! texts and verdicts are defined in `specs/`: `Sums`, `Checks`, `Uploads`, `Journals`, `Audits` and `Migrations`.
 #![tactic(auto)]
 
 mod ahead;
@@ -43,7 +41,5 @@ pub use lists::{names_of, read_names};
 pub use migrating::migrate;
 pub use sources::{FileFault, Reason, Sources, Standing};
 pub use store_ledger::ALL_PARTS;
-pub use store_script::run;
-pub use store_session::serve;
 pub use summing::{SumRequest, sum, sum_files, write_root};
 pub use uploading::upload;
