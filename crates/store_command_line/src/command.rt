@@ -138,9 +138,46 @@ fn sum_command<'a>(alloc: Global) -> Result<Command<'a>, AllocError>
     with_work(alloc, command)
 }
 
-// What stands at the end of the help of `run`.
-fn script_commands() -> &'static str {
-    "Commands, each on a line of its own:\n  tenant LIMIT        a new tenant with this limit in bytes\n  limit T LIMIT       another limit of tenant T\n  begin T LEN         a new upload of LEN bytes\n  open T ATMOST       a new upload of at most so many bytes\n  fix U LEN           the length of such an upload\n  put U OFFSET DATA   a part of upload U: x: and digits, or p:LEN for a pattern\n  seal U              its bytes are filed as an object\n  sealas U ADDRESS    the same, if that is its address\n  abort U             it is given up\n  forget T ADDRESS    the tenant holds the object no longer\n  fetch T ADDRESS     the object's bytes, as digits\n  usage T             what the tenant uses\n  list T              the objects that it holds\n  stat                the store's totals\n  journal             the entries of what was accepted"
+// The lines that a store answers, each with what it does: a script's, followed by those that are passed.
+macro_rules! listed_lines {
+    ($($more:literal),*) => {
+        concat!(
+            "Commands, each on a line of its own:\n",
+            "  tenant LIMIT        a new tenant with this limit in bytes\n",
+            "  limit T LIMIT       another limit of tenant T\n",
+            "  begin T LEN         a new upload of LEN bytes\n",
+            "  open T ATMOST       a new upload of at most ATMOST bytes\n",
+            "  fix U LEN           the length of such an upload\n",
+            "  put U OFFSET DATA   a part of upload U: x: and digits, or p:LEN for a pattern\n",
+            "  seal U              its bytes are filed as an object\n",
+            "  sealas U ADDRESS    the same, if that is its address\n",
+            "  abort U             it is given up\n",
+            "  forget T ADDRESS    the tenant holds the object no longer\n",
+            "  fetch T ADDRESS     the object's bytes, as digits\n",
+            "  usage T             what the tenant uses\n",
+            "  list T              the objects that it holds\n",
+            "  stat                the store's totals\n",
+            "  journal             the entries of what was accepted",
+            $($more),*
+        )
+    };
+}
+
+// The end of the help of `run`: a script's lines.
+fn script_lines() -> &'static str {
+    listed_lines!()
+}
+
+// The end of the help of `serve`: a script's lines, followed by a session's own.
+fn session_lines() -> &'static str {
+    listed_lines!(
+        "\n  putb U OFFSET LEN   a part of upload U: the LEN raw bytes after the line",
+        "\n  fetchb T ADDRESS    the object's bytes, raw; with FROM LEN, those of a range",
+        "\n  has T ADDRESS       the object's length",
+        "\n  uploads T           the tenant's open uploads",
+        "\n  tenants             what each tenant uses",
+        "\n  entries FROM        the journal's entries from number FROM on"
+    )
 }
 
 fn run_command<'a>(alloc: Global) -> Command<'a>
@@ -151,16 +188,16 @@ fn run_command<'a>(alloc: Global) -> Command<'a>
         .about(
             "Read a script of commands for a store, and write each one's answer when it was read",
         )
-        .after_help(script_commands())
+        .after_help(script_lines())
 }
 
 fn serve_command<'a>(alloc: Global) -> Command<'a>
     ensures shape { app_of result ≡ serve_line }
     ensures local { (fields_of result).has_globals ≡ false }
 {
-    Command::new(alloc, "serve").about(
-        "Answer a program's commands for a store line by line, with raw bytes behind them",
-    )
+    Command::new(alloc, "serve")
+        .about("Answer a program's commands for a store line by line, with raw bytes behind them")
+        .after_help(session_lines())
 }
 
 // An option `--ID` without a value.
