@@ -7,10 +7,15 @@
         address = store.seal(upload).address
         assert store.fetch(tenant, address) == b"abc"
 
-A method is one command; what is refused raises `Refused`, and has changed nothing. Threads can share a store: each command and its answer
-take the two pipes for themselves. It needs Python 3.8 or later and no package.
+A method is one command; what is refused raises `Refused`, and has changed nothing. An argument of a wrong type raises `TypeError`, and one that no
+command takes `ValueError`, before anything is sent. Threads can share a store: each command and its answer take the two pipes for themselves. It
+needs Python 3.8 or later and no package.
 """
+import contextlib
+import operator
+import re
 import subprocess
+import tempfile
 import threading
 import typing
 
@@ -25,6 +30,11 @@ MOST_LIMIT = 1 << 46
 RANGE = 1 << 18
 """How many bytes are read at once where an object is read in ranges."""
 PIPE = 1 << 16
+MAX_NUMBER = (1 << 64) - 1
+MAX_STDERR = 1 << 12
+"""How many bytes of the end of standard error are told."""
+SECONDS = 1
+"""How long a store that has closed a pipe is given to end."""
 
 REFUSALS = {
     "S1": "there is no such tenant",
@@ -54,19 +64,34 @@ REFUSALS = {
 class Refused(Exception):
     """A command was refused, and has changed nothing."""
 
-    def __init__(self, words):
-        self.number = words[0]
+    def __init__(self, number, value=None, label=None):
+        super().__init__(number, value, label)
+        self.number = number
         """Its name, as `S6`."""
-        self.value = None
+        self.value = value
         """What it carries: a number, or an address, or nothing."""
-        if len(words) > 1:
-            self.value = words[2] if self.number == "S11" else int(words[2])
+        self.label = label
+        """What that is, as `free`."""
+
+    def __str__(self):
         told = REFUSALS.get(self.number, "it is refused")
-        super().__init__(f"{self.number}: {told}" + ("" if self.value is None else f" ({words[1]} {self.value})"))
+        return f"{self.number}: {told}" + ("" if self.value is None else f" ({self.label} {self.value})")
 
 
 class Ended(Exception):
-    """The store's process has ended, or what it wrote is no answer. Its content is gone."""
+    """The store can't be used any more: its process has ended, what it wrote is no answer, or a command was broken off. Its content is gone."""
+
+    def __init__(self, reason, status=None, stderr=""):
+        super().__init__(reason, status, stderr)
+        self.reason = reason
+        self.status = status
+        """The exit status of the store's process, or None if it still runs."""
+        self.stderr = stderr
+        """The end of what the process wrote to standard error."""
+
+    def __str__(self):
+        status = "" if self.status is None else f"; its exit status is {self.status}"
+        return self.reason + status + (f"; it wrote {self.stderr!r}" if self.stderr else "")
 
 
 class Held(typing.NamedTuple):
@@ -113,9 +138,66 @@ class OpenUpload(typing.NamedTuple):
     held: int
 
 
+def refusal_of(words):
+    """What the words of an answer after `refused` say."""
+    if len(words) == 1:
+        return Refused(words[0])
+    number, label, value = words
+    return Refused(number, value if number == "S11" else int(value), label)
+
+
 def filed(words):
     """What an answer to a seal says."""
-    return Filed(words[0] == "new", words[1], int(words[2]))
+    kind, address, length = words
+    return Filed(kind == "new", address, int(length))
+
+
+def held(words):
+    """What an answer to a part says."""
+    return Held(int(words[0]), None if words[1:] == ["all"] else int(words[2]))
+
+
+def first_number(words):
+    """The number that an answer begins with."""
+    return int(words[0])
+
+
+def usage_of(numbers):
+    """A tenant's bytes, from their digits."""
+    return Usage(*map(int, numbers))
+
+
+def open_upload(number, bound, end, covered):
+    """A row of the open uploads."""
+    return OpenUpload(int(number), int(bound), None if end == "-" else int(end), int(covered))
+
+
+def number_of(name, value, least=0, most=MAX_NUMBER):
+    """An argument that is a number in a range."""
+    try:
+        value = int(operator.index(value))
+    except TypeError:
+        raise TypeError(f"{name} has to be an integer, not {type(value).__name__}") from None
+    if not least <= value <= most:
+        raise ValueError(f"{name} has to be from {least} to {most}, not {value}")
+    return value
+
+
+def address_of(value):
+    """An argument that is an object's address."""
+    if not isinstance(value, str):
+        raise TypeError(f"an address has to be a str, not {type(value).__name__}")
+    if not re.fullmatch("[0-9a-fA-F]{64}", value):
+        raise ValueError(f"an address has 64 hexadecimal digits, and is not {value[:100]!r}")
+    return value
+
+
+def bytes_of(content):
+    """An argument that is bytes, or what has the buffer of bytes in one piece, as a view of them."""
+    try:
+        return memoryview(content).cast("B")
+    except TypeError:
+        raise TypeError(f"content has to be bytes, or a buffer in one piece, not {type(content).__name__}") from None
 
 
 class Store:
@@ -125,7 +207,16 @@ class Store:
         self._lock = threading.Lock()
         self._next = 0
         """The number of the next upload: the store counts those that were begun."""
-        self._process = subprocess.Popen([program, "serve"], stdin=subprocess.PIPE, stdout=subprocess.PIPE, bufsize=PIPE)
+        self._fault = None
+        """Why the store can't be used any more."""
+        self._stderr = tempfile.TemporaryFile()
+        try:
+            self._process = subprocess.Popen(
+                [program, "serve"], stdin=subprocess.PIPE, stdout=subprocess.PIPE, stderr=self._stderr, bufsize=PIPE
+            )
+        except BaseException:
+            self._stderr.close()
+            raise
 
     def __enter__(self):
         return self
@@ -138,48 +229,55 @@ class Store:
         """The number of the store's process."""
         return self._process.pid
 
+    @property
+    def alive(self):
+        """Whether the store can be used: its process runs, and no command was broken off."""
+        return self._fault is None and self._process.poll() is None
+
     def tenant(self, limit=MOST_LIMIT):
         """Opens a tenant who may hold so many bytes, and gives its number."""
-        return int(self._ask("tenant", f"tenant {limit}")[0])
+        return self._ask(first_number, "tenant", f"tenant {number_of('limit', limit)}")
 
     def limit(self, tenant, limit):
         """Gives a tenant another limit."""
-        self._ask("ok", f"limit {tenant} {limit}")
+        self._ask(None, "ok", f"limit {number_of('tenant', tenant)} {number_of('limit', limit)}")
 
     def begin(self, tenant, length):
         """Begins an upload of so many bytes, and gives its number."""
-        return self._begin(f"begin {tenant} {length}")
+        return self._begin(f"begin {number_of('tenant', tenant)} {number_of('length', length)}")
 
     def open(self, tenant, at_most):
         """Begins an upload of at most so many bytes, whose end is fixed later, and gives its number."""
-        return self._begin(f"open {tenant} {at_most}")
+        return self._begin(f"open {number_of('tenant', tenant)} {number_of('at_most', at_most)}")
 
     def fix(self, upload, length):
         """Fixes an upload's end."""
-        self._ask("ok", f"fix {upload} {length}")
+        self._ask(None, "ok", f"fix {number_of('upload', upload)} {number_of('length', length)}")
 
     def put(self, upload, offset, part):
         """Gives an upload a part: bytes, or what has the buffer of bytes."""
-        words = self._ask("held", f"putb {upload} {offset} {len(part)}", part)
-        return Held(int(words[0]), None if words[1] == "all" else int(words[2]))
+        part = bytes_of(part)
+        line = f"putb {number_of('upload', upload)} {number_of('offset', offset)} {part.nbytes}"
+        return self._ask(held, "held", line, part)
 
     def seal(self, upload):
         """Files an upload as an object."""
-        return filed(self._ask(("new", "known"), f"seal {upload}"))
+        return self._ask(filed, ("new", "known"), f"seal {number_of('upload', upload)}")
 
     def seal_as(self, upload, address):
         """Files an upload as an object, if it has this address."""
-        return filed(self._ask(("new", "known"), f"sealas {upload} {address}"))
+        return self._ask(filed, ("new", "known"), f"sealas {number_of('upload', upload)} {address_of(address)}")
 
     def file(self, tenant, content, address=None):
         """Files content of at most MOST_PART bytes at once, if it has the address, where one is given: three commands are sent together."""
-        with self._lock:
+        content, ending = bytes_of(content), "" if address is None else f" {address_of(address)}"
+        begin = f"begin {number_of('tenant', tenant)} {content.nbytes}\n"
+        with self._turn():
             number = self._next
-            put = f"putb {number} 0 {len(content)}\n" if content else ""
-            seal = f"seal {number}\n" if address is None else f"sealas {number} {address}\n"
-            self._write(f"begin {tenant} {len(content)}\n{put}".encode(), content, seal.encode())
+            put = f"putb {number} 0 {content.nbytes}\n" if content.nbytes else ""
+            self._write(f"{begin}{put}".encode(), content, f"{'sealas' if ending else 'seal'} {number}{ending}\n".encode())
             refusals, answers = [], []
-            for kinds in ["upload", *["held"] * bool(content), ("new", "known")]:
+            for kinds in ["upload", *["held"] * bool(content.nbytes), ("new", "known")]:
                 try:
                     answers.append(self._answer(kinds))
                 except Refused as refusal:
@@ -194,16 +292,16 @@ class Store:
 
     def abort(self, upload):
         """Ends an upload without an object."""
-        self._ask("ok", f"abort {upload}")
+        self._ask(None, "ok", f"abort {number_of('upload', upload)}")
 
     def forget(self, tenant, address):
         """Ends a tenant's hold of an object, which goes with its last holder."""
-        self._ask("ok", f"forget {tenant} {address}")
+        self._ask(None, "ok", f"forget {number_of('tenant', tenant)} {address_of(address)}")
 
     def has(self, tenant, address):
         """The length of an object that a tenant holds, or None."""
         try:
-            return int(self._ask("has", f"has {tenant} {address}")[0])
+            return self._ask(first_number, "has", f"has {number_of('tenant', tenant)} {address_of(address)}")
         except Refused as refusal:
             if refusal.number != "S12":
                 raise
@@ -211,17 +309,12 @@ class Store:
 
     def fetch(self, tenant, address, offset=0, length=MOST_UPLOAD):
         """An object's bytes, or those of a range, which ends with the object at the latest."""
-        with self._lock:
-            self._write(f"fetchb {tenant} {address} {offset} {length}\n".encode())
-            count = int(self._answer("bytes")[0])
-            content = self._process.stdout.read(count)
-        if len(content) < count:
-            raise Ended("the store has ended")
-        return content
+        asked = f"{number_of('tenant', tenant)} {address_of(address)} {number_of('offset', offset)} {number_of('length', length)}"
+        return self._ask(self._content, "bytes", f"fetchb {asked}")
 
     def ranges(self, tenant, address, length=RANGE):
         """An object's bytes, in ranges of so many. Between two of them others can ask."""
-        offset = 0
+        length, offset = number_of("length", length, 1), 0
         while True:
             content = self.fetch(tenant, address, offset, length)
             if content:
@@ -232,79 +325,116 @@ class Store:
 
     def usage(self, tenant):
         """What a tenant has used and reserved, and its limit."""
-        words = self._ask("used", f"usage {tenant}")
-        return Usage(*map(int, words[0::2]))
+        return self._ask(lambda words: usage_of(words[0::2]), "used", f"usage {number_of('tenant', tenant)}")
 
     def list(self, tenant):
         """The lengths of the objects that a tenant holds, by address, in the order in which they were filed."""
-        return {address: int(length) for address, length in self._rows("list", f"list {tenant}")}
+        rows = self._rows(lambda address, length: (address, int(length)), "list", f"list {number_of('tenant', tenant)}")
+        return dict(rows)
 
     def uploads(self, tenant):
         """A tenant's open uploads, in the order of their numbers."""
-        rows = self._rows("uploads", f"uploads {tenant}")
-        return [OpenUpload(int(number), int(bound), None if end == "-" else int(end), int(held)) for number, bound, end, held in rows]
+        return self._rows(open_upload, "uploads", f"uploads {number_of('tenant', tenant)}")
 
     def tenants(self):
         """What each tenant has used and reserved, and its limit, by number."""
-        return {int(tenant): Usage(*map(int, row)) for tenant, *row in self._rows("tenants", "tenants")}
+        return dict(self._rows(lambda tenant, *row: (int(tenant), usage_of(row)), "tenants", "tenants"))
 
     def stat(self):
         """What the store has."""
-        words = self._ask("objects", "stat")
-        return Totals(*map(int, words[0::2]))
+        return self._ask(lambda words: Totals(*map(int, words[0::2])), "objects", "stat")
 
     def entries(self, start=0):
         """The journal's entries from a number on, each a line without its line feed."""
-        return [" ".join(row) for row in self._rows("journal", f"entries {start}")]
+        return self._rows(lambda *words: " ".join(words), "journal", f"entries {number_of('start', start)}")
 
     def close(self):
-        """Ends the store, and gives its exit status."""
+        """Ends the store, and gives its exit status. One that can't be used is killed."""
         with self._lock:
+            if self._fault is not None:
+                self._process.kill()
             for pipe in self._process.stdin, self._process.stdout:
-                try:
+                with contextlib.suppress(OSError):
                     pipe.close()
-                except BrokenPipeError:
-                    pass
-            return self._process.wait()
+            status = self._process.wait()
+            self._stderr.close()
+            self._fault = self._fault or Ended("the store was closed", status)
+            return status
 
     def _begin(self, line):
-        with self._lock:
-            self._write(line.encode() + b"\n")
-            number = int(self._answer("upload")[0])
+        def begun(words):
+            number = first_number(words)
             self._next = number + 1
             return number
 
-    def _ask(self, kinds, line, content=b""):
-        with self._lock:
-            self._write(line.encode() + b"\n", content)
-            return self._answer(kinds)
+        return self._ask(begun, "upload", line)
 
-    def _rows(self, kind, line):
+    def _ask(self, read, kinds, line, content=b""):
+        """Sends a command, and gives what is read of the words of its answer."""
+        with self._turn():
+            self._write(line.encode() + b"\n", content)
+            words = self._answer(kinds)
+            return read(words) if read else None
+
+    def _rows(self, read, kind, line):
+        """The same of each line of an answer that has several."""
+        return self._ask(lambda words: [read(*self._line()) for _ in range(first_number(words))], kind, line)
+
+    def _content(self, words):
+        """The raw bytes of an answer."""
+        count = first_number(words)
+        content = self._process.stdout.read(count)
+        if len(content) < count:
+            raise self._ended("the store has ended")
+        return content
+
+    @contextlib.contextmanager
+    def _turn(self):
+        """Takes the pipes for a command and its answer. After anything but an answer or a refusal they can't be used again."""
         with self._lock:
-            self._write(line.encode() + b"\n")
-            return [self._line() for _ in range(int(self._answer(kind)[0]))]
+            if self._fault is not None:
+                raise Ended(*self._fault.args)
+            try:
+                yield
+            except (Refused, Ended) as told:
+                self._fault = told if isinstance(told, Ended) else None
+                raise
+            except (ValueError, TypeError, IndexError) as fault:
+                self._fault = self._ended(f"the store gives no answer that fits: {fault}")
+                raise self._fault from None
+            except BaseException as fault:
+                self._fault = Ended(f"a command was broken off by {type(fault).__name__}")
+                raise
 
     def _write(self, *pieces):
         try:
             for piece in pieces:
                 self._process.stdin.write(piece)
             self._process.stdin.flush()
-        except (BrokenPipeError, ValueError):
-            raise Ended("the store has ended") from None
+        except OSError:
+            raise self._ended("the store has ended") from None
 
     def _answer(self, kinds):
         """The words of an answer's line behind its kind, or all of them where it may be of several kinds."""
         words = self._line()
         if words[0] == "refused":
-            raise Refused(words[1:])
+            raise refusal_of(words[1:])
         if isinstance(kinds, tuple) and words[0] in kinds:
             return words
         if words[0] != kinds:
-            raise Ended(f"the store answers {' '.join(words)[:60]!r}")
+            raise self._ended(f"the store answers {' '.join(words)[:60]!r}")
         return words[1:]
 
     def _line(self):
         line = self._process.stdout.readline()
         if not line.endswith(b"\n"):
-            raise Ended("the store has ended")
-        return line[:-1].decode().split(" ")
+            raise self._ended("the store has ended")
+        return line[:-1].decode("ascii").split(" ")
+
+    def _ended(self, reason):
+        """Why the store can't be used any more, with what its process left."""
+        with contextlib.suppress(subprocess.TimeoutExpired):
+            self._process.wait(SECONDS)
+        written = self._stderr.seek(0, 2)
+        self._stderr.seek(max(0, written - MAX_STDERR))
+        return Ended(reason, self._process.poll(), self._stderr.read().decode(errors="replace"))

@@ -101,7 +101,7 @@ class Cache:
         usage = self.store.usage(user.tenant)
         left = usage.limit - usage.used - usage.reserved
         if left == 0:
-            raise Refused(["S6", "free", "0"])
+            raise Refused("S6", 0, "free")
         return self.store.open(user.tenant, min(self.most, left))
 
     def fill(self, upload, parts):
