@@ -1,14 +1,19 @@
 #!/usr/bin/env python3
 """Backs up a folder into a repository, and restores it, by a store (docs/LIBRARY.md).
 
-    backup.py save [--all] FOLDER REPOSITORY     keeps what is in FOLDER, and writes the backup's address
-    backup.py restore REPOSITORY ADDRESS FOLDER
-    backup.py check REPOSITORY           compares each object with its address
+    backup.py save [--all] FOLDER REPOSITORY         keeps what is in FOLDER, and writes the backup's address
+    backup.py restore REPOSITORY ADDRESS FOLDER      puts a backup into a folder, where it overwrites nothing
+    backup.py check REPOSITORY                       compares each object with its address, and shows which backups can be restored
 
-A repository is a folder: objects/AA/ADDRESS has the bytes of that BLAKE3 hash. Files are cut where their content says so, and a piece is kept once, whichever
-files have it, in whichever backup; so bytes put in front of a file make one new piece. A backup is a list of names and pieces, which is kept in pieces too.
-A file whose length, mode and time are those of the last backup of its folder is not read, unless `--all` asks for it. Links are kept as links. What is no file,
-folder or link (a pipe, a device, a socket) is told and left out.
+A repository is a folder: objects/AA/ADDRESS has the bytes of that BLAKE3 hash, and `backups` a line for each backup. Files are cut where their content
+says so, and a piece is kept once, whichever files have it, in whichever backup; so bytes put in front of a file make one new piece. A backup is a list of
+names and pieces, which is kept in pieces too. A file whose length, mode, owner and time are those of the last backup of its folder is not read, unless
+`--all` asks for it, which compares the objects that are there too. What is written is written aside, synced, and then given its name; a backup is
+noted last.
+
+Kept are files, folders, links and hard links, with times, modes, owners and groups. Where an owner can't be restored, as by a user who isn't root, that is
+told, and no setuid or setgid bit is set. Not kept are extended attributes, access lists and holes in files. What is no file, folder or link (a pipe, a device,
+a socket) is told and left out.
 
 The store gives each piece its address, and compares what is read from the repository with it. It holds at most `--memory` bytes; beyond that it forgets
 what it has held longest.
@@ -17,17 +22,30 @@ The status is 0 where all was kept, restored or right; 1 where something was not
 """
 import argparse
 import collections
+import contextlib
+import ctypes
+import fcntl
 import io
 import os
 import re
 import stat
 import sys
+import time
 import urllib.parse
 
 from b3store import Ended, Refused, Store
 
 LEAST_PIECE, MOST_PIECE = 1 << 14, 1 << 22
 """The bytes of a piece: the last one of a file may have fewer."""
+MAX_ASIDE, MAX_BYTES_ASIDE = 1000, 1 << 26
+"""How many objects, and how many bytes of them, are written aside before they are synced together."""
+LIBC = ctypes.CDLL(None, use_errno=True)
+ADDRESS = re.compile("[0-9a-f]{64}")
+BACKUP = re.compile(r"([0-9a-f]{64}) (\d+) (\S+)")
+"""A line of `backups`: address, seconds since 1970, and the folder."""
+LINE = re.compile(r"(file|folder|link|same) (\S+) ([0-7]+)(?::(\d+):(\d+))? (-?\d+)((?: \S+)*)")
+"""A line of a backup: kind, path, mode, owner and group, time, and what the kind has: a file its length and the addresses of its pieces, a link where it
+leads, a hard link the path of the same file."""
 
 
 def edge_pattern():
@@ -56,6 +74,20 @@ def pieces_of(file):
             return
 
 
+class Damaged(Exception):
+    """What a repository has is no backup, or not whole."""
+
+
+def sync(folder):
+    """Waits until all that was written to the file system of a folder is on disk: for a thousand files that is quicker than to sync each."""
+    opened = os.open(folder, os.O_RDONLY | os.O_DIRECTORY)
+    try:
+        if LIBC.syncfs(opened) != 0:
+            raise OSError(ctypes.get_errno(), f"{folder} can't be synced: {os.strerror(ctypes.get_errno())}")
+    finally:
+        os.close(opened)
+
+
 class Repository:
     """Objects on disk, and a store before them."""
 
@@ -64,9 +96,31 @@ class Repository:
         self.tenant = store.tenant(memory)
         self.held = collections.OrderedDict()
         self.counts = collections.Counter()
+        self.compares = False
+        """Whether objects that are there already are compared with what is kept."""
+        self.aside, self.bytes_aside = {}, 0
+        """Where what was written aside belongs, by where it is."""
 
     def place(self, address):
         return os.path.join(self.path, "objects", address[:2], address)
+
+    @contextlib.contextmanager
+    def locked(self, kind):
+        """Keeps other runs out that would write, or read while this one does."""
+        folder = os.open(self.path, os.O_RDONLY | os.O_DIRECTORY)
+        try:
+            fcntl.flock(folder, kind | fcntl.LOCK_NB)
+            yield
+        except BlockingIOError:
+            raise Damaged(f"{self.path} is in use by another backup") from None
+        finally:
+            os.close(folder)
+
+    def files(self):
+        """What is below the folder of objects: folder and name of each."""
+        for folder, _, names in os.walk(os.path.join(self.path, "objects")):
+            for name in sorted(names):
+                yield folder, name
 
     def hold(self, content, address=None):
         """Gives the store an object, which must have the address, where one is told. For that the store forgets what it has held longest."""
@@ -82,45 +136,96 @@ class Repository:
         self.held.move_to_end(filed.address)
         return filed.address
 
+    def has(self, place, content):
+        """Whether an object is there, or written aside."""
+        if place + ".new" in self.aside:
+            return True
+        try:
+            if os.path.getsize(place) != len(content):
+                return False
+            if not self.compares:
+                return True
+            with open(place, "rb") as file:
+                return file.read() == content
+        except FileNotFoundError:
+            return False
+
     def keep(self, content):
         """Keeps an object, and gives its address."""
         address = self.hold(content)
         place = self.place(address)
-        is_new = not os.path.exists(place)
+        is_new = not self.has(place, content)
         if is_new:
             os.makedirs(os.path.dirname(place), exist_ok=True)
+            self.aside[place + ".new"] = place
             with open(place + ".new", "wb") as file:
                 file.write(content)
-            os.replace(place + ".new", place)
+            self.bytes_aside += len(content)
+            if len(self.aside) >= MAX_ASIDE or self.bytes_aside >= MAX_BYTES_ASIDE:
+                self.settle()
         word = "new" if is_new else "known"
         self.counts.update({word: 1, word + " bytes": len(content)})
         return address
+
+    def settle(self):
+        """Syncs what was written aside, gives it its names, and syncs these."""
+        sync(self.path)
+        for path, place in self.aside.items():
+            os.replace(path, place)
+        sync(self.path)
+        self.aside, self.bytes_aside = {}, 0
 
     def keep_all(self, file):
         """Keeps all that a file has, in pieces, and gives their addresses."""
         return [self.keep(piece) for piece in pieces_of(file)]
 
-    def keep_backup(self, lines):
+    def keep_backup(self, folder, lines):
+        """Keeps a backup's lines, and notes it once all is on disk."""
         addresses = self.keep_all(io.BytesIO("".join(line + "\n" for line in lines).encode()))
-        return self.keep("".join(address + "\n" for address in addresses).encode())
+        backup = self.keep("".join(address + "\n" for address in addresses).encode())
+        self.settle()
+        self.note(f"{backup} {int(time.time())} {quoted(os.path.abspath(folder))}")
+        return backup
+
+    def pieces_of_backup(self, backup):
+        """The addresses of the pieces of a backup's list."""
+        addresses = self.read(backup).decode("ascii", "replace").split()
+        if not all(map(ADDRESS.fullmatch, addresses)):
+            raise Damaged(f"{backup} is no backup")
+        return addresses
 
     def lines_of(self, backup):
-        """The lines of a backup."""
-        return b"".join(self.read(address) for address in self.read(backup).decode().split()).decode().splitlines()
+        """The lines of a backup, each with its fields."""
+        try:
+            lines = b"".join(map(self.read, self.pieces_of_backup(backup))).decode("ascii").splitlines()
+        except UnicodeDecodeError:
+            raise Damaged(f"{backup} is no backup") from None
+        found = [LINE.fullmatch(line) for line in lines]
+        if not all(found):
+            raise Damaged(f"{backup} is no backup")
+        return found
 
-    def latest(self):
-        """The last backup of each folder."""
-        path = os.path.join(self.path, "latest")
+    def backups(self):
+        """The lines of the backups that were made, each with its fields, the oldest first."""
+        path = os.path.join(self.path, "backups")
         if not os.path.exists(path):
-            return {}
-        with open(path, encoding="ascii") as lines:
-            return dict(line.split() for line in lines)
+            return []
+        with open(path, encoding="ascii", errors="replace") as file:
+            lines = file.read().splitlines()
+        found = [BACKUP.fullmatch(line) for line in lines]
+        if not all(found):
+            raise Damaged(f"{path} has a line that names no backup: {lines[found.index(None)][:80]!r}")
+        return found
 
-    def note(self, folder, backup):
-        latest = {**self.latest(), quoted(os.path.abspath(folder)): backup}
-        with open(os.path.join(self.path, "latest.new"), "w", encoding="ascii") as file:
-            file.writelines(f"{folder} {backup}\n" for folder, backup in latest.items())
-        os.replace(file.name, os.path.join(self.path, "latest"))
+    def note(self, line):
+        """Adds a line to the backups."""
+        path = os.path.join(self.path, "backups")
+        lines = [found[0] for found in self.backups()]
+        with open(path + ".new", "w", encoding="ascii") as file:
+            file.writelines(line + "\n" for line in [*lines, line])
+        sync(self.path)
+        os.replace(path + ".new", path)
+        sync(self.path)
 
     def read(self, address):
         """An object of the repository, which was compared with its address."""
@@ -153,100 +258,187 @@ def place_in(folder, path):
     return os.path.join(folder, path)
 
 
-def line_of(repository, folder, path, known):
-    """The backup's line of a path, or None for what is left out. What the last backup knows of a file is taken from there."""
-    status = os.lstat(path)
-    words = [quoted(os.path.relpath(path, folder)), oct(stat.S_IMODE(status.st_mode))[2:], str(status.st_mtime_ns)]
+def line_of(repository, folder, path, known, linked):
+    """The backup's line of a path, or None for what is left out. What the last backup knows of a file is taken from there; `linked` has the paths
+    of files that have several."""
+    status, name = os.lstat(path), quoted(os.path.relpath(path, folder))
+    words = [name, f"{stat.S_IMODE(status.st_mode):o}:{status.st_uid}:{status.st_gid}", str(status.st_mtime_ns)]
     if stat.S_ISDIR(status.st_mode):
         return " ".join(["folder", *words])
     if stat.S_ISLNK(status.st_mode):
         return " ".join(["link", *words, quoted(os.readlink(path))])
     if not stat.S_ISREG(status.st_mode):
         return None
+    inode = status.st_dev, status.st_ino
+    if inode in linked:
+        return " ".join(["same", *words, linked[inode]])
     words = ["file", *words, str(status.st_size)]
-    if tuple(words) in known:
-        return known[tuple(words)]
-    with open(path, "rb") as file:
-        return " ".join([*words, *repository.keep_all(file)])
+    line = known.get(tuple(words))
+    if line is None:
+        with open(path, "rb") as file:
+            line = " ".join([*words, *repository.keep_all(file)])
+    if status.st_nlink > 1:
+        linked[inode] = name
+    return line
 
 
-def known_files(repository, options):
+def known_files(repository, folder):
     """The lines of the files that the last backup of a folder has, by their first five words."""
-    backup = repository.latest().get(quoted(os.path.abspath(options.folder)))
-    if backup is None or options.all:
+    backups = [backup for backup, _, place in (found.groups() for found in repository.backups()) if place == quoted(os.path.abspath(folder))]
+    if not backups:
         return {}
-    return {tuple(line.split(" ")[:5]): line for line in repository.lines_of(backup) if line.startswith("file ")}
+    return {tuple(line[0].split(" ")[:5]): line[0] for line in repository.lines_of(backups[-1]) if line[1] == "file"}
 
 
-def save(repository, options):
-    lines, kinds, is_whole = [], collections.Counter(), True
-    known = known_files(repository, options)
+def lines_of_folder(repository, options, known):
+    """The lines of what a folder has, and whether that is all."""
+    lines, is_whole, linked = [], True, {}
     for path in entries_of(options.folder):
         try:
-            line = line_of(repository, options.folder, path, known)
+            line = line_of(repository, options.folder, path, known, linked)
             fault = "is no file, folder or link" if line is None else None
         except OSError as error:
             fault = error.strerror
         if fault is None:
             lines.append(line)
-            kinds[line.split(" ")[0]] += 1
         else:
             print(f"left out: {os.path.relpath(path, options.folder)} {fault}")
             is_whole = False
-    backup = repository.keep_backup(lines)
-    repository.note(options.folder, backup)
-    counts = repository.counts
-    print(f"files {kinds['file']} folders {kinds['folder']} links {kinds['link']}")
+    return lines, is_whole
+
+
+def save(repository, options):
+    os.makedirs(os.path.join(repository.path, "objects"), exist_ok=True)
+    with repository.locked(fcntl.LOCK_EX):
+        for folder, name in repository.files():
+            if name.endswith(".new"):
+                os.remove(os.path.join(folder, name))
+        repository.compares = options.all
+        lines, is_whole = lines_of_folder(repository, options, {} if options.all else known_files(repository, options.folder))
+        backup = repository.keep_backup(options.folder, lines)
+    kinds, counts = collections.Counter(line.split(" ")[0] for line in lines), repository.counts
+    print(f"files {kinds['file'] + kinds['same']} folders {kinds['folder']} links {kinds['link']}")
     print(f"new objects {counts['new']} bytes {counts['new bytes']} known objects {counts['known']} bytes {counts['known bytes']}")
     print(f"backup {backup}")
     return is_whole
 
 
-def restore_line(repository, kind, place, words):
-    if kind == "folder":
-        os.makedirs(place, exist_ok=True)
-    elif kind == "link":
-        os.symlink(unquoted(words[0]), place)
-    else:
-        with open(place, "wb") as file:
-            file.writelines(repository.read(address) for address in words[1:])
+class Restoring:
+    """A backup that is put into a folder."""
+
+    def __init__(self, repository, folder):
+        self.repository, self.folder = repository, folder
+        self.folders, self.unowned, self.is_whole = [], 0, True
+
+    def restore(self, line):
+        """Puts a line's file, link or folder into its place, and leads through no link on the way there."""
+        kind, path, *_, more = line.groups()
+        place = place_in(self.folder, unquoted(path))
+        if os.path.realpath(os.path.dirname(place)) != os.path.normpath(os.path.join(os.path.realpath(self.folder), os.path.dirname(unquoted(path)))):
+            raise OSError("a folder on its way is a link")
+        words = more.split()
+        if kind == "folder":
+            if os.path.islink(place) or not os.path.isdir(place):
+                os.mkdir(place)
+            self.folders.append((place, line))
+            return
+        if kind == "same":
+            os.link(place_in(self.folder, unquoted(words[0])), place, follow_symlinks=False)
+            return
+        if kind == "link":
+            os.symlink(unquoted(words[0]), place)
+        else:
+            with open(place, "xb") as file:
+                file.writelines(self.repository.read(address) for address in words[1:])
+        self.finish(place, line)
+
+    def finish(self, place, line):
+        """Gives what was put there its owner, mode and time."""
+        kind, _, mode, owner, group, moment, _ = line.groups()
+        mode = int(mode, 8)
+        try:
+            if owner is None:
+                raise PermissionError
+            os.chown(place, int(owner), int(group), follow_symlinks=False)
+        except PermissionError:
+            self.unowned += 1
+            mode &= ~(stat.S_ISUID | stat.S_ISGID)
+        if kind != "link":
+            os.chmod(place, mode)
+        os.utime(place, ns=(int(moment), int(moment)), follow_symlinks=False)
+
+    def try_to(self, work, line, *words):
+        try:
+            work(*words, line)
+        except (Refused, OSError) as fault:
+            print(f"not restored: {unquoted(line[2])} {fault}")
+            self.is_whole = False
 
 
 def restore(repository, options):
-    is_whole = True
+    lines = repository.lines_of(options.address)
     os.makedirs(options.folder, exist_ok=True)
-    folders = []
-    for line in repository.lines_of(options.address):
-        kind, path, mode, time, *words = line.split(" ")
+    restoring = Restoring(repository, options.folder)
+    for line in lines:
+        restoring.try_to(restoring.restore, line)
+    for place, line in reversed(restoring.folders):
+        restoring.try_to(restoring.finish, line, place)
+    if restoring.unowned:
+        print(f"owners not restored: {restoring.unowned}, which have no setuid and setgid bits")
+    return restoring.is_whole and not restoring.unowned
+
+
+def right_objects(repository):
+    """The addresses of the objects that have their hash, and how many haven't."""
+    right, wrong = set(), 0
+    for folder, name in repository.files():
+        path = os.path.join(folder, name)
+        if not ADDRESS.fullmatch(name) or path != repository.place(name):
+            print(f"no object: {os.path.relpath(path, repository.path)}")
+            continue
         try:
-            place = place_in(options.folder, unquoted(path))
-            restore_line(repository, kind, place, words)
-            if kind == "folder":
-                folders.append((place, int(mode, 8), int(time)))
-            elif kind == "file":
-                os.chmod(place, int(mode, 8))
-                os.utime(place, ns=(int(time), int(time)))
+            repository.read(name)
+            right.add(name)
         except (Refused, OSError) as fault:
-            print(f"not restored: {unquoted(path)} {fault}")
-            is_whole = False
-    for place, mode, time in reversed(folders):
-        os.chmod(place, mode)
-        os.utime(place, ns=(time, time))
-    return is_whole
+            print(f"wrong: {name} {fault}")
+            wrong += 1
+    return right, wrong
+
+
+def lost_paths(repository, backup, right):
+    """The paths of a backup that can't be restored."""
+    lost = []
+    for line in repository.lines_of(backup):
+        pieces = line[7].split()[1:] if line[1] == "file" else []
+        if not right.issuperset(pieces):
+            lost.append(unquoted(line[2]))
+    return lost
 
 
 def check(repository, _):
-    wrong = count = 0
-    for place, _, names in os.walk(os.path.join(repository.path, "objects")):
-        for address in names:
-            count += 1
+    broken = 0
+    with repository.locked(fcntl.LOCK_SH):
+        right, wrong = right_objects(repository)
+        backups = list(dict.fromkeys(found[1] for found in repository.backups()))
+        for backup in backups:
             try:
-                repository.read(address)
-            except (Refused, OSError) as fault:
-                print(f"wrong: {address} {fault}")
-                wrong += 1
-    print(f"objects {count} wrong {wrong}")
-    return wrong == 0
+                lost = lost_paths(repository, backup, right)
+            except (Refused, OSError, Damaged) as fault:
+                print(f"backup {backup} can't be restored: {fault}")
+                broken += 1
+                continue
+            for path in lost:
+                print(f"backup {backup} can't restore {path}")
+            broken += bool(lost)
+    print(f"objects {len(right) + wrong} wrong {wrong}")
+    print(f"backups {len(backups)} broken {broken}")
+    return wrong == broken == 0
+
+
+def an_address(text):
+    if not ADDRESS.fullmatch(text):
+        raise argparse.ArgumentTypeError(f"{text!r} is no address, which has 64 digits")
+    return text
 
 
 def read_options():
@@ -258,9 +450,10 @@ def read_options():
         command = commands.add_parser(name)
         command.set_defaults(work=work)
         for word in words:
-            command.add_argument(word, metavar=word.upper())
+            command.add_argument(word, metavar=word.upper(), type=an_address if word == "address" else str)
         if work is save:
-            command.add_argument("--all", action="store_true", help="reads files too that are as the last backup has them")
+            told = "reads files too that are as the last backup has them, and compares the objects that are there"
+            command.add_argument("--all", action="store_true", help=told)
     return parser.parse_args()
 
 
@@ -271,10 +464,7 @@ def main():
         with Store(options.program) as store:
             repository = Repository(options.repository, store, options.memory)
             return 0 if options.work(repository, options) else 1
-    except Refused as refusal:
-        print(f"backup: {refusal}", file=sys.stderr)
-        return 1
-    except OSError as fault:
+    except (Refused, OSError, Damaged) as fault:
         print(f"backup: {fault}", file=sys.stderr)
         return 1
     except Ended as fault:
