@@ -14,7 +14,9 @@ It runs until it is told to stop. Where it is at its own port, 8080, these use i
 
 FILE has a line `NAME TOKEN LIMIT` for each user; without it there is one user, who needs no token and has `--limit`. On SIGTERM, SIGINT or
 SIGHUP it saves into FOLDER what is cached: objects under their addresses, the keys, and the store's journal. It begins with what is there, and compares
-each object with its address.
+each object with its address. A key that it can't begin with, as of a user who isn't in FILE, is told, and stays in FOLDER with its object for a later start;
+an object that hasn't its address is moved to FOLDER/aside. One server at a time works in a folder. Where the store ends it answers 503, and ends with
+status 3; FOLDER is as it was saved last.
 
 | Answer | When |
 |---|---|
@@ -22,12 +24,13 @@ each object with its address.
 | 401 | the token is no user's |
 | 404 | there is no such key |
 | 400, 411, 413 | the request's body is cut or no body of HTTP; it has no length; it is longer than `--most` |
-| 503, 507 | the store was refused memory; the user's quota, or the store, is full |
+| 503, 507 | the store was refused memory, or has ended; the user's quota, or the store, is full |
 """
 import argparse
 import base64
 import collections
 import contextlib
+import fcntl
 import hmac
 import http.server
 import os
@@ -35,6 +38,7 @@ import signal
 import subprocess
 import sys
 import threading
+import time
 
 from b3store import MOST_LIMIT, Ended, Refused, Store
 
@@ -43,6 +47,12 @@ PART = 1 << 20
 MOST_DROPPED = 1 << 26
 """Of a refused body, so many bytes are read before the connection is closed."""
 SECONDS_OF_SILENCE = 60
+SECONDS_TO_ANSWER = 2
+"""How long requests are answered by 503, once the store has ended."""
+SECONDS_BETWEEN_LOOKS = 0.2
+"""How often the server looks whether the store has ended, where no request finds that."""
+WRITTEN_AT_ONCE = 1 << 16
+"""Headers and a small content go out in one write."""
 STATUSES = {"S2": 507, "S5": 413, "S6": 507, "S12": 404, "S13": 507, "S14": 503, "F4": 413}
 
 Entry = collections.namedtuple("Entry", "address length")
@@ -133,12 +143,23 @@ class Cache:
             return found
 
 
+class InUse(Exception):
+    """Another server works in a folder."""
+
+
 class Folder:
     """What a cache has on disk."""
 
     def __init__(self, path, program):
         self.path, self.program = path, program
         os.makedirs(self.place("objects"), exist_ok=True)
+        self.opened = os.open(path, os.O_RDONLY | os.O_DIRECTORY)
+        try:
+            fcntl.flock(self.opened, fcntl.LOCK_EX | fcntl.LOCK_NB)
+        except BlockingIOError:
+            raise InUse(f"{path} is in use by another server") from None
+        self.left = {}
+        """The addresses of the keys that this cache couldn't begin with, by user and key."""
 
     def place(self, *names):
         return os.path.join(self.path, *names)
@@ -152,7 +173,7 @@ class Folder:
         os.replace(file.name, self.place(name))
 
     def save(self, cache):
-        """Saves what is cached, and drops the files of objects that nobody holds."""
+        """Saves what is cached, and drops the files of objects that no key leads to."""
         with cache.lock:
             saved = set()
             for user in cache.users:
@@ -160,30 +181,37 @@ class Folder:
                     saved.add(address)
                     if not os.path.exists(self.place("objects", address)):
                         self.write(os.path.join("objects", address), cache.store.ranges(user.tenant, address))
-            keys = [f"{user.name} {entry.address} {key}\n".encode() for user in cache.users for key, entry in user.keys.items()]
-            self.write("keys", keys)
+            keys = {(user.name, key): entry.address for user in cache.users for key, entry in user.keys.items()}
+            lines = {**self.left, **keys}
+            self.write("keys", [f"{name} {address} {key}\n".encode("latin-1") for (name, key), address in lines.items()])
             self.write("journal", [b"b3store-journal 2\n"] + [entry.encode() + b"\n" for entry in cache.store.entries()])
         for name in os.listdir(self.place("objects")):
-            if name not in saved:
+            if name not in saved.union(lines.values()):
                 os.remove(self.place("objects", name))
         return f"saved {len(keys)} keys, {len(saved)} objects"
+
+    def saved_keys(self):
+        """The lines of the saved keys: user, address and key, whose bytes are those of Latin-1."""
+        with open(self.place("keys"), encoding="latin-1", newline="\n") as lines:
+            for line in lines:
+                yield line.rstrip("\n").split(" ", 2)
 
     def load(self, cache):
         """Stores what is on disk, and tells what is not as it was saved."""
         if not os.path.exists(self.place("keys")):
             return "begins empty"
         users = {user.name: user for user in cache.users}
-        lost, count = collections.Counter(), 0
-        with open(self.place("keys"), encoding="ascii") as lines:
-            for line in lines:
-                name, address, key = line.rstrip("\n").split(" ", 2)
-                fault = "its user is gone" if name not in users else self.load_key(cache, users[name], key, address)
-                count += fault is None
-                lost[fault] += 1
-        for fault, keys in lost.items():
-            if fault is not None:
-                print(f"cache_server: {keys} keys are lost: {fault}", file=sys.stderr)
-        self.compare(cache, len(lost) > 1)
+        faults, count = collections.Counter(), 0
+        for name, address, key in self.saved_keys():
+            fault = "its user is gone" if name not in users else self.load_key(cache, users[name], key, address)
+            if fault is None:
+                count += 1
+            else:
+                self.left[name, key] = address
+                faults[fault] += 1
+        for fault, keys in faults.items():
+            print(f"cache_server: {keys} keys are left out: {fault}", file=sys.stderr)
+        self.compare(cache, bool(faults))
         return f"has {count} keys, {cache.store.stat().objects} objects"
 
     def load_key(self, cache, user, key, address):
@@ -195,8 +223,11 @@ class Folder:
             cache.lead(user, key, Entry(address, length))
             return None
         except Refused as refusal:
+            if refusal.number == "S11":
+                os.makedirs(self.place("aside"), exist_ok=True)
+                os.replace(self.place("objects", address), self.place("aside", address))
             return str(refusal)
-        except OSError as fault:
+        except (OSError, ValueError) as fault:
             return str(fault)
 
     def load_object(self, cache, user, address):
@@ -225,14 +256,33 @@ class Handler(http.server.BaseHTTPRequestHandler):
 
     protocol_version = "HTTP/1.1"
     timeout = SECONDS_OF_SILENCE
+    disable_nagle_algorithm = True
+    wbufsize = WRITTEN_AT_ONCE
 
     def do_GET(self):
-        self.give(True)
+        self.try_to(self.give, True)
 
     def do_HEAD(self):
-        self.give(False)
+        self.try_to(self.give, False)
 
     def do_PUT(self):
+        self.try_to(self.store)
+
+    def do_DELETE(self):
+        self.try_to(self.drop)
+
+    def try_to(self, work, *words):
+        """Answers a request, or tells that the store has ended, with which the server ends."""
+        try:
+            if self.server.cache.store.alive:
+                work(*words)
+            else:
+                self.server.cache.store.stat()
+        except Ended as fault:
+            self.server.end(fault)
+            self.refuse(503)
+
+    def store(self):
         user = self.user()
         if user is None:
             return self.refuse(401)
@@ -251,7 +301,7 @@ class Handler(http.server.BaseHTTPRequestHandler):
         except (Cut, ConnectionError, TimeoutError):
             self.refuse(400)
 
-    def do_DELETE(self):
+    def drop(self):
         user = self.user()
         if user is None:
             return self.refuse(401)
@@ -264,16 +314,23 @@ class Handler(http.server.BaseHTTPRequestHandler):
         entry = user.keys.get(self.path)
         if entry is None:
             return self.answer(404)
-        self.answer(200, entry)
-        if with_content:
-            self.send_content(user, entry)
-
-    def send_content(self, user, entry):
+        if not with_content:
+            return self.answer(200, entry)
+        contents = self.server.cache.store.ranges(user.tenant, entry.address)
         try:
-            for content in self.server.cache.store.ranges(user.tenant, entry.address):
+            first = next(contents, b"")
+        except Refused as refusal:
+            return self.refuse(STATUSES.get(refusal.number, 500))
+        self.answer(200, entry)
+        try:
+            self.wfile.write(first)
+            for content in contents:
                 self.wfile.write(content)
-        except (Refused, Ended, OSError):
+        except Ended as fault:
             # the client sees fewer bytes than were told
+            self.close_connection = True
+            self.server.end(fault)
+        except (Refused, OSError):
             self.close_connection = True
 
     def user(self):
@@ -322,9 +379,22 @@ class Server(http.server.ThreadingHTTPServer):
     daemon_threads = True
     request_queue_size = 128
 
-    def __init__(self, address, cache):
+    def __init__(self, address, cache, stopping):
         super().__init__(address, Handler)
-        self.cache = cache
+        self.cache, self.stopping, self.fault = cache, stopping, None
+
+    def look(self):
+        """Ends where the store has ended."""
+        if not self.cache.store.alive:
+            try:
+                self.cache.store.stat()
+            except Ended as fault:
+                self.end(fault)
+
+    def end(self, fault):
+        """Ends, since the store has ended."""
+        self.fault = fault
+        self.stopping.set()
 
     def handle_error(self, request, client_address):
         """A connection that a client cuts is no fault of the server's."""
@@ -396,20 +466,36 @@ def read_options():
     return parser.parse_args()
 
 
-def main():
-    options = read_options()
-    stopping = stop_signals()
-    folder = Folder(options.folder, options.program)
+def serve(options, folder, stopping):
+    """Runs until it is told to stop, or the store ends. The exit status."""
     with Store(options.program) as store:
         cache = Cache(store, users_of(options), options.most)
         begun = folder.load(cache)
-        with Server(("127.0.0.1", options.port), cache) as server:
+        with Server(("127.0.0.1", options.port), cache, stopping) as server:
             threading.Thread(target=server.serve_forever, daemon=True).start()
             print(f"cache_server: port {server.server_port}, {begun}", flush=True)
-            stopping.wait()
+            while not stopping.wait(SECONDS_BETWEEN_LOOKS):
+                server.look()
+            time.sleep(SECONDS_TO_ANSWER if server.fault else 0)
             server.shutdown()
+        if server.fault is not None:
+            raise server.fault
         print(f"cache_server: {folder.save(cache)}", flush=True)
 
 
+def main():
+    options = read_options()
+    stopping = stop_signals()
+    try:
+        serve(options, Folder(options.folder, options.program), stopping)
+        return 0
+    except Ended as fault:
+        print(f"cache_server: {fault}", file=sys.stderr)
+        return 3
+    except (InUse, OSError, Refused, ValueError) as fault:
+        print(f"cache_server: {fault}", file=sys.stderr)
+        return 1
+
+
 if __name__ == "__main__":
-    main()
+    sys.exit(main())
