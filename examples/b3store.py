@@ -385,7 +385,7 @@ class Store:
         count = first_number(words)
         content = self._process.stdout.read(count)
         if len(content) < count:
-            raise self._ended("the store has ended")
+            raise self._ended()
         return content
 
     @contextlib.contextmanager
@@ -400,7 +400,7 @@ class Store:
                 self._fault = told if isinstance(told, Ended) else None
                 raise
             except (ValueError, TypeError, IndexError) as fault:
-                self._fault = self._ended(f"the store gives no answer that fits: {fault}")
+                self._fault = self._ended(f"the store gives no answer that fits: {fault}", 0)
                 raise self._fault from None
             except BaseException as fault:
                 self._fault = Ended(f"a command was broken off by {type(fault).__name__}")
@@ -412,7 +412,7 @@ class Store:
                 self._process.stdin.write(piece)
             self._process.stdin.flush()
         except OSError:
-            raise self._ended("the store has ended") from None
+            raise self._ended() from None
 
     def _answer(self, kinds):
         """The words of an answer's line behind its kind, or all of them where it may be of several kinds."""
@@ -422,19 +422,19 @@ class Store:
         if isinstance(kinds, tuple) and words[0] in kinds:
             return words
         if words[0] != kinds:
-            raise self._ended(f"the store answers {' '.join(words)[:60]!r}")
+            raise self._ended(f"the store answers {' '.join(words)[:60]!r}", 0)
         return words[1:]
 
     def _line(self):
         line = self._process.stdout.readline()
         if not line.endswith(b"\n"):
-            raise self._ended("the store has ended")
+            raise self._ended()
         return line[:-1].decode("ascii").split(" ")
 
-    def _ended(self, reason):
+    def _ended(self, reason="the store has ended", seconds=SECONDS):
         """Why the store can't be used any more, with what its process left."""
         with contextlib.suppress(subprocess.TimeoutExpired):
-            self._process.wait(SECONDS)
+            self._process.wait(seconds)
         written = self._stderr.seek(0, 2)
         self._stderr.seek(max(0, written - MAX_STDERR))
         return Ended(reason, self._process.poll(), self._stderr.read().decode(errors="replace"))
