@@ -33,9 +33,10 @@ import sys
 import time
 import urllib.parse
 
+sys.path.insert(0, os.path.join(os.path.dirname(os.path.dirname(os.path.abspath(__file__))), "python"))
 from b3store import Ended, Refused, Store
 
-LEAST_PIECE, MOST_PIECE = 1 << 14, 1 << 22
+MIN_PIECE, MAX_PIECE = 1 << 14, 1 << 22
 """The bytes of a piece: the last one of a file may have fewer."""
 MAX_ASIDE, MAX_BYTES_ASIDE = 1000, 1 << 26
 """How many objects, and how many bytes of them, are written aside before they are synced together."""
@@ -61,12 +62,12 @@ def pieces_of(file):
     """The pieces of a file, whose edges hang on the bytes before them alone."""
     left = b""
     while True:
-        left += file.read(MOST_PIECE)
-        at_end = len(left) < MOST_PIECE
+        left += file.read(MAX_PIECE)
+        at_end = len(left) < MAX_PIECE
         start = 0
-        while len(left) - start >= MOST_PIECE or (at_end and start < len(left)):
-            edge = EDGE.search(left, start + LEAST_PIECE, start + MOST_PIECE)
-            end = edge.end() if edge else min(len(left), start + MOST_PIECE)
+        while len(left) - start >= MAX_PIECE or (at_end and start < len(left)):
+            edge = EDGE.search(left, start + MIN_PIECE, start + MAX_PIECE)
+            end = edge.end() if edge else min(len(left), start + MAX_PIECE)
             yield left[start:end]
             start = end
         left = left[start:]
@@ -461,7 +462,7 @@ def main():
     sys.stdout.reconfigure(errors="surrogateescape")
     options = read_options()
     try:
-        with Store(options.program) as store:
+        with Store(options.program, sessions=1) as store:
             repository = Repository(options.repository, store, options.memory)
             return 0 if options.work(repository, options) else 1
     except (Refused, OSError, Damaged) as fault:

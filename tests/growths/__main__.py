@@ -28,7 +28,7 @@ from python_needed import end_where_older
 from test_programs import CRATES, NoTests, tests
 
 REFUSING = os.path.join(TESTS, "growths", "refusing.c")
-MOST_GROWTHS = 5000
+MAX_GROWTHS = 5000
 TELLS = b"b3store: out of memory\n"
 
 
@@ -73,7 +73,7 @@ def growths_of(refusing, case):
     if not is_answer(undisturbed, case.answer):
         return 0, 0, [f"where no growth is refused it ended {whole!r}, not {tuple(case.answer)!r}"]
     passed, ended, failed = 0, 0, []
-    for growth in range(1, MOST_GROWTHS):
+    for growth in range(1, MAX_GROWTHS):
         try:
             run, met = refusing.run(case.words, case.data, GROWTH=str(growth))
         except subprocess.TimeoutExpired:
@@ -88,7 +88,7 @@ def growths_of(refusing, case):
             failed.append(f"growth {growth}: ended {ending(run)!r}")
         if not met:
             return passed, ended, failed
-    failed.append(f"it grows more than {MOST_GROWTHS} times")
+    failed.append(f"it grows more than {MAX_GROWTHS} times")
     return passed, ended, failed
 
 

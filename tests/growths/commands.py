@@ -56,6 +56,7 @@ fetchb 0 {address_of(b"a" * 2049)} 1000 1040
 list 0
 tenants
 entries 3
+entries 1 2
 """.encode()
 
 

@@ -29,7 +29,7 @@ CRATES = os.path.join(os.path.dirname(os.path.dirname(HERE)), "crates")
 PARTS = 16
 FEW_ROUNDS, MANY_ROUNDS = 200, 4000
 PART = 65536
-MOST_LINE = 33554481
+MAX_LINE = 33554481
 """The most bytes of a command's line with its line feed."""
 ENTRY_BYTES = 256
 """The most that an entry of the journal may take, which grows by doubling."""
@@ -152,7 +152,7 @@ def a_line_that_is_too_long_is_not_kept(options, folder):
     """How much more a line of four times the longest asks for, and how much that may be."""
     library = counting(folder)
     counts = []
-    for length in (4 * MOST_LINE, MOST_LINE + 1):
+    for length in (4 * MAX_LINE, MAX_LINE + 1):
         found, count = counted([options.program, "run"], library, b"put 0 0 x:" + bytes(length) + b"\ntenant 5\n")
         if found != "bad\ntenant 0\n":
             raise ValueError(f"it answered {found[:200]!r}")

@@ -36,10 +36,11 @@ class Session:
     def question(self):
         chance, writer = self.chance, self.writer
         numbers = list(map(str, range(7))) + list(NUMBERS)
+        counted = f" {chance.choice(numbers)}" if chance.random() < 0.6 else ""
         ranged = f" {chance.choice(LENGTHS)} {chance.choice(LENGTHS + (1 << 63,))}" if chance.random() < 0.6 else ""
         line = chance.choice((
             f"fetchb {writer.tenant()} {writer.address()}{ranged}", f"has {writer.tenant()} {writer.address()}",
-            f"uploads {writer.tenant()}", "tenants", f"entries {chance.choice(numbers)}",
+            f"uploads {writer.tenant()}", "tenants", f"entries {chance.choice(numbers)}{counted}",
         ))
         line = spoilt(chance, line) if chance.random() < 0.06 else line
         self.data += line.encode() + b"\n"

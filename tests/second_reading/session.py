@@ -10,7 +10,7 @@ FORMS = {
     "has": f"has {NUMBER} {ADDRESS}",
     "uploads": f"uploads {NUMBER}",
     "tenants": "tenants",
-    "entries": f"entries {NUMBER}",
+    "entries": f"entries {NUMBER}(?: {NUMBER})?",
 }
 
 

@@ -1,4 +1,4 @@
--- What a reader has to believe, each file behind those that it rests on.
+-- The definitions that a reader has to trust, each file after those it uses.
 pub mod Hashers
 pub mod Modes
 pub mod Answers

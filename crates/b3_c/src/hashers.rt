@@ -1,11 +1,11 @@
-//! Bytes that come in pieces.
+//! The incremental hasher.
 
 ghost use Rattle.std.specs.Prelude.{◌≡◌, ◌≢◌, ◌↔◌, ℕ, ◌+◌, ◌-◌, ◌^◌, ◌<◌, ◌++◌, List, [], length};
 ghost use Rattle.b3_core.specs.ExtendedOutput.{blocks_touched, output_of};
 ghost use Rattle.b3_core.specs.Hashers.{CountsRest};
 ghost use Rattle.b3_core.specs.HasherStates.{IsState};
 ghost use Rattle.b3_core.specs.Modes.{digest_of};
-ghost use Rattle.b3_core.specs.Tree.{Keying, tree_top};
+ghost use Rattle.b3_core.specs.Tree.{ModelMode, tree_top};
 ghost use Rattle.b3_core.specs.Work.{NeverFalls, counted, hash_work};
 ghost use Rattle.b3_c.specs.Answers.{finalize_refusal, init_answer, read_refusal};
 ghost use Rattle.b3_c.specs.Hashers.{HoldsIn, kept_in};
@@ -15,8 +15,8 @@ use crate::answers::{BAD_HASHER, BAD_KEY, BAD_OUTPUT, BAD_POSITION, DONE};
 use crate::whole::{HASH_LEN, mode_of, read_output};
 use b3_core::{HasherState, Work};
 
-/// Makes a hasher that was given no bytes, in the mode of this number with its key or context (sections 2.1 to 2.5): 0 where it is
-/// done, 2 where there is no such mode or its key has another length. What stood in `hasher` before has no meaning.
+/// Initializes a hasher that has been given no bytes, in a mode with its key or context (sections 2.1 to 2.5). Returns 0 on success, 2 if
+/// there is no such mode or its key has another length. The previous contents of `hasher` have no meaning.
 #[unsafe(no_mangle)]
 pub extern "C" fn b3_hasher_init(
     hasher: &mut HasherState,
@@ -37,16 +37,16 @@ pub extern "C" fn b3_hasher_init(
     DONE
 }
 
-/// Gives `bytes` behind those that the hasher was given before: 0 where it is done, 5 where it is none that `b3_hasher_init` made.
-/// All of them are fewer than 2^64.
+/// Appends `bytes` to the hasher's input. Returns 0 on success, 5 if the hasher was not made by `b3_hasher_init`. The whole input must be
+/// shorter than 2^64 bytes.
 #[unsafe(no_mangle)]
 pub extern "C" fn b3_hasher_update(hasher: &mut HasherState, bytes: &[u8], work: &mut Work) -> u32
     ensures done { result ≡ 0 ↔ IsState hasher.old }
     ensures why { result ≢ 0 → result ≡ 5 }
     ensures state { IsState hasher.old → IsState hasher.new }
-    ensures bytes { (p : Keying) (x : List ℕ) → HoldsIn hasher.old p x → length x + length bytes.now < 2 ^ 64
+    ensures bytes { (p : ModelMode) (x : List ℕ) → HoldsIn hasher.old p x → length x + length bytes.now < 2 ^ 64
         → HoldsIn hasher.new p (x ++ bytes.now) }
-    ensures count { (p : Keying) (x : List ℕ) → HoldsIn hasher.old p x → length x + length bytes.now < 2 ^ 64
+    ensures count { (p : ModelMode) (x : List ℕ) → HoldsIn hasher.old p x → length x + length bytes.now < 2 ^ 64
         → CountsRest (kept_in hasher.old) (kept_in hasher.new) work.old work.new }
     ensures never_falls { NeverFalls work.old work.new }
     ensures refused { result ≢ 0 → (hasher.new ≡ hasher.old) × (work.new ≡ work.old) }
@@ -57,14 +57,14 @@ pub extern "C" fn b3_hasher_update(hasher: &mut HasherState, bytes: &[u8], work:
     DONE
 }
 
-/// The hash of all bytes that the hasher was given, into 32 bytes: 0 where it is done, 1 where `out` has another length, 5 where the
-/// hasher is none that `b3_hasher_init` made. More bytes can be given afterwards.
+/// Writes the hash of all bytes given to the hasher, 32 bytes. Returns 0 on success, 1 if `out` has another length, 5 if the hasher was not
+/// made by `b3_hasher_init`. More bytes can be given afterwards.
 #[unsafe(no_mangle)]
 pub extern "C" fn b3_hasher_finalize(hasher: &HasherState, out: &mut [u8], work: &mut Work) -> u32
     ensures done { result ≡ 0 ↔ ((length out.old ≡ 32) × IsState hasher.now) }
     ensures why { result ≢ 0 → result ≡ finalize_refusal (length out.old) }
-    ensures bytes { (p : Keying) (x : List ℕ) → HoldsIn hasher.now p x → result ≡ 0 → out.new ≡ digest_of x p }
-    ensures count { (p : Keying) (x : List ℕ) → HoldsIn hasher.now p x → result ≡ 0
+    ensures bytes { (p : ModelMode) (x : List ℕ) → HoldsIn hasher.now p x → result ≡ 0 → out.new ≡ digest_of x p }
+    ensures count { (p : ModelMode) (x : List ℕ) → HoldsIn hasher.now p x → result ≡ 0
         → CountsRest (kept_in hasher.now) (hash_work (length x)) work.old work.new }
     ensures never_falls { NeverFalls work.old work.new }
     ensures refused { result ≢ 0 → (out.new ≡ out.old) × (work.new ≡ work.old) }
@@ -79,9 +79,9 @@ pub extern "C" fn b3_hasher_finalize(hasher: &HasherState, out: &mut [u8], work:
     DONE
 }
 
-/// As many bytes of the extended output of all bytes that the hasher was given (section 2.6) as `out` has, from `position` on: 0 where
-/// it is done, 3 where they reach past the output's 2^64-1 bytes, 5 where the hasher is none that `b3_hasher_init` made. More bytes can be
-/// given afterwards.
+/// Fills `out` with the extended output of all bytes given to the hasher (section 2.6), starting at `position`. Returns 0 on success, 3 if
+/// the bytes extend past the 2^64-1 bytes of the output, 5 if the hasher was not made by `b3_hasher_init`. More bytes can be given
+/// afterwards.
 #[unsafe(no_mangle)]
 pub extern "C" fn b3_hasher_extended(
     hasher: &HasherState,
@@ -91,9 +91,9 @@ pub extern "C" fn b3_hasher_extended(
 ) -> u32
     ensures done { result ≡ 0 ↔ ((position + length out.old < 2 ^ 64) × IsState hasher.now) }
     ensures why { result ≢ 0 → result ≡ read_refusal position (length out.old) }
-    ensures bytes { (p : Keying) (x : List ℕ) → HoldsIn hasher.now p x → result ≡ 0
+    ensures bytes { (p : ModelMode) (x : List ℕ) → HoldsIn hasher.now p x → result ≡ 0
         → out.new ≡ output_of (tree_top x 0 p) position (length out.old) }
-    ensures count { (p : Keying) (x : List ℕ) → HoldsIn hasher.now p x → result ≡ 0
+    ensures count { (p : ModelMode) (x : List ℕ) → HoldsIn hasher.now p x → result ≡ 0
         → CountsRest (kept_in hasher.now) (hash_work (length x) - 1 + blocks_touched position (length out.old)) work.old work.new }
     ensures never_falls { NeverFalls work.old work.new }
     ensures refused { result ≢ 0 → (out.new ≡ out.old) × (work.new ≡ work.old) }

@@ -1,4 +1,4 @@
-//! Bytes that are at hand, at once.
+//! Hashing bytes in memory.
 
 ghost use Rattle.std.specs.Prelude.{◌≡◌, ◌≢◌, ◌+◌, ◌-◌, ◌^◌, ◌<◌, false, true, MatchOption, length};
 ghost use Rattle.b3_core.specs.ExtendedOutput.{blocks_touched, output_of};
@@ -11,10 +11,10 @@ ghost use Rattle.b3_c.specs.Modes.{is_mode, mode_of, mode_work};
 use crate::answers::{BAD_KEY, BAD_OUTPUT, BAD_POSITION, DONE};
 use b3_core::{Mode, OutputReader, Top, Work, hash_wide};
 
-/// The bytes of a hash.
+/// The length of a hash in bytes.
 pub(crate) const HASH_LEN: usize = 32;
 
-/// The bytes of a key of the mode `keyed_hash`.
+/// The length in bytes of a key of the mode `keyed_hash`.
 pub(crate) const KEY_LEN: usize = 32;
 
 // The numbers of the modes.
@@ -24,7 +24,7 @@ const KEYED_HASH: u32 = 1;
 
 const DERIVE_KEY: u32 = 2;
 
-/// The hash of `bytes` (sections 2.1 to 2.5) into 32 bytes: 0 where it is done, 1 where `out` has another length.
+/// Writes the hash of `bytes` (sections 2.1 to 2.5), 32 bytes. Returns 0 on success, 1 if `out` has another length.
 #[unsafe(no_mangle)]
 pub extern "C" fn b3_hash(bytes: &[u8], out: &mut [u8], work: &mut Work) -> u32
     ensures answer { result ≡ hash_answer (length out.old) }
@@ -39,7 +39,7 @@ pub extern "C" fn b3_hash(bytes: &[u8], out: &mut [u8], work: &mut Work) -> u32
     DONE
 }
 
-/// The keyed hash of `bytes` (section 2.3) into 32 bytes: 0 where it is done, 2 where `key` has not 32 bytes, 1 where `out` has
+/// Writes the keyed hash of `bytes` (section 2.3), 32 bytes. Returns 0 on success, 2 if `key` does not have 32 bytes, 1 if `out` has
 /// another length.
 #[unsafe(no_mangle)]
 pub extern "C" fn b3_keyed_hash(key: &[u8], bytes: &[u8], out: &mut [u8], work: &mut Work) -> u32
@@ -58,8 +58,8 @@ pub extern "C" fn b3_keyed_hash(key: &[u8], bytes: &[u8], out: &mut [u8], work: 
     DONE
 }
 
-/// The key derived from the key material `bytes` in a context (section 2.3) into 32 bytes: 0 where it is done, 1 where `out` has
-/// another length.
+/// Writes the key derived from the key material `bytes` in a context (section 2.3), 32 bytes. Returns 0 on success, 1 if `out` has another
+/// length.
 #[unsafe(no_mangle)]
 pub extern "C" fn b3_derive_key(
     context: &[u8],
@@ -80,9 +80,8 @@ pub extern "C" fn b3_derive_key(
     DONE
 }
 
-/// As many bytes of the extended output of `bytes` (section 2.6) as `out` has, from `position` on, in the mode of this number with
-/// its key or context: 0 where it is done, 3 where they reach past the output's 2^64-1 bytes, 2 where there is no such
-/// mode or its key has another length.
+/// Fills `out` with the extended output of `bytes` (section 2.6), starting at `position`, in a mode with its key or context. Returns 0 on
+/// success, 3 if the bytes extend past the 2^64-1 bytes of the output, 2 if there is no such mode or its key has another length.
 #[unsafe(no_mangle)]
 pub extern "C" fn b3_extended(
     mode: u32,
@@ -108,7 +107,7 @@ pub extern "C" fn b3_extended(
     DONE
 }
 
-/// Fills `out` with the extended output of a root from a position on.
+/// Fills `out` with the extended output of a root, starting at `position`.
 pub(crate) fn read_output(root: Top, position: u64, out: &mut [u8], work: &mut Work)
     requires { position + length out.old < 2 ^ 64 }
     ensures bytes { out.new ≡ output_of root position (length out.old) }
@@ -121,7 +120,7 @@ pub(crate) fn read_output(root: Top, position: u64, out: &mut [u8], work: &mut W
     };
 }
 
-/// The mode of a number with its key or context, if there is one.
+/// The mode of this number with its key or context, if there is one.
 pub(crate) fn mode_of(number: u32, key: &[u8], work: &mut Work) -> Option<Mode>
     ensures mode { MatchOption result (is_mode number (length key.now) ≡ false)
         (λ mode. (is_mode number (length key.now) ≡ true) × (mode ≡ mode_of number key.now)) }

@@ -132,10 +132,10 @@ escape_ok None read name e = absurd cc
 abbrev chosen : Bool → Result (List ℕ) Fault → Result (List ℕ) Fault → Result (List ℕ) Fault
 chosen t x y = elim t [ true ↦ x | false ↦ y ]
 
-stands_here : (b : ℕ) (units name : List ℕ) (behind plain : Result (List ℕ) Fault) → (behind ≡ Ok name → StandsFor (backslash ∷ units) name) → ((n : List ℕ) → plain ≡ Ok n → StandsFor units n)
-    → (t : Bool) → (b == backslash) ≡ t → chosen t behind (in_front b plain) ≡ Ok name → StandsFor (b ∷ units) name
-stands_here b units name behind plain p q true is e = subst (λ (c : ℕ). StandsFor (c ∷ units) name) (sym (eqb-true b backslash is)) (p e)
-stands_here b units name behind plain p q false is e =
+stands_here : (b : ℕ) (units name : List ℕ) (following plain : Result (List ℕ) Fault) → (following ≡ Ok name → StandsFor (backslash ∷ units) name) → ((n : List ℕ) → plain ≡ Ok n → StandsFor units n)
+    → (t : Bool) → (b == backslash) ≡ t → chosen t following (in_front b plain) ≡ Ok name → StandsFor (b ∷ units) name
+stands_here b units name following plain p q true is e = subst (λ (c : ℕ). StandsFor (c ∷ units) name) (sym (eqb-true b backslash is)) (p e)
+stands_here b units name following plain p q false is e =
     let r = front_ok b plain name e in
     subst (λ (n : List ℕ). StandsFor (b ∷ units) n) r.2 (itself (eqb-false b backslash is) (q r.0 r.1))
 

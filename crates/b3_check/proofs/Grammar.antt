@@ -80,9 +80,9 @@ parts_of rest long spaces =
     let both = and_parts (slice_index rest 64 == 32) (slice_index rest 65 == 32) spaces in
     let first : get_or rest 64 0 ≡ 32 = eqb-true _ 32 both.0 in
     let second : get_or rest 65 0 ≡ 32 = eqb-true _ 32 both.1 in
-    let behind : drop 64 rest ≡ 32 ∷ 32 ∷ drop 66 rest =
+    let following : drop 64 rest ≡ 32 ∷ 32 ∷ drop 66 rest =
     drop_more rest 64 0 (omega arith) ∙ ap (λ c. c ∷ drop 65 rest) first ∙ ap (λ (w : List ℕ). 32 ∷ w) (drop_more rest 65 0 (omega arith) ∙ ap (λ c. c ∷ drop 66 rest) second) in
-    sym (take-append-drop 64 rest) ∙ ap (λ (w : List ℕ). take 64 rest ++ w) behind
+    sym (take-append-drop 64 rest) ∙ ap (λ (w : List ℕ). take 64 rest ++ w) following
 
 spells_from : (digits digest bytes : List ℕ) → length digits ≡ 64 → decode_of digits ≡ Ok bytes → digest_at digits ≡ digest → Spells digits digest
 spells_from digits digest bytes many e is = record { many = many; value = subst (λ (w : List ℕ). decode_of digits ≡ Ok w) (sym (digest_at-decoded digits bytes e) ∙ is) e }
@@ -172,7 +172,7 @@ spelled_rest e digits digest text name s bytes named =
     let spaced_first : (digits ++ 32 ∷ []) ++ (32 ∷ text) ≡ rest = append_assoc digits (32 ∷ []) (32 ∷ text) in
     let second : get_or rest 65 0 ≡ 32 = subst (λ (w : List ℕ). get_or w 65 0 ≡ 32) spaced_first (get_or_at (digits ++ 32 ∷ []) 32 text 0 65 (omega (arith, length-append digits (32 ∷ [])))) in
     let spaces = spaced rest first second in
-    let behind : drop 66 rest ≡ text = subst (λ (w : List ℕ). drop 66 w ≡ text) (append_assoc digits (32 ∷ 32 ∷ []) text) (drop_at (digits ++ (32 ∷ 32 ∷ [])) text 66 (omega (arith, length-append digits (32 ∷ 32 ∷ [])))) in
+    let following : drop 66 rest ≡ text = subst (λ (w : List ℕ). drop 66 w ≡ text) (append_assoc digits (32 ∷ 32 ∷ []) text) (drop_at (digits ++ (32 ∷ 32 ∷ [])) text 66 (omega (arith, length-append digits (32 ∷ 32 ∷ [])))) in
     let at_one : get_or rest 1 0 ≡ get_or digits 1 0 = get_or_append_left digits (32 ∷ 32 ∷ text) 0 1 (omega arith) in
     let reached : Reaches rest = record {
       untagged = untagged rest (omega arith) (λ is. no_digit digits 1 76 all (omega arith) refl (sym at_one ∙ is));
@@ -180,16 +180,16 @@ spelled_rest e digits digest text name s bytes named =
       digits = rw front (list_all-from_AllPass is_hex_digit digits all);
     } in
     let value : digest_at digits ≡ digest = digest_at-decoded digits digest s.value in
-    at_bytes e rest name reached spaces (ap (name_bytes_at e) behind ∙ bytes) ∙ rw (name_is_none name named, front, value) refl
+    at_bytes e rest name reached spaces (ap (name_bytes_at e) following ∙ bytes) ∙ rw (name_is_none name named, front, value) refl
 
 only_marked : (text digest name : List ℕ) → (IsPlain text digest name ⊎ IsEscaped text digest name) → IsName name → marked_at text ≡ Ok (record { digest = digest; name = name })
 only_marked text digest name (inl p) named =
     let plain = spelled_rest false p.digits digest name name p.spelled refl named in
     rw p.is (unmarked p.digits (32 ∷ 32 ∷ name) (omega (arith, p.spelled.many)) (no_digit p.digits 0 92 (all_digits p.digits digest p.spelled) (omega (arith, p.spelled.many)) refl) ∙ plain)
   where
-    unmarked : (digits behind : List ℕ) → 0 < length digits → get_or digits 0 0 ≢ 92 → marked_at (digits ++ behind) ≡ rest_at false (digits ++ behind)
-    unmarked [] behind lt ne = absurd (omega arith)
-    unmarked (d ∷ digits) behind lt ne = cond-false (d == 92) (rest_at true (digits ++ behind)) (rest_at false (d ∷ (digits ++ behind))) (ne_eqb d 92 ne)
+    unmarked : (digits following : List ℕ) → 0 < length digits → get_or digits 0 0 ≢ 92 → marked_at (digits ++ following) ≡ rest_at false (digits ++ following)
+    unmarked [] following lt ne = absurd (omega arith)
+    unmarked (d ∷ digits) following lt ne = cond-false (d == 92) (rest_at true (digits ++ following)) (rest_at false (d ∷ (digits ++ following))) (ne_eqb d 92 ne)
 only_marked text digest name (inr p) named = rw p.is (spelled_rest true p.digits digest p.units name p.spelled (unescaped-from_StandsFor p.stands) named)
 
 -- what is in the grammar is read

@@ -10,7 +10,7 @@ use Rattle.hex.proofs.HexLemmas.{decode_of-encode_lower, decode_of-ok}
 use Rattle.b3_check.specs.declared.file.NumberedLine.{NumberedLine}
 use Rattle.b3_check.specs.declared.fault.Fault.{Fault}
 use Rattle.b3_check.specs.declared.line.Line.{Line}
-use Rattle.b3_check.specs.Laws.{IsFeedless}
+use Rattle.b3_check.specs.Laws.{HasNoNewline}
 use Rattle.b3_check.specs.Names.{escaped, mark_of, needs_escapes}
 use Rattle.b3_check.specs.Lines.{IsLawful, text_of, without_returns, written_line, written_lines}
 use Rattle.edge.specs.Lines.{lines_of}
@@ -19,16 +19,16 @@ use Rattle.b3_check.proofs.Grammar.{IsLine-text_of, line_at-from_IsLine, without
 
 -- ---- no line feed stands in a line as it is written
 
-IsFeedless-append : (xs ys : List ℕ) → IsFeedless xs → IsFeedless ys → IsFeedless (xs ++ ys)
-IsFeedless-append [] ys h k = k
-IsFeedless-append (x ∷ xs) ys h k = (h.0, IsFeedless-append xs ys h.1 k)
+HasNoNewline-append : (xs ys : List ℕ) → HasNoNewline xs → HasNoNewline ys → HasNoNewline (xs ++ ys)
+HasNoNewline-append [] ys h k = k
+HasNoNewline-append (x ∷ xs) ys h k = (h.0, HasNoNewline-append xs ys h.1 k)
 
-feedless_digits : (digits : List ℕ) → AllPass is_hex_digit digits → IsFeedless digits
+feedless_digits : (digits : List ℕ) → AllPass is_hex_digit digits → HasNoNewline digits
 feedless_digits [] h = tt
 feedless_digits (d ∷ digits) h =
     (λ is. false≢true (subst (λ (c : ℕ). is_hex_digit c ≡ true) is (All-head (λ c. is_hex_digit c ≡ true) d digits h)), feedless_digits digits (All-tail (λ c. is_hex_digit c ≡ true) d digits h))
 
-feedless_name : (name : List ℕ) → IsFeedless (escaped name)
+feedless_name : (name : List ℕ) → HasNoNewline (escaped name)
 feedless_name [] = tt
 feedless_name (b ∷ name) =
     let rest = feedless_name name in
@@ -45,25 +45,25 @@ feedless_name (b ∷ name) =
           ]
     ]
 
-feedless_mark : (t : Bool) → IsFeedless (cond t (92 ∷ []) [])
+feedless_mark : (t : Bool) → HasNoNewline (cond t (92 ∷ []) [])
 feedless_mark true = (λ e. absurd (omega arith), tt)
 feedless_mark false = tt
 
-feedless_text : (line : Line) → IsBytes line.digest → IsFeedless (text_of line)
+feedless_text : (line : Line) → IsBytes line.digest → HasNoNewline (text_of line)
 feedless_text line bytes =
     let digits = encode_lower line.digest in
     let all = (decode_of-ok digits line.digest (decode_of-encode_lower line.digest bytes)).1 in
-    IsFeedless-append (mark_of line.name) (digits ++ (32 ∷ 32 ∷ escaped line.name)) (feedless_mark (needs_escapes line.name))
-    (IsFeedless-append digits (32 ∷ 32 ∷ escaped line.name) (feedless_digits digits all) (λ e. absurd (omega arith), (λ e. absurd (omega arith), feedless_name line.name)))
+    HasNoNewline-append (mark_of line.name) (digits ++ (32 ∷ 32 ∷ escaped line.name)) (feedless_mark (needs_escapes line.name))
+    (HasNoNewline-append digits (32 ∷ 32 ∷ escaped line.name) (feedless_digits digits all) (λ e. absurd (omega arith), (λ e. absurd (omega arith), feedless_name line.name)))
 
 -- ---- the lines of what was written
 
-pub first_of : (text rest : List ℕ) → IsFeedless text → lines_of (text ++ 10 ∷ rest) ≡ text ∷ lines_of rest
+pub first_of : (text rest : List ℕ) → HasNoNewline text → lines_of (text ++ 10 ∷ rest) ≡ text ∷ lines_of rest
 unfolding lines_of
 first_of [] rest h = refl
 first_of (b ∷ text) rest h = rw (first_of text rest h.1, ne_eqb b 10 h.0) refl
 
-pub last_of : (text : List ℕ) → IsFeedless text → 0 < length text → lines_of text ≡ text ∷ []
+pub last_of : (text : List ℕ) → HasNoNewline text → 0 < length text → lines_of text ≡ text ∷ []
 unfolding lines_of
 last_of [] h lt = absurd (omega arith)
 last_of (b ∷ []) h lt = rw (ne_eqb b 10 h.0) refl

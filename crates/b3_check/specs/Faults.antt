@@ -1,4 +1,4 @@
--- The short names of faults, and the sentences that tell them.
+-- The codes of faults, and their sentences.
 use Rattle.std.specs.Prelude.{ℕ, List, ◌++◌, codes}
 use Rattle.b3_check.specs.declared.fault.Fault.{Fault}
 use Rattle.b3_check.specs.declared.fault.Fault.TheVariants.{BadEscape, BadHex, BadSpaces, EmptyName, NulInName, Short, Tagged}
@@ -7,7 +7,7 @@ use Rattle.b3_check.specs.declared.fault.ReadError.TheVariants as errors
 use Rattle.b3_check.specs.declared.names.NameFault.{NameFault}
 use Rattle.b3_check.specs.declared.names.NameFault.TheVariants as name_faults
 
--- the short name of a fault
+-- the code of a fault
 abbrev pub code_of : Fault → List ℕ
 code_of Tagged = codes "C1"
 code_of Short = codes "C2"
@@ -27,16 +27,16 @@ reason_of EmptyName = codes "the name is empty"
 reason_of BadEscape = codes "a backslash in the name begins no escape"
 reason_of NulInName = codes "the name holds a byte 0"
 
--- a fault's sentence: its short name, and what is wrong
+-- a fault's sentence: its code, and what is wrong
 abbrev pub sentence_of : Fault → List ℕ
 sentence_of fault = code_of fault ++ (codes ": " ++ reason_of fault)
 
--- what is shown of a read that failed
+-- the text of a failed read
 abbrev pub error_text : ReadError → List ℕ
 error_text (errors.Fault fault) = sentence_of fault
 error_text errors.NoMemory = codes "out of memory"
 
--- what is shown of a name without a digest
+-- the text for a name without a digest
 abbrev pub name_fault_text : NameFault → List ℕ
 name_fault_text name_faults.Unreadable = codes "unreadable"
 name_fault_text name_faults.NoMemory = codes "out of memory"

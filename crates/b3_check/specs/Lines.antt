@@ -1,4 +1,4 @@
--- Check lines: their grammar, the first fault of what is none, and the one line that is written.
+-- Check lines: their grammar, the first fault of a line that is not one, and the line as it is written.
 use Rattle.std.specs.Prelude.{◌≡◌, ◌==◌, ◌&&◌, ◌⊎◌, ℕ, Bool, true, false, not, List, [], ◌∷◌, ◌++◌, Result, Ok, Err, length, take, drop, nat_eq, nat_lt, slice_index, codes, if◌then◌else◌}
 use Rattle.std.specs.List.{list_all, starts_with, flat_map}
 use Rattle.std.specs.Result.{result_unwrap_or}
@@ -8,7 +8,7 @@ use Rattle.b3_check.specs.declared.fault.Fault.TheVariants.{BadHex, BadSpaces, E
 use Rattle.b3_check.specs.declared.fault.ReadError.{ReadError}
 use Rattle.b3_check.specs.declared.fault.ReadError.TheVariants as errors
 use Rattle.b3_check.specs.declared.line.Line.{Line}
-use Rattle.edge.specs.Lines.{line_feed}
+use Rattle.edge.specs.Lines.{newline}
 use Rattle.b3_check.specs.Names.{backslash, carriage_return, IsName, StandsFor, escaped, has_nul, mark_of, unescaped}
 
 -- ---- the grammar
@@ -33,7 +33,7 @@ pub record IsPlain (text digest name : List ℕ) : Type 0 where
   pub spelled : Spells digits digest
   pub is : text ≡ digits ++ (32 ∷ 32 ∷ name)
 
--- a backslash, digits, two spaces, units that stand for the name
+-- a backslash, digits, two spaces, the escaped name
 pub record IsEscaped (text digest name : List ℕ) : Type 0 where
   pub digits : List ℕ
   pub units : List ℕ
@@ -53,11 +53,11 @@ abbrev pub ◌>>=◌ : {A B : Type 0} → Result A Fault → (A → Result B Fau
 (Ok x) >>= f = f x
 (Err fault) >>= f = Err fault
 
--- the bytes as a name, where there is no byte 0
+-- the bytes as a name, if there is no zero byte
 abbrev pub name_without_nul : List ℕ → Result (List ℕ) Fault
 name_without_nul name = if has_nul name then Err NulInName else Ok name
 
--- the bytes for a name: in an escaped line what the units stand for, in another as they stand
+-- the bytes of a name: unescaped in an escaped line, otherwise literal
 abbrev pub name_bytes_at : Bool → List ℕ → Result (List ℕ) Fault
 name_bytes_at true text = unescaped text
 name_bytes_at false text = Ok text
@@ -66,7 +66,7 @@ name_bytes_at false text = Ok text
 abbrev pub digest_at : List ℕ → List ℕ
 digest_at digits = result_unwrap_or (decode_of digits) []
 
--- what begins a line of another kind
+-- the start of a line of another kind
 abbrev pub tag : List ℕ
 tag = codes "BLAKE3 ("
 
@@ -74,7 +74,7 @@ tag = codes "BLAKE3 ("
 abbrev pub has_two_spaces : List ℕ → Bool
 has_two_spaces rest = slice_index rest 64 == 32 && slice_index rest 65 == 32
 
--- what stands behind the backslash of an escaped line, or is another line: a digest and a name, or the first fault
+-- the text of a line, after the backslash if it is escaped: a digest and a name, or the first fault
 unfoldable pub rest_at : Bool → List ℕ → Result Line Fault
 rest_at is_escaped rest =
     if starts_with nat_eq rest tag then Err Tagged
@@ -84,7 +84,7 @@ rest_at is_escaped rest =
     else if length rest == 66 then Err EmptyName
     else name_bytes_at is_escaped (drop 66 rest) >>= λ bytes. name_without_nul bytes >>= λ name. Ok (record { digest = digest_at (take 64 rest); name = name })
 
--- a line begins with a backslash where its name is escaped
+-- a line begins with a backslash if its name is escaped
 abbrev pub marked_at : List ℕ → Result Line Fault
 marked_at [] = rest_at false []
 marked_at (b ∷ bytes) = if b == backslash then rest_at true bytes else rest_at false (b ∷ bytes)
@@ -93,9 +93,9 @@ marked_at (b ∷ bytes) = if b == backslash then rest_at true bytes else rest_at
 abbrev pub line_at : List ℕ → Result Line Fault
 line_at line = marked_at (without_returns line)
 
--- ---- what a reader answers
+-- ---- results of a reader
 
--- what was answered is what reading gives, unless memory ran out
+-- the result is what reading defines, unless memory ran out
 abbrev pub Fails : {Y : Type 0} → ReadError → Result Y Fault → Type 0
 Fails errors.NoMemory read = Unit {0}
 Fails (errors.Fault fault) read = read ≡ Err fault
@@ -112,14 +112,14 @@ pub record IsLawful (line : Line) : Type 0 where
   pub bytes : IsBytes line.digest
   pub named : IsName line.name
 
--- a line as it is written, without its line feed
+-- a line as it is written, without its newline
 abbrev pub text_of : Line → List ℕ
 text_of line = mark_of line.name ++ (encode_lower line.digest ++ (32 ∷ 32 ∷ escaped line.name))
 
--- the one line that is written
+-- a line as it is written
 abbrev pub written_line : Line → List ℕ
-written_line line = text_of line ++ line_feed ∷ []
+written_line line = text_of line ++ newline ∷ []
 
--- lines as they are written, one after another
+-- lines as they are written, one after the other
 abbrev pub written_lines : List Line → List ℕ
 written_lines lines = flat_map written_line lines

@@ -17,55 +17,55 @@ use Rattle.edge.specs.declared.outcome.Cause.{Cause}
 use Rattle.edge.specs.declared.outcome.Cause.TheVariants.{CannotRead, CannotWrite, OutOfMemory}
 use Rattle.std.specs.Io.KnownBytes.{Appends}
 use Rattle.b3_check.specs.Faults.{code_of}
-use Rattle.edge.specs.Lines.{line_feed}
+use Rattle.edge.specs.Lines.{newline}
 use Rattle.b3_check.specs.Names.{escaped, mark_of}
 use Rattle.edge.specs.Output.{IsCutOff}
 
 -- ---- verdicts
 
--- what is said of a line: what became of its name, or that the line of a number has a fault
+-- the verdict on a line: the result for its name, or the number of a line with a fault
 pub data Verdict : Type 0 where
   named : Found → List ℕ → Verdict
   faulty : ℕ → Fault → Verdict
 
--- what a table of names may answer
+-- what a lookup may return
 abbrev pub Answer : Type 0
 Answer = Result (Option (List ℕ)) NameFault
 
--- what became of a line for which that answer was given; there is nothing where memory ran out
+-- the result for a line after that answer; none if memory ran out
 abbrev pub found_of : Line → Answer → Option Found
 found_of line (Ok (Some digest)) = Some (if bytes_eq digest line.digest then Good else Bad)
 found_of line (Ok None) = Some Missing
 found_of line (Err faults.Unreadable) = Some Unreadable
 found_of line (Err faults.NoMemory) = None
 
--- that was found for a line: the names were called once, from the state old
+-- that was found for a line: the names were asked once, in the state old
 pub record IsFound {S : Type 0} (gives : S → List ℕ → Answer → S → Type 0) (old : S) (line : Line) (found : Found) (new : S) : Type 0 where
   pub answer : Answer
   pub asked : gives old line.name answer new
   pub found_is : found_of line answer ≡ Some found
 
--- the verdict on a numbered line: the names were called once, from the state old, or not at all where the line has a fault
+-- the verdict on a numbered line: the names were asked once, in the state old, or not at all if the line has a fault
 abbrev pub IsVerdictBy : {S : Type 0} → (S → List ℕ → Answer → S → Type 0) → S → ℕ → Result Line Fault → Verdict → S → Type 0
 IsVerdictBy gives old number (Ok line) verdict new = (found : Found) × IsFound gives old line found new × (verdict ≡ named found line.name)
 IsVerdictBy gives old number (Err fault) verdict new = (verdict ≡ faulty number fault) × (new ≡ old)
 
--- A chain of calls of the names, one for each line without a fault, in file order, each from the state that the call
--- before left; the verdicts follow the answers.
+-- A chain of lookups, one for each line without a fault, in file order, each in the state that the one before left; the verdicts follow
+-- from the answers.
 abbrev pub IsReport : {S : Type 0} → (S → List ℕ → Answer → S → Type 0) → S → List NumberedLine → List Verdict → S → Type 0
 IsReport gives old [] [] new = new ≡ old
 IsReport {S} gives old (line ∷ lines) (verdict ∷ verdicts) new = (mid : S) × IsVerdictBy gives old line.number line.line verdict mid × IsReport gives mid lines verdicts new
 IsReport gives old [] (verdict ∷ verdicts) new = ⊥
 IsReport gives old (line ∷ lines) [] new = ⊥
 
--- the names were called for the line, and answered want of memory
+-- the names were asked for the line, and were out of memory
 abbrev pub IsRefusedFor : {S : Type 0} → (S → List ℕ → Answer → S → Type 0) → S → Result Line Fault → S → Type 0
 IsRefusedFor gives old (Ok line) new = gives old line.name (Err faults.NoMemory) new
 IsRefusedFor gives old (Err fault) new = ⊥
 
 -- ---- counts
 
--- what has the name has the line's digest
+-- the file has the digest of the line
 abbrev pub is_good : Verdict → Bool
 is_good (named Good name) = true
 is_good (named Bad name) = false
@@ -73,7 +73,7 @@ is_good (named Missing name) = false
 is_good (named Unreadable name) = false
 is_good (faulty line fault) = false
 
--- counts and one verdict more
+-- counts with one more verdict
 abbrev pub with_verdict : Verdict → Counts → Counts
 with_verdict (named Good name) counts = record counts { good = counts.good + 1 }
 with_verdict (named Bad name) counts = record counts { bad = counts.bad + 1 }
@@ -81,12 +81,12 @@ with_verdict (named Missing name) counts = record counts { missing = counts.miss
 with_verdict (named Unreadable name) counts = record counts { unreadable = counts.unreadable + 1 }
 with_verdict (faulty line fault) counts = record counts { faults = counts.faults + 1 }
 
--- counts and more verdicts, one after another
+-- counts with more verdicts, one after the other
 abbrev pub with_verdicts : List Verdict → Counts → Counts
 with_verdicts [] counts = counts
 with_verdicts (verdict ∷ verdicts) counts = with_verdicts verdicts (with_verdict verdict counts)
 
--- how many verdicts of each kind there are
+-- the number of verdicts of each kind
 abbrev pub counts_of : List Verdict → Counts
 counts_of verdicts = with_verdicts verdicts (record { good = 0; bad = 0; missing = 0; unreadable = 0; faults = 0 })
 
@@ -94,13 +94,13 @@ counts_of verdicts = with_verdicts verdicts (record { good = 0; bad = 0; missing
 
 -- the line of a verdict on a name
 abbrev pub named_text : List ℕ → List ℕ → List ℕ
-named_text word name = mark_of name ++ (word ++ (escaped name ++ line_feed ∷ []))
+named_text word name = mark_of name ++ (word ++ (escaped name ++ newline ∷ []))
 
 -- the line of a fault
 abbrev pub fault_line : ℕ → Fault → List ℕ
-fault_line line fault = codes "fault " ++ (decimal line ++ (32 ∷ (code_of fault ++ line_feed ∷ [])))
+fault_line line fault = codes "fault " ++ (decimal line ++ (32 ∷ (code_of fault ++ newline ∷ [])))
 
--- what is written of a name, before it
+-- the word at the start of the line for a name
 abbrev pub word_of : Found → List ℕ
 word_of Good = codes "good "
 word_of Bad = codes "bad "
@@ -112,17 +112,17 @@ abbrev pub verdict_text : Verdict → List ℕ
 verdict_text (named found name) = named_text (word_of found) name
 verdict_text (faulty line fault) = fault_line line fault
 
--- whether a line is written of a verdict
+-- whether the line of a verdict is shown
 abbrev pub shows : Shown → Verdict → Bool
 shows All verdict = true
 shows AllButGood verdict = not (is_good verdict)
 shows Nothing verdict = false
 
--- what is written of a verdict
+-- what is shown of a verdict
 abbrev pub shown_line : Shown → Verdict → List ℕ
 shown_line shown verdict = if shows shown verdict then verdict_text verdict else []
 
--- what is written of verdicts, one after another
+-- what is shown of verdicts, one after the other
 abbrev pub lines_text : Shown → List Verdict → List ℕ
 lines_text shown verdicts = flat_map (shown_line shown) verdicts
 
@@ -134,21 +134,21 @@ count_text word count = word ++ decimal count
 abbrev pub counts_text : Counts → List ℕ
 counts_text counts =
     count_text (codes "good ") counts.good ++ (count_text (codes " bad ") counts.bad ++ (count_text (codes " missing ") counts.missing
-    ++ (count_text (codes " unreadable ") counts.unreadable ++ (count_text (codes " faults ") counts.faults ++ line_feed ∷ []))))
+    ++ (count_text (codes " unreadable ") counts.unreadable ++ (count_text (codes " faults ") counts.faults ++ newline ∷ []))))
 
--- what is written of counts
+-- what is shown of counts
 abbrev pub shown_counts : Shown → Counts → List ℕ
 shown_counts All counts = counts_text counts
 shown_counts AllButGood counts = counts_text counts
 shown_counts Nothing counts = []
 
--- a line for each verdict of which one is written, and then the counts
+-- the lines of the verdicts that are shown, and then the counts
 abbrev pub report_text : Shown → List Verdict → List ℕ
 report_text shown verdicts = lines_text shown verdicts ++ shown_counts shown (counts_of verdicts)
 
--- ---- where it ended
+-- ---- how a report ends early
 
--- A write failed: the chain is one for the lines that were asked for, and a beginning of the report on them went out, and not all.
+-- A write failed: the chain covers the lines that were asked for, and a proper prefix of the report on them was written.
 pub record IsBroken {S : Type 0} (gives : S → List ℕ → Answer → S → Type 0) (shown : Shown) (old : S) (lines : List NumberedLine) (new : S) (before after : Option (List ℕ)) : Type 0 where
   pub front : List NumberedLine
   pub back : List NumberedLine
@@ -157,8 +157,7 @@ pub record IsBroken {S : Type 0} (gives : S → List ℕ → Answer → S → Ty
   pub asked : IsReport gives old front verdicts new
   pub went : IsCutOff before after (report_text shown verdicts)
 
--- The names ended it: the chain is one for the lines before, whose verdicts were written, and for the next line they answered want of
--- memory.
+-- A lookup ended it: the chain covers the lines before, whose verdicts were written, and the lookup for the next line was out of memory.
 pub record EndsForMemory {S : Type 0} (gives : S → List ℕ → Answer → S → Type 0) (shown : Shown) (old : S) (lines : List NumberedLine) (new : S) (before after : Option (List ℕ)) : Type 0 where
   pub front : List NumberedLine
   pub line : NumberedLine

@@ -1,4 +1,4 @@
-//! Why a line is no check line.
+//! Why a line is not a check line.
 
 ghost use Rattle.std.specs.Prelude.{◌≡◌, Some};
 ghost use Rattle.b3_check.specs.Faults.{code_of, error_text, reason_of, sentence_of};
@@ -8,28 +8,28 @@ use std::alloc::{AllocError, AllocFailed};
 use std::error::Error;
 use std::fmt;
 
-/// Why a line is no check line: the first of these that applies. What follows the backslash at the front of an
-/// escaped line, and any other line, is the rest.
+/// Why a line is not a check line: the first matching one. The text of an escaped line is what follows the backslash at its start; the text
+/// of any other line is the whole line.
 #[derive(Clone, Copy, Debug, PartialEq, Eq)]
 pub enum Fault {
-    /// C1: the rest begins with `BLAKE3 (`.
+    /// C1: the text begins with `BLAKE3 (`.
     Tagged,
-    /// C2: the rest has fewer than 66 bytes.
+    /// C2: the text is shorter than 66 bytes.
     Short,
-    /// C3: one of the rest's first 64 bytes is no hexadecimal digit.
+    /// C3: one of the first 64 bytes of the text is not a hexadecimal digit.
     BadHex,
-    /// C4: the rest's bytes 65 and 66 are not two spaces.
+    /// C4: bytes 65 and 66 of the text are not two spaces.
     BadSpaces,
-    /// C5: the rest has just 66 bytes, so that there is no name.
+    /// C5: the text has exactly 66 bytes, so there is no name.
     EmptyName,
-    /// C6: in an escaped line's name a backslash is not followed by `\`, `n` or `r`.
+    /// C6: in the name of an escaped line a backslash is not followed by `\`, `n` or `r`.
     BadEscape,
-    /// C7: the name holds a byte 0.
+    /// C7: the name contains a zero byte.
     NulInName,
 }
 
 impl Fault {
-    /// The fault's short name, `C1` to `C7`.
+    /// The code of the fault, `C1` to `C7`.
     pub fn code(self) -> &'static str
         ensures { result.now ≡ code_of self }
     {
@@ -60,7 +60,7 @@ impl Fault {
     }
 }
 
-/// The short name and what is wrong, as `C5: the name is empty`.
+/// The code and what is wrong, for example `C5: the name is empty`.
 impl fmt::Display for Fault {
     ghost output = { λ fault. Some (sentence_of fault) };
 
@@ -74,9 +74,9 @@ impl Error for Fault {}
 /// Why a line could not be read.
 #[derive(Clone, Copy, Debug, PartialEq, Eq)]
 pub enum ReadError {
-    /// It is no check line.
+    /// It is not a check line.
     Fault(Fault),
-    /// There was no memory for its name.
+    /// Out of memory for the name.
     NoMemory,
 }
 

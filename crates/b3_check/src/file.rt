@@ -10,15 +10,15 @@ use bstr::ByteSlice;
 use std::alloc::{AllocError, Global};
 use std::marker::Model;
 
-/// A line of a check file with its number, or why it is no check line.
+/// A numbered line of a check file, or why it is not a check line.
 #[derive(Debug, Drop)]
 pub struct NumberedLine {
-    /// The line's number in the file, from 1.
+    /// The number of the line in the file, counted from 1.
     pub number: u64,
     pub line: Result<Line, Fault>,
 }
 
-/// The numbered lines of a check file. Contracts see it as their list.
+/// The numbered lines of a check file. In contracts it is their list.
 #[derive(Debug, Drop)]
 pub struct CheckFile {
     lines: Vec<NumberedLine>,
@@ -34,8 +34,8 @@ impl Model for CheckFile {
 }
 
 impl CheckFile {
-    /// Reads a file's lines. A line feed ends a line, and the last one may lack it. A line that holds nothing but
-    /// carriage returns is left out; it counts among the lines.
+    /// Reads the lines of a file. Each line ends with a newline, which may be missing on the last line. A line that consists only of
+    /// carriage returns is skipped, but counted.
     pub fn read(alloc: Global, bytes: &[u8]) -> Result<CheckFile, AllocError>
         ensures { IfOk result (λ file. file ≡ file_at bytes.now) }
     {
@@ -56,7 +56,7 @@ impl CheckFile {
     }
 }
 
-// Adds a line, unless it holds nothing but carriage returns.
+// Adds a line, unless it consists only of carriage returns.
 fn push_line(
     alloc: Global,
     lines: &mut Vec<NumberedLine>,

@@ -2,7 +2,7 @@
 
 ghost use Rattle.b3_check.specs.Laws.{FaultsSayNothing, FeedsEndLines, LastLineKept, OneMeaning, OthersKept, ReturnsDropped, WrittenInGrammar, WrittenReadBack};
 
-/// What holds of the definitions that the other calls' contracts name. It does nothing.
+/// Facts about the definitions that the other contracts use. The call does nothing.
 pub fn check_file_laws()
     ensures returns { ReturnsDropped × OthersKept }
     ensures feeds { FeedsEndLines × LastLineKept }

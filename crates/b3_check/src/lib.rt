@@ -1,20 +1,20 @@
-//! Check files: text that says which digest the file of each name has.
+//! Check files: text that lists the digest of each named file.
 //!
-//! A line is written as 64 lower-case hexadecimal digits, two spaces, the name and a line feed. Where the name holds a
-//! backslash, a line feed or a carriage return, these are written as `\\`, `\n` and `\r`, and the line begins with one
-//! more backslash. A reader takes digits of either case and drops all carriage returns at a line's end; a line without
-//! the backslash in front has its name as it stands.
+//! A line is written as 64 lower-case hexadecimal digits, two spaces, the name and a newline. If the name contains a backslash, a newline
+//! or a carriage return, these are written as `\\`, `\n` and `\r`, and the line begins with an additional backslash. A reader accepts
+//! digits of either case and drops all carriage returns at the end of a line. The name of a line without the backslash at its start is
+//! taken literally.
 //!
-//! - `Line` is a digest and a `Name`, bytes that are not empty and have no byte 0.
-//! - `read_line` reads one line: what its grammar says and nothing else, or the first `Fault` that applies.
-//! - `CheckFile` is the numbered lines of a file, each read or with its fault; one bad line doesn't stop the others.
-//! - `write` writes lines, and what it writes is read back as the same lines.
-//! - `Names` gives the digests of what has a name, as files do; `verify` asks it once for each line without a fault,
-//!   in file order, and writes the lines of the report that are `Shown`, each before it asks for the next. It gives their `Counts`. Before
-//!   each line it tells the names which lines come next, so that they can look names up ahead.
-//! - `check_file_laws` states what holds of the definitions that these contracts name.
+//! - `Line` is a digest and a `Name`: nonempty bytes without a zero byte.
+//! - `read_line` reads one line: exactly what the grammar allows, or the first matching `Fault`.
+//! - `CheckFile` holds the numbered lines of a file, each parsed or with its fault; a bad line does not affect the others.
+//! - `write` writes lines. Reading what it writes returns the same lines.
+//! - `Names` looks up the digests of names, such as those of files. `verify` asks it once for each line without a fault, in file order, and
+//!   writes the lines of the report that are `Shown`, each before it asks for the next. It returns their `Counts`. Before each line it
+//!   announces the following lines, so that their names can be looked up ahead.
+//! - `check_file_laws` states facts about the definitions that these contracts use.
 //!
-//! Want of memory is an error of its own wherever memory is taken, and comes in place of any other answer.
+//! Running out of memory is a separate error in every call that allocates, returned instead of any other result.
 #![tactic(auto)]
 
 mod fault;

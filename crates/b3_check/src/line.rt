@@ -5,7 +5,7 @@ ghost use Rattle.b3_check.specs.Names.{name_fault};
 
 use crate::name::{Name, RefusedName};
 
-/// What a check line says: the file of that name has the digest.
+/// The statement of a check line: the file of that name has the digest.
 #[derive(Clone, Debug, Drop)]
 pub struct Line {
     pub digest: [u8; 32],
@@ -13,7 +13,7 @@ pub struct Line {
 }
 
 impl Line {
-    /// A digest and a name, or the name's bytes back where they are none.
+    /// A digest and a name. Returns the bytes if they are not a name.
     pub fn new(digest: [u8; 32], name: Vec<u8>) -> Result<Line, RefusedName>
         ensures named { IfOk result (λ line. (name_fault name.items ≡ None) × (line ≡ record { digest = digest; name = name.items })) }
         ensures refused { IfErr result (λ refused. (name_fault name.items ≡ Some refused.fault) × (refused.bytes.items ≡ name.items)) }

@@ -9,7 +9,7 @@ use std::error::Error;
 use std::fmt;
 use std::marker::Model;
 
-/// A name of a check line: bytes that are not empty and have no byte 0. Contracts see it as the list of its bytes.
+/// The name in a check line: nonempty bytes without a zero byte. In contracts it is the list of its bytes.
 #[derive(Clone, Debug, Drop)]
 pub struct Name {
     bytes: Vec<u8>,
@@ -27,7 +27,7 @@ impl Model for Name {
     ghost invariant = { λ n. IsName n.bytes.items };
 }
 
-/// Bytes that are no name, and why.
+/// Bytes that are not a name, and why.
 #[derive(Debug, Drop)]
 pub struct RefusedName {
     pub fault: Fault,
@@ -35,7 +35,7 @@ pub struct RefusedName {
 }
 
 impl RefusedName {
-    /// The fault's short name, `C5` or `C7`.
+    /// The code of the fault, `C5` or `C7`.
     pub fn code(&self) -> &'static str
         ensures { result.now ≡ code_of self.now.fault }
     {
@@ -55,7 +55,7 @@ impl fmt::Display for RefusedName {
 impl Error for RefusedName {}
 
 impl Name {
-    /// The bytes as a name, or the bytes back where they are none.
+    /// The bytes as a name. Returns the bytes if they are not a name.
     pub fn new(bytes: Vec<u8>) -> Result<Name, RefusedName>
         ensures named { IfOk result (λ name. (name_fault bytes.items ≡ None) × (name ≡ bytes.items)) }
         ensures refused { IfErr result (λ refused. (name_fault bytes.items ≡ Some refused.fault) × (refused.bytes.items ≡ bytes.items)) }
@@ -75,7 +75,7 @@ impl Name {
         Ok(Name { bytes })
     }
 
-    /// The bytes.
+    /// The bytes of the name.
     pub fn as_bytes(&self) -> &[u8]
         ensures value { result.now ≡ self.now }
         ensures named { IsName result.now }
@@ -83,7 +83,7 @@ impl Name {
         self.bytes.as_slice()
     }
 
-    /// The bytes, without taking memory.
+    /// The bytes of the name. Allocates nothing.
     pub fn into_bytes(self) -> Vec<u8>
         ensures value { result.items ≡ self }
         ensures named { IsName result.items }

@@ -11,9 +11,9 @@ use std::fmt;
 /// Why there is no digest for a name.
 #[derive(Clone, Copy, Debug, PartialEq, Eq)]
 pub enum NameFault {
-    /// What has the name could not be read.
+    /// The file of this name could not be read.
     Unreadable,
-    /// There was no memory.
+    /// Out of memory.
     NoMemory,
 }
 
@@ -31,19 +31,19 @@ impl fmt::Display for NameFault {
 
 impl Error for NameFault {}
 
-/// Gives the digests of what has a name, as of files or of a table in memory.
+/// Looks up the digests of names, such as those of files or of a table in memory.
 pub trait Names {
-    // A call on the state before, with this name, may give this answer and leave the state after. Where nothing can be
-    // said, as of files, it is `λ _ _ _ _. Unit {0}`.
+    // Whether a call in the state before, with this name, may return this result and leave the state after. If nothing can be said, as for
+    // files, it is `λ _ _ _ _. Unit {0}`.
     ghost gives: { Self → List ℕ → Result (Option (List ℕ)) Refusal → Self → Type 0 };
 
-    /// Tells which lines come next, in their order, so that the names of those without a fault can be looked up ahead. It is a hint: no
-    /// answer hangs on it, and any other name may be asked for.
+    /// Announces the following lines, in their order, so that the names of those without a fault can be looked up ahead. It is a hint: no
+    /// result depends on it, and any other name may be asked for.
     fn expect(&mut self, _lines: &[NumberedLine])
         ensures { self.new ≡ self.old }
     {}
 
-    /// The digest of what has the name, or `None` where nothing has it.
+    /// The digest of the file of this name, or `None` if there is no such file.
     fn digest_of(&mut self, name: &[u8]) -> Result<Option<[u8; 32]>, NameFault>
         ensures { gives self.old name.now result self.new };
 }

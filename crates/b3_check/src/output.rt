@@ -1,4 +1,4 @@
-//! Bytes to a writer.
+//! Writing bytes.
 
 ghost use Rattle.std.specs.Prelude.{OnErr, OnOk};
 ghost use Rattle.std.specs.Io.KnownBytes.{Appends};
@@ -9,7 +9,7 @@ use edge::write_whole;
 use std::io;
 use std::io::Write;
 
-/// Writes pieces, one after another.
+/// Writes pieces, one after the other.
 pub(crate) fn write_pieces<W: Write>(writer: &mut W, pieces: &[&[u8]]) -> io::Result<()>
     ensures written { OnOk result (Appends (W.contents writer.old) (W.contents writer.new) (flat_map (λ piece. piece.now) pieces.now)) }
     ensures failed { OnErr result (IsCutOff (W.contents writer.old) (W.contents writer.new) (flat_map (λ piece. piece.now) pieces.now)) }

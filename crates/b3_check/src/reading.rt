@@ -1,4 +1,4 @@
-//! Reading one line.
+//! Reading a line.
 
 ghost use Rattle.std.specs.Prelude.{◌≡◌, ◌≤◌, ℕ, List, length, IfOk};
 ghost use Rattle.b3_check.specs.Lines.{Gives, IsLine, name_bytes_at, has_two_spaces, line_at, marked_at, rest_at, without_returns};
@@ -10,21 +10,21 @@ use bstr::ByteSlice;
 use hex::FromHex;
 use std::alloc::Global;
 
-// What begins a line that `b3sum --tag` writes.
+// The start of a line that `b3sum --tag` writes.
 const TAG: &[u8] = b"BLAKE3 (";
 
 const DIGITS: usize = 64;
 
-// The digits and two spaces.
+// The length of the digits and two spaces.
 const BEFORE_NAME: usize = 66;
 
-/// Reads one line of a check file, without its line feed.
+/// Reads a line of a check file, without its newline.
 pub fn read_line(alloc: Global, line: &[u8]) -> Result<Line, ReadError>
-    // What is read stands in the line.
+    // What is returned is what the line says.
     ensures found { IfOk result (λ read. IsLine line.now read.digest read.name) }
-    // What stands in the line is read, unless memory runs out.
+    // What the line says is returned, unless memory runs out.
     ensures only { (digest name : List ℕ) → IsLine line.now digest name → Gives (λ l. l) result (Ok (record { digest = digest; name = name })) }
-    // Which fault it is.
+    // Which fault is returned.
     ensures exact { Gives (λ l. l) result (line_at line.now) }
 {
     read_marked(alloc, without_returns(line))
@@ -80,7 +80,7 @@ fn has_two_spaces(rest: &[u8]) -> bool
     rest[DIGITS] == b' ' && rest[DIGITS + 1] == b' '
 }
 
-// The bytes for a name: in an escaped line what the units stand for, in another as they stand.
+// The bytes of a name: unescaped in an escaped line, otherwise literal.
 fn name_bytes(alloc: Global, is_escaped: bool, text: &[u8]) -> Result<Vec<u8>, ReadError>
     ensures { Gives (λ bytes. bytes.items) result (name_bytes_at is_escaped text.now) }
 {
@@ -91,7 +91,7 @@ fn name_bytes(alloc: Global, is_escaped: bool, text: &[u8]) -> Result<Vec<u8>, R
     }
 }
 
-// The name that a row of units stands for.
+// Unescapes a name.
 fn unescape(alloc: Global, units: &[u8]) -> Result<Vec<u8>, ReadError>
     ensures { Gives (λ name. name.items) result (unescaped units.now) }
 {
@@ -116,7 +116,7 @@ fn unescape(alloc: Global, units: &[u8]) -> Result<Vec<u8>, ReadError>
     Ok(name)
 }
 
-// What a backslash and this byte stand for.
+// The byte that a backslash followed by `byte` represents.
 fn escape_value(byte: u8) -> Option<u8>
     ensures { result ≡ escape_value byte }
 {

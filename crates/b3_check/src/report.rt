@@ -20,37 +20,37 @@ use std::io::Write;
 pub enum Shown {
     /// All lines.
     All,
-    /// Those of names whose file has its hash are left out.
+    /// All lines but those of names whose file has its hash.
     AllButGood,
-    /// None, and no counts.
+    /// No lines, and no counts.
     Nothing,
 }
 
-/// What became of a name.
+/// The result for a name.
 #[derive(Clone, Copy, Debug, PartialEq, Eq)]
 pub(crate) enum Found {
-    /// What has the name has the line's digest.
+    /// The file has the digest of the line.
     Good,
-    /// What has the name has another digest.
+    /// The file has another digest.
     Bad,
-    /// Nothing has the name.
+    /// There is no such file.
     Missing,
-    /// What has the name could not be read.
+    /// The file could not be read.
     Unreadable,
 }
 
-/// How many verdicts of each kind there are.
+/// The number of verdicts of each kind.
 #[derive(Clone, Copy, Debug, Default, PartialEq, Eq)]
 pub struct Counts {
-    /// Names of what has their line's digest.
+    /// Files with the digest of their line.
     pub good: u64,
-    /// Names of what has another digest.
+    /// Files with another digest.
     pub bad: u64,
-    /// Names that nothing has.
+    /// Names without a file.
     pub missing: u64,
-    /// Names of what could not be read.
+    /// Files that could not be read.
     pub unreadable: u64,
-    /// Lines that are no check lines.
+    /// Lines that are not check lines.
     pub faults: u64,
 }
 
@@ -62,7 +62,7 @@ impl Counts {
         self.bad == 0 && self.missing == 0 && self.unreadable == 0 && self.faults == 0
     }
 
-    /// Counts what became of a name.
+    /// Counts the result for a name.
     pub(crate) fn add_found(&mut self, found: Found)
         requires { AreAtMost (2 ^ 64 - 2) self.old }
         ensures { (name : List ℕ) → self.new ≡ with_verdict (named found name) self.old }
@@ -84,7 +84,7 @@ impl Counts {
     }
 }
 
-/// Writes the line of what became of a name, where one is written.
+/// Writes the line for a name, if it is shown.
 pub(crate) fn write_found<W: Write>(
     shown: Shown,
     found: Found,
@@ -101,7 +101,7 @@ pub(crate) fn write_found<W: Write>(
     }
 }
 
-// Writes the line of what became of a name.
+// Writes the line for a name.
 fn write_found_line<W: Write>(found: Found, name: &Name, writer: &mut W) -> io::Result<()>
     ensures written { OnOk result (Appends (W.contents writer.old) (W.contents writer.new) (verdict_text (named found name.now))) }
     ensures failed { OnErr result (IsCutOff (W.contents writer.old) (W.contents writer.new) (verdict_text (named found name.now))) }
@@ -114,7 +114,7 @@ fn write_found_line<W: Write>(found: Found, name: &Name, writer: &mut W) -> io::
     }
 }
 
-// Whether a line is written of what became of a name.
+// Whether the line for a name with this result is shown.
 fn shows_found(shown: Shown, found: Found) -> bool
     ensures { (name : List ℕ) → result ≡ shows shown (named found name) }
 {
@@ -125,7 +125,7 @@ fn shows_found(shown: Shown, found: Found) -> bool
     }
 }
 
-/// Writes the line of a fault, where one is written.
+/// Writes the line for a fault, if it is shown.
 pub(crate) fn write_fault<W: Write>(
     shown: Shown,
     line: u64,
@@ -141,7 +141,7 @@ pub(crate) fn write_fault<W: Write>(
     }
 }
 
-// Writes the line of a fault.
+// Writes the line for a fault.
 fn write_fault_line<W: Write>(line: u64, fault: Fault, writer: &mut W) -> io::Result<()>
     ensures written { OnOk result (Appends (W.contents writer.old) (W.contents writer.new) (fault_line line fault)) }
     ensures failed { OnErr result (IsCutOff (W.contents writer.old) (W.contents writer.new) (fault_line line fault)) }
@@ -152,7 +152,7 @@ fn write_fault_line<W: Write>(line: u64, fault: Fault, writer: &mut W) -> io::Re
     write_pieces(writer, &[b"fault ", number, b" ", code, b"\n"])
 }
 
-/// Writes the line of the counts, where it is written.
+/// Writes the line of the counts, if it is shown.
 pub(crate) fn write_counts<W: Write>(shown: Shown, counts: Counts, writer: &mut W) -> io::Result<()>
     ensures written { OnOk result (Appends (W.contents writer.old) (W.contents writer.new) (shown_counts shown counts)) }
     ensures failed { OnErr result (IsCutOff (W.contents writer.old) (W.contents writer.new) (shown_counts shown counts)) }

@@ -13,10 +13,10 @@ use edge::Cause;
 use std::alloc::AllocError;
 use std::io::Write;
 
-/// Asks the names for the digest of each line without a fault, in file order, and writes of each line what is shown, before it asks for
-/// the next; and then what is shown of the counts. Before each line it tells the names which lines come next.
+/// Asks `names` for the digest of each line without a fault, in file order, and writes what is shown of each line before it asks for the
+/// next; then writes the counts, if they are shown. Before each line it announces the following lines to `names`.
 ///
-/// It takes no memory. It stops at the first write that fails, or where the names answer want of memory.
+/// Allocates nothing. It stops at the first failed write, or when `names` is out of memory.
 pub fn verify<N: Names, W: Write>(
     file: &CheckFile,
     shown: Shown,
@@ -63,7 +63,7 @@ fn verify_line<N: Names, W: Write>(
     }
 }
 
-// The same of a line that has no fault.
+// The same for a line without a fault.
 fn verify_named<N: Names, W: Write>(
     line: &Line,
     shown: Shown,
@@ -85,7 +85,7 @@ fn verify_named<N: Names, W: Write>(
     }
 }
 
-// What became of the name of a line.
+// The result for the name of a line.
 fn found_of<N: Names>(line: &Line, names: &mut N) -> Result<Found, AllocError>
     ensures found { IfOk result (λ found. IsFound N.gives names.old line.now found names.new) }
     ensures stopped { OnErr result (N.gives names.old line.now.name (Err NameFault.NoMemory) names.new) }

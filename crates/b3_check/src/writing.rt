@@ -18,14 +18,14 @@ use std::io;
 use std::io::Write;
 
 impl Line {
-    /// The line as it is written, with its line feed.
+    /// The line as it is written, with its newline.
     pub fn text(&self, alloc: Global) -> Result<Vec<u8>, AllocError>
         ensures written { IfOk result (λ text. text.items ≡ written_line self.now) }
-        // Each line has 32 bytes and a name.
+        // A line has 32 bytes and a name.
         ensures lawful { OnOk result (IsLawful self.now) }
     {
         let mut text = Vec::new(alloc);
-        // A vector fails only where it has no room.
+        // Writing to a vector fails only if it has no room.
         match write_line(self, &mut text) {
             Ok(()) => Ok(text),
             Err(_) => Err(AllocError),
@@ -33,12 +33,12 @@ impl Line {
     }
 }
 
-/// Writes lines, one after another. The only error is the writer's, before it has taken all of them.
+/// Writes lines, one after the other. The only error is that of the writer, before it has accepted all of them.
 pub fn write<W: Write>(lines: &[Line], writer: &mut W) -> io::Result<()>
     ensures written { OnOk result (Appends (W.contents writer.old) (W.contents writer.new) (written_lines lines.now)) }
-    // What went out before an error is a beginning of the lines.
+    // What was written before an error is a prefix of the lines.
     ensures failed { OnErr result (IsCutOff (W.contents writer.old) (W.contents writer.new) (written_lines lines.now)) }
-    // Reading what is written gives the same lines.
+    // Reading what is written returns the same lines.
     ensures read_back { OnOk result (file_at (written_lines lines.now) ≡ all_good 1 lines.now) }
 {
     for line in lines {
@@ -56,7 +56,7 @@ fn write_line<W: Write>(line: &Line, writer: &mut W) -> io::Result<()>
     write_named(&digits, b"  ", &line.name, writer)
 }
 
-// The 64 digits of a digest. A digest has 32 bytes.
+// The 64 digits of a digest.
 fn digits_of(digest: &[u8; 32]) -> [u8; 64]
     ensures digits { result ≡ encode_lower digest.now }
     ensures long { length digest.now ≡ 32 }
@@ -67,7 +67,7 @@ fn digits_of(digest: &[u8; 32]) -> [u8; 64]
     digits
 }
 
-/// Writes the line that says something of a name: with a backslash in front where the name needs escapes.
+/// Writes a line about a name: it begins with a backslash if the name has to be escaped.
 pub(crate) fn write_named<'a, W: Write>(
     what: &'a [u8],
     gap: &'a [u8],
@@ -84,14 +84,14 @@ pub(crate) fn write_named<'a, W: Write>(
     write_whole(writer, b"\n")
 }
 
-// The backslash that begins a line whose name is written with escapes.
+// The backslash at the start of a line whose name is escaped.
 fn mark_of(name: &[u8]) -> &[u8]
     ensures { result.now ≡ mark_of name.now }
 {
     if needs_escapes(name) { b"\\" } else { b"" }
 }
 
-// Whether the name is written with escapes.
+// Whether the name has to be escaped.
 fn needs_escapes(name: &[u8]) -> bool
     ensures { result ≡ needs_escapes name.now }
 {
@@ -99,7 +99,7 @@ fn needs_escapes(name: &[u8]) -> bool
         .any(|&byte| byte == b'\\' || byte == b'\n' || byte == b'\r')
 }
 
-// Writes a name: as it stands where it needs no escapes, and else byte by byte.
+// Writes a name: literally if it needs no escapes, otherwise byte by byte.
 fn write_escaped<W: Write>(name: &[u8], writer: &mut W) -> io::Result<()>
     ensures written { OnOk result (Appends (W.contents writer.old) (W.contents writer.new) (escaped name.now)) }
     ensures failed { OnErr result (IsCutOff (W.contents writer.old) (W.contents writer.new) (escaped name.now)) }

@@ -7,7 +7,7 @@ use Rattle.std.proofs.lemmas.Nat.{pow_pos}
 use Rattle.std.proofs.Math.Pow.{pow_mono}
 use Rattle.std.proofs.Math.Nat.{two-pow-succ}
 use Rattle.b3_core.specs.Compression.{compress_of}
-use Rattle.b3_core.specs.Tree.{Keying, Inputs, block_words_of, start_flag, chain, chunk_top, parent_top, chaining_value_of, chunk_count, power_below, left_length, tree_top_within, tree_top}
+use Rattle.b3_core.specs.Tree.{ModelMode, ModelTop, block_words_of, start_flag, chain, chunk_top, parent_top, chaining_value_of, chunk_count, power_below, left_length, tree_top_within, tree_top}
 
 -- a list of eight words is the list of its words
 pub eight : (l : List ℕ) → length l ≡ 8
@@ -25,7 +25,7 @@ eight (a ∷ b ∷ c ∷ d ∷ e ∷ f ∷ g ∷ []) len = absurd (omega arith)
 eight (a ∷ b ∷ c ∷ d ∷ e ∷ f ∷ g ∷ h ∷ i ∷ xs) len = absurd (omega arith)
 
 -- one more block of a chunk_top
-pub chain_step : (x : List ℕ) (c : ℕ) (p : Keying) (j : ℕ) (h m : List ℕ) (f : ℕ) → h ≡ chain x c p j
+pub chain_step : (x : List ℕ) (c : ℕ) (p : ModelMode) (j : ℕ) (h m : List ℕ) (f : ℕ) → h ≡ chain x c p j
     → m ≡ block_words_of (take 64 (drop (64 * j) x)) → f ≡ p.flag + start_flag j
     → take 8 (compress_of h m c 64 f) ≡ chain x c p (j + 1)
 unfolding chain
@@ -34,7 +34,7 @@ chain_step x c p j h m f at block flags =
     rw (← plus, at, block, flags) refl
 
 -- a chunk's last block
-pub chunk_is : (x : List ℕ) (c : ℕ) (p : Keying) (j : ℕ) (h m : List ℕ) (b d : ℕ) → j ≡ (length x - 1) / 64
+pub chunk_is : (x : List ℕ) (c : ℕ) (p : ModelMode) (j : ℕ) (h m : List ℕ) (b d : ℕ) → j ≡ (length x - 1) / 64
     → h ≡ chain x c p j → m ≡ block_words_of (drop (64 * j) x) → b ≡ length x - 64 * j → d ≡ p.flag + start_flag j + 2
     → record { chaining_value = h; block_words = m; counter = c; block_len = b; flags = d } ≡ chunk_top x c p
 unfolding chunk_top
@@ -44,7 +44,7 @@ chunk_is x c p j h m b d last at block len flags =
     rw (← last, whole, at, block, len, flags) refl
 
 -- the chaining value of a whole chunk
-pub whole_chunk_value : (x : List ℕ) (c : ℕ) (p : Keying) (h m : List ℕ) (d : ℕ) → length x ≡ 1024
+pub whole_chunk_value : (x : List ℕ) (c : ℕ) (p : ModelMode) (h m : List ℕ) (d : ℕ) → length x ≡ 1024
     → h ≡ chain x c p 15 → m ≡ block_words_of (take 64 (drop 960 x)) → d ≡ p.flag + 2
     → take 8 (compress_of h m c 64 d) ≡ chaining_value_of (chunk_top x c p)
 unfolding chunk_top
@@ -55,14 +55,14 @@ whole_chunk_value x c p h m d len at block flags =
     rw (last, width, none, at, block, flags) refl
 
 -- a parent of two nodes with these chaining values
-pub parent_is : (l r : Inputs) (p : Keying) (h m : List ℕ) (d : ℕ) → h ≡ p.key
+pub parent_is : (l r : ModelTop) (p : ModelMode) (h m : List ℕ) (d : ℕ) → h ≡ p.key
     → m ≡ chaining_value_of l ++ chaining_value_of r → d ≡ p.flag + 4
     → record { chaining_value = h; block_words = m; counter = 0; block_len = 64; flags = d } ≡ parent_top l r p
 unfolding parent_top
 parent_is l r p h m d key words flags = rw (key, words, flags) refl
 
 -- its chaining value
-pub parent_value : (l r : Inputs) (p : Keying) (h m : List ℕ) (d : ℕ) → h ≡ p.key
+pub parent_value : (l r : ModelTop) (p : ModelMode) (h m : List ℕ) (d : ℕ) → h ≡ p.key
     → m ≡ chaining_value_of l ++ chaining_value_of r → d ≡ p.flag + 4 → take 8 (compress_of h m 0 64 d) ≡ chaining_value_of (parent_top l r p)
 parent_value l r p h m d key words flags = ap chaining_value_of (parent_is l r p h m d key words flags)
 
@@ -133,7 +133,7 @@ split_range n more =
 -- ---- the tree_top node
 
 -- as many cuts as bytes, or more, are enough
-top_enough : (n m : ℕ) (x : List ℕ) (c : ℕ) (p : Keying) → length x ≤ n → length x ≤ m
+top_enough : (n m : ℕ) (x : List ℕ) (c : ℕ) (p : ModelMode) → length x ≤ n → length x ≤ m
     → tree_top_within n x c p ≡ tree_top_within m x c p
 unfolding tree_top_within
 top_enough zero zero x c p low high = refl
@@ -160,19 +160,19 @@ top_enough (suc n) (suc m) x c p low high =
     ]
 
 -- one chunk_top is its own tree_top
-top_one : (n : ℕ) (x : List ℕ) (c : ℕ) (p : Keying) → length x ≤ 1024 → tree_top_within n x c p ≡ chunk_top x c p
+top_one : (n : ℕ) (x : List ℕ) (c : ℕ) (p : ModelMode) → length x ≤ 1024 → tree_top_within n x c p ≡ chunk_top x c p
 unfolding tree_top_within
 top_one zero x c p short = refl
 top_one (suc n) x c p short =
     let test : nat_lt 1024 (length x) ≡ false = grind (arith, nat_tests) in
     rw (test, tree_top_within) refl
 
-pub top_short : (x : List ℕ) (c : ℕ) (p : Keying) → length x ≤ 1024 → tree_top x c p ≡ chunk_top x c p
+pub top_short : (x : List ℕ) (c : ℕ) (p : ModelMode) → length x ≤ 1024 → tree_top x c p ≡ chunk_top x c p
 unfolding tree_top
 top_short x c p short = top_one (length x) x c p short
 
 -- more bytes are cut
-top_two : (n : ℕ) (x : List ℕ) (c : ℕ) (p : Keying) → 1024 < length x → length x ≤ suc n
+top_two : (n : ℕ) (x : List ℕ) (c : ℕ) (p : ModelMode) → 1024 < length x → length x ≤ suc n
     → tree_top_within (suc n) x c p ≡ parent_top (tree_top (take (left_length (length x)) x) c p)
     (tree_top (drop (left_length (length x)) x) (c + left_length (length x) / 1024) p) p
 unfolding tree_top tree_top_within
@@ -186,20 +186,20 @@ top_two n x c p long fuel =
     let right = top_enough n (length (drop s x)) (drop s x) (c + s / 1024) p (omega (arith, back, r.0)) (omega arith) in
     rw (test, tree_top_within, left, right) refl
 
-top_length : (n : ℕ) (x : List ℕ) (c : ℕ) (p : Keying) → length x ≡ n → 1024 < n
+top_length : (n : ℕ) (x : List ℕ) (c : ℕ) (p : ModelMode) → length x ≡ n → 1024 < n
     → tree_top_within n x c p ≡ parent_top (tree_top (take (left_length (length x)) x) c p)
     (tree_top (drop (left_length (length x)) x) (c + left_length (length x) / 1024) p) p
 top_length zero x c p is long = absurd (omega arith)
 top_length (suc n) x c p is long = top_two n x c p (omega arith) (omega arith)
 
-pub top_long : (x : List ℕ) (c : ℕ) (p : Keying) → 1024 < length x
+pub top_long : (x : List ℕ) (c : ℕ) (p : ModelMode) → 1024 < length x
     → tree_top x c p ≡ parent_top (tree_top (take (left_length (length x)) x) c p)
     (tree_top (drop (left_length (length x)) x) (c + left_length (length x) / 1024) p) p
 unfolding tree_top
 top_long x c p long = top_length (length x) x c p refl long
 
 -- a parent_top of the tops of the two sides of a cut is the tree_top
-pub top_cut : (x : List ℕ) (c : ℕ) (p : Keying) (l r : Inputs) (s : ℕ) → 1024 < length x → s ≡ left_length (length x)
+pub top_cut : (x : List ℕ) (c : ℕ) (p : ModelMode) (l r : ModelTop) (s : ℕ) → 1024 < length x → s ≡ left_length (length x)
     → l ≡ tree_top (take s x) c p → r ≡ tree_top (drop s x) (c + s / 1024) p → parent_top l r p ≡ tree_top x c p
 top_cut x c p l r s long cut left right =
     rw (left, right, cut) (sym (top_long x c p long))
@@ -212,7 +212,7 @@ block_filled x z len filled =
     rw same refl
 
 -- two neighbours: the left one a power of two of whole chunks, the right one not longer
-pub top_join : (l r : List ℕ) (c k : ℕ) (p : Keying) → length l ≡ 1024 * 2 ^ k → 0 < length r → length r ≤ 1024 * 2 ^ k
+pub top_join : (l r : List ℕ) (c k : ℕ) (p : ModelMode) → length l ≡ 1024 * 2 ^ k → 0 < length r → length r ≤ 1024 * 2 ^ k
     → parent_top (tree_top l c p) (tree_top r (c + 2 ^ k) p) p ≡ tree_top (l ++ r) c p
 top_join l r c k p whole some fits =
     let len = length-append l r in

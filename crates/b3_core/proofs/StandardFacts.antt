@@ -6,7 +6,7 @@ use Rattle.b3_core.specs.Compression.{g, columns, diagonals, message, rounds, co
 use Rattle.b3_core.specs.ExtendedOutput.{output_byte}
 use Rattle.b3_core.specs.Hashers.{kept_work}
 use Rattle.b3_core.specs.Modes.{digest_of, hash_mode, keyed_mode, derive_mode}
-use Rattle.b3_core.specs.Tree.{Inputs, chain, chunk_top, parent_top, power_below, left_length, tree_top_within, tree_top}
+use Rattle.b3_core.specs.Tree.{ModelTop, chain, chunk_top, parent_top, power_below, left_length, tree_top_within, tree_top}
 use Rattle.b3_core.specs.Work.{hash_work}
 
 -- the first n of the bytes 0, 1, .., 250, 0, 1, ..
@@ -59,7 +59,7 @@ unfolding g columns diagonals message rounds compress_of chain chunk_top parent_
 derived_digest = refl
 
 -- the compressions behind the nodes of three whole chunks, one and two before it; the whole has one parent more
-pub work_of_three_chunks : (one two : Inputs) → kept_work ((0, one) ∷ (1, two) ∷ []) ≡ 15 + 32
+pub work_of_three_chunks : (one two : ModelTop) → kept_work ((0, one) ∷ (1, two) ∷ []) ≡ 15 + 32
 work_of_three_chunks one two = refl
 
 pub work_of_their_tree : hash_work 3072 - 1 ≡ 15 + 32 + 2

@@ -1,4 +1,4 @@
-//! A chunk, which is a leaf of the tree.
+//! A chunk: a leaf of the tree.
 
 ghost use Rattle.std.specs.Prelude.{◌≡◌, ◌-◌, ◌≤◌, length};
 ghost use Rattle.b3_core.specs.Tree.{chunk_len, chunk_top};
@@ -19,7 +19,7 @@ impl Top {
     {
         let last = bytes.len().saturating_sub(1) / BLOCK_LEN;
         let mut chaining_value = mode.key();
-        // Its proof names the loop by the label.
+        // The proof refers to the loop by this label.
         'blocks: for j in 0..last {
             let at = BLOCK_LEN * j;
             let block = words_of_block(&bytes[at..at + BLOCK_LEN]);

@@ -11,10 +11,10 @@ use crate::vectors::Words;
 use crate::work::Work;
 use std::simd::u32x4;
 
-/// How many bytes a block has; the last of a chunk may have fewer (section 2.1).
+/// The length of a block in bytes. The last block of a chunk may be shorter (section 2.1).
 pub const BLOCK_LEN: usize = 64;
 
-/// How many bytes a chunk has; the last of an input may have fewer (section 2.1).
+/// The length of a chunk in bytes. The last chunk of an input may be shorter (section 2.1).
 pub const CHUNK_LEN: usize = 1024;
 
 /// The flag of a chunk's first block (table 3).
@@ -38,7 +38,7 @@ pub const DERIVE_KEY_CONTEXT: u32 = 32;
 /// The flag of each compression of the key material in the mode `derive_key` (table 3).
 pub const DERIVE_KEY_MATERIAL: u32 = 64;
 
-/// The initial words: the key words of the mode `hash`, and the first four are a row of each compression's state (table 1).
+/// The initialization vector (table 1): the key words of the mode `hash`; its first four words are a row of each compression's start state.
 #[rattlefmt::skip]
 pub const IV: [u32; 8] = [
     0x6a09_e667, 0xbb67_ae85, 0x3c6e_f372, 0xa54f_f53a,
@@ -72,7 +72,7 @@ fn start_rows(h: [u32; 8], counter: u64, block_len: u32, flags: u32) -> (u32x4, 
     (a, b, c, d)
 }
 
-// The message of a block.
+// The message words of a block, arranged in rows.
 #[inline(always)]
 fn message_of(m: &[u32; 16]) -> (u32x4, u32x4, u32x4, u32x4)
     ensures { rows_message slice_index 0 result ≡ m.now }
@@ -84,7 +84,7 @@ fn message_of(m: &[u32; 16]) -> (u32x4, u32x4, u32x4, u32x4)
     u32x4::message(a, b, c, d)
 }
 
-// The state after the seven rounds, which count as one compression.
+// The state after the seven rounds. Counts one compression.
 fn state_after(
     h: &[u32; 8],
     m: &[u32; 16],
@@ -101,7 +101,7 @@ fn state_after(
     seven_rounds(v, message, work)
 }
 
-// The first half of the output words.
+// The first eight output words.
 #[inline(always)]
 fn low_words(v: (u32x4, u32x4, u32x4, u32x4)) -> [u32; 8]
     ensures { (h : List ℕ) → result ≡ take 8 (output_words h (rows_state slice_index 0 v)) }
@@ -112,7 +112,7 @@ fn low_words(v: (u32x4, u32x4, u32x4, u32x4)) -> [u32; 8]
     [w0, w1, w2, w3, w4, w5, w6, w7]
 }
 
-// The output words.
+// All sixteen output words.
 #[inline(always)]
 #[rattlefmt::skip]
 fn output_words(h: [u32; 8], v: (u32x4, u32x4, u32x4, u32x4)) -> [u32; 16]
@@ -129,8 +129,7 @@ fn output_words(h: [u32; 8], v: (u32x4, u32x4, u32x4, u32x4)) -> [u32; 16]
     ]
 }
 
-/// The chaining values after a block, from those before it, of states side by side. The last rows have the counters, the blocks'
-/// lengths and the flags.
+/// Advances the chaining values of side-by-side states by one block. The last rows hold the counters, the block lengths and the flags.
 pub(crate) fn compress_rows<V: Quads>(
     h: (V, V),
     m: (V, V, V, V),
@@ -147,8 +146,8 @@ pub(crate) fn compress_rows<V: Quads>(
     low_rows(v)
 }
 
-/// The compression function (section 2.2): the 16 words that a block compresses to. Their first 8 are the new
-/// chaining value. `block_len` counts the block's bytes before it was filled with zeros.
+/// The compression function (section 2.2): returns the 16 words that a block compresses to. The first 8 are the new chaining value.
+/// `block_len` is the length of the block in bytes before it was padded with zeros.
 pub fn compress(
     chaining_value: &[u32; 8],
     block_words: &[u32; 16],
@@ -164,7 +163,7 @@ pub fn compress(
     output_words(*chaining_value, v)
 }
 
-/// The first 8 words that a block compresses to, the new chaining value.
+/// The first 8 words of the compression, which are the new chaining value.
 pub(crate) fn compress_to_value(
     chaining_value: &[u32; 8],
     block_words: &[u32; 16],
@@ -180,7 +179,7 @@ pub(crate) fn compress_to_value(
     low_words(v)
 }
 
-/// The start flag of a chunk's block of this number: CHUNK_START at the first (section 2.4).
+/// The start flag of block `block` of a chunk: CHUNK_START for the first block, otherwise 0 (section 2.4).
 #[inline(always)]
 pub(crate) fn start_flag(block: usize) -> u32
     ensures { result ≡ start_flag block }

@@ -3,7 +3,7 @@
 ghost use Rattle.std.specs.Prelude.{◌≡◌, ℕ, ◌+◌, ◌-◌, ◌^◌, IfOk, Ok, Some, length, min};
 ghost use Rattle.std.specs.Io.{ReadsAtMost};
 ghost use Rattle.std.specs.Io.KnownBytes.{ReadConsumes};
-ghost use Rattle.b3_core.specs.ExtendedOutput.{Reader, blocks_touched, output_left};
+ghost use Rattle.b3_core.specs.ExtendedOutput.{ModelOutputReader, blocks_touched, output_left};
 ghost use Rattle.b3_core.specs.Work.{counted};
 
 use crate::output::OutputReader;
@@ -19,20 +19,20 @@ pub struct CountedOutput {
 }
 
 impl Model for CountedOutput {
-    ghost Value = { Reader × ℕ };
+    ghost Value = { ModelOutputReader × ℕ };
 
     ghost view = { λ b. (b.reader, b.work) };
 }
 
 impl CountedOutput {
-    /// The output from the reader's place on; its compressions are counted on from `work`.
+    /// Reads from the position of `reader`; the compressions are added to `work`.
     pub fn new(reader: OutputReader, work: Work) -> CountedOutput
         ensures { result ≡ (reader, work) }
     {
         CountedOutput { reader, work }
     }
 
-    /// The reader at the next byte's place, and the count.
+    /// Returns the reader, at the position of the next byte, and the count.
     pub fn into_parts(self) -> (OutputReader, Work)
         ensures reader { result.0 ≡ self.0 }
         ensures work { result.1 ≡ self.1 }
@@ -44,7 +44,7 @@ impl CountedOutput {
 impl Read for CountedOutput {
     ghost remaining = { λ b. Some (output_left b.0) };
 
-    /// Reads as many bytes as `buf` has room for, or all that are left where these are fewer. It never fails.
+    /// Fills `buf`, or reads all remaining bytes if they are fewer. It never fails.
     fn read(&mut self, buf: &mut [u8]) -> io::Result<usize>
         ensures read { result ≡ Ok (min (length buf.old) (2 ^ 64 - 1 - self.old.0.position)) }
         ensures bound { ReadsAtMost result buf.new }

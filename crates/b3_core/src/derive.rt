@@ -1,4 +1,4 @@
-//! The mode `derive_key` (section 2.3), for which a context is hashed.
+//! The mode `derive_key` (section 2.3), which hashes a context string.
 
 ghost use Rattle.std.specs.Prelude.{◌≡◌, length};
 ghost use Rattle.b3_core.specs.Modes.{derive_mode};
@@ -11,7 +11,7 @@ use crate::words::words_of_key;
 use crate::work::Work;
 
 impl Mode {
-    /// The mode `derive_key`, with a context. The context is hashed here, which counts as the hash of it does.
+    /// The mode `derive_key` with the context `context`. Hashes the context and counts those compressions.
     pub fn derive(context: &[u8], work: &mut Work) -> Mode
         ensures mode { result ≡ derive_mode context.now }
         ensures count { work.new ≡ counted work.old (hash_work (length context.now)) }

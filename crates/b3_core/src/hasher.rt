@@ -1,8 +1,8 @@
-//! The hash of bytes that come in pieces.
+//! An incremental hasher.
 
 ghost use Rattle.std.specs.Prelude.{◌≡◌, ℕ, ◌+◌, ◌-◌, ◌/◌, ◌^◌, ◌<◌, ◌↔◌, ◌++◌, List, [], ◌∷◌, Some, length, true};
-ghost use Rattle.b3_core.specs.Hashers.{HasRoomFor, IsBehind, Holds, CountsRest, count_of, kept_work};
-ghost use Rattle.b3_core.specs.Kept.{most_levels};
+ghost use Rattle.b3_core.specs.Hashers.{HasRoomFor, IsAfter, Holds, CountsRest, count_of, kept_work};
+ghost use Rattle.b3_core.specs.Kept.{max_levels};
 ghost use Rattle.b3_core.specs.Modes.{digest_of};
 ghost use Rattle.b3_core.specs.Texts.{hasher_text};
 ghost use Rattle.b3_core.specs.Tree.{chunk_len, tree_top};
@@ -16,10 +16,10 @@ use std::alloc::AllocError;
 use std::fmt;
 use std::marker::Model;
 
-/// Hashes bytes that come in pieces (sections 2.1 to 2.5). It takes no memory but its own, which does not grow: the bytes
-/// behind the last whole chunk, and one node for each level of the tree. A hash is one of less than 2^64 bytes.
+/// Hashes bytes that arrive in pieces (sections 2.1 to 2.5). It allocates nothing, and its size is fixed: it keeps one node for each level
+/// of the tree and the bytes after the last whole chunk. An input must be shorter than 2^64 bytes.
 ///
-/// A clause sees a hasher as its mode and what it keeps; `Holds` says that it was given some bytes.
+/// In contracts a hasher is its mode and what it keeps; `Holds` says that it was given certain bytes.
 #[derive(Drop)]
 pub struct Hasher {
     mode: Mode,
@@ -27,16 +27,16 @@ pub struct Hasher {
 }
 
 impl Model for Hasher {
-    ghost use Rattle.b3_core.specs.Hashers.{Hashing};
+    ghost use Rattle.b3_core.specs.Hashers.{ModelHasher};
     ghost use Rattle.b3_core.specs.Kept.{kept_of};
 
-    ghost Value = { Hashing };
+    ghost Value = { ModelHasher };
 
     ghost view = { λ h. kept_of h.mode h.kept };
 }
 
 impl Hasher {
-    /// A hasher that was given no bytes.
+    /// A hasher that has been given no bytes.
     pub fn new(mode: &Mode) -> Hasher
         ensures { result ≡ record { mode = mode.now; subtrees = []; whole = 0; tail = [] } }
     {
@@ -46,7 +46,7 @@ impl Hasher {
         }
     }
 
-    /// Gives `bytes` behind those that were given before. They are hashed in whole subtrees as great as they can be.
+    /// Appends `bytes` to the input. They are hashed in whole subtrees, each as large as possible.
     pub fn update(&mut self, bytes: &[u8], work: &mut Work)
         ensures mode { self.new.mode ≡ self.old.mode }
         ensures bytes { (x : List ℕ) → Holds self.old x → length x + length bytes.now < 2 ^ 64 → Holds self.new (x ++ bytes.now) }
@@ -57,14 +57,14 @@ impl Hasher {
         self.kept.update(&self.mode, bytes, work);
     }
 
-    /// The mode in which it hashes.
+    /// The mode of the hasher.
     pub fn mode(&self) -> Mode
         ensures { result ≡ self.now.mode }
     {
         self.mode
     }
 
-    /// The number of the chunk behind the whole ones that were given.
+    /// The number of the chunk after the whole chunks given so far.
     pub fn number(&self) -> u64
         ensures value { result ≡ self.now.whole / chunk_len }
         ensures below { result < 2 ^ 54 }
@@ -72,29 +72,29 @@ impl Hasher {
         self.kept.number()
     }
 
-    /// Whether a whole subtree of 2^level chunks can stand next: no chunk was begun, and the last node that is kept is one of
-    /// no fewer chunks.
+    /// Whether a whole subtree of 2^`level` chunks can come next: the input ends with a whole chunk, and the last node kept covers at least
+    /// 2^`level` chunks or there is none.
     pub fn fits(&self, level: u32) -> bool
         ensures { result ≡ true ↔ HasRoomFor level self.now }
     {
         self.kept.fits(level)
     }
 
-    /// Puts a whole subtree of 2^level chunks behind those that were given, as `update` with its bytes does. `top` is its
-    /// node, whose first chunk has the number that `number` tells. Its own compressions are counted where it was made.
+    /// Appends a whole subtree of 2^`level` chunks to the input, as `update` with its bytes does. `top` is its node, made for a first chunk
+    /// with the number that `number` returns. The compressions of the subtree itself are counted where `top` is made.
     pub fn append(&mut self, top: &Top, level: u32, work: &mut Work)
-        requires { level < most_levels }
+        requires { level < max_levels }
         ensures mode { self.new.mode ≡ self.old.mode }
-        ensures bytes { (x mine : List ℕ) → IsBehind self.old level top.now x mine → Holds self.new (x ++ mine) }
-        ensures fits { (x mine : List ℕ) → IsBehind self.old level top.now x mine → HasRoomFor level self.new }
-        ensures count { (x mine : List ℕ) → IsBehind self.old level top.now x mine
+        ensures bytes { (x mine : List ℕ) → IsAfter self.old level top.now x mine → Holds self.new (x ++ mine) }
+        ensures fits { (x mine : List ℕ) → IsAfter self.old level top.now x mine → HasRoomFor level self.new }
+        ensures count { (x mine : List ℕ) → IsAfter self.old level top.now x mine
             → CountsRest (kept_work ((level, top.now) ∷ self.old.subtrees)) (kept_work self.new.subtrees) work.old work.new }
         ensures never_falls { NeverFalls work.old work.new }
     {
         self.kept.append(&self.mode, top, level, work);
     }
 
-    /// How many bytes were given, if they are fewer than 2^64.
+    /// The number of bytes given so far, if it is below 2^64.
     pub fn count(&self) -> u64
         ensures value { result ≡ count_of self.now }
         ensures bytes { (x : List ℕ) → Holds self.now x → length x < 2 ^ 64 → result ≡ length x }
@@ -102,7 +102,7 @@ impl Hasher {
         self.kept.count()
     }
 
-    /// The hash of all bytes that were given, in the hasher's mode. More bytes can be given afterwards.
+    /// The hash of all bytes given so far, in the hasher's mode. More bytes can be given afterwards.
     pub fn digest(&self, work: &mut Work) -> [u8; 32]
         ensures bytes { (x : List ℕ) → Holds self.now x → result ≡ digest_of x self.now.mode }
         ensures count { (x : List ℕ) → Holds self.now x
@@ -112,8 +112,8 @@ impl Hasher {
         self.top(work).root32(work)
     }
 
-    /// The node of the tree over all bytes that were given: its `root32` is their hash, and an `OutputReader` reads
-    /// their extended output from it. More bytes can be given afterwards.
+    /// The node of the tree over all bytes given so far. Its `root32` is their hash, and an `OutputReader` reads their extended output.
+    /// More bytes can be given afterwards.
     pub fn top(&self, work: &mut Work) -> Top
         ensures node { (x : List ℕ) → Holds self.now x → result ≡ tree_top x 0 self.now.mode }
         ensures count { (x : List ℕ) → Holds self.now x
@@ -138,7 +138,7 @@ impl Clone for Hasher {
     }
 }
 
-/// The mode's name and how many bytes were given, as `count` tells it, and nothing of the bytes or of a key.
+/// Shows the mode's name and the number of bytes given, as `count` returns it; no bytes and no key.
 impl fmt::Debug for Hasher {
     ghost debug_output = { λ hasher. Some (hasher_text hasher) };
 

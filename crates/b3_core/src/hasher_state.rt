@@ -11,11 +11,11 @@ use crate::mode::Mode;
 use crate::node::Top;
 use crate::work::Work;
 
-/// A [`Hasher`](crate::Hasher) as plain numbers, laid out as C lays them out, so that a program in another language can own it where
-/// it calls the crate `b3_c` (sections 2.1 to 2.5).
+/// A [`Hasher`](crate::Hasher) as plain numbers with C's layout, so that a program in another language can own one and call the crate
+/// `b3_c` (sections 2.1 to 2.5).
 ///
-/// Any numbers may stand in it, as in memory that was never written: a call tells whether they can be a hasher's. What
-/// lies behind the nodes and the bytes that are kept has no meaning.
+/// It may hold any numbers, as uninitialized memory does: each call reports whether they can be those of a hasher. Entries after the nodes
+/// and bytes in use have no meaning.
 #[derive(Clone, Copy)]
 #[repr(C)]
 pub struct HasherState {
@@ -25,7 +25,7 @@ pub struct HasherState {
 }
 
 impl HasherState {
-    /// Makes it a hasher that was given no bytes, whatever it was.
+    /// Makes it a hasher that has been given no bytes, whatever it held before.
     pub fn init(&mut self, mode: &Mode)
         ensures state { IsState self.new }
         ensures empty { hashing_of self.new ≡ record { mode = mode.now; subtrees = []; whole = 0; tail = [] } }
@@ -46,8 +46,8 @@ impl HasherState {
         Mode::of_words(self.key, self.flag)
     }
 
-    /// Gives `bytes` behind those that were given before, as `Hasher::update` does. False where the numbers are those of no
-    /// hasher: then nothing has changed.
+    /// Appends `bytes` to the input, as `Hasher::update` does. Returns false and changes nothing if the numbers cannot be those of a
+    /// hasher.
     pub fn update(&mut self, bytes: &[u8], work: &mut Work) -> bool
         ensures is { result ≡ true ↔ IsState self.old }
         ensures state { IsState self.old → IsState self.new }
@@ -66,8 +66,7 @@ impl HasherState {
         true
     }
 
-    /// The node of the tree over all bytes that were given, as `Hasher::top` tells it. `None` where the numbers are those of no
-    /// hasher.
+    /// The node of the tree over all bytes given so far, as `Hasher::top` returns it. `None` if the numbers cannot be those of a hasher.
     pub fn top(&self, work: &mut Work) -> Option<Top>
         ensures is { IsSome result ↔ IsState self.now }
         ensures node { IfSome result (λ top. (x : List ℕ) → Holds (hashing_of self.now) x → top ≡ tree_top x 0 (hashing_of self.now).mode) }

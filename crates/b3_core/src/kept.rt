@@ -1,10 +1,10 @@
-//! What a hasher keeps, and what becomes of it as bytes come.
+//! What a hasher keeps, and how it changes as bytes arrive.
 
 ghost use Rattle.std.specs.Prelude.{◌≡◌, ℕ, ◌+◌, ◌-◌, ◌*◌, ◌/◌, ◌^◌, ◌<◌, ◌≤◌, ◌↔◌, ◌++◌, List, [], ◌∷◌, length, reverse, true};
-ghost use Rattle.b3_core.specs.Hashers.{AreFrom, AreSubtrees, HasRoomFor, IsBehind, Holds, CountsRest, count_of, kept_work};
+ghost use Rattle.b3_core.specs.Hashers.{AreFrom, AreSubtrees, HasRoomFor, IsAfter, Holds, CountsRest, count_of, kept_work};
 ghost use Rattle.b3_core.specs.inner.Hashers.{IsLeft, IsNext, joined};
-ghost use Rattle.b3_core.specs.Kept.{FitsItsPlaces, kept_of, most_levels, nodes_of};
-ghost use Rattle.b3_core.specs.Tree.{Keying, chunk_len, tree_top};
+ghost use Rattle.b3_core.specs.Kept.{FitsItsPlaces, kept_of, max_levels, nodes_of};
+ghost use Rattle.b3_core.specs.Tree.{ModelMode, chunk_len, tree_top};
 ghost use Rattle.b3_core.specs.Work.{NeverFalls, counted, hash_work};
 
 use crate::compression::CHUNK_LEN;
@@ -14,23 +14,22 @@ use crate::places::{Stack, Subtree, Tail};
 use crate::wide::wide_top;
 use crate::work::Work;
 
-/// What a hasher keeps, laid out as C lays it out: one node for each whole subtree, and the bytes behind these. Each call is
-/// told the mode.
+/// What a hasher keeps, with C's layout: one node for each whole subtree, and the bytes after these. The mode is passed to each call.
 #[derive(Clone, Copy)]
 #[repr(C)]
 pub(crate) struct Kept {
-    // Whole subtrees, each greater than those behind it.
+    // Whole subtrees, each larger than those after it.
     subtrees: Stack,
-    // The bytes beneath them.
+    // The number of bytes that they cover.
     whole: u64,
-    // The bytes behind them.
+    // The bytes after them.
     tail: Tail,
 }
 
 impl Kept {
-    /// What is kept of no bytes.
+    /// What is kept before any bytes are given.
     pub(crate) fn new() -> Kept
-        ensures nothing { (p : Keying) → kept_of p result ≡ record { mode = p; subtrees = []; whole = 0; tail = [] } }
+        ensures nothing { (p : ModelMode) → kept_of p result ≡ record { mode = p; subtrees = []; whole = 0; tail = [] } }
         ensures within { FitsItsPlaces result }
     {
         Kept {
@@ -40,9 +39,9 @@ impl Kept {
         }
     }
 
-    /// Keeps no bytes.
+    /// Drops all bytes.
     pub(crate) fn clear(&mut self)
-        ensures nothing { (p : Keying) → kept_of p self.new ≡ record { mode = p; subtrees = []; whole = 0; tail = [] } }
+        ensures nothing { (p : ModelMode) → kept_of p self.new ≡ record { mode = p; subtrees = []; whole = 0; tail = [] } }
         ensures within { FitsItsPlaces self.new }
     {
         self.subtrees.clear();
@@ -50,14 +49,14 @@ impl Kept {
         self.tail.clear();
     }
 
-    /// Whether its lengths are those of places that there are.
+    /// Whether its lengths fit its arrays.
     pub(crate) fn is_within(&self) -> bool
         ensures { result ≡ true ↔ FitsItsPlaces self.now }
     {
         self.subtrees.fits() && self.tail.fits()
     }
 
-    /// Gives `bytes` behind those that were given before. They are hashed in whole subtrees as great as they can be.
+    /// Appends `bytes` to the input. They are hashed in whole subtrees, each as large as possible.
     pub(crate) fn update(&mut self, mode: &Mode, bytes: &[u8], work: &mut Work)
         ensures bytes { (x : List ℕ) → Holds (kept_of mode.now self.old) x → length x + length bytes.now < 2 ^ 64
             → Holds (kept_of mode.now self.new) (x ++ bytes.now) }
@@ -69,15 +68,15 @@ impl Kept {
         let mut rest = self.fill_tail(mode, bytes, work);
         while rest.len() >= CHUNK_LEN {
             let level = self.next_level(rest.len() / CHUNK_LEN);
-            let (front, behind) = rest.split_at(CHUNK_LEN << level);
+            let (front, following) = rest.split_at(CHUNK_LEN << level);
             let top = wide_top(mode, front, self.number(), work);
             self.put(mode, Subtree { level, top }, work);
-            rest = behind;
+            rest = following;
         }
         self.tail.extend(rest);
     }
 
-    // Fills up the chunk that was begun, if one was, and answers the bytes behind.
+    // Fills up a chunk that was begun, and returns the remaining bytes.
     fn fill_tail<'a>(&mut self, mode: &Mode, bytes: &'a [u8], work: &mut Work) -> &'a [u8]
         ensures bytes { (x : List ℕ) → Holds (kept_of mode.now self.old) x → length x + length bytes.now < 2 ^ 64
             → IsLeft (kept_of mode.now self.old) x bytes.now work.old (kept_of mode.now self.new) result.now work.new }
@@ -98,7 +97,7 @@ impl Kept {
         rest
     }
 
-    /// The number of the chunk behind the whole ones that were given.
+    /// The number of the chunk after the whole chunks given so far.
     pub(crate) fn number(&self) -> u64
         ensures value { result ≡ self.now.whole / chunk_len }
         ensures below { result < 2 ^ 54 }
@@ -106,10 +105,10 @@ impl Kept {
         self.whole / CHUNK_LEN as u64
     }
 
-    /// Whether a whole subtree of 2^level chunks can stand next: no chunk was begun, and the last node that is kept is one of
-    /// no fewer chunks.
+    /// Whether a whole subtree of 2^`level` chunks can come next: the input ends with a whole chunk, and the last node kept covers at least
+    /// 2^`level` chunks or there is none.
     pub(crate) fn fits(&self, level: u32) -> bool
-        ensures { (p : Keying) → result ≡ true ↔ HasRoomFor level (kept_of p self.now) }
+        ensures { (p : ModelMode) → result ≡ true ↔ HasRoomFor level (kept_of p self.now) }
     {
         if !self.tail.is_empty() {
             return false;
@@ -120,14 +119,14 @@ impl Kept {
         }
     }
 
-    /// Puts a whole subtree of 2^level chunks behind those that were given. `top` is its node.
+    /// Appends a whole subtree of 2^`level` chunks to the input. `top` is its node.
     pub(crate) fn append(&mut self, mode: &Mode, top: &Top, level: u32, work: &mut Work)
-        requires { level < most_levels }
-        ensures bytes { (x mine : List ℕ) → IsBehind (kept_of mode.now self.old) level top.now x mine
+        requires { level < max_levels }
+        ensures bytes { (x mine : List ℕ) → IsAfter (kept_of mode.now self.old) level top.now x mine
             → Holds (kept_of mode.now self.new) (x ++ mine) }
-        ensures fits { (x mine : List ℕ) → IsBehind (kept_of mode.now self.old) level top.now x mine
+        ensures fits { (x mine : List ℕ) → IsAfter (kept_of mode.now self.old) level top.now x mine
             → HasRoomFor level (kept_of mode.now self.new) }
-        ensures count { (x mine : List ℕ) → IsBehind (kept_of mode.now self.old) level top.now x mine
+        ensures count { (x mine : List ℕ) → IsAfter (kept_of mode.now self.old) level top.now x mine
             → CountsRest (kept_work ((level, top.now) ∷ (kept_of mode.now self.old).subtrees))
             (kept_work (kept_of mode.now self.new).subtrees) work.old work.new }
         ensures never_falls { NeverFalls work.old work.new }
@@ -135,7 +134,7 @@ impl Kept {
         self.put(mode, Subtree { level, top: *top }, work);
     }
 
-    // The level of the greatest subtree of no more chunks that is not above the last one.
+    // The level of the largest subtree of at most `chunks` chunks that is no higher than the last one.
     fn next_level(&self, chunks: usize) -> u32
         requires { 0 < chunks }
         ensures fits { 2 ^ result ≤ chunks }
@@ -148,7 +147,7 @@ impl Kept {
         }
     }
 
-    // Puts a whole subtree behind the others.
+    // Appends a whole subtree.
     fn put(&mut self, mode: &Mode, next: Subtree, work: &mut Work)
         requires { next.0 < 64 }
         ensures tail { self.new.tail ≡ self.old.tail }
@@ -160,20 +159,20 @@ impl Kept {
         ensures count { (x : List ℕ) → IsNext mode.now (reverse (nodes_of self.old.subtrees)) next x → length x < 2 ^ 64
             → CountsRest (kept_work (next ∷ reverse (nodes_of self.old.subtrees))) (kept_work (reverse (nodes_of self.new.subtrees))) work.old work.new }
         ensures never_falls { NeverFalls work.old work.new }
-        ensures fits { self.old.subtrees.len ≤ most_levels → self.new.subtrees.len ≤ most_levels }
+        ensures fits { self.old.subtrees.len ≤ max_levels → self.new.subtrees.len ≤ max_levels }
     {
         self.whole = self.whole.wrapping_add((CHUNK_LEN as u64) << next.level);
         push(mode, &mut self.subtrees, next, work);
     }
 
-    /// How many bytes were given, if they are fewer than 2^64.
+    /// The number of bytes given so far, if it is below 2^64.
     pub(crate) fn count(&self) -> u64
-        ensures { (p : Keying) → result ≡ count_of (kept_of p self.now) }
+        ensures { (p : ModelMode) → result ≡ count_of (kept_of p self.now) }
     {
         self.whole.wrapping_add(self.tail.len() as u64)
     }
 
-    /// The node of the tree over all bytes that were given.
+    /// The node of the tree over all bytes given so far.
     pub(crate) fn top(&self, mode: &Mode, work: &mut Work) -> Top
         ensures node { (x : List ℕ) → Holds (kept_of mode.now self.now) x → result ≡ tree_top x 0 mode.now }
         ensures count { (x : List ℕ) → Holds (kept_of mode.now self.now) x
@@ -190,7 +189,7 @@ impl Kept {
     }
 }
 
-// Puts a whole subtree behind others. Two of one level become one of the next.
+// Appends a whole subtree. Two subtrees of one level merge into one of the next level.
 fn push(mode: &Mode, subtrees: &mut Stack, next: Subtree, work: &mut Work)
     ensures nodes { (x : List ℕ) → IsNext mode.now (reverse (nodes_of subtrees.old)) next x → length x < 2 ^ 64
         → AreSubtrees mode.now (reverse (nodes_of subtrees.new)) x }
@@ -199,7 +198,7 @@ fn push(mode: &Mode, subtrees: &mut Stack, next: Subtree, work: &mut Work)
     ensures count { (x : List ℕ) → IsNext mode.now (reverse (nodes_of subtrees.old)) next x → length x < 2 ^ 64
         → CountsRest (kept_work (next ∷ reverse (nodes_of subtrees.old))) (kept_work (reverse (nodes_of subtrees.new))) work.old work.new }
     ensures never_falls { NeverFalls work.old work.new }
-    ensures fits { subtrees.old.len ≤ most_levels → subtrees.new.len ≤ most_levels }
+    ensures fits { subtrees.old.len ≤ max_levels → subtrees.new.len ≤ max_levels }
 {
     let mut next = next;
     while let Some(last) = subtrees.as_slice().last() {
@@ -214,12 +213,12 @@ fn push(mode: &Mode, subtrees: &mut Stack, next: Subtree, work: &mut Work)
     subtrees.push(next);
 }
 
-// The node over subtrees and what stands behind them.
-fn joined(mode: &Mode, subtrees: &[Subtree], behind: Top, work: &mut Work) -> Top
-    ensures node { result ≡ joined mode.now (reverse subtrees.now) behind }
+// The node over `subtrees` followed by `following`.
+fn joined(mode: &Mode, subtrees: &[Subtree], following: Top, work: &mut Work) -> Top
+    ensures node { result ≡ joined mode.now (reverse subtrees.now) following }
     ensures count { work.new ≡ counted work.old (2 * length subtrees.now) }
 {
-    let (mut rest, mut top) = (subtrees, behind);
+    let (mut rest, mut top) = (subtrees, following);
     while let Some((left, before)) = rest.split_last() {
         top = Top::parent(mode, &left.top, &top, work);
         rest = before;

@@ -1,23 +1,28 @@
 //! BLAKE3 (O'Connor, Aumasson, Neves and Wilcox-O'Hearn, the specification of 2020, sections 2.1 to 2.6).
 //!
-//! Every call gives the value of the specification's definition, which `specs/` restates, for each input,
-//! and says by how much it raises a count of compressions. No call takes memory, and none fails but
-//! `OutputReader::fill` past the output's end.
+//! ```rust
+//! let mut work = Work::new(rt);
+//! let mut hasher = Hasher::new(&Mode::hash());
+//! hasher.update(first, &mut work);
+//! hasher.update(second, &mut work);
+//! hasher.digest(&mut work)
+//! ```
 //!
-//! - `compress` is the compression function; `IV` and the flags are what it is called with.
+//! Every call returns the value that the specification defines, restated in `specs/`, for every input, and its contract says how many
+//! compressions it adds to a count. No call allocates, and none can fail except `OutputReader::fill` past the end of the output.
+//!
+//! - `compress` is the compression function; `IV` and the flags are its constants.
 //! - `Mode` is one of the three modes: hash, keyed hash, derive key.
-//! - `Top` is a node of the tree before it is known whether it is the root: of one chunk, of eight chunks at a
-//!   time, or the parent of two nodes.
-//! - `hash_wide` is the hash in a mode, by eight, four or two compressions at a time: the quick one, for bytes that are at hand.
-//!   `Top::of_input` is the node from which it comes, and `Top::of_subtree` that of a subtree within an input, which
-//!   `is_subtree` tests.
-//! - `hash` is the same value by plain recursion, one compression after the other. It takes about three times as long.
-//! - `Hasher` gives that node of bytes that come in pieces, without having them all at once. `HasherState` is what it keeps,
-//!   as plain numbers laid out as C lays them out.
-//! - `OutputReader` reads the extended output; `CountedOutput` reads it as `std::io::Read` does.
+//! - `Top` is a node of the tree before it is known whether it is the root: a chunk, or the parent of two nodes. `Top::of_eight` makes the
+//!   nodes of eight chunks at once.
+//! - `hash_wide` is the fast hash of bytes in memory, in any mode, by eight, four or two compressions at a time. `Top::of_input` is the
+//!   root node that it uses; `Top::of_subtree` is the node of a subtree within an input, which `is_subtree` tests.
+//! - `hash` computes the same value by plain recursion, one compression after the other. It takes about three times as long.
+//! - `Hasher` computes the root node of bytes that arrive in pieces. `HasherState` is its state as plain numbers with C's layout.
+//! - `OutputReader` reads the extended output; `CountedOutput` reads it through `std::io::Read`.
 //! - `tree_laws` states the tree in the specification's own words.
 //!
-//! Beside the specification's own way, from `compression` over `chunk` and `node` to `tree`, `wide` has the quick one.
+//! The modules `compression`, `chunk`, `node` and `tree` follow the specification; `wide` is the fast implementation.
 #![tactic(auto)]
 
 mod chunk;

@@ -1,10 +1,10 @@
-//! The modes of the hash (section 2.3): the key words, and the flag of each compression.
+//! The modes of the hash (section 2.3): the key words and the flag of each compression.
 
 ghost use Rattle.std.specs.Prelude.{◌≡◌, ◌≤◌, MatchOption, Some, false, nat_lt, true};
 ghost use Rattle.b3_core.specs.Compression.{derive_key_material_flag};
 ghost use Rattle.b3_core.specs.Modes.{hash_mode, keyed_mode};
 ghost use Rattle.b3_core.specs.Texts.{mode_name, mode_text};
-ghost use Rattle.b3_core.specs.Tree.{Keying};
+ghost use Rattle.b3_core.specs.Tree.{ModelMode};
 
 use crate::compression::{DERIVE_KEY_MATERIAL, IV, KEYED_HASH};
 use crate::words::words_of_key;
@@ -19,7 +19,7 @@ pub struct Mode {
 }
 
 impl Model for Mode {
-    ghost Value = { Keying };
+    ghost Value = { ModelMode };
 
     ghost view = { λ m. record { key = m.key; flag = m.flag } };
 
@@ -46,7 +46,7 @@ impl Mode {
         }
     }
 
-    /// The mode with these key words and this flag, if the flag can be a mode's.
+    /// The mode with these key words and this flag, if a mode can have this flag.
     pub(crate) fn of_words(key: [u32; 8], flag: u32) -> Option<Mode>
         ensures { MatchOption result (nat_lt derive_key_material_flag flag ≡ true)
             (λ mode. (nat_lt derive_key_material_flag flag ≡ false) × (mode ≡ record { key = key; flag = flag })) }
@@ -64,7 +64,7 @@ impl Mode {
         self.key
     }
 
-    /// The flag that each compression of the mode has; 0 is none.
+    /// The flag set in every compression of the mode, or 0 if there is none.
     pub(crate) fn flag(&self) -> u32
         ensures value { result ≡ self.now.flag }
         ensures below { result ≤ derive_key_material_flag }
@@ -84,7 +84,7 @@ impl Mode {
     }
 }
 
-/// The mode's name, and nothing of its key.
+/// Shows the mode's name, and nothing of its key.
 impl fmt::Debug for Mode {
     ghost debug_output = { λ mode. Some (mode_text mode) };
 

@@ -2,7 +2,7 @@
 
 ghost use Rattle.std.specs.Prelude.{◌≡◌, ℕ, ◌+◌, ◌*◌, ◌^◌, ◌<◌, ◌≤◌, Some, length, slice_index};
 ghost use Rattle.b3_core.specs.ExtendedOutput.{output_of, root_words_of};
-ghost use Rattle.b3_core.specs.Tree.{Inputs, parent_top, chaining_value_of, block_size};
+ghost use Rattle.b3_core.specs.Tree.{ModelTop, parent_top, chaining_value_of, block_size};
 ghost use Rattle.b3_core.specs.Texts.{top_text};
 ghost use Rattle.b3_core.specs.Work.{counted};
 
@@ -15,8 +15,7 @@ use std::marker::Model;
 
 /// A node of the tree: the inputs of its last compression, before it is known whether it is the root.
 ///
-/// Each node can give either a chaining value for its parent or, as the root, the hash and the extended
-/// output. So it keeps what both need.
+/// A node yields either a chaining value for its parent or, as the root, the hash and the extended output. It keeps what both need.
 #[derive(Clone, Copy, PartialEq, Eq)]
 #[repr(C)]
 pub struct Top {
@@ -24,12 +23,12 @@ pub struct Top {
     pub(crate) block_words: [u32; 16],
     pub(crate) counter: u64,
     pub(crate) block_len: u32,
-    // Eight bits, so that ROOT can be added to any.
+    // Eight bits, so that `u32::from(flags) + ROOT` cannot overflow.
     pub(crate) flags: u8,
 }
 
 impl Model for Top {
-    ghost Value = { Inputs };
+    ghost Value = { ModelTop };
 
     ghost view = { λ n. record {
       chaining_value = n.chaining_value;
@@ -61,7 +60,7 @@ impl Top {
 
     /// The parent of two nodes with these chaining values.
     pub(crate) fn of_children(mode: &Mode, left: [u32; 8], right: [u32; 8]) -> Top
-        ensures { (l r : Inputs) → left ≡ chaining_value_of l → right ≡ chaining_value_of r
+        ensures { (l r : ModelTop) → left ≡ chaining_value_of l → right ≡ chaining_value_of r
             → result ≡ parent_top l r mode.now }
     {
         Top {
@@ -88,7 +87,7 @@ impl Top {
         )
     }
 
-    /// The 64 bytes of block `i` of the extended output of this node as the root (section 2.6).
+    /// Block `i`, 64 bytes, of the extended output of this node as the root (section 2.6).
     pub(crate) fn output_block(&self, i: u64, work: &mut Work) -> [u8; 64]
         ensures bytes { result ≡ output_of self.now (block_size * i) block_size }
         ensures count { work.new ≡ counted work.old 1 }
@@ -96,7 +95,7 @@ impl Top {
         bytes_of(self.root_words(i, work))
     }
 
-    // The 16 words of block `i` of the extended output.
+    // Block `i` of the extended output, as 16 words.
     fn root_words(&self, i: u64, work: &mut Work) -> [u32; 16]
         ensures words { result ≡ root_words_of self.now i }
         ensures count { work.new ≡ counted work.old 1 }
@@ -123,7 +122,7 @@ impl Top {
     }
 }
 
-/// The node's counter, length and flags, and nothing of its words: of a keyed parent they are the key.
+/// Shows the counter, the length and the flags, but none of the words: in a keyed parent they include the key.
 impl fmt::Debug for Top {
     ghost debug_output = { λ top. Some (top_text top) };
 

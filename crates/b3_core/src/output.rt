@@ -1,7 +1,7 @@
 //! The extended output of a root (section 2.6).
 
 ghost use Rattle.std.specs.Prelude.{◌≡◌, ◌+◌, ◌-◌, ◌^◌, ◌<◌, ◌↔◌, IsErr, OnOk, OnErr, Some, length};
-ghost use Rattle.b3_core.specs.ExtendedOutput.{Reader, output_of, blocks_touched};
+ghost use Rattle.b3_core.specs.ExtendedOutput.{ModelOutputReader, output_of, blocks_touched};
 ghost use Rattle.b3_core.specs.Texts.{output_end_code, output_end_text, reader_text};
 ghost use Rattle.b3_core.specs.Work.{counted};
 
@@ -11,12 +11,12 @@ use std::error::Error;
 use std::fmt;
 use std::marker::Model;
 
-/// H1: the bytes asked for reach past the output's 2^64-1 bytes.
+/// H1: the requested bytes extend past the 2^64-1 bytes of the output.
 #[derive(Clone, Copy, Debug, PartialEq, Eq)]
 pub struct OutputEnd;
 
 impl OutputEnd {
-    /// The refusal's number, `H1`.
+    /// The code of the refusal, `H1`.
     pub fn code(self) -> &'static str
         ensures { result.now ≡ output_end_code }
     {
@@ -24,7 +24,7 @@ impl OutputEnd {
     }
 }
 
-/// The refusal's number and a sentence.
+/// The code of the refusal and a sentence.
 impl fmt::Display for OutputEnd {
     ghost output = { λ _. Some output_end_text };
 
@@ -35,7 +35,7 @@ impl fmt::Display for OutputEnd {
 
 impl Error for OutputEnd {}
 
-/// Reads the extended output of a root (section 2.6), 2^64-1 bytes, from any place on.
+/// Reads the extended output of a root (section 2.6), 2^64-1 bytes long, from any position.
 #[derive(Drop)]
 pub struct OutputReader {
     root: Top,
@@ -43,37 +43,37 @@ pub struct OutputReader {
 }
 
 impl Model for OutputReader {
-    ghost Value = { Reader };
+    ghost Value = { ModelOutputReader };
 
     ghost view = { λ r. record { root = r.root; position = r.position } };
 }
 
 impl OutputReader {
-    /// A reader of the output of `root`, at its first byte.
+    /// A reader of the output of `root`, at position 0.
     pub fn new(root: Top) -> OutputReader
         ensures { result ≡ record { root = root; position = 0 } }
     {
         OutputReader { root, position: 0 }
     }
 
-    /// The place of the next byte, counted from 0.
+    /// The position of the next byte, counted from 0.
     pub fn position(&self) -> u64
         ensures { result ≡ self.now.position }
     {
         self.position
     }
 
-    /// Moves to a place, also past the output's end.
+    /// Moves to `position`, which may be past the end of the output.
     pub fn set_position(&mut self, position: u64)
         ensures { self.new ≡ record self.old { position = position } }
     {
         self.position = position;
     }
 
-    /// Fills `out` with the next bytes, and moves past them. It makes one compression for each block of 64 output
-    /// bytes that it touches.
+    /// Fills `out` with the next bytes and advances by its length. It makes one compression for each 64-byte block of the output that it
+    /// touches.
     ///
-    /// `OutputEnd` where the place plus the length of `out` is above 2^64-1: then nothing has changed.
+    /// Fails with `OutputEnd`, and changes nothing, if the position plus the length of `out` exceeds 2^64-1.
     pub fn fill(&mut self, out: &mut [u8], work: &mut Work) -> Result<(), OutputEnd>
         ensures ends { IsErr result ↔ 2 ^ 64 - 1 < self.old.position + length out.old }
         ensures bytes { OnOk result (out.new ≡ output_of self.old.root self.old.position (length out.old)) }
@@ -93,7 +93,7 @@ impl OutputReader {
     }
 }
 
-/// The place of the next byte, and nothing of the root.
+/// Shows the position of the next byte, and nothing of the root.
 impl fmt::Debug for OutputReader {
     ghost debug_output = { λ reader. Some (reader_text reader) };
 
@@ -103,7 +103,7 @@ impl fmt::Debug for OutputReader {
     }
 }
 
-// Fills `out` with the output's bytes from `start` on.
+// Fills `out` with the bytes of the output starting at `start`.
 fn fill_from(root: &Top, start: u64, out: &mut [u8], work: &mut Work)
     requires { start + length out.old < 2 ^ 64 }
     ensures bytes { out.new ≡ output_of root.now start (length out.old) }
@@ -115,7 +115,7 @@ fn fill_from(root: &Top, start: u64, out: &mut [u8], work: &mut Work)
     let first = start / 64;
     let last = (start + (out.len() as u64 - 1)) / 64;
     let mut done = 0;
-    // Its proof names the loop by the label.
+    // The proof refers to the loop by this label.
     'blocks: for i in first..last + 1 {
         let block = root.output_block(i, work);
         let skip = ((start + done as u64) % 64) as usize;

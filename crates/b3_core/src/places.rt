@@ -1,15 +1,15 @@
-//! The nodes and the bytes that a hasher keeps, laid out as C lays them out.
+//! The nodes and the bytes that a hasher keeps, with C's layout.
 
 ghost use Rattle.std.specs.Prelude.{◌≡◌, ℕ, ◌+◌, ◌-◌, ◌<◌, ◌≤◌, ◌↔◌, ◌++◌, ◌==◌, [], ◌∷◌, Some, length, min, reverse, slice_get, true};
-ghost use Rattle.b3_core.specs.Kept.{most_levels, nodes_of, tail_of};
-ghost use Rattle.b3_core.specs.Tree.{Inputs, chunk_len};
+ghost use Rattle.b3_core.specs.Kept.{max_levels, nodes_of, tail_of};
+ghost use Rattle.b3_core.specs.Tree.{ModelTop, chunk_len};
 
 use crate::compression::CHUNK_LEN;
 use crate::mode::Mode;
 use crate::node::Top;
 use std::marker::Model;
 
-/// The levels of a tree over less than 2^64 bytes.
+/// The number of levels of a tree over less than 2^64 bytes.
 pub(crate) const LEVELS: usize = 54;
 
 /// The node over 2^level whole chunks.
@@ -22,16 +22,16 @@ pub(crate) struct Subtree {
 
 impl Model for Subtree {
     ghost use Rattle.std.specs.Prelude.{ℕ};
-    ghost use Rattle.b3_core.specs.Tree.{Inputs};
+    ghost use Rattle.b3_core.specs.Tree.{ModelTop};
 
-    ghost Value = { ℕ × Inputs };
+    ghost Value = { ℕ × ModelTop };
 
     ghost view = { λ s. (s.level, s.top) };
 
     ghost inverse = { λ s. record { level = s.0; top = s.1 } };
 }
 
-/// Nodes, the last of them behind the others. A length above the number of places counts as that number.
+/// A stack of nodes in an array. A length above the number of places counts as that number.
 #[derive(Clone, Copy)]
 #[repr(C)]
 pub(crate) struct Stack {
@@ -40,11 +40,11 @@ pub(crate) struct Stack {
 }
 
 impl Stack {
-    /// No nodes.
+    /// An empty stack.
     #[tactic(auto, unfolding(crate::specs::Kept::nodes_of))]
     pub(crate) fn new() -> Stack
         ensures nodes { nodes_of result ≡ [] }
-        ensures fits { result.len ≤ most_levels }
+        ensures fits { result.len ≤ max_levels }
     {
         let blank = Subtree {
             level: 0,
@@ -56,18 +56,18 @@ impl Stack {
         }
     }
 
-    /// Drops all of them.
+    /// Drops all nodes.
     #[tactic(auto, unfolding(crate::specs::Kept::nodes_of))]
     pub(crate) fn clear(&mut self)
         ensures nodes { nodes_of self.new ≡ [] }
-        ensures fits { self.new.len ≤ most_levels }
+        ensures fits { self.new.len ≤ max_levels }
     {
         self.len = 0;
     }
 
     /// Whether the length is at most the number of places.
     pub(crate) fn fits(&self) -> bool
-        ensures { result ≡ true ↔ self.now.len ≤ most_levels }
+        ensures { result ≡ true ↔ self.now.len ≤ max_levels }
     {
         self.len as usize <= LEVELS
     }
@@ -76,25 +76,25 @@ impl Stack {
     #[tactic(auto, unfolding(crate::specs::Kept::nodes_of))]
     pub(crate) fn as_slice(&self) -> &[Subtree]
         ensures value { result.now ≡ nodes_of self.now }
-        ensures fits { length result.now ≤ most_levels }
+        ensures fits { length result.now ≤ max_levels }
     {
         &self.places[..(self.len as usize).min(LEVELS)]
     }
 
-    /// Drops the last one, if there is one.
+    /// Drops the last node, if there is one.
     pub(crate) fn pop(&mut self)
-        ensures rest { (last : ℕ × Inputs) → slice_get (nodes_of self.old) (length (nodes_of self.old) - 1) ≡ Some last
+        ensures rest { (last : ℕ × ModelTop) → slice_get (nodes_of self.old) (length (nodes_of self.old) - 1) ≡ Some last
             → reverse (nodes_of self.old) ≡ last ∷ reverse (nodes_of self.new) }
         ensures fewer { 0 < length (nodes_of self.old) → length (nodes_of self.new) < length (nodes_of self.old) }
-        ensures fits { self.new.len ≤ most_levels }
+        ensures fits { self.new.len ≤ max_levels }
     {
         self.len = self.len.min(LEVELS as u32).saturating_sub(1);
     }
 
-    /// Puts one behind the others, if there is room.
+    /// Appends a node, if there is room.
     pub(crate) fn push(&mut self, next: Subtree)
-        ensures nodes { length (nodes_of self.old) < most_levels → reverse (nodes_of self.new) ≡ next ∷ reverse (nodes_of self.old) }
-        ensures fits { self.old.len ≤ most_levels → self.new.len ≤ most_levels }
+        ensures nodes { length (nodes_of self.old) < max_levels → reverse (nodes_of self.new) ≡ next ∷ reverse (nodes_of self.old) }
+        ensures fits { self.old.len ≤ max_levels → self.new.len ≤ max_levels }
     {
         let len = self.len as usize;
         if len < LEVELS {
@@ -125,7 +125,7 @@ impl Tail {
         }
     }
 
-    /// Drops all of them.
+    /// Drops all bytes.
     #[tactic(auto, unfolding(crate::specs::Kept::tail_of))]
     pub(crate) fn clear(&mut self)
         ensures bytes { tail_of self.new ≡ [] }
@@ -141,7 +141,7 @@ impl Tail {
         self.len as usize <= CHUNK_LEN
     }
 
-    /// How many they are.
+    /// The number of bytes.
     #[tactic(auto, unfolding(crate::specs::Kept::tail_of))]
     pub(crate) fn len(&self) -> usize
         ensures value { result ≡ length (tail_of self.now) }
@@ -150,28 +150,27 @@ impl Tail {
         (self.len as usize).min(CHUNK_LEN)
     }
 
-    /// Whether there are none.
+    /// Whether there are no bytes.
     pub(crate) fn is_empty(&self) -> bool
         ensures { result ≡ (length (tail_of self.now) == 0) }
     {
         self.len() == 0
     }
 
-    /// Whether they are a whole chunk.
+    /// Whether the bytes are a whole chunk.
     pub(crate) fn is_full(&self) -> bool
         ensures { result ≡ (length (tail_of self.now) == chunk_len) }
     {
         self.len() == CHUNK_LEN
     }
 
-    /// How many more make a whole chunk.
+    /// The number of bytes missing to a whole chunk.
     pub(crate) fn room(&self) -> usize
         ensures { result + length (tail_of self.now) ≡ chunk_len }
     {
         CHUNK_LEN - self.len()
     }
 
-    /// The bytes.
     #[tactic(auto, unfolding(crate::specs::Kept::tail_of))]
     pub(crate) fn as_slice(&self) -> &[u8]
         ensures value { result.now ≡ tail_of self.now }
@@ -180,7 +179,7 @@ impl Tail {
         &self.places[..self.len()]
     }
 
-    /// Puts bytes behind them, if there is room for all.
+    /// Appends `bytes`, if there is room for all of them.
     pub(crate) fn extend(&mut self, bytes: &[u8])
         ensures bytes { length (tail_of self.old) + length bytes.now ≤ chunk_len → tail_of self.new ≡ tail_of self.old ++ bytes.now }
         ensures fits { self.old.len ≤ chunk_len → self.new.len ≤ chunk_len }

@@ -1,5 +1,5 @@
-//! The rounds on states as rows of four words, so that one vector operation does a step for all columns or all diagonals: of one
-//! state, or of two side by side. The last row is as it was before its turn by 8 bits, as `g` has it.
+//! The rounds on states as rows of four words, so that one vector operation does a step for all columns or all diagonals, of one state or
+//! of two side by side. The last row is kept as it was before its rotation by 8 bits, as in `g`.
 
 ghost use Rattle.std.specs.Prelude.{◌≡◌, ℕ, ◌+◌, ◌*◌, ◌/◌, ◌<◌, List, take, slice_index};
 ghost use Rattle.b3_core.specs.Compression.{columns, diagonals, round, permute, rounds, output_words};
@@ -10,33 +10,33 @@ use crate::vectors::{Words, g};
 use crate::work::Work;
 use std::simd::{u32x4, u32x8};
 
-/// Vectors of rows: each four lanes are a row of one state.
+/// Vectors of rows: each group of four lanes is a row of one state.
 pub(crate) trait Quads: Words {
     // The same row for each state.
     fn of_row(row: u32x4) -> Self
         ensures { (i : ℕ) → 4 * i + 3 < Self.LANES
             → IsRowOf Self.word i result (slice_index row 0) (slice_index row 1) (slice_index row 2) (slice_index row 3) };
 
-    // The words of each row moved down by one lane, the first one to the end.
+    // Rotates the words of each row down by one lane; the first word becomes the last.
     fn down_one(self) -> Self
         ensures { (i : ℕ) → 4 * i + 3 < Self.LANES
             → IsRowOf Self.word i result (Self.word self (4 * i + 1)) (Self.word self (4 * i + 2)) (Self.word self (4 * i + 3)) (Self.word self (4 * i)) };
 
-    // The words of each row moved down by two lanes, the first ones to the end.
+    // Rotates the words of each row down by two lanes.
     fn down_two(self) -> Self
         ensures { (i : ℕ) → 4 * i + 3 < Self.LANES
             → IsRowOf Self.word i result (Self.word self (4 * i + 2)) (Self.word self (4 * i + 3)) (Self.word self (4 * i)) (Self.word self (4 * i + 1)) };
 
-    // The words of each row moved down by three lanes, the first ones to the end.
+    // Rotates the words of each row down by three lanes.
     fn down_three(self) -> Self
         ensures { (i : ℕ) → 4 * i + 3 < Self.LANES
             → IsRowOf Self.word i result (Self.word self (4 * i + 3)) (Self.word self (4 * i)) (Self.word self (4 * i + 1)) (Self.word self (4 * i + 2)) };
 
-    // Messages whose words stand in these rows, as `round` takes them.
+    // Messages with the words of these rows, in the order that `round` expects.
     fn message(a: Self, b: Self, c: Self, d: Self) -> (Self, Self, Self, Self)
         ensures { (i : ℕ) → 4 * i + 3 < Self.LANES → rows_message Self.word i result ≡ rows_words Self.word i a b c d };
 
-    // The message words in the order of the next round (table 2).
+    // Permutes the message words for the next round (table 2).
     fn permute(a: Self, b: Self, c: Self, d: Self) -> (Self, Self, Self, Self)
         ensures { (i : ℕ) → 4 * i + 3 < Self.LANES → rows_message Self.word i result ≡ permute (rows_message Self.word i (a, b, c, d)) };
 }
@@ -127,7 +127,7 @@ impl Quads for u32x8 {
     }
 }
 
-// G on the columns of each state, the first half of a round.
+// Applies G to the columns of each state: the first half of a round.
 #[inline(always)]
 fn columns<V: Quads>(v: (V, V, V, V), m: (V, V, V, V)) -> (V, V, V, V)
     ensures { (i : ℕ) → 4 * i + 3 < V.LANES → rows_state V.word i result ≡ columns (rows_state V.word i v) (rows_message V.word i m) }
@@ -135,7 +135,7 @@ fn columns<V: Quads>(v: (V, V, V, V), m: (V, V, V, V)) -> (V, V, V, V)
     g(v.0, v.1, v.2, v.3, m.0, m.1)
 }
 
-// G on the diagonals of each state, the second half of a round.
+// Applies G to the diagonals of each state: the second half of a round.
 #[inline(always)]
 fn diagonals<V: Quads>(v: (V, V, V, V), m: (V, V, V, V)) -> (V, V, V, V)
     ensures { (i : ℕ) → 4 * i + 3 < V.LANES → rows_state V.word i result ≡ diagonals (rows_state V.word i v) (rows_message V.word i m) }
@@ -164,7 +164,7 @@ fn permute<V: Quads>(m: (V, V, V, V)) -> (V, V, V, V)
     V::permute(m.0, m.1, m.2, m.3)
 }
 
-/// The states after the seven rounds, which count as one compression of each.
+/// The states after the seven rounds. Counts one compression for each state.
 #[inline(always)]
 pub(crate) fn seven_rounds<V: Quads>(
     v0: (V, V, V, V),
@@ -190,7 +190,7 @@ pub(crate) fn seven_rounds<V: Quads>(
     round(v6, m6)
 }
 
-/// The first half of each state's output words.
+/// The first eight output words of each state.
 #[inline(always)]
 pub(crate) fn low_rows<V: Quads>(v: (V, V, V, V)) -> (V, V)
     ensures { (i : ℕ) (h : List ℕ) → 4 * i + 3 < V.LANES → rows_value V.word i result ≡ take 8 (output_words h (rows_state V.word i v)) }

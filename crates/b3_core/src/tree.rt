@@ -10,7 +10,7 @@ use crate::mode::Mode;
 use crate::node::Top;
 use crate::work::Work;
 
-/// Where an input of more than one chunk is split.
+/// The length of the left side when an input of `len` bytes, more than one chunk, is split.
 pub(crate) fn left_len(len: usize) -> usize
     requires { chunk_len < len }
     ensures value { result ≡ left_length len }
@@ -25,7 +25,7 @@ pub(crate) fn left_len(len: usize) -> usize
     side
 }
 
-// The top of the tree over bytes whose first chunk has the given number.
+// The top of the tree over `bytes`, whose first chunk has the number `number`.
 fn top_of(mode: &Mode, bytes: &[u8], number: u64, work: &mut Work) -> Top
     requires { number + length bytes.now / chunk_len < 2 ^ 64 }
     ensures node { result ≡ tree_top bytes.now number mode.now }
@@ -41,8 +41,9 @@ fn top_of(mode: &Mode, bytes: &[u8], number: u64, work: &mut Work) -> Top
     Top::parent(mode, &left_top, &right_top, work)
 }
 
-/// The hash of `bytes` in a mode, 32 bytes (sections 2.1 to 2.6), by plain recursion. [`hash_wide`](crate::hash_wide) gives
-/// the same hash in about a third of the time. Both make as many compressions as the input has blocks, plus its chunks less one.
+/// The hash of `bytes` in a mode, 32 bytes (sections 2.1 to 2.6), by plain recursion. [`hash_wide`](crate::hash_wide) returns the same hash
+/// in about a third of the time. Both make one compression for each block of the input and one for each parent, which are one fewer than
+/// the chunks.
 #[tactic(auto, unfolding(crate::specs::Modes::digest_of))]
 pub fn hash(mode: &Mode, bytes: &[u8], work: &mut Work) -> [u8; 32]
     ensures bytes { result ≡ digest_of bytes.now mode.now }

@@ -1,5 +1,5 @@
-//! Vectors of words: the steps of the compression function, in each lane. The rows of one state have four lanes, the states
-//! of some compressions side by side a lane for each.
+//! Vectors of words: the steps of the compression function in each lane. A row of one state has four lanes; states side by side have one
+//! lane each.
 
 ghost use Rattle.std.specs.Prelude.{◌≡◌, ℕ, ◌^◌, ◌<◌, slice_index, bit_xor};
 ghost use Rattle.b3_core.specs.Compression.{add32, xor_turn, g};
@@ -9,10 +9,10 @@ use std::simd::Simd;
 
 /// A vector of words, one in each lane.
 pub(crate) trait Words: Copy {
-    // How many lanes there are.
+    // The number of lanes.
     ghost LANES: { ℕ };
 
-    // The word of a lane.
+    // The word in a lane.
     ghost word: { Self → ℕ → ℕ };
 
     const LANES: usize;
@@ -21,12 +21,12 @@ pub(crate) trait Words: Copy {
     fn splat(x: u32) -> Self
         ensures { (j : ℕ) → j < LANES → word result j ≡ x };
 
-    // The word of a lane.
+    // The word in lane `i`.
     fn get(self, i: usize) -> u32
         requires { i < LANES }
         ensures { result ≡ word self i };
 
-    // The sum, with the carry dropped.
+    // The sum modulo 2^32.
     fn add(self, other: Self) -> Self
         ensures { (j : ℕ) → j < LANES → word result j ≡ add32 (word self j) (word other j) };
 
@@ -34,7 +34,7 @@ pub(crate) trait Words: Copy {
     fn xor(self, other: Self) -> Self
         ensures { (j : ℕ) → j < LANES → word result j ≡ bit_xor (word self j) (word other j) };
 
-    // The words turned right. Each of them fits 32 bits.
+    // Rotates each word right by `k` bits. Also says that each word fits in 32 bits.
     fn turn(self, k: u32) -> Self
         requires { (0 < k) × (k < 32) }
         ensures turns { (j : ℕ) → j < LANES → word result j ≡ turned k (word self j) }
@@ -74,7 +74,7 @@ impl<const N: usize> Words for Simd<u32, N> {
     }
 }
 
-// The exclusive or, turned right.
+// The exclusive or, rotated right by `k` bits.
 #[inline(always)]
 pub(crate) fn xor_turn<V: Words>(a: V, b: V, k: u32) -> V
     requires { (0 < k) × (k < 32) }
@@ -83,8 +83,8 @@ pub(crate) fn xor_turn<V: Words>(a: V, b: V, k: u32) -> V
     a.xor(b).turn(k)
 }
 
-// The first turn of G, of a word that comes as it was before G's last turn, by 8 bits: that turn and this one by 16 are then
-// one by 24.
+// The first rotation of G, of a word kept as it was before G's last rotation, by 8 bits: that rotation and this one by 16 combine to one by
+// 24.
 #[inline(always)]
 fn first_turn<V: Words>(d: V, a: V) -> V
     ensures { (j : ℕ) → j < V.LANES → V.word result j ≡ xor_turn (turned 8 (V.word d j)) (V.word a j) 16 }
@@ -92,8 +92,8 @@ fn first_turn<V: Words>(d: V, a: V) -> V
     d.turn(24).xor(a.turn(16))
 }
 
-// G (section 2.2): mixes two message words into four words of the state. The last of the four comes and goes as it was
-// before its turn by 8 bits.
+// G (section 2.2): mixes two message words into four words of the state. The last of the four is passed and returned as it was before its
+// rotation by 8 bits.
 #[inline(always)]
 pub(crate) fn g<V: Words>(a: V, b: V, c: V, d: V, x: V, y: V) -> (V, V, V, V)
     ensures { (j : ℕ) → j < V.LANES

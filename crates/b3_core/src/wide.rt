@@ -1,9 +1,9 @@
-//! The hash by eight compressions at a time, of chunks and of parents, and by four chunks or two where no eight are left.
+//! The hash by eight compressions at a time, of chunks and of parents, and by four or two chunks when fewer than eight are left.
 
 ghost use Rattle.std.specs.Prelude.{◌≡◌, ℕ, ◌+◌, ◌-◌, ◌*◌, ◌/◌, ◌^◌, ◌<◌, ◌≤◌, ◌↔◌, true, IfSome, length, slice_index};
 ghost use Rattle.b3_core.specs.inner.Lanes.{lane, group_top};
 ghost use Rattle.b3_core.specs.Modes.{digest_of};
-ghost use Rattle.b3_core.specs.Tree.{Inputs, IsSubtree, chaining_value_of, chunk_len, parent_top, tree_top};
+ghost use Rattle.b3_core.specs.Tree.{ModelTop, IsSubtree, chaining_value_of, chunk_len, parent_top, tree_top};
 ghost use Rattle.b3_core.specs.Work.{counted, hash_work};
 
 mod chunks;
@@ -22,7 +22,7 @@ use crate::wide::pairs::{pair_parents, pair_values};
 use crate::work::Work;
 use std::simd::{u32x4, u32x8};
 
-// The chaining values of two parents, of the nodes in four lanes from lane `i` on.
+// The chaining values of two parents, whose children are the nodes in the four lanes from lane `i` on.
 #[inline(always)]
 fn lane_pairs<V: Words>(
     mode: &Mode,
@@ -32,9 +32,9 @@ fn lane_pairs<V: Words>(
 ) -> ([u32; 8], [u32; 8])
     requires bounded { i < 8 }
     requires lanes { i + 3 < V.LANES }
-    ensures first { (l r : Inputs) → lane V.word i values.now ≡ chaining_value_of l → lane V.word (i + 1) values.now ≡ chaining_value_of r
+    ensures first { (l r : ModelTop) → lane V.word i values.now ≡ chaining_value_of l → lane V.word (i + 1) values.now ≡ chaining_value_of r
         → result.0 ≡ chaining_value_of (parent_top l r mode.now) }
-    ensures second { (l r : Inputs) → lane V.word (i + 2) values.now ≡ chaining_value_of l → lane V.word (i + 3) values.now ≡ chaining_value_of r
+    ensures second { (l r : ModelTop) → lane V.word (i + 2) values.now ≡ chaining_value_of l → lane V.word (i + 3) values.now ≡ chaining_value_of r
         → result.1 ≡ chaining_value_of (parent_top l r mode.now) }
     ensures count { work.new ≡ counted work.old 2 }
 {
@@ -48,7 +48,7 @@ fn lane_pairs<V: Words>(
     )
 }
 
-// The level at which so many bytes are eight times 2^level whole chunks.
+// The level at which `len` bytes are eight times 2^level whole chunks.
 fn eighth_level(len: usize) -> Option<u32>
     ensures { IfSome result (λ level. len ≡ 8 * chunk_len * 2 ^ level) }
 {
@@ -61,8 +61,8 @@ fn eighth_level(len: usize) -> Option<u32>
     if whole == len { Some(level) } else { None }
 }
 
-// The chaining values of eight times four whole chunks, the first with the given number. A lane keeps to its four chunks, one
-// after the other, so that the processor reads each of eight places forwards, and fetches ahead.
+// The chaining values of eight times four whole chunks, the first with the number `number`. Each lane processes its four chunks one after
+// the other, so that the processor reads forwards at eight places and can prefetch.
 fn page_values(mode: &Mode, bytes: &[u8], number: u64, work: &mut Work) -> [u32x8; 8]
     requires len { length bytes.now ≡ 32 * chunk_len }
     requires number { number + 32 < 2 ^ 64 }
@@ -78,7 +78,7 @@ fn page_values(mode: &Mode, bytes: &[u8], number: u64, work: &mut Work) -> [u32x
     lane_parents(mode, left, right, work)
 }
 
-// The chaining values of the eight eighths of bytes, of 2^level whole chunks each; the first chunk has the given number.
+// The chaining values of the eight eighths of `bytes`, each of 2^`level` whole chunks. The first chunk has the number `number`.
 fn eighth_values(mode: &Mode, bytes: &[u8], level: u32, number: u64, work: &mut Work) -> [u32x8; 8]
     requires len { length bytes.now ≡ 8 * chunk_len * 2 ^ level }
     requires number { number + length bytes.now / chunk_len < 2 ^ 64 }
@@ -99,7 +99,7 @@ fn eighth_values(mode: &Mode, bytes: &[u8], level: u32, number: u64, work: &mut 
     parent_values(mode, left_values, right_values, work)
 }
 
-// The top of the tree over eight times 2^level whole chunks, the first with the given number.
+// The top of the tree over eight times 2^`level` whole chunks, the first with the number `number`.
 fn whole_top(mode: &Mode, bytes: &[u8], level: u32, number: u64, work: &mut Work) -> Top
     requires len { length bytes.now ≡ 8 * chunk_len * 2 ^ level }
     requires number { number + length bytes.now / chunk_len < 2 ^ 64 }
@@ -113,7 +113,7 @@ fn whole_top(mode: &Mode, bytes: &[u8], level: u32, number: u64, work: &mut Work
     Top::of_children(mode, left, right)
 }
 
-// The top of the tree over four whole chunks, the first with the given number.
+// The top of the tree over four whole chunks, the first with the number `number`.
 fn four_top(mode: &Mode, bytes: &[u8], number: u64, work: &mut Work) -> Top
     requires len { length bytes.now ≡ 4 * chunk_len }
     requires number { number + 4 < 2 ^ 64 }
@@ -125,7 +125,7 @@ fn four_top(mode: &Mode, bytes: &[u8], number: u64, work: &mut Work) -> Top
     Top::of_children(mode, left, right)
 }
 
-// The top of the tree over two whole chunks, the first with the given number.
+// The top of the tree over two whole chunks, the first with the number `number`.
 fn two_top(mode: &Mode, bytes: &[u8], number: u64, work: &mut Work) -> Top
     requires len { length bytes.now ≡ 2 * chunk_len }
     requires number { number + 2 < 2 ^ 64 }
@@ -136,7 +136,7 @@ fn two_top(mode: &Mode, bytes: &[u8], number: u64, work: &mut Work) -> Top
     Top::of_children(mode, left, right)
 }
 
-/// The top of the tree over bytes whose first chunk has the given number.
+/// The top of the tree over `bytes`, whose first chunk has the number `number`.
 pub(crate) fn wide_top(mode: &Mode, bytes: &[u8], number: u64, work: &mut Work) -> Top
     requires { number + length bytes.now / chunk_len < 2 ^ 64 }
     ensures node { result ≡ tree_top bytes.now number mode.now }
@@ -162,9 +162,8 @@ pub(crate) fn wide_top(mode: &Mode, bytes: &[u8], number: u64, work: &mut Work) 
 }
 
 impl Top {
-    /// The top of the tree over a whole input, by eight, four or two compressions side by side: the node whose `root32` is
-    /// the input's hash, and from which an `OutputReader` reads its extended output. It makes the compressions of the
-    /// hash but the last one.
+    /// The top of the tree over a whole input, by eight, four or two compressions side by side. Its `root32` is the hash of the input, and
+    /// an `OutputReader` reads its extended output. Makes all compressions of the hash except the last.
     pub fn of_input(mode: &Mode, bytes: &[u8], work: &mut Work) -> Top
         ensures node { result ≡ tree_top bytes.now 0 mode.now }
         ensures count { work.new ≡ counted work.old (hash_work (length bytes.now) - 1) }
@@ -172,8 +171,8 @@ impl Top {
         wide_top(mode, bytes, 0, work)
     }
 
-    /// The top of a subtree within an input, as `of_input`. `number` counts the chunks before it. A subtree has 2^k whole chunks
-    /// and its number is a multiple of 2^k, or the input ends with it, and it has at most 2^k chunks.
+    /// The top of a subtree within an input, computed as in `of_input`. `number` is the number of chunks before it, a multiple of 2^k for
+    /// some k. The subtree has 2^k whole chunks; at the end of the input it may have fewer, and its last chunk may be short.
     pub fn of_subtree(mode: &Mode, bytes: &[u8], number: u64, work: &mut Work) -> Top
         requires subtree { IsSubtree (length bytes.now) number }
         requires number { number + length bytes.now / chunk_len < 2 ^ 64 }
@@ -184,7 +183,7 @@ impl Top {
     }
 }
 
-/// Whether so many bytes, with so many chunks before them, are a subtree as [`Top::of_subtree`] requires.
+/// Whether `len` bytes after `number` chunks are a subtree as [`Top::of_subtree`] requires.
 pub fn is_subtree(len: usize, number: u64) -> bool
     ensures { result ≡ true ↔ IsSubtree len number }
 {
@@ -192,9 +191,9 @@ pub fn is_subtree(len: usize, number: u64) -> bool
     number % chunks.next_power_of_two() == 0 && (len > 0 || number == 0)
 }
 
-/// The hash of `bytes` in a mode, 32 bytes (sections 2.1 to 2.6): the quick one. It makes as many compressions as the input has
-/// blocks, plus its chunks less one. Chunks and parents are compressed eight at a time, side by side, wherever 2^k whole chunks
-/// are a subtree, k at least 3, and chunks four or two at a time where four or two are one.
+/// The hash of `bytes` in a mode, 32 bytes (sections 2.1 to 2.6): the fast implementation. It makes one compression for each block of the
+/// input and one for each parent, which are one fewer than the chunks. Chunks and parents are compressed eight at a time wherever 2^k whole
+/// chunks, with k at least 3, are a subtree; chunks are compressed four or two at a time where four or two are one.
 #[tactic(auto, unfolding(crate::specs::Modes::digest_of))]
 pub fn hash_wide(mode: &Mode, bytes: &[u8], work: &mut Work) -> [u8; 32]
     ensures bytes { result ≡ digest_of bytes.now mode.now }

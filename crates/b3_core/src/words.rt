@@ -1,4 +1,4 @@
-//! Words and bytes: blocks, keys and chaining values as words, and words as bytes, all little endian.
+//! Conversions between words and bytes, all little endian: blocks, keys and chaining values as words, and words as bytes.
 
 ghost use Rattle.std.specs.Prelude.{◌≡◌, ◌+◌, ◌-◌, ◌≤◌, ◌++◌, length, replicate, map};
 ghost use Rattle.std.specs.List.{range_with_len};
@@ -31,7 +31,7 @@ pub(crate) fn words_of_block(bytes: &[u8]) -> [u32; 16]
     ]
 }
 
-// A block, filled with zeros.
+// A block, padded with zeros.
 fn padded(bytes: &[u8]) -> [u8; 64]
     requires { length bytes.now ≤ block_size }
     ensures { result ≡ bytes.now ++ replicate (block_size - length bytes.now) 0 }
@@ -41,7 +41,7 @@ fn padded(bytes: &[u8]) -> [u8; 64]
     block
 }
 
-/// The words of a block that may be short.
+/// The words of a block, which may be short.
 pub(crate) fn words_of_short_block(bytes: &[u8]) -> [u32; 16]
     requires { length bytes.now ≤ block_size }
     ensures { result ≡ block_words_of bytes.now }

@@ -1,4 +1,4 @@
-//! The count of compressions.
+//! Counting compressions.
 
 ghost use Rattle.std.specs.Prelude.{◌≡◌, ℕ};
 ghost use Rattle.b3_core.specs.Work.{counted};
@@ -16,21 +16,20 @@ mod sealed {
     impl<R: Sealed> Sealed for &R {}
 }
 
-/// The runtime that a program or a test is started with, or a reference to it. Nothing else is one: what only allocates,
-/// as a pair with an allocator does, makes no count.
+/// The runtime that a program or a test is started with, or a reference to it. Nothing else implements this: an allocator alone, for
+/// example in a pair, cannot make a count.
 pub trait Runtime: sealed::Sealed {}
 
 impl<R: sealed::Sealed> Runtime for R {}
 
-/// A count of compressions. At its greatest value, 2^64-1, the count stays.
+/// A count of compressions. It saturates at 2^64-1.
 ///
-/// A clause `count` says by how much a call raises the count that it is handed, and each compression of the call is in it, since
-/// what compresses takes a count, and only the runtime makes one. So a call that is handed no runtime makes no other
-/// compression. One that is handed the runtime may make a count of its own: what it compresses under that is told
-/// only where its own clauses tell it.
+/// A clause `count` says how much a call adds to the count that it is given. Every compression of the call is included: compressing needs a
+/// count, and only the runtime can make one. So a call that is given no runtime makes no other compressions. A call that is given the
+/// runtime may make a count of its own; what it compresses under that count is stated only if its own clauses state it.
 ///
-/// It is one word, laid out as C lays it out, so that a program in another language hands in a count of its own where it
-/// calls the crate `b3_c`. No Rattle code gets a count by that.
+/// The type is one word with C's layout, so that a program in another language can pass a count of its own to the crate `b3_c`. Rattle code
+/// cannot obtain a count in this way.
 #[derive(Debug, Drop)]
 #[repr(C)]
 pub struct Work {
@@ -46,28 +45,28 @@ impl Model for Work {
 }
 
 impl Work {
-    /// A count of 0. This is the only way to make one, and needs the runtime.
+    /// A count of 0. This is the only way to make one, and it needs the runtime.
     pub fn new(_rt: &impl Runtime) -> Work
         ensures { result ≡ 0 }
     {
         Work { count: 0 }
     }
 
-    /// The compressions counted so far.
+    /// The number of compressions counted so far.
     pub fn count(&self) -> u64
         ensures { result ≡ self.now }
     {
         self.count
     }
 
-    /// Takes over the compressions that another count has, as that of a thread, which is spent.
+    /// Adds the compressions of another count, such as a thread's, and consumes it.
     pub fn absorb(&mut self, other: Work)
         ensures { self.new ≡ counted self.old other }
     {
         self.add(other.count);
     }
 
-    /// Counts that many more compressions.
+    /// Adds `more` compressions.
     pub(crate) fn add(&mut self, more: u64)
         ensures { self.new ≡ counted self.old more }
     {

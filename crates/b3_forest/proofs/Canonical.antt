@@ -9,7 +9,7 @@ use Rattle.std.proofs.lemmas.Bool.Decides.{nat_tests}
 use Rattle.std.proofs.lemmas.List.{length-map}
 use Rattle.b3_forest.specs.Forests.{IsRow, Covers, NoHalves, IsForest}
 use Rattle.b3_forest.specs.Subtrees.{Subtrees, AreForest, AreHalvesAt, ArePieces, AreSettled, subtree_at, piece_from, pieces_in}
-use Rattle.b3_forest.specs.Pieces.{most_chunks, piece_count, pieces_of, root_level}
+use Rattle.b3_forest.specs.Pieces.{max_chunks, piece_count, pieces_of, root_level}
 use Rattle.b3_forest.specs.declared.piece.Subtree.{Subtree}
 use Rattle.b3_forest.proofs.Maps.{at_same, at_other, same_or}
 use Rattle.b3_forest.proofs.Merging.{some_same}
@@ -27,17 +27,17 @@ pub tail_at : (e : ℕ × Subtree) (es : Subtrees) (s : ℕ) → s ≢ e.0 → s
 tail_at e es s apart = rw (at_other s e.0 apart) refl
 
 -- a key that is found is behind those before
-behind : (k s : ℕ) (es : Subtrees) (n : Subtree) → AllByRecursion (λ y. nat_cmp k y ≡ Less) (keys_of es) → subtree_at es s ≡ Some n → k < s
-behind k s [] n all is = cc
-behind k s (e ∷ es) n all is = elim (same_or s e.0) [
+following : (k s : ℕ) (es : Subtrees) (n : Subtree) → AllByRecursion (λ y. nat_cmp k y ≡ Less) (keys_of es) → subtree_at es s ≡ Some n → k < s
+following k s [] n all is = cc
+following k s (e ∷ es) n all is = elim (same_or s e.0) [
   | inl same ↦ let less = all.0 in grind (arith, nat_tests)
-  | inr other ↦ behind k s es n all.1 (sym (tail_at e es s other) ∙ is)
+  | inr other ↦ following k s es n all.1 (sym (tail_at e es s other) ∙ is)
 ]
 
 pub in_tail : (e : ℕ × Subtree) (es : Subtrees) (s : ℕ) (n : Subtree) → AreSorted (e ∷ es) → subtree_at es s ≡ Some n → subtree_at (e ∷ es) s ≡ Some n
 unfolding IsStrictlySortedBy
 in_tail e es s n sorted is =
-    let less = behind e.0 s es n sorted.0 is in
+    let less = following e.0 s es n sorted.0 is in
     tail_at e es s (λ same. omega (arith, less, same)) ∙ is
 
 tail_pieces : (x : ℕ → List ℕ) (e : ℕ × Subtree) (es : Subtrees) → AreSorted (e ∷ es) → ArePieces x (e ∷ es) → ArePieces x es
@@ -60,7 +60,7 @@ tail_settled e es sorted settled s h = settled s (record {
 -- ---- the list of pieces
 
 row_of : (x : ℕ → List ℕ) (a : ℕ) (es : Subtrees) → AreSorted es → ArePieces x es → ((s : ℕ) (n : Subtree) → subtree_at es s ≡ Some n → a ≤ s)
-    → IsRow x most_chunks a (map piece_from es)
+    → IsRow x max_chunks a (map piece_from es)
 unfolding IsStrictlySortedBy
 row_of x a [] sorted pieces from = tt
 row_of x a (e ∷ es) sorted pieces from =
@@ -69,7 +69,7 @@ row_of x a (e ∷ es) sorted pieces from =
       pieces.within e.0 e.1 here,
       pieces.lawful e.0 e.1 here,
       row_of x (e.0 + 2 ^ e.1.level) es sorted.1 (tail_pieces x e es sorted pieces)
-          (λ s n is. pieces.apart e.0 s e.1 n here (in_tail e es s n sorted is) (behind e.0 s es n sorted.0 is)),
+          (λ s n is. pieces.apart e.0 s e.1 n here (in_tail e es s n sorted is) (following e.0 s es n sorted.0 is)),
     )
 
 covers_of : (es : Subtrees) (s i : ℕ) (n : Subtree) → subtree_at es s ≡ Some n → s ≤ i → i < s + 2 ^ n.level → Covers (map piece_from es) i

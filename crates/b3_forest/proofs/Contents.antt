@@ -105,9 +105,9 @@ whole_from n a (p ∷ ps) most placed all = elim (same_or p.0 a) [
         len = let sum = length-append p.1 (content_of ps) in omega (arith, sum, rest.len, same);
         chunks = λ i after. elim (in_or_out p i) [
           | inr (inl before) ↦ absurd (omega (arith, before, after, same))
-          | inr (inr behind) ↦
-              let place : 1024 * i - a ≡ length p.1 + (1024 * i - end_of length p) = omega (arith, behind, same) in
-              chunk_there p ps i (inr behind) ∙ rest.chunks i behind
+          | inr (inr following) ↦
+              let place : 1024 * i - a ≡ length p.1 + (1024 * i - end_of length p) = omega (arith, following, same) in
+              chunk_there p ps i (inr following) ∙ rest.chunks i following
               ∙ ap (take 1024) (sym (ap (λ m. drop m (p.1 ++ content_of ps)) place ∙ drop-append-add p.1 (content_of ps) (1024 * i - end_of length p)))
           | inl inside ↦
               let place : 1024 * i - p.0 ≡ 1024 * i - a = omega (arith, same) in

@@ -3,14 +3,14 @@ use Rattle.std.proofs.Common.{◌≡◌, ℕ, ◌+◌, ◌<◌, ◌≤◌, List,
 use Rattle.std.specs.Prelude.{◌≢◌, ◌==◌, Bool, if◌then◌else◌, max, not, option_map}
 use Rattle.std.proofs.lemmas.Bool.{cases_lt}
 use Rattle.std.proofs.lemmas.Bool.Decides.{nat_tests}
-use Rattle.store_upload.specs.Uploads.{ArePlaced, IsComplete, MayTake, Upload, UploadPlan, end_of, finish_refusal, first_gap, first_missing, last_end, length_of, most_bytes, place_refusal, same_plan}
+use Rattle.store_upload.specs.Uploads.{ArePlaced, IsComplete, MayTake, Upload, UploadPlan, end_of, finish_refusal, first_gap, first_missing, last_end, length_of, max_bytes, place_refusal, same_plan}
 use Rattle.std.specs.BTreeMap.{is_at}
 use Rattle.std.specs.Map.{lookup}
 use Rattle.std.specs.Option.{option_or}
 use Rattle.std.specs.Ordering.{nat_cmp}
 use Rattle.store_upload.specs.declared.refusal.AddFault.TheVariants.{Overlap, PastLast, WrongPlan}
 use Rattle.store_upload.specs.declared.refusal.FinishFault.TheVariants.{Incomplete, NotFixed}
-use Rattle.b3_forest.specs.Parts.{HeldPart, Part, PlannedPart, chunk_in, chunks_of, held_as}
+use Rattle.b3_forest.specs.Parts.{HeldPart, Part, ModelPrepared, chunk_in, chunks_of, held_as}
 use Rattle.b3_forest.specs.Subtrees.{AreHashed, Keeps, Subtrees}
 use Rattle.b3_forest.specs.inner.Subtrees.{AreWhole, HaveRoom}
 use Rattle.b3_forest.specs.Pieces.{piece_count, root_level}
@@ -78,7 +78,7 @@ not_begun n a p (q ∷ qs) some placed none =
 
 -- ---- parts and pieces
 
-keeps_to : (n m : ℕ) (ps : List HeldPart) (es : Subtrees) → m ≤ most_bytes → ArePlaced length m 0 ps → Keeps n ps es → Keeps m ps es
+keeps_to : (n m : ℕ) (ps : List HeldPart) (es : Subtrees) → m ≤ max_bytes → ArePlaced length m 0 ps → Keeps n ps es → Keeps m ps es
 keeps_to n m ps es most placed keeps = record { most = most; placed = placed; forest = keeps.forest; sorted = keeps.sorted }
 
 -- the pieces of an upload are those of one that ends with the last part
@@ -127,11 +127,11 @@ same_plan_is p q same =
     same_kind false true same = cc
 
 -- a part that is not refused was made for the upload's plan, and may go where it is
-pub record IsAllowed (u : Upload (List ℕ)) (p : PlannedPart) : Type 0 where
+pub record IsAllowed (u : Upload (List ℕ)) (p : ModelPrepared) : Type 0 where
   pub plan : p.plan ≡ u.plan
   pub free : place_refusal length u p.part.offset (length p.part.bytes) ≡ None
 
-pub allowed : (u : Upload (List ℕ)) (p : PlannedPart) → None ≡ add_refusal u p → IsAllowed u p
+pub allowed : (u : Upload (List ℕ)) (p : ModelPrepared) → None ≡ add_refusal u p → IsAllowed u p
 allowed u p free = elim (bool_cases (same_plan p.plan u.plan)) [
   | inr other ↦ let wrong : add_refusal u p ≡ Some WrongPlan = rw other refl in let bad = free ∙ wrong in cc
   | inl same ↦ record { plan = same_plan_is p.plan u.plan same; free = sym (rw same refl) ∙ sym free }
@@ -142,7 +142,7 @@ no_overlap_of None l none = refl
 no_overlap_of (Some at) l none = cc
 
 -- the merges are no more than the pieces before and those of the part
-pub merges_most : (u : Upload (List ℕ)) (p : PlannedPart) → ArePlaced length (length_of u) 0 u.parts → 0 < length p.part.bytes → None ≡ add_refusal u p
+pub merges_most : (u : Upload (List ℕ)) (p : ModelPrepared) → ArePlaced length (length_of u) 0 u.parts → 0 < length p.part.bytes → None ≡ add_refusal u p
     → pieces_held (with_part p.part u.parts) ≤ pieces_held u.parts + piece_count (chunks_of p.part)
 merges_most u p placed some free =
     let apart = no_overlap_of (overlap_at p.part u.parts) (past_last u p.part) (allowed u p free).free in

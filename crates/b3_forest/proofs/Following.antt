@@ -5,12 +5,12 @@ use Rattle.std.specs.List.Sorted.{IsStrictlySortedBy}
 use Rattle.std.proofs.lemmas.Bool.{cases_lt}
 use Rattle.std.proofs.lemmas.Bool.Decides.{nat_tests}
 use Rattle.std.proofs.lemmas.List.{drop-drop, drop_all, length-append, length-drop, length-take, take-append-drop}
-use Rattle.b3_forest.specs.Followed.{AllNoted, ArePartsOf, Followed, Follows, IsFirstNoted, IsFirstUnnoted, IsNoted, IsNotedWith, NothingNoted, bytes_at, followed, has_chunk, noted_chunk, noting_merges, pieces_noted, range_of}
+use Rattle.b3_forest.specs.Followed.{AllNoted, ArePartsOf, ModelFollow, Follows, IsFirstNoted, IsFirstUnnoted, IsNoted, IsNotedWith, NothingNoted, bytes_at, followed, has_chunk, noted_chunk, noting_merges, pieces_noted, range_of}
 use Rattle.b3_forest.specs.Subtrees.{HasChunk, Keeps, Subtrees, subtree_at}
 use Rattle.b3_forest.specs.inner.Subtrees.{HaveRoom, is_held}
 use Rattle.store_upload.specs.Laws.{IsFirstMissing, IsFirstOverlap, IsHeldAt, LeastMissing, LeastOverlap}
 use Rattle.store_upload.specs.Uploads.{ArePlaced, Fits, IsUpload, Upload, UploadPlan, closed_plan, end_of, first_gap, first_missing}
-use Rattle.b3_forest.specs.Parts.{HeldPart, Part, PlannedPart, chunk_in, chunks_of, held_as}
+use Rattle.b3_forest.specs.Parts.{HeldPart, Part, ModelPrepared, chunk_in, chunks_of, held_as}
 use Rattle.b3_forest.specs.Pieces.{is_full, piece_count, pieces_of, root_level}
 use Rattle.b3_forest.specs.Uploads.{content_of, merges_of, with_part}
 use Rattle.b3_forest.specs.inner.Uploads.{overlap_at}
@@ -38,7 +38,7 @@ chunk_of_offset n a i (p ∷ ps) placed held = elim (in_or_out p (i / 1024)) [
   | inl inside ↦ held_here p ps (i / 1024) inside
   | inr out ↦ held_there p ps (i / 1024) out ∙ elim held [
     | inr later ↦ chunk_of_offset n (end_of length p) i ps placed.2 later
-    | inl inside ↦ absurd (elim out [ inl before ↦ omega (arith, before, inside.0, placed.1.aligned) | inr behind ↦ omega (arith, behind, inside.1) ])
+    | inl inside ↦ absurd (elim out [ inl before ↦ omega (arith, before, inside.0, placed.1.aligned) | inr following ↦ omega (arith, following, inside.1) ])
   ]
 ]
 
@@ -82,7 +82,7 @@ subtree_over (e ∷ es) i sorted noted = elim (cases_lt i e.0) [
       subtree_later e es i sorted (subtree_over es i sorted.1 (rw low at noted))
   | inr after ↦ elim (cases_lt i (e.0 + 2 ^ e.1.level)) [
     | inl before ↦ record { first = e.0; subtree = e.1; is = head_at e es; after = after; before = before }
-    | inr behind ↦
+    | inr following ↦
         let low : nat_le e.0 i ≡ true = grind (arith, nat_tests) in
         let high : nat_lt i (e.0 + 2 ^ e.1.level) ≡ false = grind (arith, nat_tests) in
         subtree_later e es i sorted (subtree_over es i sorted.1 (rw (low, high) at noted))
@@ -216,7 +216,7 @@ pub parts_with : (b : List ℕ) (es : Subtrees) (p : Part) (ps : List HeldPart) 
 parts_with b es p ps room same all = parts_put b (length b) 0 (held_as p) ps room.fits.some room.keeps.placed room.apart same all
 
 -- the pieces have room for a part of the bytes' plan that overlaps no other
-pub room_of : (b : List ℕ) (es : Subtrees) (w : Follows b es) (p : PlannedPart) → p.plan ≡ closed_plan (length b) → Fits p.plan p.part.offset (length p.part.bytes)
+pub room_of : (b : List ℕ) (es : Subtrees) (w : Follows b es) (p : ModelPrepared) → p.plan ≡ closed_plan (length b) → Fits p.plan p.part.offset (length p.part.bytes)
     → None ≡ overlap_at p.part w.parts → HaveRoom (length b) w.parts p.part es
 room_of b es w p plan fits apart = record {
   keeps = w.keeps;
@@ -265,13 +265,13 @@ same_count x y (suc k) s same = elim (bool_cases (is_full x (suc k) s)) [
       ∙ sym (ap length (pieces_of-halves y k s (sym (same_full x y (suc k) s same) ∙ part)) ∙ length-append (pieces_of y k s) (pieces_of y k (s + 2 ^ k)))
 ]
 
-some_noted : (f : Followed) (i : ℕ) → has_chunk f.ranges i ≡ true → 1024 * i < length f.bytes → is_held (noted_chunk f) i ≡ true
+some_noted : (f : ModelFollow) (i : ℕ) → has_chunk f.ranges i ≡ true → 1024 * i < length f.bytes → is_held (noted_chunk f) i ≡ true
 some_noted f i has low =
     let some : 0 < length (take 1024 (drop (1024 * i) f.bytes)) = omega (arith, length-take 1024 (drop (1024 * i) f.bytes), length-drop (1024 * i) f.bytes) in
     let test : nat_lt 0 (length (take 1024 (drop (1024 * i) f.bytes))) ≡ true = grind (arith, nat_tests) in
     rw (has, test) refl
 
-noted_some : (f : Followed) (i : ℕ) → is_held (noted_chunk f) i ≡ true → IsNoted f (1024 * i)
+noted_some : (f : ModelFollow) (i : ℕ) → is_held (noted_chunk f) i ≡ true → IsNoted f (1024 * i)
 noted_some f i held = elim (bool_cases (has_chunk f.ranges i)) [
   | inr not ↦ let bad : false ≡ true = rw not at held in cc
   | inl has ↦
@@ -286,7 +286,7 @@ noted_some f i held = elim (bool_cases (has_chunk f.ranges i)) [
       ]
 ]
 
-noted_as_held : (f : Followed) (n : ℕ) (ps : List HeldPart) → n ≡ length f.bytes → ArePlaced length n 0 ps → ((i : ℕ) → IsNoted f i ↔ IsHeldAt length ps i)
+noted_as_held : (f : ModelFollow) (n : ℕ) (ps : List HeldPart) → n ≡ length f.bytes → ArePlaced length n 0 ps → ((i : ℕ) → IsNoted f i ↔ IsHeldAt length ps i)
     → (i : ℕ) → is_held (noted_chunk f) i ≡ is_held (chunk_in ps) i
 noted_as_held f n ps len placed same i =
     let at : 1024 * i / 1024 ≡ i = omega arith in
@@ -303,7 +303,7 @@ noted_as_held f n ps len placed same i =
       ]
     ]
 
-pub noted_pieces : (f : Followed) (n : ℕ) (ps : List HeldPart) → n ≡ length f.bytes → ArePlaced length n 0 ps → ((i : ℕ) → IsNoted f i ↔ IsHeldAt length ps i)
+pub noted_pieces : (f : ModelFollow) (n : ℕ) (ps : List HeldPart) → n ≡ length f.bytes → ArePlaced length n 0 ps → ((i : ℕ) → IsNoted f i ↔ IsHeldAt length ps i)
     → pieces_noted f ≡ piece_count (chunk_in ps)
 noted_pieces f n ps len placed same = same_count (noted_chunk f) (chunk_in ps) root_level 0 (noted_as_held f n ps len placed same)
 

@@ -9,7 +9,7 @@ use Rattle.std.proofs.lemmas.Nat.{pow_pos}
 use Rattle.b3_forest.specs.Forests.{IsPiece, IsRow, Covers, IsForest, piece_end}
 use Rattle.b3_forest.specs.Subtrees.{Subtrees, AreForest, ArePieces, HasChunk, IsAmong, subtree_at, piece_from}
 use Rattle.b3_forest.specs.inner.Subtrees.{AreFresh, firsts, is_held, subtree_of, with_subtrees}
-use Rattle.b3_forest.specs.Pieces.{most_chunks, root_level}
+use Rattle.b3_forest.specs.Pieces.{max_chunks, root_level}
 use Rattle.b3_forest.specs.declared.piece.Subtree.{Subtree}
 use Rattle.b3_forest.specs.declared.piece.Piece.{Piece}
 use Rattle.b3_forest.proofs.Chunks.{Extends, full_at, piece_same}
@@ -44,7 +44,7 @@ grows_from x y z a es joined pieces = record {
 -- ---- one piece more
 
 fresh : (y z : ℕ → List ℕ) (a : ℕ) (es : Subtrees) (p : Piece) → Grows y z a es → IsPiece y p → a ≤ p.first → subtree_at es p.first ≡ None
-fresh y z a es p grows piece behind = go (subtree_at es p.first) refl
+fresh y z a es p grows piece following = go (subtree_at es p.first) refl
   where
     go : (found : Option Subtree) → subtree_at es p.first ≡ found → subtree_at es p.first ≡ None
     go None is = is
@@ -53,7 +53,7 @@ fresh y z a es p grows piece behind = go (subtree_at es p.first) refl
         let own = pow_pos p.level in
         let held = full_at y p.level p.first p.first piece.full (omega arith) (omega (arith, own)) in
         let has : HasChunk es p.first = record { first = p.first; subtree = n; is = is; after = omega arith; before = omega (arith, width) } in
-        absurd (omega (arith, grows.below p.first has held, behind))
+        absurd (omega (arith, grows.below p.first has held, following))
 
 -- what a look-up finds behind a piece more
 Found : Subtrees → Piece → ℕ → Subtree → Type 0
@@ -71,20 +71,20 @@ found es p s m is = elim (same_or s p.first) [
 
 -- a piece that begins at a chunk of p, or in which p begins
 meets : (y z : ℕ → List ℕ) (a i : ℕ) (es : Subtrees) (p : Piece) → Grows y z a es → IsPiece y p → a ≤ p.first → HasChunk es i → p.first ≤ i → i < piece_end p → ⊥
-meets y z a i es p grows piece behind has after before =
-    omega (arith, grows.below i has (full_at y p.level p.first i piece.full after before), behind, after)
+meets y z a i es p grows piece following has after before =
+    omega (arith, grows.below i has (full_at y p.level p.first i piece.full after before), following, after)
 
-grows_by : (x y z : ℕ → List ℕ) (a : ℕ) (es : Subtrees) (p : Piece) → IsUnionOf x y z → Grows y z a es → IsPiece y p → a ≤ p.first → piece_end p ≤ most_chunks
+grows_by : (x y z : ℕ → List ℕ) (a : ℕ) (es : Subtrees) (p : Piece) → IsUnionOf x y z → Grows y z a es → IsPiece y p → a ≤ p.first → piece_end p ≤ max_chunks
     → Grows y z (piece_end p) (put p es)
 unfolding Found
-grows_by x y z a es p joined grows piece behind most = record {
+grows_by x y z a es p joined grows piece following most = record {
   pieces = record {
     lawful = λ s n is. elim (found es p s n is) [
       | inl at ↦ subst (IsPiece z) (ap₂ (λ (i : ℕ) (k : Subtree). piece_from (i, k)) (sym at.0) (sym at.1)) (piece_same y z p joined.right piece)
       | inr other ↦ grows.pieces.lawful s n other.1
     ];
     within = λ s n is. elim (found es p s n is) [
-      | inl at ↦ subst (λ i. i ≤ most_chunks) (ap₂ (λ (i : ℕ) (k : Subtree). i + 2 ^ k.level) (sym at.0) (sym at.1)) most
+      | inl at ↦ subst (λ i. i ≤ max_chunks) (ap₂ (λ (i : ℕ) (k : Subtree). i + 2 ^ k.level) (sym at.0) (sym at.1)) most
       | inr other ↦ grows.pieces.within s n other.1
     ];
     apart = λ s t n m is_s is_t before. elim (found es p s n is_s) [
@@ -95,7 +95,7 @@ grows_by x y z a es p joined grows piece behind most = record {
             let width = pow_pos m.level in
             let has : HasChunk es t = record { first = t; subtree = m; is = other.1; after = omega arith; before = omega (arith, width) } in
             elim (cases_lt t (piece_end p)) [
-              | inl inside ↦ absurd (meets y z a t es p grows piece behind has (omega (arith, before, at.0)) inside)
+              | inl inside ↦ absurd (meets y z a t es p grows piece following has (omega (arith, before, at.0)) inside)
               | inr outside ↦ omega (arith, outside, wide, at.0)
             ]
       ]
@@ -105,7 +105,7 @@ grows_by x y z a es p joined grows piece behind most = record {
             elim (cases_lt p.first (s + 2 ^ n.level)) [
               | inl inside ↦
                   let has : HasChunk es p.first = record { first = s; subtree = n; is = here.1; after = omega (arith, before, at.0); before = inside } in
-                  absurd (meets y z a p.first es p grows piece behind has (omega arith) (omega (arith, own)))
+                  absurd (meets y z a p.first es p grows piece following has (omega arith) (omega (arith, own)))
               | inr outside ↦ omega (arith, outside, at.0)
             ]
         | inr other ↦ grows.pieces.apart s t n m here.1 other.1 before
@@ -119,7 +119,7 @@ grows_by x y z a es p joined grows piece behind most = record {
     | inr other ↦
         let old : HasChunk es i = record { first = has.first; subtree = has.subtree; is = other.1; after = has.after; before = has.before } in
         let low = grows.below i old held in
-        omega (arith, low, behind)
+        omega (arith, low, following)
   ];
 }
 
@@ -136,7 +136,7 @@ pub record IsGrown (z : ℕ → List ℕ) (ps : List Piece) (es : Subtrees) : Ty
 not_none : (es : Subtrees) (s t : ℕ) (m : Subtree) → subtree_at es s ≡ Some m → subtree_at es t ≡ None → s ≢ t
 not_none es s t m some none same = let bad = sym some ∙ ap (subtree_at es) same ∙ none in cc
 
-grown : (x y z : ℕ → List ℕ) (a : ℕ) (ps : List Piece) (es : Subtrees) → IsUnionOf x y z → Grows y z a es → IsRow y most_chunks a ps → IsGrown z ps es
+grown : (x y z : ℕ → List ℕ) (a : ℕ) (ps : List Piece) (es : Subtrees) → IsUnionOf x y z → Grows y z a es → IsRow y max_chunks a ps → IsGrown z ps es
 unfolding with_subtrees AreFresh Found put
 grown x y z a [] es joined grows row = record {
   are_fresh = tt;

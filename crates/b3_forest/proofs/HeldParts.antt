@@ -24,12 +24,12 @@ BeginsOut p i = (1024 * i < p.0) ⊎ (end_of length p ≤ 1024 * i)
 pub in_or_out : (p : HeldPart) (i : ℕ) → BeginsIn p i ⊎ BeginsOut p i
 in_or_out p i = elim (cases_lt (1024 * i) p.0) [
   | inl before ↦ inr (inl before)
-  | inr after ↦ elim (cases_lt (1024 * i) (end_of length p)) [ inl inside ↦ inl (after, inside) | inr behind ↦ inr (inr behind) ]
+  | inr after ↦ elim (cases_lt (1024 * i) (end_of length p)) [ inl inside ↦ inl (after, inside) | inr following ↦ inr (inr following) ]
 ]
 
 pub not_both : (p : HeldPart) (i : ℕ) → BeginsIn p i → BeginsOut p i → ⊥
 not_both p i inside (inl before) = omega (arith, inside.0, before)
-not_both p i inside (inr behind) = omega (arith, inside.1, behind)
+not_both p i inside (inr following) = omega (arith, inside.1, following)
 
 abbrev pub own_chunk : HeldPart → ℕ → List ℕ
 own_chunk p i = take 1024 (drop (1024 * i - p.0) p.1)
@@ -48,8 +48,8 @@ unfolding chunk_in
 chunk_there p ps i (inl before) =
     let low : nat_le p.0 (1024 * i) ≡ false = grind (arith, nat_tests, before) in
     rw (low, chunk_in) refl
-chunk_there p ps i (inr behind) =
-    let high : nat_lt (1024 * i) (p.0 + length p.1) ≡ false = grind (arith, nat_tests, behind) in
+chunk_there p ps i (inr following) =
+    let high : nat_lt (1024 * i) (p.0 + length p.1) ≡ false = grind (arith, nat_tests, following) in
     go (nat_le p.0 (1024 * i)) refl high
   where
     go : (b : Bool) → nat_le p.0 (1024 * i) ≡ b → nat_lt (1024 * i) (p.0 + length p.1) ≡ false → chunk_in (p ∷ ps) i ≡ chunk_in ps i
@@ -162,7 +162,7 @@ overlap_order p q some other apart = elim (cases_lt q.0 (end_of length p)) [
 
 -- a part goes before the first of others, or behind it
 pub record GoesLater (p q : HeldPart) (qs : List HeldPart) : Type 0 where
-  pub behind : end_of length q ≤ p.0
+  pub following : end_of length q ≤ p.0
   pub put : with_held p (q ∷ qs) ≡ q ∷ with_held p qs
 
 pub record GoesFirst (p q : HeldPart) (qs : List HeldPart) : Type 0 where
@@ -172,7 +172,7 @@ pub record GoesFirst (p q : HeldPart) (qs : List HeldPart) : Type 0 where
 pub goes : (p q : HeldPart) (qs : List HeldPart) → 0 < length p.1 → 0 < length q.1 → overlaps length p.0 (length p.1) q ≡ false → GoesFirst p q qs ⊎ GoesLater p q qs
 goes p q qs some other apart = elim (overlap_order p q some other apart) [
   | inl before ↦ inl (record { before = before.1; put = with_held_first p q qs before.0 })
-  | inr after ↦ inr (record { behind = after.1; put = with_held_later p q qs after.0 })
+  | inr after ↦ inr (record { following = after.1; put = with_held_later p q qs after.0 })
 ]
 
 -- parts that have no offset in common
@@ -241,5 +241,5 @@ placed_more n a p (q ∷ qs) from fits placed none =
     let apart = no_overlap p.0 (length p.1) q qs none in
     elim (goes p q qs fits.some placed.1.some apart.0) [
       | inl first ↦ subst (ArePlaced length n a) (sym first.put) (from, fits, (first.before, placed.1, placed.2))
-      | inr later ↦ subst (ArePlaced length n a) (sym later.put) (placed.0, placed.1, placed_more n (end_of length q) p qs later.behind fits placed.2 apart.1)
+      | inr later ↦ subst (ArePlaced length n a) (sym later.put) (placed.0, placed.1, placed_more n (end_of length q) p qs later.following fits placed.2 apart.1)
     ]

@@ -63,13 +63,13 @@ overlap_least m a offset n c (q ∷ qs) some aligned placed least =
           overlap_here offset n q qs both ∙ ap Some first
       | inr out ↦
           let held : is_held (chunk_in qs) c ≡ true = sym (held_there q qs c out) ∙ least.held in
-          let behind = held_after m (end_of length q) c qs placed.2 held in
+          let following = held_after m (end_of length q) c qs placed.2 held in
           let apart : overlaps length offset n q ≡ false = elim (bool_cases (overlaps length offset n q)) [
             | inr apart ↦ apart
             | inl both ↦
                 let t = meets offset n q both in
                 let at = meeting offset q aligned placed.1.aligned in
-                let earlier : at.0 < c = omega (arith, at.1, t.1, behind.0, inside, placed.1.some) in
+                let earlier : at.0 < c = omega (arith, at.1, t.1, following.0, inside, placed.1.some) in
                 let first = (not_held_rest q qs at.0 (least.least at.0 (omega (arith, at.1)) earlier)).0 in
                 absurd (not_both q at.0 (omega (arith, at.1), omega (arith, at.1, t.1, placed.1.some)) first)
           ] in

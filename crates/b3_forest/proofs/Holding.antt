@@ -6,13 +6,13 @@ use Rattle.std.specs.Map.{values_of}
 use Rattle.std.proofs.lemmas.Bool.{cases_lt}
 use Rattle.b3_core.specs.Laws.{NeighboursJoin}
 use Rattle.b3_core.specs.Modes.{hash_mode}
-use Rattle.b3_core.specs.Tree.{Inputs, tree_top}
-use Rattle.store_upload.specs.Uploads.{most_bytes}
+use Rattle.b3_core.specs.Tree.{ModelTop, tree_top}
+use Rattle.store_upload.specs.Uploads.{max_bytes}
 use Rattle.b3_forest.specs.Forests.{IsForest}
 use Rattle.b3_forest.specs.Subtrees.{Subtrees, AreForest, Keeps}
 use Rattle.b3_forest.specs.inner.Subtrees.{AreFresh, AreWhole, HaveRoom, firsts, is_held, top_over, with_subtrees}
 use Rattle.b3_forest.specs.Parts.{HeldPart, Part, chunk_in, chunks_of, held_as}
-use Rattle.b3_forest.specs.Pieces.{most_chunks, piece_count, pieces_of, root_level}
+use Rattle.b3_forest.specs.Pieces.{max_chunks, piece_count, pieces_of, root_level}
 use Rattle.b3_forest.specs.Uploads.{content_of, merges_of, with_part}
 use Rattle.b3_forest.specs.declared.piece.Piece.{Piece}
 use Rattle.b3_forest.proofs.Canonical.{AreSorted, forest_count}
@@ -23,7 +23,7 @@ use Rattle.b3_forest.proofs.OneForest.{bool_cases}
 use Rattle.b3_forest.proofs.PiecesAreForest.{pieces_are_forest}
 use Rattle.b3_forest.specs.inner.Subtrees.{AreChunks}
 
-pub nothing_past : (n : ℕ) (ps : List HeldPart) (es : Subtrees) → Keeps n ps es → (i : ℕ) → most_chunks ≤ i → is_held (chunk_in ps) i ≡ false
+pub nothing_past : (n : ℕ) (ps : List HeldPart) (es : Subtrees) → Keeps n ps es → (i : ℕ) → max_chunks ≤ i → is_held (chunk_in ps) i ≡ false
 nothing_past n ps es keeps i high = elim (bool_cases (is_held (chunk_in ps) i)) [
   | inr none ↦ none
   | inl held ↦ let low = (held_after n 0 i ps keeps.placed held).1 in absurd (omega (arith, low, high, keeps.most))
@@ -76,14 +76,14 @@ put_merges n ps p es mid fs old new len =
 
 -- ---- the top
 
-same_top : (t u : Inputs) → Some t ≡ Some u → t ≡ u
+same_top : (t u : ModelTop) → Some t ≡ Some u → t ≡ u
 same_top t u same = cc
 
 no_bytes : (b : List ℕ) → length b ≡ 0 → b ≡ []
 no_bytes [] none = refl
 no_bytes (x ∷ b) none = absurd (omega (arith, none))
 
-pub finish_top : (n : ℕ) (ps : List HeldPart) (es : Subtrees) (top : Inputs) → NeighboursJoin → AreWhole n ps es → Some top ≡ top_over (values_of es) → top ≡ tree_top (content_of ps) 0 hash_mode
+pub finish_top : (n : ℕ) (ps : List HeldPart) (es : Subtrees) (top : ModelTop) → NeighboursJoin → AreWhole n ps es → Some top ≡ top_over (values_of es) → top ≡ tree_top (content_of ps) 0 hash_mode
 finish_top n ps es top join all is =
     let keeps = all.keeps in
     let whole = whole_upload n ps es all in
@@ -106,7 +106,7 @@ finish_length n ps es all = let sum = (whole_upload n ps es all).len in omega (a
 
 -- ---- no parts
 
-pub keeps_nothing : (n : ℕ) (ps : List HeldPart) (es : Subtrees) → n ≤ most_bytes → ps ≡ [] → es ≡ [] → Keeps n ps es
+pub keeps_nothing : (n : ℕ) (ps : List HeldPart) (es : Subtrees) → n ≤ max_bytes → ps ≡ [] → es ≡ [] → Keeps n ps es
 unfolding chunk_in IsStrictlySortedBy
 keeps_nothing n ps es most no_parts no_subtrees = subst (λ (qs : List HeldPart). Keeps n qs es) (sym no_parts) (subst (Keeps n []) (sym no_subtrees) (record {
   most = most;

@@ -8,7 +8,7 @@ use Rattle.b3_core.specs.Tree.{parent_top}
 use Rattle.b3_forest.specs.Forests.{IsPiece}
 use Rattle.b3_forest.specs.Subtrees.{Subtrees, AreForest, AreHalvesAt, ArePieces, AreSettled, HasChunk, IsAmong, subtree_at, piece_from}
 use Rattle.b3_forest.specs.inner.Subtrees.{AreChunks, IsAlone, IsMerged, IsPair}
-use Rattle.b3_forest.specs.Pieces.{most_chunks}
+use Rattle.b3_forest.specs.Pieces.{max_chunks}
 use Rattle.b3_forest.specs.declared.subtrees.Halves.{Halves}
 use Rattle.b3_forest.specs.declared.piece.Subtree.{Subtree}
 use Rattle.b3_forest.proofs.Chunks.{halves_piece}
@@ -48,7 +48,7 @@ merged_piece n x es first h join chunks pieces pair =
     halves_piece n x (piece_from (h.left, left_subtree h)) (piece_from (h.right, right_subtree h)) join chunks
     (pieces.lawful h.left (left_subtree h) pair.is_left) (pieces.lawful h.right (right_subtree h) pair.is_right) refl pair.next pair.aligned
 
-merged_within : (x : ℕ → List ℕ) (es : Subtrees) (first : ℕ) (h : Halves) → ArePieces x es → IsPair es first h → h.left + 2 ^ suc h.level ≤ most_chunks
+merged_within : (x : ℕ → List ℕ) (es : Subtrees) (first : ℕ) (h : Halves) → ArePieces x es → IsPair es first h → h.left + 2 ^ suc h.level ≤ max_chunks
 unfolding right_subtree
 merged_within x es first h pieces pair =
     let two = two-pow-succ h.level in
@@ -60,9 +60,9 @@ merged_within x es first h pieces pair =
 behind_both : (x : ℕ → List ℕ) (es : Subtrees) (first t : ℕ) (m : Subtree) (h : Halves) → ArePieces x es → IsPair es first h → subtree_at es t ≡ Some m
     → t ≢ h.right → h.left < t → h.left + 2 ^ suc h.level ≤ t
 unfolding left_subtree right_subtree
-behind_both x es first t m h pieces pair is not_right behind =
+behind_both x es first t m h pieces pair is not_right following =
     let two = two-pow-succ h.level in
-    let left = pieces.apart h.left t (left_subtree h) m pair.is_left is behind in
+    let left = pieces.apart h.left t (left_subtree h) m pair.is_left is following in
     let next = pair.next in
     elim (three h.right t) [
       | inl after ↦ let right = pieces.apart h.right t (right_subtree h) m pair.is_right is after in omega (arith, two, right, next)
@@ -79,7 +79,7 @@ merged_pieces n x es fs first h join chunks pieces pair merged = record {
     | inr other ↦ pieces.lawful s m other.2
   ];
   within = λ s m is. elim (found es fs h s m merged is) [
-    | inl at ↦ subst (λ i. i ≤ most_chunks) (ap₂ (λ (i : ℕ) (k : Subtree). i + 2 ^ k.level) (sym at.0) (sym at.1)) (merged_within x es first h pieces pair)
+    | inl at ↦ subst (λ i. i ≤ max_chunks) (ap₂ (λ (i : ℕ) (k : Subtree). i + 2 ^ k.level) (sym at.0) (sym at.1)) (merged_within x es first h pieces pair)
     | inr other ↦ pieces.within s m other.2
   ];
   apart = λ s t m k is_s is_t before. elim (found es fs h s m merged is_s) [

@@ -144,7 +144,7 @@ unfolding Low back
 covers_back x k e a m c i [] middle low row after covered = absurd covered
 covers_back x k e a m c i (p ∷ ps) middle low row after covered =
     elim (cases_lt p.first m) [
-      | inr behind ↦
+      | inr following ↦
           let test : nat_lt p.first m ≡ false = grind (arith, nat_tests) in
           rw (test, back) covered
       | inl before ↦

@@ -54,7 +54,7 @@ covers_right (p ∷ l) r i covered = inr (covers_right l r i covered)
 -- pieces on either side of the middle are no halves, unless both sides are full
 boundary : (x : ℕ → List ℕ) (k s c : ℕ) (p q : Piece) → s + 2 ^ k ≡ c * 2 ^ k → is_full x (suc k) s ≡ false
     → s ≤ p.first → piece_end p ≤ s + 2 ^ k → IsPiece x p → s + 2 ^ k ≤ q.first → IsPiece x q → AreHalves p q → ⊥
-boundary x k s c p q middle part after before left behind right halves =
+boundary x k s c p q middle part after before left following right halves =
     let meet : piece_end p ≡ s + 2 ^ k = omega (arith, halves.next) in
     elim (cases_lt p.level k) [
       | inl low ↦

@@ -10,7 +10,7 @@ use Rattle.std.proofs.lemmas.Bool.{cases_lt}
 use Rattle.std.proofs.lemmas.Nat.{pow_pos}
 use Rattle.b3_forest.specs.Subtrees.{Subtrees, AreForest, ArePieces, HasChunk, subtree_at}
 use Rattle.b3_forest.specs.inner.Subtrees.{IsLastUpto, IsLeastHeld, IsNextFrom, NoneFrom, NoneHeld, NoneUpto, is_held}
-use Rattle.b3_forest.specs.Pieces.{most_chunks}
+use Rattle.b3_forest.specs.Pieces.{max_chunks}
 use Rattle.b3_forest.specs.declared.piece.Subtree.{Subtree}
 use Rattle.b3_forest.proofs.Chunks.{full_at}
 use Rattle.b3_forest.proofs.Maps.{three}
@@ -43,7 +43,7 @@ last_upto m start first n r t range cut =
 
 pub none_upto : (m : BTreeMap ℕ Subtree) (start : ℕ) (r : List (ℕ × Subtree)) → IsRangeOf nat_cmp Unbounded (Included start) m r → r ≡ [] → NoneUpto m.entries start
 none_upto m start r range empty s k is = elim (cases_lt start s) [
-  | inl behind ↦ behind
+  | inl following ↦ following
   | inr upto ↦ let none = range.5 empty s (tt, grind (arith, nat_tests)) in let bad = sym is ∙ none in cc
 ]
 
@@ -78,7 +78,7 @@ pub held_in : (x : ℕ → List ℕ) (es : Subtrees) (s i : ℕ) (n : Subtree) �
 held_in x es s i n pieces is after before = full_at x n.level s i (pieces.lawful s n is).full after before
 
 -- what is not held, where no piece can be
-not_held : (x : ℕ → List ℕ) (es : Subtrees) (i : ℕ) → AreForest x [] es → i < most_chunks → (HasChunk es i → ⊥) → is_held x i ≡ false
+not_held : (x : ℕ → List ℕ) (es : Subtrees) (i : ℕ) → AreForest x [] es → i < max_chunks → (HasChunk es i → ⊥) → is_held x i ≡ false
 not_held x es i forest low never = elim (bool_cases (is_held x i)) [
   | inl held ↦ absurd (never (forest.all i held low))
   | inr none ↦ none
@@ -123,14 +123,14 @@ least_next x es start end first forest reaches next =
       held = held_in x es first first found.0 forest.pieces found.1 (omega arith) (omega (arith, wide));
       least = λ i after before. not_held x es i forest (omega (arith, before, most, wide)) (λ has.
           elim (cases_lt start has.first) [
-            | inl behind ↦ let late = next.next has.first has.subtree has.is (omega (arith, behind)) in omega (arith, late, has.after, before)
+            | inl following ↦ let late = next.next has.first has.subtree has.is (omega (arith, following)) in omega (arith, late, has.after, before)
             | inr upto ↦ let short = reaches.none has.first has.subtree has.is upto in omega (arith, short, has.before, after)
           ]);
     }
 
-pub none_held : (x : ℕ → List ℕ) (es : Subtrees) (start end : ℕ) → AreForest x [] es → end ≤ most_chunks → NoneReaches es start → NoneFrom es start end → NoneHeld x start end
+pub none_held : (x : ℕ → List ℕ) (es : Subtrees) (start end : ℕ) → AreForest x [] es → end ≤ max_chunks → NoneReaches es start → NoneFrom es start end → NoneHeld x start end
 none_held x es start end forest most reaches none i after before = not_held x es i forest (omega (arith, before, most)) (λ has.
     elim (cases_lt start has.first) [
-      | inl behind ↦ let late = none has.first has.subtree has.is (omega (arith, behind)) in omega (arith, late, has.after, before)
+      | inl following ↦ let late = none has.first has.subtree has.is (omega (arith, following)) in omega (arith, late, has.after, before)
       | inr upto ↦ let short = reaches.none has.first has.subtree has.is upto in omega (arith, short, has.before, after)
     ])

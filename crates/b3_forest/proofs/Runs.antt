@@ -24,7 +24,7 @@ their_length f n (x ∷ xs) all =
 
 -- what stands from within stretch k on
 from_stretch : {X : Type 0} (f : X → List ℕ) (n k r : ℕ) (xs : List X) (last : List ℕ) (d : X) → AreOf f n xs → k < length xs → r ≤ n
-    → (behind : List ℕ) × (drop (k * n + r) (flat_map f xs ++ last) ≡ drop r (f (get_or xs k d)) ++ behind)
+    → (following : List ℕ) × (drop (k * n + r) (flat_map f xs ++ last) ≡ drop r (f (get_or xs k d)) ++ following)
 from_stretch f n k r [] last d all low within = absurd (omega (arith, low))
 from_stretch f n zero r (x ∷ xs) last d all low within =
     let head = All-head (λ x. length (f x) ≡ n) x xs all in
@@ -38,8 +38,8 @@ from_stretch f n (suc k) r (x ∷ xs) last d all low within =
     (later.0, ap₂ drop place whole ∙ drop-append-add (f x) (flat_map f xs ++ last) (k * n + r) ∙ later.1)
 
 -- what bytes begin with stands at their front
-front_stands : (b : List ℕ) (at : ℕ) (run behind : List ℕ) → drop at b ≡ run ++ behind → StandsAt b at run
-front_stands b at run behind is = sym (ap (take (length run)) is ∙ take-append_seam run behind)
+front_stands : (b : List ℕ) (at : ℕ) (run following : List ℕ) → drop at b ≡ run ++ following → StandsAt b at run
+front_stands b at run following is = sym (ap (take (length run)) is ∙ take-append_seam run following)
 
 -- the run from an offset in a full stretch on
 pub in_full : {X : Type 0} (f : X → List ℕ) (n at : ℕ) (xs : List X) (last : List ℕ) (d : X) → 0 < n → AreOf f n xs → at / n < length xs
@@ -47,11 +47,11 @@ pub in_full : {X : Type 0} (f : X → List ℕ) (n at : ℕ) (xs : List X) (last
 in_full f n at xs last d some all low =
     let stretch = f (get_or xs (at / n) d) in
     let less = mod-lt at some in
-    let (behind, is) = from_stretch f n (at / n) (at % n) xs last d all low (omega (arith, less)) in
+    let (following, is) = from_stretch f n (at / n) (at % n) xs last d all low (omega (arith, less)) in
     let len = All-get_or (λ x. length (f x) ≡ n) xs (at / n) d low all in
     let left = length-drop (at % n) stretch in
     record {
-      same = front_stands (flat_map f xs ++ last) at (drop (at % n) stretch) behind (ap (λ i. drop i (flat_map f xs ++ last)) (sym (div-add-mod' at n)) ∙ is);
+      same = front_stands (flat_map f xs ++ last) at (drop (at % n) stretch) following (ap (λ i. drop i (flat_map f xs ++ last)) (sym (div-add-mod' at n)) ∙ is);
       some = λ _. omega (arith, len, left, less);
     }
 
@@ -115,9 +115,9 @@ last_length f n at xs last some all short low =
     let sum = length-append (flat_map f xs) last in
     let whole = their_length f n xs all in
     let place : at / n * n + at % n ≡ at = div-add-mod' at n in
-    let behind : length xs * n ≤ at / n * n = mul-le-mul_right n low in
+    let following : length xs * n ≤ at / n * n = mul-le-mul_right n low in
     let less = mod-lt at some in
-    omega (arith, left, sum, whole, place, behind, short, less)
+    omega (arith, left, sum, whole, place, following, short, less)
 
 -- all of it
 pub last_whole : {X : Type 0} (f : X → List ℕ) (n at : ℕ) (xs : List X) (last : List ℕ) → 0 < n → AreOf f n xs → length last ≤ n → at / n ≡ length xs → at % n ≡ 0
@@ -132,24 +132,24 @@ pub all_before : {X : Type 0} (f : X → List ℕ) (n at : ℕ) (xs : List X) (l
 all_before f n at xs last all short low =
     let sum = length-append (flat_map f xs) last in
     let whole = their_length f n xs all in
-    let behind = before n at (length xs + 1) (omega (arith, low)) in
+    let following = before n at (length xs + 1) (omega (arith, low)) in
     let more : (length xs + 1) * n ≡ length xs * n + n = omega arith in
-    omega (arith, sum, whole, behind, more, short)
+    omega (arith, sum, whole, following, more, short)
 
 -- ---- runs joined
 
 -- bytes stand where their front and the rest behind it do
-pub stands_in_two : (b : List ℕ) (at : ℕ) (front behind : List ℕ) → StandsAt b at (front ++ behind) ↔ (StandsAt b at front × StandsAt b (at + length front) behind)
-stands_in_two b at front behind =
+pub stands_in_two : (b : List ℕ) (at : ℕ) (front following : List ℕ) → StandsAt b at (front ++ following) ↔ (StandsAt b at front × StandsAt b (at + length front) following)
+stands_in_two b at front following =
     let n = length front in
-    let m = length behind in
-    let len = length-append front behind in
-    let both : take (length (front ++ behind)) (drop at b) ≡ take n (drop at b) ++ take m (drop (at + n) b) =
+    let m = length following in
+    let len = length-append front following in
+    let both : take (length (front ++ following)) (drop at b) ≡ take n (drop at b) ++ take m (drop (at + n) b) =
     ap (λ i. take i (drop at b)) len ∙ take-add n m (drop at b) ∙ ap (λ x. take n (drop at b) ++ take m x) (drop-drop n at b) in (
       (λ stands.
-          let is : front ++ behind ≡ take (n + m) (drop at b) = stands ∙ ap (λ i. take i (drop at b)) len in (
-            sym (take-append_seam front behind) ∙ ap (take n) is ∙ take-take n (n + m) (drop at b) (omega arith),
-            sym (drop-append_seam front behind) ∙ ap (drop n) is ∙ drop-take n m (drop at b) ∙ ap (take m) (drop-drop n at b),
+          let is : front ++ following ≡ take (n + m) (drop at b) = stands ∙ ap (λ i. take i (drop at b)) len in (
+            sym (take-append_seam front following) ∙ ap (take n) is ∙ take-take n (n + m) (drop at b) (omega arith),
+            sym (drop-append_seam front following) ∙ ap (drop n) is ∙ drop-take n m (drop at b) ∙ ap (take m) (drop-drop n at b),
           )),
       (λ parts. ap₂ (λ x y. x ++ y) parts.0 parts.1 ∙ sym both),
     )
@@ -175,8 +175,8 @@ stands_front b at run m stands short =
 pub with_stretch : {X : Type 0} (f : X → List ℕ) (xs : List X) (x : X) → flat_map f (xs ++ x ∷ []) ≡ flat_map f xs ++ f x
 with_stretch f xs x = sym (flat_map_more f [] xs x)
 
-pub more_behind : (before last front behind : List ℕ) → (before ++ (last ++ front)) ++ behind ≡ (before ++ last) ++ (front ++ behind)
-more_behind before last front behind = ap (λ b. b ++ behind) (sym (append_assoc before last front)) ∙ append_assoc (before ++ last) front behind
+pub more_behind : (before last front following : List ℕ) → (before ++ (last ++ front)) ++ following ≡ (before ++ last) ++ (front ++ following)
+more_behind before last front following = ap (λ b. b ++ following) (sym (append_assoc before last front)) ∙ append_assoc (before ++ last) front following
 
 -- as many bytes at one place are the same
 pub same_place : (b : List ℕ) (at : ℕ) (x y : List ℕ) → StandsAt b at x → StandsAt b at y → length x ≡ length y → x ≡ y

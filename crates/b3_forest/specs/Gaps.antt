@@ -1,4 +1,4 @@
--- What an upload leaves out.
+-- The gaps of an upload.
 use Rattle.std.specs.Prelude.{ℕ, ◌-◌, nat_lt, true, false, List, [], ◌∷◌, ◌++◌, length}
 use Rattle.store_upload.specs.Uploads.{Upload, end_of, length_of}
 use Rattle.b3_forest.specs.Parts.{HeldPart}
@@ -8,7 +8,7 @@ use Rattle.b3_forest.specs.declared.gap.Gap.{Gap}
 abbrev pub gap_between : ℕ → ℕ → List Gap
 gap_between a b = elim (nat_lt a b) [ true ↦ record { offset = a; len = b - a } ∷ [] | false ↦ [] ]
 
--- the gaps from offset a to below offset n that parts, by offset, leave
+-- the gaps that parts, in order of offset, leave from offset a to below offset n
 unfoldable pub gaps_from : ℕ → ℕ → List HeldPart → List Gap
 gaps_from n a [] = gap_between a n
 gaps_from n a (p ∷ ps) = gap_between a p.0 ++ gaps_from n (end_of length p) ps

@@ -1,9 +1,9 @@
--- Bytes that are lent.
+-- Borrowed bytes.
 use Rattle.std.specs.Prelude.{ℕ, List}
 use Rattle.b3_forest.specs.declared.lent.Lent.{Lent}
 use Rattle.b3_forest.specs.declared.lent.Lent.TheVariants as lent
 
--- what is lent, as one list
+-- the borrowed bytes as one list
 abbrev pub lent_bytes : Lent → List ℕ
 lent_bytes (lent.Slice bytes) = bytes.now
 lent_bytes (lent.Stretches stretches) = stretches.now.bytes

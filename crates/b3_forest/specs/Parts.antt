@@ -1,30 +1,30 @@
--- The parts of an upload: as they are handed in, and as an upload holds them.
+-- The parts of an upload: as they are passed to it, and as it holds them.
 use Rattle.std.specs.Prelude.{ℕ, ◌-◌, ◌*◌, ◌&&◌, nat_lt, nat_le, true, false, List, [], ◌∷◌, length, take, drop}
 use Rattle.b3_core.specs.Tree.{chunk_len}
 use Rattle.store_upload.specs.Uploads.{UploadPlan, end_of}
 
--- bytes that begin at an offset of the upload
+-- bytes and their offset in the upload
 pub record Part : Type 0 where
   pub offset : ℕ
   pub bytes : List ℕ
 
 -- a part and the plan that it was made for
-pub record PlannedPart : Type 0 where
+pub record ModelPrepared : Type 0 where
   pub plan : UploadPlan
   pub part : Part
 
--- bytes at an offset, for an upload of that plan
-abbrev pub planned : UploadPlan → ℕ → List ℕ → PlannedPart
+-- bytes at an offset, for an upload with that plan
+abbrev pub planned : UploadPlan → ℕ → List ℕ → ModelPrepared
 planned plan offset bytes = record { plan = plan; part = record { offset = offset; bytes = bytes } }
 
--- a part as an upload holds it: where it begins, and its bytes
+-- a part as an upload holds it: its offset and its bytes
 abbrev pub HeldPart : Type 0
 HeldPart = ℕ × List ℕ
 
 abbrev pub held_as : Part → HeldPart
 held_as p = (p.offset, p.bytes)
 
--- the bytes of chunk i where the parts hold it, and none where they don't
+-- the bytes of chunk i if the parts hold it, otherwise none
 unfoldable pub chunk_in : List HeldPart → ℕ → List ℕ
 chunk_in [] i = []
 chunk_in (p ∷ ps) i = elim (nat_le p.0 (chunk_len * i) && nat_lt (chunk_len * i) (end_of length p)) [

@@ -5,9 +5,9 @@ use Rattle.std.specs.List.Sorted.{IsStrictlySortedBy}
 use Rattle.std.specs.Map.{keys_of, lookup}
 use Rattle.std.specs.Ordering.{nat_cmp}
 use Rattle.b3_forest.specs.Forests.{IsForest, IsPiece}
-use Rattle.store_upload.specs.Uploads.{ArePlaced, last_end, most_bytes}
+use Rattle.store_upload.specs.Uploads.{ArePlaced, last_end, max_bytes}
 use Rattle.b3_forest.specs.Parts.{HeldPart, chunk_in}
-use Rattle.b3_forest.specs.Pieces.{most_chunks, root_level}
+use Rattle.b3_forest.specs.Pieces.{max_chunks, root_level}
 use Rattle.b3_forest.specs.declared.piece.Subtree.{Subtree}
 use Rattle.b3_forest.specs.declared.piece.Piece.{Piece}
 
@@ -20,14 +20,14 @@ piece_from e = record { first = e.0; level = e.1.level; top = e.1.top }
 abbrev pub pieces_in : Subtrees → List Piece
 pieces_in es = map piece_from es
 
--- the subtree of the piece that begins at chunk s
+-- the subtree of the piece that starts at chunk s
 abbrev pub subtree_at : Subtrees → ℕ → Option Subtree
 subtree_at es s = lookup (is_at (nat_cmp s)) es
 
--- the subtrees are of lawful pieces, disjoint and within the chunks that an upload may have
+-- the subtrees are those of lawful pieces, disjoint and within the chunks that an upload may have
 pub record ArePieces (x : ℕ → List ℕ) (es : Subtrees) : Type 0 where
   pub lawful : (s : ℕ) (n : Subtree) → subtree_at es s ≡ Some n → IsPiece x (piece_from (s, n))
-  pub within : (s : ℕ) (n : Subtree) → subtree_at es s ≡ Some n → s + 2 ^ n.level ≤ most_chunks
+  pub within : (s : ℕ) (n : Subtree) → subtree_at es s ≡ Some n → s + 2 ^ n.level ≤ max_chunks
   pub apart : (s t : ℕ) (n m : Subtree) → subtree_at es s ≡ Some n → subtree_at es t ≡ Some m → s < t → s + 2 ^ n.level ≤ t
 
 -- chunk i is in a piece
@@ -39,9 +39,9 @@ pub record HasChunk (es : Subtrees) (i : ℕ) : Type 0 where
   pub before : i < first + 2 ^ subtree.level
 
 abbrev pub HaveAll : (ℕ → List ℕ) → Subtrees → Type 0
-HaveAll x es = (i : ℕ) → nat_lt 0 (length (x i)) ≡ true → i < most_chunks → HasChunk es i
+HaveAll x es = (i : ℕ) → nat_lt 0 (length (x i)) ≡ true → i < max_chunks → HasChunk es i
 
--- pieces at s and right behind it are the halves of one aligned range
+-- the pieces at s and directly after it are the halves of one aligned range
 pub record AreHalvesAt (es : Subtrees) (s : ℕ) : Type 0 where
   pub left : Subtree
   pub right : Subtree
@@ -55,11 +55,11 @@ abbrev pub IsAmong : ℕ → List ℕ → Type 0
 IsAmong s [] = ⊥
 IsAmong s (d ∷ ds) = (s ≡ d) ⊎ IsAmong s ds
 
--- halves are only left where one of them begins at such a chunk
+-- halves remain only if one of them starts at one of these chunks
 abbrev pub AreSettled : List ℕ → Subtrees → Type 0
 AreSettled ds es = (s : ℕ) (h : AreHalvesAt es s) → IsAmong s ds ⊎ IsAmong (s + 2 ^ h.left.level) ds
 
--- the subtrees are a canonical forest of what is held, but for halves at such chunks
+-- the subtrees are a canonical forest of what is held, except for halves at these chunks
 pub record AreForest (x : ℕ → List ℕ) (ds : List ℕ) (es : Subtrees) : Type 0 where
   pub pieces : ArePieces x es
   pub all : HaveAll x es
@@ -69,16 +69,16 @@ pub record AreForest (x : ℕ → List ℕ) (ds : List ℕ) (es : Subtrees) : Ty
 
 -- the subtrees are those of an upload of n bytes that holds these parts
 pub record Keeps (n : ℕ) (ps : List HeldPart) (es : Subtrees) : Type 0 where
-  pub most : n ≤ most_bytes
+  pub most : n ≤ max_bytes
   pub placed : ArePlaced length n 0 ps
   pub forest : AreForest (chunk_in ps) [] es
   pub sorted : IsStrictlySortedBy nat_cmp (keys_of es)
 
--- what is so kept is a canonical forest of what the parts hold
+-- the pieces kept in this way are a canonical forest of what the parts hold
 abbrev pub KeptIsForest : Type 0
 KeptIsForest = (n : ℕ) (ps : List HeldPart) (es : Subtrees) → Keeps n ps es → IsForest (chunk_in ps) root_level 0 (pieces_in es)
 
--- the pieces are those of these parts, of which the last ends there
+-- the pieces are those of these parts, the last of which ends at `end`
 pub record AreHashed (end : ℕ) (ps : List HeldPart) (es : Subtrees) : Type 0 where
   pub end_is : end ≡ last_end length ps
   pub keeps : Keeps end ps es

@@ -1,4 +1,4 @@
--- What is shown of refusals, and of what holds bytes: numbers and sizes, and no byte.
+-- The texts of refusals and the debug texts of types that hold bytes: numbers and sizes, but no bytes.
 use Rattle.std.specs.Prelude.{ℕ, List, ◌++◌, codes, length}
 use Rattle.std.specs.Fmt.{decimal}
 use Rattle.store_upload.specs.Texts.{add_fault_text, part_fault_text}
@@ -9,7 +9,7 @@ use Rattle.store_upload.specs.declared.refusal.AddFault.{AddFault}
 use Rattle.b3_forest.specs.declared.refusal.NoteFault.{NoteFault}
 use Rattle.b3_forest.specs.declared.refusal.NoteFault.TheVariants as note
 
--- ---- refusals: the number of each, and its text, the number with what it carries
+-- ---- refusals: the code of each, and its text, which is the code with its data
 
 abbrev pub note_fault_code : NoteFault → List ℕ
 note_fault_code note.WrongPlan = codes "F7"
@@ -23,13 +23,13 @@ note_fault_text (note.Overlap at) = codes "F8 at " ++ decimal at
 note_fault_text note.Stranger = codes "F11"
 note_fault_text note.NoMemory = codes "F9"
 
--- ---- what holds bytes
+-- ---- types that hold bytes
 
--- the fields of so many bytes at an offset
+-- the fields for a number of bytes at an offset
 abbrev pub bytes_text : ℕ → ℕ → List ℕ
 bytes_text offset len = codes " { offset: " ++ (decimal offset ++ (codes ", bytes: " ++ (decimal len ++ codes " }")))
 
--- a part that was prepared
+-- a prepared part
 abbrev pub prepared_text : Part → List ℕ
 prepared_text p = codes "Prepared" ++ bytes_text p.offset (length p.bytes)
 
@@ -46,10 +46,10 @@ share_refused_text fault len = codes "ShareRefused { fault: " ++ (part_fault_tex
 abbrev pub add_refused_text : AddFault → Part → List ℕ
 add_refused_text fault p = codes "AddRefused { fault: " ++ (add_fault_text fault ++ (codes ", part: " ++ (prepared_text p ++ codes " }")))
 
--- a forest: how many bytes and parts it holds, and of how many
+-- a forest: the numbers of bytes and parts that it holds, and its length
 abbrev pub forest_text : Upload (List ℕ) → List ℕ
 forest_text u = codes "Forest { parts: " ++ (decimal (length u.parts) ++ (codes ", held: " ++ (decimal (held_bytes length u.parts) ++ (codes ", length: " ++ (decimal (length_of u) ++ codes " }")))))
 
--- what follows lent bytes: how many they are
+-- a follower of borrowed bytes: their number
 abbrev pub follow_text : ℕ → List ℕ
 follow_text len = codes "Follow { bytes: " ++ (decimal len ++ codes " }")

@@ -1,4 +1,4 @@
--- Uploads of bytes: what a part that is handed in makes of one, the content, and the compressions.
+-- Uploads of bytes: the effect of adding a part, the content, and the compressions.
 use Rattle.std.specs.Prelude.{ℕ, ◌+◌, ◌-◌, ◌*◌, if◌then◌else◌, List, [], ◌∷◌, ◌++◌, Option, Some, length}
 use Rattle.std.specs.Arc.{arc_value}
 use Rattle.std.specs.BTreeMap.{insert_entry}
@@ -7,18 +7,18 @@ use Rattle.store_upload.specs.Uploads.{Upload, place_refusal, same_plan}
 use Rattle.store_upload.specs.Uploads as upload
 use Rattle.store_upload.specs.declared.refusal.AddFault.{AddFault}
 use Rattle.store_upload.specs.declared.refusal.AddFault.TheVariants.{WrongPlan}
-use Rattle.b3_forest.specs.Parts.{HeldPart, Part, PlannedPart, chunk_in, chunks_of}
+use Rattle.b3_forest.specs.Parts.{HeldPart, Part, ModelPrepared, chunk_in, chunks_of}
 use Rattle.b3_forest.specs.Pieces.{piece_count}
 use Rattle.b3_forest.specs.declared.segment.Segment.{Segment}
 
--- the part that a segment is
+-- the part in a segment
 abbrev pub part_of : Segment → HeldPart
 part_of s = (s.offset, (arc_value s.bytes).items)
 
--- ---- a part that is handed in
+-- ---- adding a part
 
--- why a part is not added to an upload: it was made for another plan, or the upload does not take it where it is
-abbrev pub add_refusal : Upload (List ℕ) → PlannedPart → Option AddFault
+-- why a part is not added to an upload: it was made for another plan, or the upload does not accept it at its place
+abbrev pub add_refusal : Upload (List ℕ) → ModelPrepared → Option AddFault
 add_refusal u p = if same_plan p.plan u.plan then place_refusal length u p.part.offset (length p.part.bytes) else Some WrongPlan
 
 -- a part among others
@@ -38,15 +38,15 @@ content_of (p ∷ ps) = p.1 ++ content_of ps
 
 -- ---- pieces, and compressions
 
--- how many pieces the chunks that parts hold have
+-- the number of pieces of the chunks that parts hold
 abbrev pub pieces_held : List HeldPart → ℕ
 pieces_held ps = piece_count (chunk_in ps)
 
--- the merges of a part more: the pieces before and those of the part, less the pieces after
+-- the number of merges when a part is added: the pieces before and those of the part, minus the pieces after
 abbrev pub merges_of : List HeldPart → Part → ℕ
 merges_of ps p = pieces_held ps + piece_count (chunks_of p) - pieces_held (with_part p ps)
 
--- the compressions of a part more: two for each merge
+-- the compressions when a part is added: two for each merge
 abbrev pub put_work : List HeldPart → Part → ℕ
 put_work ps p = 2 * merges_of ps p
 

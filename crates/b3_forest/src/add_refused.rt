@@ -9,14 +9,14 @@ use std::error::Error;
 use std::fmt;
 use store_upload::AddFault;
 
-/// A part that was not added, handed back.
+/// A part that was not added; it is returned to the caller.
 #[derive(Drop)]
 pub struct AddRefused {
     pub fault: AddFault,
     pub part: Prepared,
 }
 
-/// The refusal's number with what it carries.
+/// The code of the refusal, with its data.
 impl fmt::Display for AddRefused {
     ghost output = { λ refused. Some (add_fault_text refused.fault) };
 
@@ -25,7 +25,7 @@ impl fmt::Display for AddRefused {
     }
 }
 
-/// The refusal and the part's place and length.
+/// Shows the refusal and the part's offset and length.
 impl fmt::Debug for AddRefused {
     ghost debug_output = { λ refused. Some (add_refused_text refused.fault refused.part.part) };
 

@@ -1,23 +1,23 @@
-//! A part is cut into pieces from the top: a range of chunks that the part covers is one piece, and any other range
-//! that it meets is halved.
+//! A part is split into pieces from the top: a range of chunks that the part covers is one piece, and any other range that it overlaps is
+//! halved.
 
 ghost use Rattle.std.specs.Prelude.{◌≡◌, ℕ, ◌+◌, ◌-◌, ◌*◌, ◌/◌, ◌^◌, ◌<◌, ◌≤◌, ◌++◌, OnOk, length, min, max};
 ghost use Rattle.b3_core.specs.Tree.{chunk_len};
 ghost use Rattle.b3_core.specs.Work.{NeverFalls, counted};
 ghost use Rattle.b3_forest.specs.Parts.{chunks_of};
-ghost use Rattle.store_upload.specs.Uploads.{most_part_bytes};
-ghost use Rattle.b3_forest.specs.Pieces.{most_chunks, part_work, piece_at, piece_count, pieces_of, root_level};
+ghost use Rattle.store_upload.specs.Uploads.{max_part_bytes};
+ghost use Rattle.b3_forest.specs.Pieces.{max_chunks, part_work, piece_at, piece_count, pieces_of, root_level};
 
-use crate::piece::{MOST_CHUNKS, Piece, ROOT_LEVEL};
+use crate::piece::{MAX_CHUNKS, Piece, ROOT_LEVEL};
 use b3_core::{CHUNK_LEN, Mode, Top, Work};
 use std::alloc::AllocError;
 
-// The piece of 2^level chunks from the chunk `first` on, of a part that begins at the chunk `start` and covers them.
+// The piece of 2^`level` chunks starting at chunk `first`, of a part that starts at chunk `start` and covers them.
 fn piece_of(start: u64, bytes: &[u8], level: u32, width: u64, first: u64, work: &mut Work) -> Piece
-    requires width { (width ≡ 2 ^ level) × (0 < width) × (width ≤ most_chunks) }
-    requires len { length bytes.now ≤ most_part_bytes }
+    requires width { (width ≡ 2 ^ level) × (0 < width) × (width ≤ max_chunks) }
+    requires len { length bytes.now ≤ max_part_bytes }
     requires aligned { (q : ℕ) × (first ≡ q * 2 ^ level) }
-    requires within { (start ≤ first) × (first + width ≤ start + (length bytes.now + (chunk_len - 1)) / chunk_len) × (first < most_chunks) }
+    requires within { (start ≤ first) × (first + width ≤ start + (length bytes.now + (chunk_len - 1)) / chunk_len) × (first < max_chunks) }
     ensures piece { result ≡ piece_at (chunks_of (record { offset = chunk_len * start; bytes = bytes.now })) level first }
     ensures count { work.new ≡ counted work.old (part_work (min (chunk_len * width) (length bytes.now - chunk_len * (first - start))) 1) }
 {
@@ -27,7 +27,7 @@ fn piece_of(start: u64, bytes: &[u8], level: u32, width: u64, first: u64, work: 
     Piece { first, level, top }
 }
 
-// Adds the pieces among 2^level chunks from the chunk `first` on, of a part that begins at the chunk `start`.
+// Adds the pieces among 2^`level` chunks starting at chunk `first`, of a part that starts at chunk `start`.
 fn push_pieces(
     start: u64,
     bytes: &[u8],
@@ -37,10 +37,10 @@ fn push_pieces(
     pieces: &mut Vec<Piece>,
     work: &mut Work,
 ) -> Result<(), AllocError>
-    requires width { (width ≡ 2 ^ level) × (0 < width) × (width ≤ most_chunks) }
-    requires len { (length bytes.now ≤ most_part_bytes) × (0 < length bytes.now) }
+    requires width { (width ≡ 2 ^ level) × (0 < width) × (width ≤ max_chunks) }
+    requires len { (length bytes.now ≤ max_part_bytes) × (0 < length bytes.now) }
     requires aligned { (q : ℕ) × (first ≡ q * 2 ^ level) }
-    requires within { (first + width ≤ most_chunks) × (start ≤ most_chunks) }
+    requires within { (first + width ≤ max_chunks) × (start ≤ max_chunks) }
     ensures pieces { OnOk result (pieces.new.items ≡ pieces.old.items ++ pieces_of (chunks_of (record { offset = chunk_len * start; bytes = bytes.now })) level first) }
     ensures count { OnOk result (work.new ≡ counted work.old (part_work
         (min (chunk_len * start + length bytes.now) (chunk_len * (first + width)) - max (chunk_len * start) (chunk_len * first))
@@ -61,15 +61,15 @@ fn push_pieces(
     Ok(())
 }
 
-/// Adds the pieces of a part that begins at the chunk `start`. It begins with the smallest range that holds the whole part.
+/// Adds the pieces of a part that starts at chunk `start`. The search starts with the smallest range that holds the whole part.
 pub(crate) fn push_all(
     start: u64,
     bytes: &[u8],
     pieces: &mut Vec<Piece>,
     work: &mut Work,
 ) -> Result<(), AllocError>
-    requires len { (length bytes.now ≤ most_part_bytes) × (0 < length bytes.now) }
-    requires within { start + (length bytes.now + (chunk_len - 1)) / chunk_len ≤ most_chunks }
+    requires len { (length bytes.now ≤ max_part_bytes) × (0 < length bytes.now) }
+    requires within { start + (length bytes.now + (chunk_len - 1)) / chunk_len ≤ max_chunks }
     ensures pieces { OnOk result (pieces.new.items ≡ pieces.old.items ++ pieces_of (chunks_of (record { offset = chunk_len * start; bytes = bytes.now })) root_level 0) }
     ensures count { OnOk result (work.new ≡ counted work.old (part_work (length bytes.now)
         (piece_count (chunks_of (record { offset = chunk_len * start; bytes = bytes.now }))))) }
@@ -77,7 +77,7 @@ pub(crate) fn push_all(
 {
     let end = start + bytes.len().div_ceil(CHUNK_LEN) as u64;
     let mut level = ROOT_LEVEL;
-    let mut width = MOST_CHUNKS;
+    let mut width = MAX_CHUNKS;
     let mut first = 0u64;
     while level > 0 {
         let half = width / 2;

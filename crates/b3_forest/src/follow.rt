@@ -1,5 +1,5 @@
-//! The parts of bytes that are lent, without copies of them. It merges pieces as the upload's forest does, so each merge of an
-//! upload by workers is made twice: the address that the caller is told then rests on its own bytes, and on nothing that a store says.
+//! The parts of borrowed bytes, without copies of them. It merges pieces as the upload's forest does, so each merge of an upload by workers
+//! is made twice. The address that the caller gets thus depends only on the caller's own bytes, and not on what a store reports.
 
 ghost use Rattle.std.specs.Prelude.{◌≡◌, ◌≢◌, ℕ, ◌*◌, ◌-◌, ◌<◌, ◌↔◌, IfErr, IfNone, IfOk, IfSome, IsErr, OnErr, OnOk, Some, false, length, true};
 ghost use Rattle.b3_core.specs.Modes.{hash_mode};
@@ -7,7 +7,7 @@ ghost use Rattle.b3_core.specs.Tree.{tree_top};
 ghost use Rattle.b3_core.specs.Work.{counted};
 ghost use Rattle.b3_forest.specs.Followed.{AllNoted, IsFirstUnnoted, IsNoted, IsNotedWith, IsRefused, MayNote, bytes_at, noting_merges, pieces_noted};
 ghost use Rattle.b3_forest.specs.Lent.{lent_bytes};
-ghost use Rattle.store_upload.specs.Uploads.{closed_plan, most_bytes};
+ghost use Rattle.store_upload.specs.Uploads.{closed_plan, max_bytes};
 ghost use Rattle.b3_forest.specs.Texts.{follow_text};
 
 use crate::held;
@@ -23,7 +23,7 @@ use std::fmt;
 use std::marker::Model;
 use store_upload::{Plan, TooLong, upload_laws};
 
-/// The parts of an upload whose bytes are lent: the pieces of those that were noted, without copies of their bytes.
+/// The parts of an upload whose bytes are borrowed: the pieces of the noted parts, without copies of their bytes.
 #[derive(Drop)]
 pub struct Follow<'a> {
     lent: Lent<'a>,
@@ -31,11 +31,11 @@ pub struct Follow<'a> {
 }
 
 impl<'a> Model for Follow<'a> {
-    ghost use Rattle.store_upload.specs.Uploads.{most_bytes};
-    ghost use Rattle.b3_forest.specs.Followed.{Followed, Follows, followed};
+    ghost use Rattle.store_upload.specs.Uploads.{max_bytes};
+    ghost use Rattle.b3_forest.specs.Followed.{ModelFollow, Follows, followed};
     ghost use Rattle.b3_forest.specs.Lent.{lent_bytes};
 
-    ghost Value = { Followed };
+    ghost Value = { ModelFollow };
 
     ghost view = { λ f. followed (lent_bytes f.lent) f.subtrees.entries };
 
@@ -43,36 +43,34 @@ impl<'a> Model for Follow<'a> {
 }
 
 impl<'a> Follow<'a> {
-    /// Follows the parts of an upload of these bytes; none is noted. F1 where they are more than 2^44. It takes no
-    /// memory.
+    /// Follows the parts of an upload of `bytes`; no part is noted yet. F1 if there are more than 2^44 bytes. Allocates nothing.
     pub fn new(alloc: Global, bytes: &'a [u8]) -> Result<Follow<'a>, TooLong>
         ensures bytes { IfOk result (λ f. f.bytes ≡ bytes.now) }
         ensures nothing { IfOk result (λ f. (i : ℕ) → IsNoted f i → ⊥) }
         ensures no_pieces { IfOk result (λ f. pieces_noted f ≡ 0) }
-        ensures too_long { IsErr result ↔ most_bytes < length bytes.now }
+        ensures too_long { IsErr result ↔ max_bytes < length bytes.now }
     {
         Follow::of(alloc, Lent::Slice(bytes))
     }
 
-    /// Follows the parts of an upload of bytes that are lent in one slice or in stretches, as `new` does.
+    /// Follows the parts of an upload of bytes borrowed as one slice or in stretches, as `new` does.
     pub fn of(alloc: Global, lent: Lent<'a>) -> Result<Follow<'a>, TooLong>
         ensures bytes { IfOk result (λ f. f.bytes ≡ lent_bytes lent.entry) }
         ensures nothing { IfOk result (λ f. (i : ℕ) → IsNoted f i → ⊥) }
         ensures no_pieces { IfOk result (λ f. pieces_noted f ≡ 0) }
-        ensures too_long { IsErr result ↔ most_bytes < length (lent_bytes lent.entry) }
+        ensures too_long { IsErr result ↔ max_bytes < length (lent_bytes lent.entry) }
     {
         let plan = Plan::new(lent.len())?;
-        // For the proof alone: a plan says that its bound is at most 2^44.
+        // For the proof alone: the bound of a plan is at most 2^44.
         let _most = plan.bound();
         let subtrees = BTreeMap::new(alloc);
         Ok(Follow { lent, subtrees })
     }
 
-    /// Notes a part, and answers how many merges that took, of two compressions each.
+    /// Notes a part, and returns the number of merges, of two compressions each.
     ///
-    /// Refusals leave what was noted and make no compression: F7 the part was made for another plan, F8 some
-    /// offset of the part was noted already, F11 the part's bytes are not the lent bytes at its offset. Want of
-    /// memory is F9.
+    /// A refusal leaves what was noted unchanged and makes no compression: F7 the part was made for another plan, F8 some offset of the
+    /// part was noted already, F11 the part's bytes are not the borrowed bytes at its offset. F9 if out of memory.
     pub fn note(&mut self, part: &Prepared, work: &mut Work) -> Result<u64, NoteFault>
         ensures noted { OnOk result (IsNotedWith self.old self.new part.now.part) }
         ensures allowed { OnOk result (MayNote self.old part.now) }
@@ -100,7 +98,7 @@ impl<'a> Follow<'a> {
         Ok(merges)
     }
 
-    /// The least offset that was not noted; none where all were.
+    /// The lowest offset that was not noted; `None` if all were.
     pub fn first_missing(&self) -> Option<u64>
         ensures found { IfSome result (IsFirstUnnoted self.now) }
         ensures none { IfNone result (AllNoted self.now) }
@@ -112,8 +110,8 @@ impl<'a> Follow<'a> {
         if missing < len { Some(missing) } else { None }
     }
 
-    /// The top of the tree over the lent bytes, or F10 with the least offset that was not noted. It makes two
-    /// compressions for each piece after the first, and none where something is missing.
+    /// The top of the tree over the borrowed bytes, or F10 with the lowest offset that was not noted. It makes two compressions for each
+    /// piece after the first, and none if something is missing.
     pub fn finish(&self, work: &mut Work) -> Result<Top, Incomplete>
         ensures missing { IfErr result (λ r. IsFirstUnnoted self.now r.missing) }
         ensures complete { OnOk result (AllNoted self.now) }
@@ -132,7 +130,7 @@ impl<'a> Follow<'a> {
     }
 }
 
-/// How many bytes are lent.
+/// Shows the number of bytes.
 impl fmt::Debug for Follow<'_> {
     ghost debug_output = { λ follow. Some (follow_text (length follow.bytes)) };
 
@@ -142,7 +140,7 @@ impl fmt::Debug for Follow<'_> {
     }
 }
 
-// Whether a part has the bytes that stand where it is.
+// Whether the part's bytes are the borrowed bytes at its offset.
 fn has_bytes(lent: Lent<'_>, part: &Prepared) -> bool
     requires plan { part.now.plan ≡ closed_plan (length (lent_bytes lent)) }
     ensures yes { result ≡ true → part.now.part.bytes ≡ bytes_at (lent_bytes lent.entry) part.now.part }

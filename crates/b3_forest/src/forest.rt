@@ -23,8 +23,8 @@ use std::fmt;
 use std::marker::Model;
 use store_upload::{AddFault, FinishFault, FixFault, Open, Plan};
 
-/// The parts that an upload holds. It keeps their bytes by offset, and the pieces of all of them: neighbours that are
-/// the halves of one aligned range are merged, so that a run of held chunks has at most two pieces of each width.
+/// The parts that an upload holds. It keeps their bytes by offset and the pieces of all of them. Neighbouring pieces that are the halves of
+/// one aligned range are merged, so a run of held chunks has at most two pieces of each width.
 #[derive(Drop)]
 pub struct Forest {
     open: Open<HashedParts>,
@@ -40,7 +40,7 @@ impl Model for Forest {
 }
 
 impl Forest {
-    /// A forest that holds nothing. It takes no memory.
+    /// A forest that holds nothing. Allocates nothing.
     pub fn new(alloc: Global, plan: Plan) -> Forest
         ensures { result ≡ new_upload plan }
     {
@@ -56,7 +56,7 @@ impl Forest {
         Forest { open: upload }
     }
 
-    /// The plan of the upload, which never changes.
+    /// The plan of the upload. It never changes.
     pub fn plan(&self) -> Plan
         ensures value { result ≡ self.now.plan }
         ensures lawful { IsUpload length self.now }
@@ -64,14 +64,14 @@ impl Forest {
         self.open.plan()
     }
 
-    /// Where the upload ends, once that is fixed: from the start under a plan that is not open.
+    /// The end of the upload, once it is fixed; under a plan that is not open it is fixed from the start.
     pub fn end(&self) -> Option<u64>
         ensures { result ≡ self.now.end }
     {
         self.open.end()
     }
 
-    /// The upload's length: its end where that is fixed, else the plan's bound.
+    /// The upload's length: its end if that is fixed, otherwise the plan's bound.
     pub fn length(&self) -> u64
         ensures value { result ≡ length_of self.now }
         ensures within { result ≤ self.now.plan.bound }
@@ -79,9 +79,9 @@ impl Forest {
         self.open.length()
     }
 
-    /// Why a part would not be added, want of memory aside: the first that applies of F7, the part was made for another
-    /// plan, F8, some offset of the part is held already, and F12, it ends past the upload's end, or its length is not a
-    /// multiple of 1024 and it ends before what the upload reaches.
+    /// Why a part would not be added, apart from running out of memory. The first matching one of: F7, the part was made for another plan;
+    /// F8, some offset of the part is held already; F12, the part ends past the upload's end, or its length is not a multiple of 1024 and
+    /// it ends before the upload's end (if that is not fixed: before the end of the last part).
     pub fn refusal_of(&self, part: &Prepared) -> Option<AddFault>
         ensures { result ≡ add_refusal self.now part.now }
     {
@@ -92,16 +92,16 @@ impl Forest {
         self.open.place_fault(part.offset(), len)
     }
 
-    /// Why the upload would not be ended there: the first that applies of F1, that is above the plan's bound, and F12, it
-    /// has another end, or holds a part that ends behind.
+    /// Why the upload's end would not be fixed at `len`. The first matching one of: F1, `len` exceeds the plan's bound; F12, the upload has
+    /// another end, or holds a part that ends after `len`.
     pub fn fix_refusal_of(&self, len: u64) -> Option<FixFault>
         ensures { result ≡ fix_refusal length self.now len }
     {
         self.open.fix_fault(len)
     }
 
-    /// Fixes the upload's end. F1 where it is above the plan's bound, F12 where the upload has another end, or holds a
-    /// part that ends behind. It takes no memory.
+    /// Fixes the upload's end at `len`. F1 if `len` exceeds the plan's bound, F12 if the upload has another end or holds a part that ends
+    /// after `len`. Allocates nothing.
     pub fn fix(&mut self, len: u64) -> Result<(), FixFault>
         ensures fixed { OnOk result (self.new ≡ fixed_at self.old len) }
         ensures allowed { OnOk result (fix_refusal length self.old len ≡ None) }
@@ -117,12 +117,12 @@ impl Forest {
         }
     }
 
-    /// Adds a part, and answers how many merges that took, of two compressions each. A part whose length is not a
-    /// multiple of 1024 fixes the upload's end at its own, where there was none.
+    /// Adds a part, and returns the number of merges, of two compressions each. If the upload's end is not fixed, a part whose length is
+    /// not a multiple of 1024 fixes it at the end of the part.
     ///
-    /// Refusals hand the part back, leave the forest as it was and make no compression: F7 the part was made for another
-    /// plan, F8 some offset of the part is held already, F12 it ends past the upload's end, or its length is not a
-    /// multiple of 1024 and it ends before what the upload reaches. Want of memory is F9.
+    /// A refusal returns the part, leaves the forest unchanged and makes no compression: F7 the part was made for another plan, F8 some
+    /// offset of the part is held already, F12 the part ends past the upload's end, or its length is not a multiple of 1024 and it ends
+    /// before the upload's end (if that is not fixed: before the end of the last part). F9 if out of memory.
     pub fn add(&mut self, part: Prepared, work: &mut Work) -> Result<u64, AddRefused>
         ensures added { OnOk result (self.new ≡ with_more self.old part.part) }
         ensures allowed { OnOk result (add_refusal self.old part ≡ None) }
@@ -136,7 +136,7 @@ impl Forest {
         if let Some(fault) = self.refusal_of(&part) {
             return Err(AddRefused { fault, part });
         }
-        // For the proof alone: a part that was prepared fits its plan.
+        // For the proof alone: a prepared part fits its plan.
         let _fitting = part.fitting();
         let pieces = self.open.parts().pieces() + part.pieces();
         match self.open.put(part, work) {
@@ -148,36 +148,36 @@ impl Forest {
         }
     }
 
-    /// How many bytes are held.
+    /// The number of bytes held.
     pub fn held(&self) -> u64
         ensures { result ≡ held_bytes length self.now.parts }
     {
         self.open.held()
     }
 
-    /// The least offset of the upload that is not held; none where the upload is whole.
+    /// The lowest offset of the upload that is not held; `None` if the upload is complete.
     pub fn first_missing(&self) -> Option<u64>
         ensures { result ≡ first_missing length self.now }
     {
         self.open.first_missing()
     }
 
-    /// All that is not held, in order of offset: as few gaps as there can be. Where the upload's end is not fixed, the last one
-    /// goes on to the plan's bound.
+    /// All offsets that are not held, in order, as the smallest number of gaps. If the upload's end is not fixed, the last gap extends to
+    /// the plan's bound.
     pub fn gaps(&self, alloc: Global) -> Result<Vec<Gap>, AllocError>
         ensures { IfOk result (λ gaps. gaps.items ≡ gaps_of self.now) }
     {
         self.open.parts().gaps(alloc, self.open.length())
     }
 
-    /// How many parts are held.
+    /// The number of parts held.
     pub fn parts(&self) -> u64
         ensures { result ≡ length self.now.parts }
     {
         self.open.count()
     }
 
-    /// The parts, in order of offset: where each begins, and its bytes.
+    /// The parts in order of offset: the offset and the bytes of each.
     pub fn segments(&self) -> Iter<'_, u64, SharedBytes>
         ensures parts { result ≡ self.now.parts }
         ensures in_order { ArePlaced length (length_of self.now) 0 result }
@@ -185,15 +185,15 @@ impl Forest {
         self.open.parts().iter()
     }
 
-    /// The parts, in order of offset; their bytes are shared.
+    /// The parts in order of offset; their bytes are shared.
     pub fn shared_segments(&self, alloc: Global) -> Result<Vec<Segment>, AllocError>
         ensures { IfOk result (λ segments. map part_of segments.items ≡ self.now.parts) }
     {
         self.open.parts().shared_segments(alloc)
     }
 
-    /// The top of the tree over the whole content, or F13 where the upload's end is not fixed, or F10 with the least
-    /// offset that is not held. It makes two compressions for each piece after the first, and none where it is refused.
+    /// The top of the tree over the whole content; F13 if the upload's end is not fixed, or F10 with the lowest offset that is not held. It
+    /// makes two compressions for each piece after the first, and none if it is refused.
     pub fn finish(&self, work: &mut Work) -> Result<Top, FinishFault>
         ensures fault { IfErr result (λ fault. finish_refusal length self.now ≡ Some fault) }
         ensures complete { OnOk result (IsComplete length self.now) }
@@ -219,7 +219,7 @@ pub fn top_of(upload: &Open<HashedParts>, work: &mut Work) -> Top
     upload.parts().top(work)
 }
 
-/// How many parts and bytes are held, and the upload's length.
+/// Shows the numbers of parts and bytes held, and the upload's length.
 impl fmt::Debug for Forest {
     ghost debug_output = { λ forest. Some (forest_text forest) };
 

@@ -1,4 +1,4 @@
-//! What an upload of bytes holds its parts in.
+//! The parts of an upload of bytes.
 
 ghost use Rattle.std.specs.Prelude.{◌≡◌, IfOk, length, map};
 ghost use Rattle.b3_core.specs.Modes.{hash_mode};
@@ -21,8 +21,8 @@ use std::collections::btree_map::{Entry, Iter};
 use std::marker::Model;
 use store_upload::{HeldParts, Length};
 
-/// The parts of an upload: their bytes by offset, and the pieces of all of them. Where the upload ends is not known here: parts that fit
-/// an upload of some length fit one that ends where the last of them does.
+/// The parts of an upload: their bytes by offset, and the pieces of all of them. The upload's end is not known here: parts that fit an
+/// upload of some length also fit one that ends where the last part does.
 #[derive(Drop)]
 pub struct HashedParts {
     last_end: u64,
@@ -92,7 +92,7 @@ impl HeldParts for HashedParts {
 
     fn add(&mut self, part: Prepared, work: &mut Work) -> Result<(), Prepared> {
         let end = part.end();
-        // Room first, then the pieces, which may be refused: so nothing has to be taken out again.
+        // Makes room first, then adds the pieces, which may fail: so nothing has to be taken out again.
         let Ok(place) = self.parts.entry(part.offset()) else {
             return Err(part);
         };
@@ -127,14 +127,14 @@ impl HashedParts {
         Ok(segments)
     }
 
-    /// How many pieces they have.
+    /// The number of pieces.
     pub fn pieces(&self) -> usize
         ensures { result ≡ pieces_held self.now }
     {
         self.subtrees.len()
     }
 
-    /// The gaps that they leave of an upload of `len` bytes, which they fit, in order of offset.
+    /// The gaps in an upload of `len` bytes, which the parts fit, in order of offset.
     #[tactic(auto, unfolding(crate::specs::Gaps::gaps_from))]
     pub fn gaps(&self, alloc: Global, len: u64) -> Result<Vec<Gap>, AllocError>
         requires { ArePlaced length len 0 self.now }
@@ -150,7 +150,7 @@ impl HashedParts {
         Ok(gaps)
     }
 
-    /// The top of the tree over the content, where no offset is missing before the greatest end. It makes two compressions for each
+    /// The top of the tree over the content, if no offset below the end of the last part is missing. It makes two compressions for each
     /// piece after the first.
     pub fn top(&self, work: &mut Work) -> Top
         requires { first_gap length 0 self.now ≡ last_end_of length self.now }

@@ -1,10 +1,10 @@
-//! What the pieces of an upload tell of its parts.
+//! What the pieces of an upload say about its parts.
 
 ghost use Rattle.std.specs.Prelude.{◌≡◌, ℕ, ◌%◌, ◌*◌, ◌+◌, ◌<◌, ◌≤◌, List, IfOk, OnErr, OnOk, length};
 ghost use Rattle.b3_core.specs.Modes.{hash_mode};
 ghost use Rattle.b3_core.specs.Tree.{chunk_len, tree_top};
 ghost use Rattle.b3_core.specs.Work.{counted};
-ghost use Rattle.store_upload.specs.Uploads.{first_gap as first_gap_of, most_bytes, overlap_at};
+ghost use Rattle.store_upload.specs.Uploads.{first_gap as first_gap_of, max_bytes, overlap_at};
 ghost use Rattle.b3_forest.specs.Subtrees.{Keeps};
 ghost use Rattle.b3_forest.specs.inner.Subtrees.{AreOfUpload, AreWhole, HaveRoom};
 ghost use Rattle.b3_forest.specs.Parts.{HeldPart};
@@ -18,11 +18,11 @@ use std::alloc::AllocError;
 use std::collections::BTreeMap;
 use store_upload::CHUNK_LEN;
 
-/// The least of so many offsets that is held.
+/// The lowest of the `len` offsets from `offset` on that is held.
 pub(crate) fn overlap(subtrees: &BTreeMap<u64, Subtree>, offset: u64, len: u64) -> Option<u64>
     requires positive { 0 < len }
     requires aligned { offset % chunk_len ≡ 0 }
-    requires within { offset + len ≤ most_bytes }
+    requires within { offset + len ≤ max_bytes }
     requires pieces { (n : ℕ) × AreOfUpload n subtrees.now.entries }
     ensures { (n : ℕ) (ps : List HeldPart) → Keeps n ps subtrees.now.entries → result ≡ overlap_at length offset len ps }
 {
@@ -34,7 +34,7 @@ pub(crate) fn overlap(subtrees: &BTreeMap<u64, Subtree>, offset: u64, len: u64) 
     }
 }
 
-/// The least offset that is not held, of an upload of `len` bytes; `len` where all are.
+/// The lowest offset of an upload of `len` bytes that is not held; `len` if all are.
 pub(crate) fn least_missing(subtrees: &BTreeMap<u64, Subtree>, len: u64) -> u64
     requires { AreOfUpload len subtrees.now.entries }
     ensures least { (ps : List HeldPart) → Keeps len ps subtrees.now.entries → result ≡ first_gap_of length 0 ps }
@@ -43,7 +43,7 @@ pub(crate) fn least_missing(subtrees: &BTreeMap<u64, Subtree>, len: u64) -> u64
     (first_gap(subtrees, 0) * CHUNK_LEN).min(len)
 }
 
-/// Adds a part's pieces, and answers the merges. Where memory is refused, the pieces are as before.
+/// Adds a part's pieces, and returns the number of merges. If an allocation fails, the pieces are unchanged.
 pub(crate) fn add(
     subtrees: &mut BTreeMap<u64, Subtree>,
     part: &Prepared,
@@ -66,7 +66,7 @@ pub(crate) fn add(
     Ok(merges as u64)
 }
 
-/// The top over parts of which no offset is missing.
+/// The top over parts that leave no offset out.
 pub(crate) fn top(subtrees: &BTreeMap<u64, Subtree>, work: &mut Work) -> Top
     requires { (n : ℕ) × (ps : List HeldPart) × AreWhole n ps subtrees.now.entries }
     ensures top { (n : ℕ) (ps : List HeldPart) → AreWhole n ps subtrees.now.entries → result ≡ tree_top (content_of ps) 0 hash_mode }

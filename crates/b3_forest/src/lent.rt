@@ -1,4 +1,4 @@
-//! Bytes that are lent, in one slice or in stretches that are shared.
+//! Borrowed bytes, in one slice or in shared stretches.
 
 ghost use Rattle.std.specs.Prelude.{◌≡◌, ◌+◌, ◌≤◌, IfErr, IfOk, IfSome, None, OnOk, length, take, drop, unwrap_or, vec_len, true, false};
 ghost use Rattle.std.specs.Arc.{arc_value};
@@ -16,17 +16,17 @@ use std::alloc::{AllocError, Global};
 use std::sync::Arc;
 use store_upload::{PartFault, Plan};
 
-/// Bytes that are lent.
+/// Borrowed bytes.
 #[derive(Clone, Copy)]
 pub enum Lent<'a> {
-    /// These, of which parts are copied.
+    /// A slice, from which the bytes of parts are copied.
     Slice(&'a [u8]),
-    /// These, whose stretches parts share.
+    /// Stretches, which parts share.
     Stretches(&'a Stretches),
 }
 
 impl<'a> Lent<'a> {
-    /// How many they are.
+    /// The number of bytes.
     pub fn len(self) -> u64
         ensures { result ≡ length (lent_bytes self.entry) }
     {
@@ -36,7 +36,7 @@ impl<'a> Lent<'a> {
         }
     }
 
-    // A run of them from an offset on; none where none stand there.
+    // A run of bytes starting at offset `at`; empty if there are no bytes there.
     fn run(self, at: u64) -> &'a [u8]
         ensures { IsRun (lent_bytes self.entry) at result.now }
     {
@@ -47,34 +47,34 @@ impl<'a> Lent<'a> {
         }
     }
 
-    /// Whether these bytes stand at an offset, from which on there are as many.
+    /// Whether `bytes` are the bytes at offset `at`.
     pub(crate) fn has(self, at: u64, bytes: &[u8]) -> bool
         requires { at + length bytes.now ≤ length (lent_bytes self) }
         ensures yes { result ≡ true → StandsAt (lent_bytes self.entry) at bytes.now }
         ensures no { result ≡ false → StandsAt (lent_bytes self.entry) at bytes.now → ⊥ }
     {
-        // For the proof alone: how many there are is a number of 64 bits.
+        // For the proof alone: the number of bytes fits in 64 bits.
         let _len = self.len();
         let (mut at, mut rest) = (at, bytes);
         while !rest.is_empty() {
             let run = self.run(at);
             let len = run.len().min(rest.len());
-            let (front, behind) = rest.split_at(len);
+            let (front, following) = rest.split_at(len);
             if front != &run[..len] {
                 return false;
             }
             at += len as u64;
-            rest = behind;
+            rest = following;
         }
         true
     }
 
-    // A copy of so many of them from an offset on.
+    // A copy of `len` bytes, starting at offset `at`.
     fn copied(self, alloc: Global, at: u64, len: usize) -> Result<Vec<u8>, AllocError>
         requires { at + len ≤ length (lent_bytes self) }
         ensures { IfOk result (λ copy. copy.items ≡ take len (drop at (lent_bytes self.entry))) }
     {
-        // For the proof alone: how many there are is a number of 64 bits.
+        // For the proof alone: the number of bytes fits in 64 bits.
         let _len = self.len();
         let mut copy = Vec::with_capacity(alloc, len)?;
         while copy.len() < len {
@@ -85,9 +85,9 @@ impl<'a> Lent<'a> {
         Ok(copy)
     }
 
-    /// Hashes the part of so many of them at an offset. It shares their stretch where they are one, and else copies them.
+    /// Hashes the part of `len` bytes at `offset`. It shares their stretch if they are exactly one stretch, and otherwise copies them.
     ///
-    /// F2 to F6 as of `Prepared::make`, and F9.
+    /// F2 to F6 as for `Prepared::make`, and F9.
     pub fn prepare(
         self,
         alloc: Global,
@@ -126,7 +126,7 @@ impl<'a> Lent<'a> {
         }
     }
 
-    // The stretch that is just so many of them at an offset, if one is.
+    // The stretch that is exactly the `len` bytes at `offset`, if there is one.
     fn shared(self, offset: u64, len: usize) -> Option<&'a Arc<Vec<u8>>>
         ensures { IfSome result (λ a. (vec_len (arc_value a.now) ≡ len) × StandsAt (lent_bytes self.entry) offset (arc_value a.now).items) }
     {

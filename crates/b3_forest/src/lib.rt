@@ -1,23 +1,27 @@
-//! The parts of an upload, hashed alone and in any order (hash mode).
+//! The parts of an upload, hashed independently and in any order (hash mode).
 //!
-//! A `Plan` is the length of an upload, or the most that it may have where its length is fixed later. `Prepared::make` takes
-//! one part of it and hashes it, with no other part at hand: it keeps the part's pieces, which are complete subtrees of
-//! the tree over the whole upload.
+//! ```rust
+//! let (upload, plan) = store.begin(tenant, bytes.len() as u64)?;
+//! let part = Prepared::make(alloc, &plan, 0, bytes, &mut work)?;
+//! let _held = store.put(upload, part, &mut work)?;
+//! ```
 //!
-//! A `Forest` holds the parts of one upload. `Forest::add` puts a part's pieces among the others, and merges those that
-//! are the halves of one aligned range; it hashes no bytes. `Forest::finish` gives the top of the tree over the whole
-//! content, whichever way it was cut and in whatever order its parts came. `Forest::gaps` lists what is missing. Parts stand in
-//! an ordered map: one is added in logarithmic time wherever it lies.
+//! A `Plan` is the length of an upload, or its maximum length if the length is fixed later. `Prepared::make` takes one part of the upload
+//! and hashes it without any other part: it keeps the part's pieces, which are complete subtrees of the tree over the whole upload.
 //!
-//! The rules of an upload, where parts may lie, what is missing and where it ends, are those of `store_upload`: a `Forest` is an
-//! `Open` upload that holds its parts as `HashedParts`, which know of bytes and of pieces alone.
+//! A `Forest` holds the parts of one upload. `Forest::add` adds a part's pieces and merges those that are the halves of one aligned range;
+//! it hashes no bytes. `Forest::finish` returns the top of the tree over the whole content, however it was split and in whatever order the
+//! parts came. `Forest::gaps` lists what is missing. Parts are kept in an ordered map: adding one takes logarithmic time at any offset.
 //!
-//! A `Follow` does the same for bytes that are lent: it notes parts of them, and tells their top, without copies. `Lent` bytes
-//! stand in one slice, or in `Stretches` of one length, which a `StretchesBuilder` gathers. `Prepared::share` makes a part of
-//! bytes that others hold too, as of a stretch, without a copy.
+//! The rules of an upload (where parts may be, what is missing and where it ends) are those of `store_upload`: a `Forest` is an `Open`
+//! upload that holds its parts as `HashedParts`, which know only about bytes and pieces.
 //!
-//! The pieces are always the canonical forest of the held chunks, and `forest_laws` states that there is one such
-//! forest of what is held. They stand in an ordered map by their first chunk.
+//! A `Follow` does the same for borrowed bytes: it notes parts of them, and returns their top, without copies. `Lent` bytes are in one
+//! slice, or in `Stretches` of one length, which a `StretchesBuilder` gathers. `Prepared::share` makes a part of bytes that may be shared,
+//! such as a stretch, without a copy.
+//!
+//! The pieces are always the canonical forest of the held chunks, and `forest_laws` states that there is only one such forest. They are
+//! kept in an ordered map by their first chunk.
 #![tactic(auto)]
 
 mod add_refused;
@@ -49,6 +53,6 @@ pub use refusal::{Incomplete, NoteFault, PartRefused, ShareRefused};
 pub use segment::Segment;
 pub use shared_bytes::SharedBytes;
 pub use store_upload::{
-    AddFault, FinishFault, FixFault, MOST_BYTES, MOST_PART_BYTES, PartFault, Plan, TooLong,
+    AddFault, FinishFault, FixFault, MAX_BYTES, MAX_PART_BYTES, PartFault, Plan, TooLong,
 };
 pub use stretches::{Stretches, StretchesBuilder};

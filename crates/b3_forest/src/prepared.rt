@@ -1,10 +1,10 @@
-//! One part, hashed alone.
+//! One part, hashed independently.
 
 ghost use Rattle.std.specs.Prelude.{◌≡◌, ◌+◌, ◌≤◌, IfErr, IfOk, IfSome, OnOk, Some, length, unwrap_or, vec_len};
 ghost use Rattle.std.specs.Arc.{arc_value};
 ghost use Rattle.b3_core.specs.Work.{NeverFalls, counted};
-ghost use Rattle.store_upload.specs.Uploads.{Fits, most_bytes, part_refusal};
-ghost use Rattle.b3_forest.specs.Parts.{PlannedPart, chunks_of, planned};
+ghost use Rattle.store_upload.specs.Uploads.{Fits, max_bytes, part_refusal};
+ghost use Rattle.b3_forest.specs.Parts.{ModelPrepared, chunks_of, planned};
 ghost use Rattle.b3_forest.specs.Texts.{prepared_text};
 ghost use Rattle.b3_forest.specs.Pieces.{IsPrepared, part_work, piece_count, pieces_of, root_level};
 
@@ -19,8 +19,7 @@ use std::marker::Model;
 use std::sync::Arc;
 use store_upload::{CHUNK_LEN, PartFault, Plan};
 
-/// A part of an upload with its pieces: complete subtrees of the tree over the whole upload. It was hashed with no
-/// other part at hand.
+/// A part of an upload with its pieces: complete subtrees of the tree over the whole upload. It is hashed without any other part.
 #[derive(Drop)]
 pub struct Prepared {
     plan: Plan,
@@ -30,7 +29,7 @@ pub struct Prepared {
 }
 
 impl Model for Prepared {
-    ghost Value = { PlannedPart };
+    ghost Value = { ModelPrepared };
 
     ghost view = { λ p. planned p.plan p.offset (arc_value p.bytes).items };
 
@@ -38,14 +37,14 @@ impl Model for Prepared {
 }
 
 impl Prepared {
-    /// Hashes a part of an upload, `bytes` at an offset.
+    /// Hashes `bytes` as the part of an upload at an offset.
     ///
-    /// Refusals hand the bytes back, the first that applies: F2 no bytes, F3 the offset is not a multiple of 1024, F4
-    /// the part ends past the plan's bound, F5 its length is not a multiple of 1024 and it does not end with the plan
-    /// (not under an open plan), F6 above 2^24 bytes. Want of memory is F9.
+    /// A refusal returns the bytes. The first matching one of: F2, there are no bytes; F3, the offset is not a multiple of 1024; F4, the
+    /// part ends past the plan's bound; F5, its length is not a multiple of 1024 and it does not end at the plan's end (not under an open
+    /// plan); F6, there are more than 2^24 bytes. F9 if out of memory.
     ///
-    /// For each chunk it makes as many compressions as the chunk has blocks less one, and two for each chunk beyond the
-    /// number of pieces; none where F2 to F6 apply. At F9 it has made some of them.
+    /// For each chunk it makes one compression fewer than the chunk has blocks, and two for each chunk beyond the number of pieces. It
+    /// makes none if one of F2 to F6 applies; before F9 it may have made some of them.
     pub fn make(
         alloc: Global,
         plan: &Plan,
@@ -80,7 +79,7 @@ impl Prepared {
         }
     }
 
-    /// Hashes a part of an upload, as `make` does, whose bytes others may hold too. It doesn't copy them.
+    /// Hashes a part of an upload, as `make` does, from bytes that may be shared. They are not copied.
     pub fn share(
         alloc: Global,
         plan: &Plan,
@@ -108,7 +107,7 @@ impl Prepared {
         }
     }
 
-    /// Where the part begins in its upload.
+    /// The offset of the part in its upload.
     pub fn offset(&self) -> u64
         ensures { result ≡ self.now.part.offset }
     {
@@ -122,7 +121,7 @@ impl Prepared {
         self.bytes.as_slice()
     }
 
-    /// The part's bytes, handed back, where nothing else holds them; else the part.
+    /// Returns the part's bytes if nothing else holds them, otherwise the part.
     pub fn into_bytes(self) -> Result<Vec<u8>, Prepared>
         ensures bytes { IfOk result (λ bytes. bytes.items ≡ self.part.bytes) }
         ensures back { IfErr result (λ part. part ≡ self) }
@@ -144,7 +143,7 @@ impl Prepared {
         }
     }
 
-    /// Where the part ends in its upload.
+    /// The offset in its upload at which the part ends.
     pub(crate) fn end(&self) -> u64
         ensures { result ≡ self.now.part.offset + length self.now.part.bytes }
     {
@@ -164,9 +163,9 @@ impl Prepared {
     pub fn fitting(&self) -> &[u8]
         ensures bytes { result.now ≡ self.now.part.bytes }
         ensures fits { Fits self.now.plan self.now.part.offset (length self.now.part.bytes) }
-        ensures bounded { self.now.plan.bound ≤ most_bytes }
+        ensures bounded { self.now.plan.bound ≤ max_bytes }
     {
-        // For the proof alone: a plan says that its bound is at most 2^44.
+        // For the proof alone: the bound of a plan is at most 2^44.
         let _most = self.plan.bound();
         self.bytes()
     }
@@ -187,7 +186,7 @@ impl Prepared {
         SharedBytes::new(bytes)
     }
 
-    /// How many pieces the part has.
+    /// The number of pieces of the part.
     pub fn pieces(&self) -> usize
         ensures { result ≡ piece_count (chunks_of self.now.part) }
     {
@@ -195,7 +194,7 @@ impl Prepared {
     }
 }
 
-// The pieces of a part of an upload, or why it is none.
+// The pieces of a part of an upload, or why it cannot be one.
 fn hashed(
     alloc: Global,
     plan: &Plan,
@@ -222,7 +221,7 @@ fn hashed(
     }
 }
 
-/// Where the part begins and how many bytes it has.
+/// Shows the part's offset and the number of its bytes.
 impl fmt::Debug for Prepared {
     ghost debug_output = { λ prepared. Some (prepared_text prepared.part) };
 

@@ -10,14 +10,14 @@ use std::fmt;
 use std::sync::Arc;
 use store_upload::PartFault;
 
-/// A refused part: its bytes, handed back.
+/// A refused part; its bytes are returned to the caller.
 #[derive(Drop)]
 pub struct PartRefused {
     pub fault: PartFault,
     pub bytes: Vec<u8>,
 }
 
-/// The refusal's number.
+/// The code of the refusal.
 impl fmt::Display for PartRefused {
     ghost output = { λ refused. Some (part_fault_text refused.fault) };
 
@@ -26,7 +26,7 @@ impl fmt::Display for PartRefused {
     }
 }
 
-/// The refusal and how many bytes come back.
+/// Shows the refusal and the number of bytes returned.
 impl fmt::Debug for PartRefused {
     ghost debug_output = { λ refused. Some (part_refused_text refused.fault (vec_len refused.bytes)) };
 
@@ -38,14 +38,14 @@ impl fmt::Debug for PartRefused {
 
 impl Error for PartRefused {}
 
-/// A refused part whose bytes others may hold: its bytes, handed back.
+/// A refused part with bytes that may be shared; they are returned to the caller.
 #[derive(Drop)]
 pub struct ShareRefused {
     pub fault: PartFault,
     pub bytes: Arc<Vec<u8>>,
 }
 
-/// The refusal's number.
+/// The code of the refusal.
 impl fmt::Display for ShareRefused {
     ghost output = { λ refused. Some (part_fault_text refused.fault) };
 
@@ -54,7 +54,7 @@ impl fmt::Display for ShareRefused {
     }
 }
 
-/// The refusal and how many bytes come back.
+/// Shows the refusal and the number of bytes returned.
 impl fmt::Debug for ShareRefused {
     ghost debug_output = { λ refused. Some (share_refused_text refused.fault (vec_len (arc_value refused.bytes))) };
 
@@ -66,14 +66,14 @@ impl fmt::Debug for ShareRefused {
 
 impl Error for ShareRefused {}
 
-/// F10: the least offset of the upload that is not held.
+/// F10: the lowest offset of the upload that is not held.
 #[derive(Clone, Copy, PartialEq, Eq, Debug)]
 pub struct Incomplete {
     pub missing: u64,
 }
 
 impl Incomplete {
-    /// The refusal's number, `F10`.
+    /// The code of the refusal, `F10`.
     pub fn code(self) -> &'static str
         ensures { result.now ≡ incomplete_code }
     {
@@ -81,7 +81,7 @@ impl Incomplete {
     }
 }
 
-/// The refusal's number with what it carries.
+/// The code of the refusal, with its data.
 impl fmt::Display for Incomplete {
     ghost output = { λ refused. Some (incomplete_text refused.missing) };
 
@@ -96,18 +96,18 @@ impl Error for Incomplete {}
 /// The refusals of `Follow::note`, in the order in which they are checked.
 #[derive(Clone, Copy, PartialEq, Eq, Debug)]
 pub enum NoteFault {
-    /// F7: the part was made for another plan than that of an upload of just these bytes: of another length, or open.
+    /// F7: the part was not made for the plan of an upload of exactly these bytes, but for another length or an open plan.
     WrongPlan,
-    /// F8: the least offset of the part that is noted already.
+    /// F8: the lowest offset of the part that is noted already.
     Overlap { at: u64 },
-    /// F11: the part's bytes are not the lent bytes at its offset.
+    /// F11: the part's bytes are not the borrowed bytes at its offset.
     Stranger,
-    /// F9: memory was refused.
+    /// F9: out of memory.
     NoMemory,
 }
 
 impl NoteFault {
-    /// The refusal's number.
+    /// The code of the refusal.
     pub fn code(self) -> &'static str
         ensures { result.now ≡ note_fault_code self }
     {
@@ -120,7 +120,7 @@ impl NoteFault {
     }
 }
 
-/// The refusal's number with what it carries.
+/// The code of the refusal, with its data.
 impl fmt::Display for NoteFault {
     ghost output = { λ fault. Some (note_fault_text fault) };
 

@@ -7,16 +7,16 @@ ghost use Rattle.b3_forest.specs.Uploads.{part_of};
 use std::fmt;
 use std::sync::Arc;
 
-/// The bytes of one part, and where they begin in the upload.
+/// The bytes of one part, and their offset in the upload.
 #[derive(Drop)]
 pub struct Segment {
-    /// Where the bytes begin.
+    /// The offset of the bytes.
     pub offset: u64,
     /// The bytes.
     pub bytes: Arc<Vec<u8>>,
 }
 
-/// Where the bytes begin and how many they are.
+/// Shows the offset and the number of bytes.
 impl fmt::Debug for Segment {
     ghost debug_output = { λ segment. Some (segment_text (part_of segment)) };
 

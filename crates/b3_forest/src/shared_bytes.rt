@@ -1,4 +1,4 @@
-//! Bytes that are shared.
+//! Shared bytes.
 
 ghost use Rattle.std.specs.Prelude.{◌≡◌, IfOk, length};
 ghost use Rattle.std.specs.Arc.{arc_value};
@@ -26,7 +26,7 @@ impl Model for SharedBytes {
 }
 
 impl SharedBytes {
-    /// Bytes that others may hold too.
+    /// Bytes that may be shared.
     pub(crate) fn new(bytes: Arc<Vec<u8>>) -> SharedBytes
         ensures { result ≡ (arc_value bytes).items }
     {
@@ -40,7 +40,7 @@ impl SharedBytes {
         self.bytes.as_slice()
     }
 
-    /// The segment that they are at an offset.
+    /// These bytes as a segment at `offset`.
     pub(crate) fn at(&self, offset: u64) -> Result<Segment, AllocError>
         ensures { IfOk result (λ segment. part_of segment ≡ (offset, self.now)) }
     {

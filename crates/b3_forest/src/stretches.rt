@@ -1,4 +1,4 @@
-//! Bytes in stretches of one length, which parts of an upload share.
+//! Bytes in stretches of one length, which the parts of an upload share.
 
 ghost use Rattle.std.specs.Prelude.{◌≡◌, ◌==◌, ◌%◌, ◌<◌, ◌≤◌, ◌++◌, [], IfNone, IfOk, IfSome, length};
 ghost use Rattle.b3_forest.specs.Stretches.{IsRun, StandsAt, left_of_stretch, stretch_bytes};
@@ -7,7 +7,7 @@ use std::alloc::{AllocError, Global};
 use std::marker::Model;
 use std::sync::Arc;
 
-/// Bytes in stretches of one length, of which the last may be shorter. Parts of an upload share the stretches.
+/// Bytes in stretches of one length; the last one may be shorter. The parts of an upload share the stretches.
 #[derive(Drop)]
 pub struct Stretches {
     stretch_len: usize,
@@ -18,9 +18,9 @@ pub struct Stretches {
 
 impl Model for Stretches {
     ghost use Rattle.std.specs.Prelude.{◌≡◌, ◌<◌, ◌≤◌, length};
-    ghost use Rattle.b3_forest.specs.Stretches.{AreFull, Stretched, stretch_bytes, stretched};
+    ghost use Rattle.b3_forest.specs.Stretches.{AreFull, ModelStretches, stretch_bytes, stretched};
 
-    ghost Value = { Stretched };
+    ghost Value = { ModelStretches };
 
     ghost view = { λ s. stretched s.stretch_len s.full.items (stretch_bytes s.last) };
 
@@ -28,21 +28,21 @@ impl Model for Stretches {
 }
 
 impl Stretches {
-    /// How many bytes they are.
+    /// The number of bytes.
     pub fn len(&self) -> u64
         ensures { result ≡ length self.now.bytes }
     {
         self.len
     }
 
-    /// Whether they are no bytes.
+    /// Whether there are no bytes.
     pub fn is_empty(&self) -> bool
         ensures { result ≡ (length self.now.bytes == 0) }
     {
         self.len == 0
     }
 
-    /// The bytes from an offset to the end of their stretch; none where none stand there.
+    /// The bytes from offset `at` to the end of their stretch; empty if there are no bytes there.
     pub fn run(&self, at: u64) -> &[u8]
         ensures run { IsRun self.now.bytes at result.now }
         ensures len { length result.now ≡ left_of_stretch self.now at }
@@ -61,7 +61,7 @@ impl Stretches {
         }
     }
 
-    /// The stretch that begins at an offset, if one with some bytes does.
+    /// The stretch that starts at `offset`, if there is a nonempty one.
     pub fn begun_at(&self, offset: u64) -> Option<&Arc<Vec<u8>>>
         ensures stands { IfSome result (λ a. StandsAt self.now.bytes offset (stretch_bytes a.now)) }
         ensures whole { IfSome result (λ a. (offset % self.now.each ≡ 0) × (length (stretch_bytes a.now) ≡ left_of_stretch self.now offset)) }
@@ -93,9 +93,9 @@ pub struct StretchesBuilder {
 
 impl Model for StretchesBuilder {
     ghost use Rattle.std.specs.Prelude.{◌<◌, ◌≤◌, vec_len};
-    ghost use Rattle.b3_forest.specs.Stretches.{AreFull, Stretched, stretched};
+    ghost use Rattle.b3_forest.specs.Stretches.{AreFull, ModelStretches, stretched};
 
-    ghost Value = { Stretched };
+    ghost Value = { ModelStretches };
 
     ghost view = { λ s. stretched s.stretch_len s.full.items s.last.items };
 
@@ -103,7 +103,7 @@ impl Model for StretchesBuilder {
 }
 
 impl StretchesBuilder {
-    /// Begins stretches of so many bytes, and takes room for the first.
+    /// Starts stretches of `stretch_len` bytes, and allocates the first.
     pub fn new(alloc: Global, stretch_len: usize) -> Result<StretchesBuilder, AllocError>
         requires { 0 < stretch_len }
         ensures { IfOk result (λ gathered. gathered ≡ record { each = stretch_len; bytes = [] }) }
@@ -116,7 +116,7 @@ impl StretchesBuilder {
         })
     }
 
-    /// With more bytes behind. Room for a stretch is taken before its first byte.
+    /// Appends `bytes`. Each stretch is allocated before its first byte is added.
     pub fn with(self, alloc: Global, bytes: &[u8]) -> Result<StretchesBuilder, AllocError>
         ensures { IfOk result (λ gathered. gathered ≡ record { each = self.each; bytes = self.bytes ++ bytes.now }) }
     {
@@ -135,9 +135,9 @@ impl StretchesBuilder {
                 full.push(stretch)?;
                 last = Vec::with_capacity(alloc, stretch_len)?;
             }
-            let (front, behind) = rest.split_at(rest.len().min(stretch_len - last.len()));
+            let (front, following) = rest.split_at(rest.len().min(stretch_len - last.len()));
             last.extend_from_slice(front)?;
-            rest = behind;
+            rest = following;
         }
         Ok(StretchesBuilder {
             stretch_len,
@@ -146,7 +146,7 @@ impl StretchesBuilder {
         })
     }
 
-    /// The stretches, no more of which will come.
+    /// The finished stretches.
     pub fn finish(self, alloc: Global) -> Result<Stretches, AllocError>
         ensures { IfOk result (λ stretches. stretches ≡ self) }
     {

@@ -6,14 +6,14 @@ ghost use Rattle.b3_core.specs.Laws.{NeighboursJoin};
 ghost use Rattle.b3_core.specs.Work.{counted};
 ghost use Rattle.b3_forest.specs.Subtrees.{AreForest};
 ghost use Rattle.b3_forest.specs.inner.Subtrees.{AreBoth, AreChunks, AreFresh, ArePiecesOfSome, IsAlone, IsBound, IsFirstGap, IsLastUpto, IsLeastHeld, IsMerged, IsNextFrom, IsOtherHalf, IsPair, IsSettling, NoneFrom, NoneHeld, NoneUpto, firsts, is_held, top_over, with_subtrees};
-ghost use Rattle.b3_forest.specs.Pieces.{most_chunks, root_level};
+ghost use Rattle.b3_forest.specs.Pieces.{max_chunks, root_level};
 
-use crate::piece::{MOST_CHUNKS, Piece, Subtree};
+use crate::piece::{MAX_CHUNKS, Piece, Subtree};
 use b3_core::{Mode, Top, Work, tree_laws};
 use std::alloc::AllocError;
 use std::collections::BTreeMap;
 
-/// The halves of an aligned range: 2^level chunks from `left` on, and as many from `right` on.
+/// The halves of an aligned range: 2^`level` chunks starting at `left`, and 2^`level` starting at `right`.
 #[derive(Clone, Copy)]
 pub(crate) struct Halves {
     pub(crate) left: u64,
@@ -23,7 +23,7 @@ pub(crate) struct Halves {
     pub(crate) right_top: Top,
 }
 
-/// Puts pieces in. Where memory is refused, the map is as before.
+/// Inserts pieces. If an allocation fails, the map is unchanged.
 pub(crate) fn put_in(
     subtrees: &mut BTreeMap<u64, Subtree>,
     pieces: &[Piece],
@@ -42,20 +42,20 @@ pub(crate) fn put_in(
     Ok(())
 }
 
-// Whether a range of `width` chunks is the left half of the aligned range of twice as many.
+// Whether a range of `width` chunks is the left half of the aligned range of twice that width.
 fn is_left_half(first: u64, width: u64) -> bool
     requires { 0 < width }
     ensures yes { result ≡ true → first / width % 2 ≡ 0 }
     ensures no { result ≡ false → first / width % 2 ≢ 0 }
-    ensures behind { result ≡ false → width ≤ first }
+    ensures following { result ≡ false → width ≤ first }
 {
     first / width % 2 == 0
 }
 
-// The chunk with which the other half begins, of a range of `width` chunks.
+// The first chunk of the other half, for a range of `width` chunks.
 fn other_half(first: u64, width: u64) -> u64
     requires positive { 0 < width }
-    requires within { first + width ≤ most_chunks }
+    requires within { first + width ≤ max_chunks }
     ensures { (l q : ℕ) → width ≡ 2 ^ l → first ≡ q * 2 ^ l → IsOtherHalf first l result }
 {
     if is_left_half(first, width) {
@@ -65,7 +65,7 @@ fn other_half(first: u64, width: u64) -> u64
     }
 }
 
-// The halves of which one is the piece at a chunk, if both are there.
+// The halves that include the piece at chunk `first`, if both are present.
 fn halves_at(subtrees: &BTreeMap<u64, Subtree>, first: u64) -> Option<Halves>
     requires { ArePiecesOfSome subtrees.now.entries }
     ensures pair { IfSome result (IsPair subtrees.now.entries first) }
@@ -95,7 +95,7 @@ fn halves_at(subtrees: &BTreeMap<u64, Subtree>, first: u64) -> Option<Halves>
     })
 }
 
-// Puts the parent of two halves in their place.
+// Replaces two halves with their parent.
 fn merge(subtrees: &mut BTreeMap<u64, Subtree>, halves: &Halves, work: &mut Work)
     requires both { AreBoth subtrees.old.entries halves.now }
     requires low { halves.now.level < root_level }
@@ -114,7 +114,7 @@ fn merge(subtrees: &mut BTreeMap<u64, Subtree>, halves: &Halves, work: &mut Work
     };
 }
 
-// Merges the piece at a chunk with its other half, and the result with its own, as long as there is one.
+// Merges the piece at chunk `first` with its other half, and then the result with its own, as long as there is one.
 fn settle(subtrees: &mut BTreeMap<u64, Subtree>, first: u64, work: &mut Work)
     requires { (ds : List ℕ) × IsSettling (first ∷ ds) subtrees.old.entries }
     ensures forest { (n : ℕ) (x : ℕ → List ℕ) (ds : List ℕ) → AreChunks n x → AreForest x (first ∷ ds) subtrees.old.entries → AreForest x ds subtrees.new.entries }
@@ -128,7 +128,7 @@ fn settle(subtrees: &mut BTreeMap<u64, Subtree>, first: u64, work: &mut Work)
     settle(subtrees, halves.left, work);
 }
 
-/// Merges what these pieces meet.
+/// Merges everything that these pieces make it possible to merge.
 pub(crate) fn settle_all(subtrees: &mut BTreeMap<u64, Subtree>, pieces: &[Piece], work: &mut Work)
     requires { IsSettling (firsts pieces.now) subtrees.old.entries }
     ensures forest { (n : ℕ) (x : ℕ → List ℕ) → AreChunks n x → AreForest x (firsts pieces.now) subtrees.old.entries → AreForest x [] subtrees.new.entries }
@@ -142,7 +142,7 @@ pub(crate) fn settle_all(subtrees: &mut BTreeMap<u64, Subtree>, pieces: &[Piece]
     settle_all(subtrees, rest, work);
 }
 
-// The piece that begins last at a chunk or before it.
+// The last piece that starts at or before chunk `start`.
 fn last_upto(subtrees: &BTreeMap<u64, Subtree>, start: u64) -> Option<(u64, Subtree)>
     ensures found { IfSome result (λ e. IsLastUpto subtrees.now.entries start e.0 e.1) }
     ensures none { IfNone result (NoneUpto subtrees.now.entries start) }
@@ -153,7 +153,7 @@ fn last_upto(subtrees: &BTreeMap<u64, Subtree>, start: u64) -> Option<(u64, Subt
     Some((*first, *subtree))
 }
 
-// Where the first piece begins from `start` to below `end`.
+// The first chunk of the first piece that starts at `start` or later, but before `end`.
 fn next_from(subtrees: &BTreeMap<u64, Subtree>, start: u64, end: u64) -> Option<u64>
     requires order { start < end }
     ensures found { IfSome result (IsNextFrom subtrees.now.entries start end) }
@@ -165,12 +165,12 @@ fn next_from(subtrees: &BTreeMap<u64, Subtree>, start: u64, end: u64) -> Option<
     Some(*first)
 }
 
-/// The least chunk from `start` to below `end` that is in a piece.
+/// The lowest chunk from `start` to below `end` that is in a piece.
 pub(crate) fn first_held(subtrees: &BTreeMap<u64, Subtree>, start: u64, end: u64) -> Option<u64>
     requires pieces { ArePiecesOfSome subtrees.now.entries }
     requires order { start < end }
     ensures least { (x : ℕ → List ℕ) → AreForest x [] subtrees.now.entries → IfSome result (IsLeastHeld x start end) }
-    ensures none { (x : ℕ → List ℕ) → end ≤ most_chunks → AreForest x [] subtrees.now.entries → IfNone result (NoneHeld x start end) }
+    ensures none { (x : ℕ → List ℕ) → end ≤ max_chunks → AreForest x [] subtrees.now.entries → IfNone result (NoneHeld x start end) }
 {
     match last_upto(subtrees, start) {
         Some((first, subtree)) if start - first < subtree.width() => Some(start),
@@ -178,20 +178,20 @@ pub(crate) fn first_held(subtrees: &BTreeMap<u64, Subtree>, start: u64, end: u64
     }
 }
 
-/// The least chunk from a bound on that is in no piece.
+/// The lowest chunk from a bound on that is in no piece.
 pub(crate) fn first_gap(subtrees: &BTreeMap<u64, Subtree>, next: u64) -> u64
     requires { ArePiecesOfSome subtrees.now.entries }
-    ensures gap { (x : ℕ → List ℕ) → AreForest x [] subtrees.now.entries → next ≤ most_chunks → IsBound subtrees.now.entries next
-        → ((i : ℕ) → i < next → is_held x i ≡ true) → ((i : ℕ) → most_chunks ≤ i → is_held x i ≡ false) → IsFirstGap x result }
-    ensures bounded { (x : ℕ → List ℕ) → AreForest x [] subtrees.now.entries → next ≤ most_chunks → result ≤ most_chunks }
+    ensures gap { (x : ℕ → List ℕ) → AreForest x [] subtrees.now.entries → next ≤ max_chunks → IsBound subtrees.now.entries next
+        → ((i : ℕ) → i < next → is_held x i ≡ true) → ((i : ℕ) → max_chunks ≤ i → is_held x i ≡ false) → IsFirstGap x result }
+    ensures bounded { (x : ℕ → List ℕ) → AreForest x [] subtrees.now.entries → next ≤ max_chunks → result ≤ max_chunks }
 {
     match subtrees.get(&next) {
-        Some(subtree) if next < MOST_CHUNKS => first_gap(subtrees, next + subtree.width()),
+        Some(subtree) if next < MAX_CHUNKS => first_gap(subtrees, next + subtree.width()),
         _ => next,
     }
 }
 
-/// The top over all pieces, each a left side of those to its right.
+/// The top over all pieces, each of them the left side of those to its right.
 pub(crate) fn top_of(subtrees: &BTreeMap<u64, Subtree>, work: &mut Work) -> Option<Top>
     ensures top { result ≡ top_over (values_of subtrees.now.entries) }
     ensures count { work.new ≡ counted work.old (2 * (length subtrees.now.entries - 1)) }

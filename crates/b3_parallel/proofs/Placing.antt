@@ -5,8 +5,8 @@ use Rattle.std.proofs.Math.Nat.{mul-le-mul_left}
 use Rattle.std.proofs.Math.Seq.{take-add, take-append_seam}
 use Rattle.std.specs.Global.{Vec}
 use Rattle.std.specs.Io.KnownBytes.{Consumes, IsAtEnd}
-use Rattle.b3_core.specs.Hashers.{HasRoomFor, Hashing, Holds, IsBehind, CountsRest, kept_work}
-use Rattle.b3_core.specs.Tree.{Inputs, Keying, tree_top}
+use Rattle.b3_core.specs.Hashers.{HasRoomFor, ModelHasher, Holds, IsAfter, CountsRest, kept_work}
+use Rattle.b3_core.specs.Tree.{ModelTop, ModelMode, tree_top}
 use Rattle.b3_core.specs.Work.{counted, hash_work}
 use Rattle.b3_parallel.specs.inner.Blocks.{IsGiven, IsHashed}
 use Rattle.b3_parallel.specs.inner.Lines.{Carries}
@@ -35,8 +35,8 @@ pub front_all : (known new : Option (List ℕ)) (x y : List ℕ) → StandsAt kn
 front_all None new x y first gave end = tt
 front_all (Some all) None x y first gave end = absurd gave
 front_all (Some all) (Some rest) x y first gave end =
-    let behind : drop (length x) all ≡ y = gave ∙ ap (λ z. y ++ z) end ∙ append-nil y in
-    ap₂ (λ a b. a ++ b) (sym first) (sym behind) ∙ take-append-drop (length x) all
+    let following : drop (length x) all ≡ y = gave ∙ ap (λ z. y ++ z) end ∙ append-nil y in
+    ap₂ (λ a b. a ++ b) (sym first) (sym following) ∙ take-append-drop (length x) all
 
 -- blocks that end within 2^53 chunks
 pub room_within : (place end size : ℕ) → place < end → end * size ≤ 2 ^ 53 → (place + 1) * size ≤ 2 ^ 53
@@ -49,20 +49,20 @@ pub few_bytes : (x place size len : ℕ) → x ≡ 1024 * (place * size) → len
 few_bytes x place size len before mine most = let sum : (place + 1) * size ≡ place * size + size = omega arith in omega (arith, before, mine, most, sum)
 
 -- a block at the end of all bytes
-at_end : (p : Keying) (top : Inputs) (mine x : List ℕ) (number own : ℕ) → IsHashed p mine number top own → length x ≡ 1024 * number → IsHashed p mine (length x / 1024) top own
+at_end : (p : ModelMode) (top : ModelTop) (mine x : List ℕ) (number own : ℕ) → IsHashed p mine number top own → length x ≡ 1024 * number → IsHashed p mine (length x / 1024) top own
 at_end p top mine x number own (node, made) size =
     let count : number ≡ length x / 1024 = omega (arith, size) in
     (node ∙ ap (λ n. tree_top mine n p) count, made)
 
 -- the next block stands behind what the hasher was given
-pub placed_is_behind : (p : Keying) (known : Option (List ℕ)) (k place n m : ℕ) (h : Hashing) (s : Placed) → (front : HasFront p known k h place n m)
-    → (block : IsPlaced p known k s) → s.place ≡ place → (place + 1) * 2 ^ k ≤ 2 ^ 53 → IsBehind h k s.top front.0 block.0
+pub placed_is_behind : (p : ModelMode) (known : Option (List ℕ)) (k place n m : ℕ) (h : ModelHasher) (s : Placed) → (front : HasFront p known k h place n m)
+    → (block : IsPlaced p known k s) → s.place ≡ place → (place + 1) * 2 ^ k ≤ 2 ^ 53 → IsAfter h k s.top front.0 block.0
 placed_is_behind p known k place n m h s (x, carries, size, first) (mine, len, hashed, at) same most =
     let number : length x ≡ 1024 * (s.place * 2 ^ k) = size ∙ ap (λ n. 1024 * (n * 2 ^ k)) (sym same) in
     is_behind_all p k h x mine n m s.work s.top carries len (at_end p s.top mine x (s.place * 2 ^ k) s.work hashed number)
     (few_bytes (length x) place (2 ^ k) (length mine) size len most)
 
-pub front_grows : (p : Keying) (known : Option (List ℕ)) (k place n m u : ℕ) (h new : Hashing) (s : Placed) → (front : HasFront p known k h place n m)
+pub front_grows : (p : ModelMode) (known : Option (List ℕ)) (k place n m u : ℕ) (h new : ModelHasher) (s : Placed) → (front : HasFront p known k h place n m)
     → (block : IsPlaced p known k s) → s.place ≡ place → Carries p k new [] (front.0 ++ block.0) n u → HasFront p known k new (place + 1) n u
 front_grows p known k place n m u h new s (x, carries, size, first) (mine, len, hashed, at) same now =
     let sum : (place + 1) * 2 ^ k ≡ place * 2 ^ k + 2 ^ k = omega arith in
@@ -74,22 +74,22 @@ front_grows p known k place n m u h new s (x, carries, size, first) (mine, len, 
     )
 
 -- a list with one more block behind the others
-pub placed_more : (p : Keying) (known : Option (List ℕ)) (k : ℕ) (list : List Placed) (s : Placed) → ArePlaced p known k list → IsPlaced p known k s → ArePlaced p known k (list ++ s ∷ [])
+pub placed_more : (p : ModelMode) (known : Option (List ℕ)) (k : ℕ) (list : List Placed) (s : Placed) → ArePlaced p known k list → IsPlaced p known k s → ArePlaced p known k (list ++ s ∷ [])
 placed_more p known k [] s are is = (is, tt)
 placed_more p known k (first ∷ list) s (one, are) is = (one, placed_more p known k list s are is)
 
 -- slots of which one is another
-pub slots_set : (p : Keying) (known : Option (List ℕ)) (k i : ℕ) (slots : List (Option Placed)) (s : Option Placed) → AreSlots p known k slots → IfSome s (IsPlaced p known k) → AreSlots p known k (set slots i s)
+pub slots_set : (p : ModelMode) (known : Option (List ℕ)) (k i : ℕ) (slots : List (Option Placed)) (s : Option Placed) → AreSlots p known k slots → IfSome s (IsPlaced p known k) → AreSlots p known k (set slots i s)
 slots_set p known k i [] s are is = tt
 slots_set p known k zero (first ∷ slots) s (one, are) is = (is, are)
 slots_set p known k (suc i) (first ∷ slots) s (one, are) is = (one, slots_set p known k i slots s are is)
 
-pub slots_more : (p : Keying) (known : Option (List ℕ)) (k : ℕ) (slots : List (Option Placed)) (s : Option Placed) → AreSlots p known k slots → IfSome s (IsPlaced p known k) → AreSlots p known k (slots ++ s ∷ [])
+pub slots_more : (p : ModelMode) (known : Option (List ℕ)) (k : ℕ) (slots : List (Option Placed)) (s : Option Placed) → AreSlots p known k slots → IfSome s (IsPlaced p known k) → AreSlots p known k (slots ++ s ∷ [])
 slots_more p known k [] s are is = (is, tt)
 slots_more p known k (first ∷ slots) s (one, are) is = (one, slots_more p known k slots s are is)
 
 -- what one thread made, behind what others did
-pub taken_more : (p : Keying) (known : Option (List ℕ)) (k : ℕ) (lists : List (Vec Placed)) (list : Vec Placed) → AreTaken p known k lists → ArePlaced p known k list.items → AreTaken p known k (lists ++ list ∷ [])
+pub taken_more : (p : ModelMode) (known : Option (List ℕ)) (k : ℕ) (lists : List (Vec Placed)) (list : Vec Placed) → AreTaken p known k lists → ArePlaced p known k list.items → AreTaken p known k (lists ++ list ∷ [])
 taken_more p known k [] list are is = (is, tt)
 taken_more p known k (first ∷ lists) list (one, are) is = (one, taken_more p known k lists list are is)
 
@@ -98,10 +98,10 @@ nothing_stands None = tt
 nothing_stands (Some all) = refl
 
 -- a hasher that was given nothing
-pub front_begins : (p : Keying) (known : Option (List ℕ)) (k n : ℕ) (h : Hashing) → h ≡ record { mode = p; subtrees = []; whole = 0; tail = [] } → HasFront p known k h 0 n n
+pub front_begins : (p : ModelMode) (known : Option (List ℕ)) (k n : ℕ) (h : ModelHasher) → h ≡ record { mode = p; subtrees = []; whole = 0; tail = [] } → HasFront p known k h 0 n n
 front_begins p known k n h is =
     let fits : HasRoomFor k h = rw is (refl, tt) in
-    ([], given_carries p k h [] n n (ap (λ (h : Hashing). h.mode) is) (nothing_given p h n is) fits, omega arith, nothing_stands known)
+    ([], given_carries p k h [] n n (ap (λ (h : ModelHasher). h.mode) is) (nothing_given p h n is) fits, omega arith, nothing_stands known)
 
 -- so many blocks, of which the last ends within 2^53 chunks
 pub all_within : (blocks limit size : ℕ) → blocks ≤ limit → ((n : ℕ) → n < limit → (n + 1) * size ≤ 2 ^ 53) → blocks * size ≤ 2 ^ 53
@@ -109,7 +109,7 @@ all_within zero limit size few within = omega arith
 all_within (suc n) limit size few within = let last : (n + 1) * size ≤ 2 ^ 53 = within n (omega (arith, few)) in omega (arith, last)
 
 -- the node of all bytes, and their compressions with those of before
-pub top_of_all : (p : Keying) (known : Option (List ℕ)) (h : Hashing) (top : Inputs) (x : List ℕ) (m u w v : ℕ) → h.mode ≡ p → IsGiven h x 0 m → AreAll known x
+pub top_of_all : (p : ModelMode) (known : Option (List ℕ)) (h : ModelHasher) (top : ModelTop) (x : List ℕ) (m u w v : ℕ) → h.mode ≡ p → IsGiven h x 0 m → AreAll known x
     → ((z : List ℕ) → Holds h z → top ≡ tree_top z 0 h.mode) → ((z : List ℕ) → Holds h z → CountsRest (kept_work h.subtrees) (hash_work (length z) - 1) m u) → v ≡ counted w u
     → (x : List ℕ) × (top ≡ tree_top x 0 p) × AreAll known x × (v ≡ counted w (hash_work (length x) - 1))
 top_of_all p known h top x m u w v mode (held, count) are node makes added =

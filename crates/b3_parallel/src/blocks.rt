@@ -1,4 +1,4 @@
-//! A block of bytes that a thread of its own hashes.
+//! A block of bytes that is hashed by its own thread.
 
 ghost use Rattle.std.specs.Prelude.{◌≡◌, ◌+◌, ◌-◌, ◌/◌, ◌^◌, ◌<◌, IfOk, IfErr, length};
 ghost use Rattle.b3_core.specs.Tree.{IsSubtree, chunk_len};
@@ -9,7 +9,7 @@ use std::snapshot::Snapshot;
 use std::thread;
 use std::thread::{Promise, PromisedHandle, Threads};
 
-/// What a thread gives back: the block's bytes, whose memory others can take, their node, and the compressions.
+/// What a thread returns: the block's bytes, whose memory can be reused, their node, and the compressions.
 #[derive(Drop)]
 pub(crate) struct Block {
     pub(crate) bytes: Vec<u8>,
@@ -32,7 +32,7 @@ impl Promise<Block> for BlockOf {
 /// A block that a thread is hashing.
 pub(crate) type Handle = PromisedHandle<Block, BlockOf>;
 
-/// Hashes a block by this thread. Its first chunk has the given number.
+/// Hashes a block on this thread. Its first chunk has the number `number`.
 pub(crate) fn hash_block(mode: Mode, bytes: Vec<u8>, number: u64, work: Work) -> Block
     requires subtree { IsSubtree (length bytes.items) number }
     requires number { number + length bytes.items / chunk_len < 2 ^ 64 }
@@ -44,7 +44,7 @@ pub(crate) fn hash_block(mode: Mode, bytes: Vec<u8>, number: u64, work: Work) ->
     Block { bytes, top, work }
 }
 
-/// Hashes a block by a thread of its own, or by this one where none can be started.
+/// Hashes a block on a new thread, or on this one if none can be started.
 pub(crate) fn start<T: Threads>(
     rt: &T,
     mode: Mode,

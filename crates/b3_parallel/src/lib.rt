@@ -1,14 +1,20 @@
-//! The hash by several threads: the values that `b3_core` gives, and the same counts of compressions.
+//! The hash by several threads: the values that `b3_core` returns, with the same counts of compressions.
 //!
-//! - `hash_all` gives the node of the tree over all that a reader has left. The calling thread reads, and behind the first 2 MiB each block of
-//!   2 MiB is hashed by a thread that is started for it.
-//! - `hash_source` gives the node of the tree over a `Source`, as an open file, that threads read from any place: each takes the next block of
-//!   512 KiB that none has taken, and reads and hashes it.
-//! - `update` gives a `Hasher` bytes that are at hand, as its own `update` does, and hashes them in whole subtrees, a thread for each.
-//! - `thread_count` is how many threads these use.
+//! ```rust
+//! let mut work = Work::new(rt);
+//! let top = hash_all(rt, alloc, &Mode::hash(), reader, None, &mut work)?;
+//! Ok(top.root32(&mut work))
+//! ```
 //!
-//! Contracts say which value a call gives. That threads overlap, or how quick they are, none says. No call leaves a thread at
-//! work, and where a thread or memory for one is refused, the calling thread hashes alone.
+//! - `hash_all` returns the node of the tree over everything that a reader has left. The calling thread reads; after the first 2 MiB each
+//!   block of 2 MiB is hashed by a new thread.
+//! - `hash_source` returns the node of the tree over a `Source`, such as an open file, that threads can read at any offset: each thread
+//!   takes the next free block of 512 KiB, reads it and hashes it.
+//! - `update` appends bytes in memory to a `Hasher`, as its own `update` does, and hashes them in whole subtrees, one thread each.
+//! - `thread_count` is the number of threads that these use.
+//!
+//! Contracts say which value a call returns. They do not say that threads overlap, or how fast they are. No call leaves a thread running.
+//! If a thread cannot be started, or memory for one cannot be allocated, the calling thread hashes alone.
 #![tactic(auto)]
 
 mod blocks;

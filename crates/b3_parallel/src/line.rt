@@ -1,7 +1,7 @@
-//! A hasher, and behind what it was given a line of blocks that threads are hashing.
+//! A hasher, followed by a line of blocks that threads are hashing.
 
 ghost use Rattle.std.specs.Prelude.{◌≡◌, ℕ, ◌+◌, ◌*◌, ◌/◌, ◌^◌, ◌<◌, ◌≤◌, ◌++◌, List, [], ◌∷◌, IfSome, length};
-ghost use Rattle.b3_core.specs.Tree.{Keying, chunk_len};
+ghost use Rattle.b3_core.specs.Tree.{ModelMode, chunk_len};
 ghost use Rattle.b3_parallel.specs.inner.Blocks.{IsHashed};
 ghost use Rattle.b3_parallel.specs.inner.Lines.{Carries, Thread};
 
@@ -12,7 +12,7 @@ use std::alloc::Global;
 use std::collections::VecDeque;
 use std::thread::Threads;
 
-// Waits for the first thread, puts its block behind what the hasher was given, and answers the block's bytes.
+// Waits for the first thread, appends its block to the hasher, and returns the block's bytes.
 fn settle<T: Threads>(
     rt: &T,
     hasher: &mut Hasher,
@@ -21,7 +21,7 @@ fn settle<T: Threads>(
     work: &mut Work,
 ) -> Vec<u8>
     requires { level < 53 }
-    ensures { (p : Keying) (hs : List Thread) (x : List ℕ) (n : ℕ) → length x < 2 ^ 64 → Carries p level hasher.old (handle ∷ hs) x n work.old
+    ensures { (p : ModelMode) (hs : List Thread) (x : List ℕ) (n : ℕ) → length x < 2 ^ 64 → Carries p level hasher.old (handle ∷ hs) x n work.old
         → Carries p level hasher.new hs x n work.new }
 {
     let block = handle.join(rt);
@@ -40,7 +40,7 @@ pub(crate) fn settle_all<T: Threads>(
 )
     requires { level < 53 }
     ensures empty { line.new.items ≡ [] }
-    ensures carries { (p : Keying) (x : List ℕ) (n : ℕ) → length x < 2 ^ 64 → Carries p level hasher.old line.old.items x n work.old
+    ensures carries { (p : ModelMode) (x : List ℕ) (n : ℕ) → length x < 2 ^ 64 → Carries p level hasher.old line.old.items x n work.old
         → Carries p level hasher.new [] x n work.new }
 {
     while let Some(handle) = line.pop_front() {
@@ -48,7 +48,7 @@ pub(crate) fn settle_all<T: Threads>(
     }
 }
 
-// Waits for all threads, and puts a block behind theirs that this one has hashed.
+// Waits for all threads, then appends a block that this thread has hashed.
 fn put_hashed<T: Threads>(
     rt: &T,
     hasher: &mut Hasher,
@@ -58,7 +58,7 @@ fn put_hashed<T: Threads>(
     work: &mut Work,
 )
     requires { level < 53 }
-    ensures { (p : Keying) (x mine : List ℕ) (n : ℕ) → Carries p level hasher.old line.old.items x n work.old → length mine ≡ chunk_len * 2 ^ level
+    ensures { (p : ModelMode) (x mine : List ℕ) (n : ℕ) → Carries p level hasher.old line.old.items x n work.old → length mine ≡ chunk_len * 2 ^ level
         → IsHashed p mine (length x / chunk_len) block.top block.work → length x + length mine < 2 ^ 64 → Carries p level hasher.new line.new.items (x ++ mine) n work.new }
 {
     settle_all(rt, hasher, line, level, work);
@@ -66,8 +66,8 @@ fn put_hashed<T: Threads>(
     hasher.append(&block.top, level, work);
 }
 
-/// Puts a block of 2^level chunks at the end of the line, with so many blocks before it, and answers whether a thread hashes it. Where
-/// none can be started, this one has.
+/// Appends a block of 2^`level` chunks to the line, with `place` blocks before it, and returns whether a thread hashes it. If none can be
+/// started, this thread has hashed it.
 pub(crate) fn put<T: Threads + Runtime>(
     rt: &T,
     hasher: &mut Hasher,
@@ -80,7 +80,7 @@ pub(crate) fn put<T: Threads + Runtime>(
     requires level { level < 53 }
     requires len { length bytes.items ≡ chunk_len * 2 ^ level }
     requires place { (place + 1) * 2 ^ level ≤ 2 ^ 53 }
-    ensures { (p : Keying) (x : List ℕ) (n : ℕ) → Carries p level hasher.old line.old.items x n work.old → length x ≡ chunk_len * (place * 2 ^ level)
+    ensures { (p : ModelMode) (x : List ℕ) (n : ℕ) → Carries p level hasher.old line.old.items x n work.old → length x ≡ chunk_len * (place * 2 ^ level)
         → Carries p level hasher.new line.new.items (x ++ bytes.items) n work.new }
 {
     let mode = hasher.mode();
@@ -111,7 +111,7 @@ fn settle_first<T: Threads>(
     work: &mut Work,
 ) -> Option<Vec<u8>>
     requires { level < 53 }
-    ensures { (p : Keying) (x : List ℕ) (n : ℕ) → length x < 2 ^ 64 → Carries p level hasher.old line.old.items x n work.old
+    ensures { (p : ModelMode) (x : List ℕ) (n : ℕ) → length x < 2 ^ 64 → Carries p level hasher.old line.old.items x n work.old
         → Carries p level hasher.new line.new.items x n work.new }
 {
     match line.pop_front() {
@@ -120,8 +120,7 @@ fn settle_first<T: Threads>(
     }
 }
 
-/// A place for the next block: the first one's, where so many threads are at work, and else new memory, if
-/// it is not refused.
+/// Memory for the next block: that of the first block if `plan.most` threads are running; otherwise new memory, if it can be allocated.
 pub(crate) fn next_place<T: Threads>(
     rt: &T,
     alloc: Global,
@@ -132,7 +131,7 @@ pub(crate) fn next_place<T: Threads>(
 ) -> Option<Vec<u8>>
     requires { plan.level < 53 }
     ensures len { IfSome result (λ bytes. length bytes.items ≡ chunk_len * 2 ^ plan.level) }
-    ensures carries { (p : Keying) (x : List ℕ) (n : ℕ) → length x < 2 ^ 64 → Carries p plan.level hasher.old line.old.items x n work.old
+    ensures carries { (p : ModelMode) (x : List ℕ) (n : ℕ) → length x < 2 ^ 64 → Carries p plan.level hasher.old line.old.items x n work.old
         → Carries p plan.level hasher.new line.new.items x n work.new }
 {
     let len = bytes_of(plan.level);

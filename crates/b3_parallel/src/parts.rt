@@ -1,11 +1,11 @@
-//! Some bytes in parts, each of which a thread hashes.
+//! Bytes in parts, each hashed by its own thread.
 
 ghost use Rattle.std.specs.Prelude.{◌≡◌, ℕ, ◌+◌, ◌*◌, ◌/◌, ◌%◌, ◌^◌, ◌<◌, ◌++◌, IfOk, List, length};
 ghost use Rattle.b3_core.specs.Hashers.{CountsRest, Holds, kept_work};
 ghost use Rattle.b3_core.specs.Tree.{IsSubtree, chunk_len};
 ghost use Rattle.b3_core.specs.Work.{NeverFalls};
 ghost use Rattle.b3_parallel.specs.inner.Blocks.{IsHashed};
-ghost use Rattle.b3_parallel.specs.inner.Parts.{AreHashedParts, StandBehind};
+ghost use Rattle.b3_parallel.specs.inner.Parts.{AreHashedParts, AreAfter};
 
 use crate::sizes::bytes_of;
 use b3_core::{CHUNK_LEN, Hasher, Mode, Runtime, Top, Work};
@@ -13,14 +13,14 @@ use std::alloc::{AllocError, Global};
 use std::thread;
 use std::thread::Threads;
 
-/// What a thread made of a part: its node, and the compressions.
+/// The result of a thread for one part: its node, and the compressions.
 #[derive(Drop)]
 pub(crate) struct Part {
     pub(crate) top: Top,
     pub(crate) work: Work,
 }
 
-// The part with these bytes, 2^level chunks, which begin at `start` within those whose first chunk has the given number.
+// The part with these bytes, 2^`level` chunks, which starts at `start` within bytes whose first chunk has the number `number`.
 fn part_of<T: Runtime>(
     rt: &T,
     mode: &Mode,
@@ -41,8 +41,7 @@ fn part_of<T: Runtime>(
     Part { top, work }
 }
 
-/// Hashes bytes in parts of 2^level chunks, each by a thread of its own where one can be made. The first chunk has the given
-/// number.
+/// Hashes bytes in parts of 2^`level` chunks, each on a new thread if one can be started. The first chunk has the number `number`.
 pub(crate) fn parts_of<T: Threads + Sync + Runtime>(
     rt: &T,
     alloc: Global,
@@ -66,12 +65,12 @@ pub(crate) fn parts_of<T: Threads + Sync + Runtime>(
     )
 }
 
-/// Puts parts of 2^level chunks behind what a hasher was given.
+/// Appends parts of 2^`level` chunks to a hasher.
 pub(crate) fn append_all(hasher: &mut Hasher, parts: Vec<Part>, level: u32, work: &mut Work)
     requires { level < 53 }
     ensures mode { hasher.new.mode ≡ hasher.old.mode }
-    ensures bytes { (x bytes : List ℕ) → StandBehind hasher.old level parts.items x bytes → Holds hasher.new (x ++ bytes) }
-    ensures count { (x bytes : List ℕ) → StandBehind hasher.old level parts.items x bytes
+    ensures bytes { (x bytes : List ℕ) → AreAfter hasher.old level parts.items x bytes → Holds hasher.new (x ++ bytes) }
+    ensures count { (x bytes : List ℕ) → AreAfter hasher.old level parts.items x bytes
         → CountsRest (kept_work hasher.old.subtrees) (kept_work hasher.new.subtrees) work.old work.new }
     ensures never_falls { NeverFalls work.old work.new }
 {

@@ -1,4 +1,4 @@
-//! What a thread promises of the blocks that it takes.
+//! What a thread promises about the blocks that it takes.
 
 ghost use Rattle.b3_parallel.specs.inner.Rounds.{ArePlaced};
 
@@ -8,7 +8,7 @@ use b3_core::Mode;
 use std::snapshot::Snapshot;
 use std::thread::Promise;
 
-/// The promise that what it made is of blocks of this source, each where it stands.
+/// The promise that its results are for blocks of this source, each with its right place.
 #[derive(Drop)]
 pub(crate) struct TakenOf<S> {
     pub(crate) mode: Mode,

@@ -1,9 +1,9 @@
-//! The hash of all that a reader has left, by several threads.
+//! The hash of everything that a reader has left, by several threads.
 
 ghost use Rattle.std.specs.Prelude.{◌≡◌, ◌≢◌, ℕ, ◌+◌, ◌-◌, ◌*◌, ◌^◌, ◌<◌, ◌≤◌, ◌++◌, List, [], IfErr, IfOk, None, OnOk, length, take, true, false, vec_len};
 ghost use Rattle.std.specs.Io.KnownBytes.{Consumes, IsAtEnd, Keeps};
 ghost use Rattle.b3_core.specs.Hashers.{count_of};
-ghost use Rattle.b3_core.specs.Tree.{Keying, chunk_len, tree_top};
+ghost use Rattle.b3_core.specs.Tree.{ModelMode, chunk_len, tree_top};
 ghost use Rattle.b3_core.specs.Work.{NeverFalls, counted, hash_work};
 ghost use Rattle.b3_parallel.specs.inner.Blocks.{HasRead, IsGiven};
 ghost use Rattle.b3_parallel.specs.inner.Lines.{Carries, last_of};
@@ -11,7 +11,7 @@ ghost use Rattle.b3_parallel.specs.inner.Lines.{Carries, last_of};
 use crate::blocks::Handle;
 use crate::line::{next_place, put, settle_all};
 use crate::sizes::{
-    BLOCK_LEVEL, BlockPlan, MOST_BLOCKS, block_limit, bytes_of, piece_len, thread_count,
+    BLOCK_LEVEL, BlockPlan, MAX_BLOCKS, block_limit, bytes_of, piece_len, thread_count,
 };
 use b3_core::{Hasher, Mode, Runtime, Top, Work};
 use std::alloc::Global;
@@ -23,13 +23,13 @@ use std::thread::Threads;
 /// How a block was filled.
 #[derive(Clone, Copy, Drop)]
 pub(crate) struct Filled {
-    /// How many bytes it has.
+    /// The number of bytes in it.
     pub(crate) count: usize,
-    /// Whether one read gave them.
+    /// Whether one read returned them all.
     pub(crate) at_once: bool,
 }
 
-// Reads until the block is full or nothing is left.
+// Reads until the block is full or the reader is at its end.
 fn fill<R: Read>(reader: &mut R, block: &mut [u8]) -> io::Result<Filled>
     ensures len { length block.new ≡ length block.old }
     ensures count { IfOk result (λ filled. filled.count ≤ length block.old) }
@@ -51,7 +51,7 @@ fn fill<R: Read>(reader: &mut R, block: &mut [u8]) -> io::Result<Filled>
     Err(Error::from(ErrorKind::Interrupted))
 }
 
-// A block with so many bytes, by so many reads.
+// A block with `count` bytes that took `reads` reads.
 fn filled_by(count: usize, reads: u64) -> Filled
     ensures { result.count ≡ count }
 {
@@ -61,7 +61,7 @@ fn filled_by(count: usize, reads: u64) -> Filled
     }
 }
 
-/// Reads until a block is full or nothing is left.
+/// Reads until the block is full or the reader is at its end.
 pub(crate) fn fill_block<R: Read>(reader: &mut R, block: &mut Vec<u8>) -> io::Result<Filled>
     ensures len { length block.new.items ≡ vec_len block.old }
     ensures count { IfOk result (λ filled. filled.count ≤ vec_len block.old) }
@@ -71,7 +71,7 @@ pub(crate) fn fill_block<R: Read>(reader: &mut R, block: &mut Vec<u8>) -> io::Re
     fill(reader, block.as_mut_slice())
 }
 
-// Reads once, at most so many bytes.
+// Reads once, at most `most` bytes.
 fn read_piece<R: Read>(reader: &mut R, piece: &mut [u8], most: u64) -> io::Result<usize>
     requires { (0 < most) × (0 < length piece.old) }
     ensures len { length piece.new ≡ length piece.old }
@@ -84,8 +84,7 @@ fn read_piece<R: Read>(reader: &mut R, piece: &mut [u8], most: u64) -> io::Resul
     reader.read(&mut piece[..len])
 }
 
-// Gives a hasher what is read, a piece at a time, until it was given so many bytes or nothing is left, and answers whether
-// nothing is.
+// Reads pieces into a hasher until it has been given `until` bytes or the reader is at its end. Returns whether the reader is at its end.
 pub(crate) fn hash_until<R: Read>(
     hasher: &mut Hasher,
     reader: &mut R,
@@ -118,16 +117,15 @@ pub(crate) fn hash_until<R: Read>(
 
 /// The node of the tree over all bytes that the reader has left, and the count of its compressions.
 ///
-/// This thread reads, and hashes the first 2 MiB. Behind them each block of 2 MiB is hashed by a thread that is started for it, while
-/// this one reads the next; their nodes are put together in the order of the blocks. Where a thread or memory for a block is refused, this
-/// one hashes the rest. No thread is left at work, behind a read that failed neither. Shorter inputs start no thread. A reader that gives a
-/// block in pieces, as a pipe does, is slower than this thread hashes: then this one hashes the rest too.
+/// This thread reads, and hashes the first 2 MiB. After them each block of 2 MiB is hashed by a new thread while this one reads the next;
+/// the nodes are joined in the order of the blocks. If a thread cannot be started or memory for a block cannot be allocated, this thread
+/// hashes the remaining bytes. No thread is left running, even after a failed read. Shorter inputs start no thread. A reader that returns a
+/// block in pieces, as a pipe does, is slower than this thread hashes; then this thread hashes the remaining bytes too.
 ///
-/// `threads` says how many hash at once, up to 10 (more find no block to hash): with 1 it is this one alone, and with `None` as
-/// many as the processor has.
+/// `threads` is the number of blocks hashed at once, up to 10 (more threads would find no block to hash). With 1, this thread hashes alone;
+/// with `None` there are as many as the machine has processors.
 ///
-/// The error is that of the first read that fails, or `OutOfMemory` where 64 KiB are refused, or `FileTooLarge`
-/// of 2^64-1 bytes and more.
+/// The error is that of the first failed read, `OutOfMemory` if 64 KiB cannot be allocated, or `FileTooLarge` for 2^64-1 bytes or more.
 pub fn hash_all<T: Threads + Runtime, R: Read>(
     rt: &T,
     alloc: Global,
@@ -147,7 +145,7 @@ pub fn hash_all<T: Threads + Runtime, R: Read>(
     made
 }
 
-// The same in blocks of 2^level chunks.
+// The same in blocks of 2^`level` chunks.
 pub(crate) fn hash_in_blocks<T: Threads + Runtime, R: Read>(
     rt: &T,
     alloc: Global,
@@ -177,8 +175,8 @@ pub(crate) fn hash_in_blocks<T: Threads + Runtime, R: Read>(
     Err(Error::from(ErrorKind::FileTooLarge))
 }
 
-// Gives a hasher that was given 2^level chunks what is read behind them, in a line of blocks, until nothing is left, and answers whether
-// nothing is. It stops before where there is one thread alone, or a thread or memory is refused.
+// Hashes the bytes after the first 2^`level` chunks, which the hasher has been given, in a line of blocks. Returns whether the reader is at
+// its end. It stops earlier if there is only one thread, a thread cannot be started, or an allocation fails.
 fn hash_in_line<T: Threads + Runtime, R: Read>(
     rt: &T,
     alloc: Global,
@@ -199,11 +197,11 @@ fn hash_in_line<T: Threads + Runtime, R: Read>(
     }
     let plan = BlockPlan {
         level,
-        most: threads.min(MOST_BLOCKS),
+        most: threads.min(MAX_BLOCKS),
     };
     let mut line: VecDeque<Handle> = VecDeque::new(alloc);
     let last = read_in_line(rt, alloc, hasher, &mut line, reader, plan, work);
-    // Where reading has failed, there may be some threads.
+    // After a failed read some threads may still be running.
     settle_all(rt, hasher, &mut line, level, work);
     match last? {
         Some(bytes) => {
@@ -214,8 +212,8 @@ fn hash_in_line<T: Threads + Runtime, R: Read>(
     }
 }
 
-// Reads blocks behind the first one, and puts each at the end of a line, as long as each comes at once. The answer is the last bytes,
-// fewer than a block, or none where the reader may have more.
+// Reads blocks after the first one and appends each to the line, as long as each arrives in one read. Returns the last bytes, fewer than a
+// block, or `None` if the reader may have more.
 fn read_in_line<T: Threads + Runtime, R: Read>(
     rt: &T,
     alloc: Global,

@@ -1,7 +1,7 @@
-//! The blocks of a source in their order, behind what a hasher was given.
+//! The blocks of a source in order, appended to a hasher.
 
 ghost use Rattle.std.specs.Prelude.{◌≡◌, ℕ, ◌+◌, ◌*◌, ◌^◌, ◌<◌, ◌≤◌, IfSome, IfOk, Option, List, true, length};
-ghost use Rattle.b3_core.specs.Tree.{Keying};
+ghost use Rattle.b3_core.specs.Tree.{ModelMode};
 ghost use Rattle.b3_parallel.specs.inner.Rounds.{ArePlaced, AreSlots, AreTaken, HasFront, IsPlaced};
 
 use crate::source::Source;
@@ -11,9 +11,9 @@ use b3_core::{Hasher, Runtime, Work};
 use std::alloc::{AllocError, Global};
 use std::thread::Threads;
 
-// So many slots with nothing in them.
+// `count` empty slots.
 fn empty_slots(alloc: Global, count: usize) -> Result<Vec<Option<Placed>>, AllocError>
-    ensures { (p : Keying) (known : Option (List ℕ)) (k : ℕ) → IfOk result (λ slots. AreSlots p known k slots.items) }
+    ensures { (p : ModelMode) (known : Option (List ℕ)) (k : ℕ) → IfOk result (λ slots. AreSlots p known k slots.items) }
 {
     let mut slots: Vec<Option<Placed>> = Vec::new(alloc);
     slots.reserve(count)?;
@@ -23,9 +23,9 @@ fn empty_slots(alloc: Global, count: usize) -> Result<Vec<Option<Placed>>, Alloc
     Ok(slots)
 }
 
-// Puts what a thread made into the slots of its blocks' places, of which the first is that of the slots.
+// Moves the results of a thread into the slots of their blocks. The first slot is for the block `first`.
 fn put_in_slots(slots: &mut Vec<Option<Placed>>, taken: Vec<Placed>, first: u64)
-    ensures { (p : Keying) (known : Option (List ℕ)) (k : ℕ) → ArePlaced p known k taken.items → AreSlots p known k slots.old.items → AreSlots p known k slots.new.items }
+    ensures { (p : ModelMode) (known : Option (List ℕ)) (k : ℕ) → ArePlaced p known k taken.items → AreSlots p known k slots.old.items → AreSlots p known k slots.new.items }
 {
     let mut rest = taken.into_iter();
     while let Some(placed) = rest.next() {
@@ -36,13 +36,13 @@ fn put_in_slots(slots: &mut Vec<Option<Placed>>, taken: Vec<Placed>, first: u64)
     }
 }
 
-// What all threads made, in slots.
+// The results of all threads, in slots.
 fn slots_of(
     alloc: Global,
     lists: Vec<Vec<Placed>>,
     round: Round,
 ) -> Result<Vec<Option<Placed>>, AllocError>
-    ensures { (p : Keying) (known : Option (List ℕ)) (k : ℕ) → AreTaken p known k lists.items → IfOk result (λ slots. AreSlots p known k slots.items) }
+    ensures { (p : ModelMode) (known : Option (List ℕ)) (k : ℕ) → AreTaken p known k lists.items → IfOk result (λ slots. AreSlots p known k slots.items) }
 {
     let mut slots = empty_slots(alloc, round.end.saturating_sub(round.first) as usize)?;
     let mut rest = lists.into_iter();
@@ -52,7 +52,7 @@ fn slots_of(
     Ok(slots)
 }
 
-// Puts a block behind what a hasher was given, where it was made and is the one at this place, and answers whether it is.
+// Appends a block to a hasher if it was made and is the one for this place, and returns whether it was appended.
 fn append_slot(
     hasher: &mut Hasher,
     slot: Option<Placed>,
@@ -62,7 +62,7 @@ fn append_slot(
 ) -> bool
     requires level { level < 53 }
     requires place { (place + 1) * 2 ^ level ≤ 2 ^ 53 }
-    ensures { (p : Keying) (known : Option (List ℕ)) (n : ℕ) → IfSome slot (IsPlaced p known level) → HasFront p known level hasher.old place n work.old
+    ensures { (p : ModelMode) (known : Option (List ℕ)) (n : ℕ) → IfSome slot (IsPlaced p known level) → HasFront p known level hasher.old place n work.old
         → result ≡ true → HasFront p known level hasher.new (place + 1) n work.new }
 {
     match slot {
@@ -75,7 +75,7 @@ fn append_slot(
     }
 }
 
-// Puts the blocks of a round behind what a hasher was given, and answers whether it got all of them.
+// Appends the blocks of a round to a hasher, and returns whether all were appended.
 fn append_slots(
     hasher: &mut Hasher,
     slots: Vec<Option<Placed>>,
@@ -84,7 +84,7 @@ fn append_slots(
 ) -> bool
     requires level { round.level < 53 }
     requires end { round.end * 2 ^ round.level ≤ 2 ^ 53 }
-    ensures { (p : Keying) (known : Option (List ℕ)) (n : ℕ) → AreSlots p known round.level slots.items
+    ensures { (p : ModelMode) (known : Option (List ℕ)) (n : ℕ) → AreSlots p known round.level slots.items
         → HasFront p known round.level hasher.old round.first n work.old → result ≡ true → HasFront p known round.level hasher.new round.end n work.new }
 {
     let mut rest = slots.into_iter();
@@ -98,8 +98,8 @@ fn append_slots(
     place == round.end
 }
 
-/// Hashes the blocks of a round by so many threads, puts them behind those before them that a hasher was given, and answers whether it
-/// got all of them.
+/// Hashes the blocks of a round by `threads` threads, appends them to a hasher that was given the blocks before them, and returns whether
+/// all were appended.
 pub(crate) fn hash_round<T: Threads + Runtime, S: Source + Send + Drop + 'static>(
     rt: &T,
     alloc: Global,
@@ -111,7 +111,7 @@ pub(crate) fn hash_round<T: Threads + Runtime, S: Source + Send + Drop + 'static
 ) -> bool
     requires level { round.level < 53 }
     requires end { round.end * 2 ^ round.level ≤ 2 ^ 53 }
-    ensures { (p : Keying) (n : ℕ) → HasFront p (S.bytes source.now) round.level hasher.old round.first n work.old
+    ensures { (p : ModelMode) (n : ℕ) → HasFront p (S.bytes source.now) round.level hasher.old round.first n work.old
         → result ≡ true → HasFront p (S.bytes source.now) round.level hasher.new round.end n work.new }
 {
     let mode = hasher.mode();

@@ -1,4 +1,4 @@
-//! Bytes that can be read from any place.
+//! Bytes that can be read at any offset.
 
 ghost use Rattle.std.specs.Prelude.{◌≡◌, ◌+◌, ◌<◌, ℕ, List, Option, IfOk, length, take};
 ghost use Rattle.std.specs.Io.{ReadsAtMost};
@@ -8,30 +8,30 @@ ghost use Rattle.b3_parallel.specs.Sources.{known_from};
 use std::io;
 use std::io::{Error, ErrorKind, Read};
 
-/// Bytes that several threads read, each from the places that it takes, as those of an open file.
+/// Bytes that several threads read, each at its own offsets, such as those of an open file.
 pub trait Source {
-    /// The bytes, where they are known.
+    /// The bytes, if they are known.
     ghost bytes: { Self → Option (List ℕ) };
 
     /// The same source, for another thread.
     ///
-    /// Its error is the system's, as of too many open files.
+    /// The error is the system's, for example too many open files.
     fn again(&self) -> io::Result<Self>
     where
         Self: Sized,
         ensures { IfOk result (λ other. bytes other ≡ bytes self.now) };
 
-    /// Reads once, at most as many bytes as fit the buffer, from the byte at `start` on, counted from 0. None are read
-    /// only where none stand there, or the buffer has no room.
+    /// Reads once, at most as many bytes as fit the buffer, starting at the byte at `start`, counted from 0. It reads 0 bytes only if there
+    /// are none at `start` or the buffer is empty.
     ///
-    /// Its error is the system's, as of what can't be read from any place.
+    /// The error is the system's, for example if the source cannot be read at an offset.
     fn read_at(&self, buf: &mut [u8], start: u64) -> io::Result<usize>
         ensures bound { ReadsAtMost result buf.new }
         ensures bytes { IfOk result (λ n. Consumes (known_from (bytes self.now) start) (known_from (bytes self.now) (start + n)) (take n buf.new)) }
         ensures end { IfOk result (λ n. n ≡ 0 → 0 < length buf.new → IsAtEnd (known_from (bytes self.now) start)) };
 }
 
-/// A reader of a source from a place on.
+/// A reader of a source, starting at an offset.
 #[derive(Drop)]
 pub(crate) struct Places<'a, S> {
     source: &'a S,
@@ -39,7 +39,7 @@ pub(crate) struct Places<'a, S> {
 }
 
 impl<'a, S: Source> Places<'a, S> {
-    /// A reader from the byte at `place` on.
+    /// A reader starting at the byte at `place`.
     pub(crate) fn new(source: &'a S, place: u64) -> Places<'a, S>
         ensures source { result.source.now ≡ source.now }
         ensures place { result.place ≡ place }

@@ -1,7 +1,7 @@
-//! The hash of all bytes of a source, which threads read side by side.
+//! The hash of all bytes of a source that threads read in parallel.
 
 ghost use Rattle.std.specs.Prelude.{◌≡◌, ℕ, ◌+◌, ◌-◌, ◌*◌, ◌^◌, ◌<◌, ◌≤◌, IfSome, List, None, length, true};
-ghost use Rattle.b3_core.specs.Tree.{Keying, tree_top};
+ghost use Rattle.b3_core.specs.Tree.{ModelMode, tree_top};
 ghost use Rattle.b3_core.specs.Work.{counted, hash_work};
 ghost use Rattle.b3_parallel.specs.inner.Blocks.{IsGiven};
 ghost use Rattle.b3_parallel.specs.Rounds.{AreAll};
@@ -16,27 +16,28 @@ use b3_core::{Hasher, Mode, Runtime, Top, Work};
 use std::alloc::Global;
 use std::thread::Threads;
 
-// The fewest bytes for which threads are started.
+// The minimum number of bytes for which threads are started.
 const LEAST: u64 = 1 << 24;
 
 // The level of the blocks that threads take: 2^9 chunks, 512 KiB.
 const LEVEL: u32 = 9;
 
-// The most blocks of a round, 512 MiB.
+// The maximum number of blocks in a round, 512 MiB.
 const ROUND: u64 = 1 << 10;
 
-/// The node of the tree over all bytes of a source, and the count of its compressions, where several threads can read it: from 16 MiB on, and
-/// by two threads and more.
+/// The node of the tree over all bytes of a source, and the count of its compressions, if several threads can read it: from 16 MiB on, with
+/// at least two threads.
 ///
-/// `len` is how many bytes it is thought to have. Each thread takes the next block of 512 KiB that none has taken, up to that length, reads it where it
-/// stands and hashes it; this one puts the nodes together in the order of the blocks, and hashes what stands behind them until nothing is left. So a source
-/// that has grown is hashed whole. Each thread has memory for one block, and of each block some 150 bytes are kept until all of 512 MiB are done.
+/// `len` is the expected length in bytes. Each thread takes the next free block of 512 KiB, up to that length, reads it and hashes it. This
+/// thread joins the nodes in the order of the blocks, and then hashes what comes after them until the end of the source. So a source that
+/// has grown is hashed whole. Each thread has memory for one block; about 150 bytes are kept for each block until all blocks of 512 MiB are
+/// done.
 ///
-/// There is none where the source is thought to be shorter, or one thread is to hash; where a block can't be read, or the source has become shorter; where
-/// memory is refused; and of 2^64-1 bytes and more. Then nothing is counted, and the caller reads the source as a stream. Refused threads alone don't
-/// matter: this one takes their blocks. No thread is left at work.
+/// Returns `None` if the expected length is shorter or only one thread is to hash; if a block cannot be read, or the source has become
+/// shorter; if out of memory; and for 2^64-1 bytes or more. Then nothing is counted, and the caller reads the source as a stream. Threads
+/// that cannot be started are no reason: this thread takes their blocks. No thread is left running.
 ///
-/// `threads` says how many hash, up to 16; with `None` they are as many as the processor has.
+/// `threads` is the number of threads that hash, up to 16; with `None` there are as many as the machine has processors.
 pub fn hash_source<T: Threads + Runtime, S: Source + Send + Drop + 'static>(
     rt: &T,
     alloc: Global,
@@ -56,7 +57,7 @@ pub fn hash_source<T: Threads + Runtime, S: Source + Send + Drop + 'static>(
     hash_by_blocks(rt, alloc, mode, source, len, threads, LEVEL, work)
 }
 
-// The same in blocks of 2^level chunks.
+// The same in blocks of 2^`level` chunks.
 pub(crate) fn hash_by_blocks<T: Threads + Runtime, S: Source + Send + Drop + 'static>(
     rt: &T,
     alloc: Global,
@@ -97,7 +98,7 @@ pub(crate) fn hash_by_blocks<T: Threads + Runtime, S: Source + Send + Drop + 'st
     None
 }
 
-// Gives a hasher the first blocks of a source, and answers whether it got them.
+// Appends the first `blocks` blocks of a source to a hasher, and returns whether all were appended.
 fn hash_rounds<T: Threads + Runtime, S: Source + Send + Drop + 'static>(
     rt: &T,
     alloc: Global,
@@ -110,7 +111,7 @@ fn hash_rounds<T: Threads + Runtime, S: Source + Send + Drop + 'static>(
 ) -> bool
     requires level { level < 53 }
     requires blocks { blocks * 2 ^ level ≤ 2 ^ 53 }
-    ensures { (p : Keying) (n : ℕ) → HasFront p (S.bytes source.now) level hasher.old 0 n work.old
+    ensures { (p : ModelMode) (n : ℕ) → HasFront p (S.bytes source.now) level hasher.old 0 n work.old
         → result ≡ true → HasFront p (S.bytes source.now) level hasher.new blocks n work.new }
 {
     let mut first = 0;
@@ -125,9 +126,9 @@ fn hash_rounds<T: Threads + Runtime, S: Source + Send + Drop + 'static>(
     true
 }
 
-// Gives a hasher the bytes of a source that stand behind those that it was given, and answers whether it got all of them.
+// Appends the bytes of a source after those given so far to a hasher, and returns whether all were appended.
 fn hash_rest<S: Source>(alloc: Global, source: &S, hasher: &mut Hasher, work: &mut Work) -> bool
-    ensures { (p : Keying) (level count n : ℕ) → HasFront p (S.bytes source.now) level hasher.old count n work.old → count * 2 ^ level ≤ 2 ^ 53
+    ensures { (p : ModelMode) (level count n : ℕ) → HasFront p (S.bytes source.now) level hasher.old count n work.old → count * 2 ^ level ≤ 2 ^ 53
         → result ≡ true → (hasher.new.mode ≡ p) × (x : List ℕ) × IsGiven hasher.new x n work.new × AreAll (S.bytes source.now) x }
 {
     let Ok(mut piece) = vec![in alloc; 0u8; piece_len()] else {

@@ -1,7 +1,7 @@
 //! The threads that take the blocks of a round.
 
 ghost use Rattle.std.specs.Prelude.{◌≡◌, ℕ, ◌*◌, ◌^◌, ◌<◌, ◌≤◌, [], IfOk, IfSome, List, Option};
-ghost use Rattle.b3_core.specs.Tree.{Keying};
+ghost use Rattle.b3_core.specs.Tree.{ModelMode};
 ghost use Rattle.b3_parallel.specs.inner.Rounds.{ArePlaced, AreTaken};
 ghost use Rattle.b3_parallel.specs.inner.Takers.{AreTaking, IsTaking};
 
@@ -18,7 +18,7 @@ use std::thread::{PromisedHandle, Threads};
 
 type Handle<S> = PromisedHandle<Vec<Placed>, TakenOf<S>>;
 
-// A count for each block of a round, or for fewer where memory is refused.
+// A count for each block of a round, or fewer if an allocation fails.
 fn works_of<T: Runtime>(rt: &T, alloc: Global, round: Round) -> Vec<Work> {
     let mut works = Vec::new(alloc);
     for _ in round.first..round.end {
@@ -29,7 +29,7 @@ fn works_of<T: Runtime>(rt: &T, alloc: Global, round: Round) -> Vec<Work> {
     works
 }
 
-// Takes blocks of a source that is a thread's own.
+// Takes blocks of the thread's own handle on the source.
 fn take_own<S: Source + Drop>(
     alloc: Global,
     mode: Mode,
@@ -45,7 +45,7 @@ fn take_own<S: Source + Drop>(
     take_blocks(alloc, &mode, &source, round, &next, works)
 }
 
-// Starts a thread that takes blocks, where one can be started.
+// Starts a thread that takes blocks, if possible.
 fn start<T: Threads + Runtime, S: Source + Send + Drop + 'static>(
     rt: &T,
     alloc: Global,
@@ -80,7 +80,7 @@ fn start<T: Threads + Runtime, S: Source + Send + Drop + 'static>(
     }
 }
 
-// Starts so many threads, or fewer where one can't be started.
+// Starts `count` threads, or fewer if one cannot be started.
 fn start_all<T: Threads + Runtime, S: Source + Send + Drop + 'static>(
     rt: &T,
     alloc: Global,
@@ -110,9 +110,9 @@ fn start_all<T: Threads + Runtime, S: Source + Send + Drop + 'static>(
     handles
 }
 
-// Puts what a thread made behind what others did, and answers whether memory was had for it.
+// Adds the results of a thread to those of the others, and returns whether there was memory for them.
 fn add(lists: &mut Vec<Vec<Placed>>, taken: Vec<Placed>) -> bool
-    ensures { (p : Keying) (known : Option (List ℕ)) (k : ℕ) → ArePlaced p known k taken.items → AreTaken p known k lists.old.items → AreTaken p known k lists.new.items }
+    ensures { (p : ModelMode) (known : Option (List ℕ)) (k : ℕ) → ArePlaced p known k taken.items → AreTaken p known k lists.old.items → AreTaken p known k lists.new.items }
 {
     match lists.push(taken) {
         Ok(()) => true,
@@ -120,13 +120,13 @@ fn add(lists: &mut Vec<Vec<Placed>>, taken: Vec<Placed>) -> bool
     }
 }
 
-// Waits for all threads, and answers what they made, behind what others did.
+// Waits for all threads, and returns their results after those in `lists`.
 fn join_all<T: Threads, S: Source>(
     rt: &T,
     handles: Vec<Handle<S>>,
     lists: Vec<Vec<Placed>>,
 ) -> Vec<Vec<Placed>>
-    ensures { (p : Keying) (known : Option (List ℕ)) (k : ℕ) → AreTaking S.bytes p known k handles.items → AreTaken p known k lists.items → AreTaken p known k result.items }
+    ensures { (p : ModelMode) (known : Option (List ℕ)) (k : ℕ) → AreTaking S.bytes p known k handles.items → AreTaken p known k lists.items → AreTaken p known k result.items }
 {
     let mut lists = lists;
     let mut rest = handles.into_iter();
@@ -136,7 +136,7 @@ fn join_all<T: Threads, S: Source>(
     lists
 }
 
-/// What so many threads made of the blocks of a round, each of those that it took; this thread is one of them.
+/// The results of `threads` threads, this one included, for the blocks of a round: for each thread those of the blocks that it took.
 pub(crate) fn take_all<T: Threads + Runtime, S: Source + Send + Drop + 'static>(
     rt: &T,
     alloc: Global,

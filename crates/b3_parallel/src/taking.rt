@@ -1,7 +1,7 @@
-//! Blocks of a source, each taken by the next thread that is free.
+//! Blocks of a source, each taken by the next free thread.
 
 ghost use Rattle.std.specs.Prelude.{◌≡◌, ℕ, ◌+◌, ◌*◌, ◌^◌, ◌<◌, ◌≤◌, IfSome, List, Option, length};
-ghost use Rattle.b3_core.specs.Tree.{Keying, chunk_len};
+ghost use Rattle.b3_core.specs.Tree.{ModelMode, chunk_len};
 ghost use Rattle.b3_parallel.specs.inner.Rounds.{ArePlaced, IsPlaced};
 
 use crate::reading::fill_block;
@@ -11,7 +11,7 @@ use b3_core::{CHUNK_LEN, Mode, Top, Work};
 use std::alloc::Global;
 use std::sync::atomic::{AtomicU64, Ordering};
 
-/// What a thread made of a block, behind so many blocks: its node, and the compressions.
+/// The result for the block after `place` other blocks: its node, and the compressions.
 #[derive(Drop)]
 pub(crate) struct Placed {
     pub(crate) place: u64,
@@ -19,7 +19,7 @@ pub(crate) struct Placed {
     pub(crate) work: Work,
 }
 
-/// The blocks of 2^level chunks that threads take at once, from the first up to the one at which they end.
+/// A round: the blocks of 2^`level` chunks from `first` to below `end`, which threads take.
 #[derive(Clone, Copy)]
 pub(crate) struct Round {
     pub(crate) level: u32,
@@ -27,7 +27,7 @@ pub(crate) struct Round {
     pub(crate) end: u64,
 }
 
-// Reads and hashes the block at a place, where the source has all of it.
+// Reads and hashes the block at `place`, if the source has all of it.
 fn place_block<S: Source>(
     mode: &Mode,
     source: &S,
@@ -54,7 +54,7 @@ fn place_block<S: Source>(
     Some(Placed { place, top, work })
 }
 
-// A count that is none, of those that were made for a thread.
+// A count of 0, one of those made for the thread.
 fn next_work(works: &mut Vec<Work>) -> Option<Work>
     ensures { IfSome result (λ work. work ≡ 0) }
 {
@@ -64,8 +64,8 @@ fn next_work(works: &mut Vec<Work>) -> Option<Work>
     }
 }
 
-/// Hashes by this thread the blocks of a round that it takes, one after another, until none is left to take, with a count of its own for each. It
-/// gives up where the source doesn't give all of a block or memory is refused, and then the other threads find none to take.
+/// Takes and hashes blocks of a round on this thread until none is left, with a separate count for each. It stops early if the source does
+/// not return a whole block or an allocation fails; then no thread finds another block to take.
 pub(crate) fn take_blocks<S: Source>(
     alloc: Global,
     mode: &Mode,
@@ -100,9 +100,9 @@ pub(crate) fn take_blocks<S: Source>(
     taken
 }
 
-// Puts what was made of a block behind the others, and answers whether anything was, and memory was had.
+// Adds the result for a block, and returns whether there was one and memory for it.
 fn keep(taken: &mut Vec<Placed>, made: Option<Placed>) -> bool
-    ensures { (p : Keying) (known : Option (List ℕ)) (k : ℕ) → ArePlaced p known k taken.old.items → IfSome made (IsPlaced p known k) → ArePlaced p known k taken.new.items }
+    ensures { (p : ModelMode) (known : Option (List ℕ)) (k : ℕ) → ArePlaced p known k taken.old.items → IfSome made (IsPlaced p known k) → ArePlaced p known k taken.new.items }
 {
     match made {
         Some(placed) => match taken.push(placed) {

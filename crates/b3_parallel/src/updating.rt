@@ -11,10 +11,10 @@ use b3_core::{CHUNK_LEN, Hasher, Runtime, Work, is_subtree};
 use std::alloc::Global;
 use std::thread::Threads;
 
-// The fewest chunks for which a thread is started.
+// The minimum number of chunks for which a thread is started.
 const LEAST: usize = 64;
 
-// The level of the parts into which so many chunks are cut for so many threads, or none where one thread is to hash them all.
+// The level of the parts into which `chunks` chunks are split for `threads` threads, or `None` if one thread is to hash them all.
 fn level_of(chunks: usize, threads: usize) -> Option<u32>
     ensures { IfSome result (λ level. level < 53) }
 {
@@ -25,12 +25,12 @@ fn level_of(chunks: usize, threads: usize) -> Option<u32>
     Some(share.ilog2().min(52))
 }
 
-/// Gives `bytes` behind those that a hasher was given, as `Hasher::update` does and with the same count. Where a subtree can stand
-/// next, they are cut into whole subtrees of one size, at least as many as there are threads and less than twice as many, and each is
-/// hashed by a thread of its own, or by this one where none can be started; this one hashes what is left behind them. Bytes that are too few
-/// for a thread each 64 chunks start none, and where memory is refused this thread hashes all.
+/// Appends `bytes` to the input of a hasher, as `Hasher::update` does and with the same count. If a subtree can come next, the bytes are
+/// split into whole subtrees of one size: at least one for each thread, and fewer than two for each. Each subtree is hashed on a new
+/// thread, or on this one if none can be started; this thread hashes the remaining bytes. If there are fewer than 64 chunks for each
+/// thread, no thread is started; if an allocation fails, this thread hashes everything.
 ///
-/// `threads` says how many hash, up to 16; with `None` they are as many as the processor has.
+/// `threads` is the number of threads that hash, up to 16; with `None` there are as many as the machine has processors.
 pub fn update<T: Threads + Sync + Runtime>(
     rt: &T,
     alloc: Global,
@@ -58,7 +58,7 @@ pub fn update<T: Threads + Sync + Runtime>(
     }
 }
 
-// The same, in parts of 2^level chunks.
+// The same in parts of 2^`level` chunks.
 fn update_in_parts<T: Threads + Sync + Runtime>(
     rt: &T,
     alloc: Global,

@@ -1,4 +1,4 @@
-//! What the program can't show of check files: names by themselves, want of memory, and writes that fail. Lines and reports stand in
+//! What the program cannot show about check files: single names, running out of memory, and failed writes. Lines and reports are in
 //! tests/cases/check-*.table.
 
 use crate::fakes::FailingWriter;
@@ -11,7 +11,7 @@ use std::io::{ErrorKind, Write};
 use std::marker::Model;
 use std::test::Fail;
 
-// A line of the hash of `abc`.
+// A line with the hash of `abc`.
 fn line_of_abc(alloc: Global, name: &[u8]) -> Result<Line, Fail> {
     let digest = digest(ABC)?;
     match Line::new(digest, Vec::from_slice(alloc, name)?) {
@@ -20,7 +20,7 @@ fn line_of_abc(alloc: Global, name: &[u8]) -> Result<Line, Fail> {
     }
 }
 
-// Nothing where a line has the name and gives it back, or the fault with which its bytes come back.
+// An empty text if a line has the name and returns it, or the fault with which its bytes are returned.
 fn named(alloc: Global, name: &[u8]) -> Result<&'static str, AllocError> {
     match Line::new([0; 32], Vec::from_slice(alloc, name)?) {
         Ok(line) => {
@@ -41,7 +41,7 @@ fn named(alloc: Global, name: &[u8]) -> Result<&'static str, AllocError> {
     }
 }
 
-// Answers for `f` alone, and counts its calls.
+// Has an answer only for `f`, and counts the calls.
 #[derive(Drop)]
 struct Table {
     answer: Result<Option<[u8; 32]>, NameFault>,
@@ -61,8 +61,8 @@ impl Names for Table {
     }
 }
 
-// Names that nothing has, which keep what was asked of them: of each hint the numbers of its lines, each behind a space, and a semicolon; of
-// each name that was asked for the name and a question mark. Contracts see nothing of it.
+// Names without files, which record the calls: for each hint the numbers of its lines, each after a space, and a semicolon; for each lookup
+// the name and a question mark. Contracts do not see the record.
 #[derive(Drop)]
 struct Hinted {
     asked: Vec<u8>,
@@ -77,7 +77,7 @@ impl Model for Hinted {
 }
 
 impl Hinted {
-    // What was asked.
+    // The record of the calls.
     fn asked(self) -> Vec<u8> {
         let Hinted { asked } = self;
         asked
@@ -102,7 +102,7 @@ impl Names for Hinted {
     }
 }
 
-// Whether the names answer for three lines, so many of them, and all lines are good.
+// Looks up the names of three lines. Returns whether all lines are good; fails unless there were `calls` lookups.
 fn verified<W: Write>(
     alloc: Global,
     shown: Shown,
@@ -122,7 +122,7 @@ fn verified<W: Write>(
     }
 }
 
-// The report on three lines, of which the first is good.
+// The report on three lines, the first of which is good.
 fn report_on(alloc: Global, shown: Shown) -> Result<Vec<u8>, Fail> {
     let mut text = Vec::new(alloc);
     match verified(alloc, shown, Ok(Some(digest(ABC)?)), 2, &mut text)? {

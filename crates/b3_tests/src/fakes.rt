@@ -1,4 +1,4 @@
-//! Pattern bytes and a writer that fails, for the tests of the crates above too.
+//! Pattern bytes and a failing writer, also for the tests of higher crates.
 
 use std::alloc::{AllocError, Global};
 use std::io;
@@ -15,7 +15,7 @@ pub fn pattern(alloc: Global, first: u64, len: u64) -> Result<Vec<u8>, AllocErro
     Ok(bytes)
 }
 
-/// Whether these are as many bytes of the pattern, from `first` on.
+/// Whether these are `len` bytes of the pattern, starting at `first`.
 pub fn is_pattern(bytes: &[u8], first: u64, len: u64) -> bool {
     let mut next = (first % 251) as u8;
     let mut is_same = bytes.len() as u64 == len;
@@ -26,10 +26,10 @@ pub fn is_pattern(bytes: &[u8], first: u64, len: u64) -> bool {
     is_same
 }
 
-/// A writer that takes a byte a call, and whose calls fail from the one with the number `fails` on.
+/// A writer that accepts one byte per call; the calls from number `fails` on fail.
 #[derive(Drop)]
 pub struct FailingWriter {
-    /// The calls so far.
+    /// The number of calls so far.
     pub calls: u64,
     pub fails: u64,
 }

@@ -1,4 +1,4 @@
-//! Parts of bytes that are lent.
+//! Parts of borrowed bytes.
 
 ghost use Rattle.std.specs.Prelude.{◌<◌};
 
@@ -10,7 +10,7 @@ use std::alloc::{AllocError, Global};
 use std::process::Abort;
 use std::test::Fail;
 
-// `note` makes a part of the pattern and notes it, `missing` tells what is not noted, and `root` the hash.
+// `note` makes a part of the pattern and notes it, `missing` returns what is not noted, and `root` the hash.
 #[derive(Drop)]
 struct Lent<'a> {
     alloc: Global,
@@ -50,7 +50,7 @@ impl Lent<'_> {
         }
     }
 
-    // Notes a part, and once more where memory is refused, which leaves all as it was.
+    // Notes a part. If an allocation fails, nothing has changed and it is noted again.
     fn noted(&mut self, part: &Prepared) -> Result<u64, NoteFault> {
         let missing = self.follow.first_missing();
         match self.follow.note(part, &mut self.work) {
@@ -95,7 +95,7 @@ impl Lent<'_> {
     }
 }
 
-// What is told of the script over these bytes.
+// The answers to the script over these bytes.
 fn told_of<R: AllocGlobal + Runtime>(
     rt: &R,
     bytes: &[u8],
@@ -112,7 +112,7 @@ fn told_of<R: AllocGlobal + Runtime>(
     told(rt.alloc(), &mut lent, script)
 }
 
-/// These bytes in stretches of so many, gathered from pieces of at most 1500.
+/// These bytes in stretches of `stretch_len`, gathered from pieces of at most 1500 bytes.
 pub(crate) fn in_stretches(
     alloc: Global,
     bytes: &[u8],
@@ -127,7 +127,7 @@ pub(crate) fn in_stretches(
     gathered.finish(alloc)
 }
 
-// What is told of the script over these bytes in stretches.
+// The answers to the script over these bytes in stretches.
 fn told_of_stretches<R: AllocGlobal + Runtime>(
     rt: &R,
     bytes: &[u8],
@@ -148,7 +148,7 @@ fn told_of_stretches<R: AllocGlobal + Runtime>(
     told(rt.alloc(), &mut lent, script)
 }
 
-/// As `holds`, over these bytes in stretches.
+/// Like `holds`, over these bytes in stretches.
 pub(crate) fn holds_in_stretches<R: AllocGlobal + Runtime + Abort>(
     rt: &R,
     bytes: &[u8],
@@ -165,7 +165,7 @@ pub(crate) fn holds_in_stretches<R: AllocGlobal + Runtime + Abort>(
     Ok(())
 }
 
-/// Over these bytes the script's lines are answered as they say. Where the test's own memory is refused, all is done again.
+/// The answers to the script over these bytes are those in the script. If an allocation of the test itself fails, everything is repeated.
 pub(crate) fn holds<R: AllocGlobal + Runtime + Abort>(
     rt: &R,
     bytes: &[u8],
@@ -197,7 +197,7 @@ root > 5f4d72f40d7a5f82b15ca2b2e44b1de3c2ef86c426c95c1af0b6879522563030 by 3
     )
 }
 
-// Of the first chunk the last bit is another. A part of another plan is told first, then one that overlaps.
+// The last bit of the first chunk differs. A part with another plan is reported first, then one that overlaps.
 #[test]
 fn strangers_are_refused(rt: HostRuntime) -> Result<(), Fail> {
     let mut bytes = pattern(rt.alloc(), 0, 2049)?;
@@ -219,7 +219,7 @@ root > Incomplete { missing: 0 } by 0
     )
 }
 
-// Stretches that are shorter than a chunk, as long as one, and longer than all, which no border of a part heeds.
+// Stretches shorter than a chunk, as long as one, and longer than all bytes; the parts ignore their boundaries.
 #[test]
 fn parts_are_noted_over_stretches(rt: HostRuntime) -> Result<(), Fail> {
     let mut bytes = pattern(rt.alloc(), 0, 2049)?;

@@ -1,6 +1,6 @@
-//! Scripts of one upload. `closed` and `open` begin it, `make` makes a part of the pattern and `add` adds one too, `stray` adds one
-//! of the plan that `other` gave, `bytes` takes the made part's bytes back, `fix` fixes the end, and `state`, `gaps`, `segments` and
-//! `root` tell what is there.
+//! Scripts for one upload. `closed` and `open` begin it, `make` makes a part of the pattern and `add` also adds it, `stray` adds one with
+//! the plan that `other` set, `bytes` takes the bytes out of the made part, `fix` fixes the end, and `state`, `gaps`, `segments` and `root`
+//! return what is there.
 
 use crate::fakes::{is_pattern, pattern};
 use crate::scripts::{Answers, cut, number, told, two_numbers};
@@ -10,7 +10,7 @@ use std::alloc::{AllocError, Global};
 use std::process::Abort;
 use std::test::Fail;
 
-// A forest, another plan, the part that was made last, the top that was told last, the compressions, and those of that part.
+// A forest, another plan, the part made last, the top returned last, the compressions, and those for that part.
 #[derive(Drop)]
 struct Upload {
     alloc: Global,
@@ -69,7 +69,7 @@ impl Upload {
         format!(in self.alloc; "{} {}", kind_text(&self.other), self.other.bound())
     }
 
-    // Makes a part, and notes the compressions.
+    // Makes a part, and records the compressions.
     fn made_once(
         &mut self,
         plan: Plan,
@@ -82,7 +82,7 @@ impl Upload {
         made
     }
 
-    // Makes a part, and once more of the bytes that come back where memory is refused.
+    // Makes a part. If an allocation fails, it is made again from the returned bytes.
     fn made(&mut self, plan: Plan, offset: u64, bytes: Vec<u8>) -> Result<Prepared, PartRefused> {
         match self.made_once(plan, offset, bytes) {
             Ok(part) => Ok(part),
@@ -95,7 +95,7 @@ impl Upload {
         }
     }
 
-    // Makes a part and keeps it, or tells why there is none, and whether its bytes came back.
+    // Makes a part and keeps it, or returns why there is none, and whether its bytes were returned.
     fn make(&mut self, plan: Plan, offset: u64, size: u64) -> Result<String, AllocError> {
         let bytes = pattern(self.alloc, offset, size)?;
         match self.made(plan, offset, bytes) {
@@ -112,7 +112,7 @@ impl Upload {
         }
     }
 
-    // Adds a part, and once more where memory is refused, which leaves all as it was.
+    // Adds a part. If an allocation fails, nothing has changed and it is added again.
     fn added(&mut self, part: Prepared) -> Result<u64, AddRefused> {
         let before = (
             self.forest.end(),
@@ -142,7 +142,7 @@ impl Upload {
         self.forest.add(part, &mut self.work)
     }
 
-    // Makes a part and adds it, and tells the merges, or why it was not added, and which part came back.
+    // Makes a part and adds it. Returns the number of merges, or why it was not added, and which part was returned.
     fn add(&mut self, plan: Plan, offset: u64, size: u64) -> Result<String, AllocError> {
         let made = self.make(plan, offset, size)?;
         let Some(part) = self.part.take() else {
@@ -181,7 +181,7 @@ impl Upload {
         )
     }
 
-    // The forest's text, and its gaps.
+    // The forest's debug text, and its gaps.
     fn gaps(&mut self) -> Result<String, AllocError> {
         let mut text = format!(in self.alloc; "{:?}", self.forest)?;
         for gap in self.forest.gaps(self.alloc)?.as_slice() {
@@ -190,7 +190,7 @@ impl Upload {
         Ok(text)
     }
 
-    // The text of the part that was made last, and whether its bytes come back.
+    // The debug text of the part made last, and whether its bytes can be taken out.
     fn bytes(&mut self) -> Result<String, AllocError> {
         let Some(part) = self.part.take() else {
             return format!(in self.alloc; "no part");
@@ -215,7 +215,7 @@ impl Upload {
         Ok(text)
     }
 
-    // The hash, the compressions of its node and its own, and whether the node is the one that was told last.
+    // The hash, the compressions for its node and its own, and whether the node is the one returned last.
     fn root(&mut self) -> Result<String, AllocError> {
         let before = self.work.count();
         let finished = self.forest.finish(&mut self.work);
@@ -240,7 +240,7 @@ fn is_part(part: &Prepared, plan: &Plan, offset: u64, size: u64) -> bool {
     part.plan() == *plan && part.offset() == offset && is_pattern(part.bytes(), offset, size)
 }
 
-// What is told of the script.
+// The answers to the script.
 fn told_of<R: AllocGlobal + Runtime>(
     rt: &R,
     plan: Plan,
@@ -258,7 +258,7 @@ fn told_of<R: AllocGlobal + Runtime>(
     told(rt.alloc(), &mut on, script)
 }
 
-/// The script's lines are answered as they say. Where the test's own memory is refused, all is done again.
+/// The answers to the script are those in the script. If an allocation of the test itself fails, everything is repeated.
 pub(crate) fn holds<R: AllocGlobal + Runtime + Abort>(rt: &R, script: &str) -> Result<(), Fail> {
     let plan = Plan::new(0).ok().ok_or("no plan")?;
     let told = match told_of(rt, plan, script) {

@@ -1,4 +1,4 @@
-//! Forests of parts, whose upload has its length from the start or at the end. The digests are from outside.
+//! Forests of parts, with a length known from the start or fixed at the end. The digests come from outside.
 
 use crate::fakes::pattern;
 use crate::forest_scripts::holds;
@@ -22,7 +22,7 @@ fn add(
     Ok(())
 }
 
-// Adds all parts of `size` bytes, in turns of `step`.
+// Adds all parts of `size` bytes, in steps of `step`.
 fn add_all(
     alloc: Global,
     forest: &mut Forest,
@@ -42,7 +42,7 @@ fn add_all(
     Ok(())
 }
 
-// Cut into parts of that size, which come in turns of `step`, the pattern has its hash.
+// Split into parts of that size, which come in steps of `step`, the pattern has its hash.
 fn has_its_hash(
     alloc: Global,
     len: u64,
@@ -107,7 +107,7 @@ make 1024 2049 > 2 pieces by 32 true
     )
 }
 
-// Together as many as one hash of the 4096 bytes: 64 blocks and 4 chunks.
+// In total as many as one hash of the 4096 bytes: 64 blocks and 4 chunks.
 #[test]
 fn four_chunks_from_the_middle(rt: HostRuntime) -> Result<(), Fail> {
     holds(
@@ -160,7 +160,7 @@ gaps > Forest { parts: 1, held: 1, length: 1 }
     )
 }
 
-// Each order has one top.
+// All orders have one top.
 #[test]
 fn three_parts_in_any_order(rt: HostRuntime) -> Result<(), Fail> {
     holds(
@@ -200,7 +200,7 @@ root > 5f4d72f40d7a5f82b15ca2b2e44b1de3c2ef86c426c95c1af0b6879522563030 by 2 and
     )
 }
 
-// Together as many as one hash of the 16384 bytes: 256 blocks and 16 chunks.
+// In total as many as one hash of the 16384 bytes: 256 blocks and 16 chunks.
 #[test]
 fn even_chunks_first(rt: HostRuntime) -> Result<(), Fail> {
     holds(
@@ -244,7 +244,7 @@ root > 869b1292c8bed5bdb2e0075e0c50ccf8b24b33a0f81071c86206bd8fdb269579 by 0 and
     )
 }
 
-// A part that is no multiple of a chunk fixes the end, unless it ends before a part that is held.
+// A part whose length is not a multiple of a chunk fixes the end, unless it ends before a part that is held.
 #[test]
 fn a_ragged_part_fixes_the_end(rt: HostRuntime) -> Result<(), Fail> {
     holds(

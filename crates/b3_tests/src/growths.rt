@@ -1,10 +1,9 @@
-//! What calls do where one growth of memory is refused. tests/growths runs each of these tests again and again, and refuses
-//! another growth of the process each time.
+//! Calls in which one allocation fails. tests/growths runs each of these tests many times, and lets another allocation of the process fail
+//! each time.
 //!
-//! The call answers as if nothing had been refused, or tells want of memory. Then what was lent is as before it, what was handed
-//! in comes back, and the same call succeeds, as the scripts make it. Where the growth is refused while the state is prepared or
-//! looked at, the whole is done again, which succeeds too, since no second growth is refused. So a call that always tells want of
-//! memory fails.
+//! The call succeeds as usual, or reports that it ran out of memory. Then what it borrowed is unchanged, what it was given is returned, and
+//! the same call succeeds, as the scripts repeat it. If the allocation fails while the state is prepared or inspected, everything is
+//! repeated, which succeeds, as no second allocation fails. So a call that always reports running out of memory fails the test.
 
 use crate::fakes::pattern;
 use crate::helpers::THREE_LINES;
@@ -13,7 +12,7 @@ use b3_check::{CheckFile, NameFault, Names, Shown, verify};
 use std::alloc::{AllocError, Global};
 use std::test::Fail;
 
-// Gives no digest.
+// Has no digests.
 #[derive(Drop)]
 struct NoNames;
 
@@ -25,7 +24,7 @@ impl Names for NoNames {
     }
 }
 
-// Reads three lines, and once more where that is refused.
+// Reads three lines, and reads them again if an allocation fails.
 fn lines_of(alloc: Global) -> Result<CheckFile, AllocError> {
     match CheckFile::read(alloc, THREE_LINES) {
         Ok(file) => Ok(file),
@@ -49,7 +48,7 @@ root > 015094013f57a5277b59d8475c0501042c0b642e531b0a1c8f58d2163229e969 by 0 and
     )
 }
 
-// The second part fixes the end, which a refused one must not.
+// The second part fixes the end, which a refused part must not do.
 #[test]
 fn add_to_an_open_upload(rt: HostRuntime) -> Result<(), Fail> {
     forest_scripts::holds(

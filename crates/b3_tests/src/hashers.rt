@@ -1,4 +1,4 @@
-//! Bytes that a hasher is given in pieces.
+//! Hashers that are given bytes in pieces.
 
 use crate::fakes::pattern;
 use crate::helpers::{CONTEXT, KEY};
@@ -6,15 +6,15 @@ use b3_core::{Hasher, Mode, Runtime, Work, hash};
 use std::process::Abort;
 use std::test::Fail;
 
-// Pieces of these sizes in turn, and then the rest, give the hash of the whole by as many compressions.
+// Pieces of these sizes in turn, and then the remaining bytes, result in the hash of the whole with the same number of compressions.
 fn agree<R: AllocGlobal + Runtime + Abort>(rt: &R, mode: &Mode, bytes: &[u8], sizes: &[usize]) {
     let mut work = Work::new(rt);
     let mut hasher = Hasher::new(mode);
     let mut rest = bytes;
     for size in sizes {
-        let (piece, behind) = rest.split_at((*size).min(rest.len()));
+        let (piece, following) = rest.split_at((*size).min(rest.len()));
         hasher.update(piece, &mut work);
-        rest = behind;
+        rest = following;
     }
     hasher.update(rest, &mut work);
     assert_eq!(rt; hasher.count(), bytes.len() as u64);
@@ -67,7 +67,7 @@ fn pieces_of_many_sizes(rt: HostRuntime) -> Result<(), Fail> {
     Ok(())
 }
 
-// The node is that of what was given so far, and more can be given behind it.
+// The node is that of what was given so far, and more can be given afterwards.
 #[test]
 fn a_top_in_between(rt: HostRuntime) -> Result<(), Fail> {
     let bytes = pattern(rt.alloc(), 0, 5_000)?;
@@ -75,9 +75,9 @@ fn a_top_in_between(rt: HostRuntime) -> Result<(), Fail> {
     let mut hasher = Hasher::new(&Mode::hash());
     let mut rest = bytes.as_slice();
     for size in [0usize, 1, 1023, 2048, 1024, 904] {
-        let (piece, behind) = rest.split_at(size.min(rest.len()));
+        let (piece, following) = rest.split_at(size.min(rest.len()));
         hasher.update(piece, &mut work);
-        rest = behind;
+        rest = following;
         let given = bytes.len().saturating_sub(rest.len());
         let wanted = hash(&Mode::hash(), &bytes[..given], &mut work);
         assert!(rt;
@@ -88,7 +88,7 @@ fn a_top_in_between(rt: HostRuntime) -> Result<(), Fail> {
     Ok(())
 }
 
-// What a copy is given, the hasher is not.
+// What a copy is given does not affect the hasher.
 #[test]
 fn a_copy_goes_on_alone(rt: HostRuntime) -> Result<(), Fail> {
     let mode = Mode::keyed(KEY);

@@ -7,8 +7,8 @@ use b3_core::{Hasher, Mode, OutputReader, Runtime, Top, Work, compress, hash, ha
 use std::process::Abort;
 use std::test::Fail;
 
-// Of lengths of the pattern: the compressions of its hash, and the hash in the three modes, as the reference implementation's
-// command gives them, with the key and the context of the official test vectors.
+// For lengths of the pattern: the compressions of its hash, and the hash in the three modes, from the reference implementation's command,
+// with the key and the context of the official test vectors.
 const HASHES: &str =
     "0 1 af1349b9f5f9a1a6a0404dea36dcc9499bcb25c9adc112b7cc9a93cae41f3262 92b2b75604ed3c761f9d6f62392c8a9227ad0ea3f09573e783f1498a4ed60d26 2cc39783c223154fea8dfb7c1b1660f2ac2dcbd1c1de8277b0b0dd39b7e50d7d
 1 1 2d3adedff11b61f14c886e35afa036736dcd87a74d27b5c1510225d0f592e213 6d7878dfff2f485635d39013278ae14f1454b8c0a3a2d34bc1ab38228a80c95b b3e2e340a117a499c6cf2398a19ee0d29cca2bb7404c73063382693bf66cb06c
@@ -32,7 +32,7 @@ fn first_output(mode: &Mode, bytes: &[u8], work: &mut Work) -> [u8; 32] {
     output
 }
 
-// The hash of bytes that come in two pieces.
+// The hash of bytes that arrive in two pieces.
 fn in_pieces(mode: &Mode, bytes: &[u8], work: &mut Work) -> [u8; 32] {
     let mut hasher = Hasher::new(mode);
     let (front, back) = bytes.split_at(bytes.len() / 2);
@@ -41,7 +41,7 @@ fn in_pieces(mode: &Mode, bytes: &[u8], work: &mut Work) -> [u8; 32] {
     hasher.top(work).root32(work)
 }
 
-// Both bodies of the hash, the hasher and the output give this digest, each by so many compressions.
+// Both implementations of the hash, the hasher and the output return this digest, each with `count` compressions.
 fn are_all(mode: &Mode, bytes: &[u8], wanted: &[u8; 32], count: u64, work: &mut Work) -> bool {
     let before = work.count();
     let is_plain = hash(mode, bytes, work) == *wanted && work.count().wrapping_sub(before) == count;
@@ -52,7 +52,7 @@ fn are_all(mode: &Mode, bytes: &[u8], wanted: &[u8; 32], count: u64, work: &mut 
     is_plain && is_wide && is_output && are_pieces && is_count
 }
 
-// The pattern of this length has that many compressions, and these hashes in the three modes.
+// The pattern of this length takes this number of compressions, and has these hashes in the three modes.
 fn has_hashes<R: AllocGlobal + Runtime + Abort>(rt: &R, row: &str) -> Result<(), Fail> {
     let (len, row) = cut(row);
     let (count, row) = cut(row);

@@ -8,15 +8,15 @@ pub(crate) const KEY: &[u8; 32] = b"whats the Elvish word for friend";
 
 pub(crate) const CONTEXT: &[u8] = b"BLAKE3 2019-12-27 16:29:52 test vectors context";
 
-/// The hash of `abc`, as the reference implementation's command gives it.
+/// The hash of `abc`, from the reference implementation's command.
 pub(crate) const ABC: &str = "6437b3ac38465133ffb63b75273a8db548c558465d79db03fd359c6cd5bd9d85";
 
-// A check file of two lines and a bad one between them. They begin at the bytes 0, 68 and 74, and the first byte of a
-// name stands 66 bytes on.
+// A check file of two lines and a bad one between them. They start at the bytes 0, 68 and 74, and the first byte of a name comes 66 bytes
+// later.
 pub(crate) const THREE_LINES: &[u8] =
     b"6437b3ac38465133ffb63b75273a8db548c558465d79db03fd359c6cd5bd9d85  f\nshort\naf1349b9f5f9a1a6a0404dea36dcc9499bcb25c9adc112b7cc9a93cae41f3262  g";
 
-/// The digest that these digits name.
+/// The digest with these digits.
 pub(crate) fn digest(digits: &str) -> Result<[u8; 32], Fail> {
     Ok(<[u8; 32]>::from_hex(digits)?)
 }

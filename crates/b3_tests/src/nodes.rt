@@ -1,4 +1,4 @@
-//! Nodes of the tree: chunks, subtrees and parents. Their values are those of a second reading of the specification.
+//! Nodes of the tree: chunks, subtrees and parents. Their values come from the second reading of the specification.
 
 use crate::fakes::pattern;
 use crate::helpers::{CONTEXT, KEY};
@@ -9,8 +9,8 @@ use std::fmt::Write;
 use std::process::Abort;
 use std::test::Fail;
 
-// `chunk` and `subtree` take bytes of the pattern as chunks from a number on, and `bitten` those whose last bit is another;
-// `parent` is over the last two nodes. The last node's value is told, and by `root` its hash.
+// `chunk` and `subtree` take bytes of the pattern as chunks from a number on; for `bitten` their last bit differs. `parent` joins the last
+// two nodes. The answer is the last node's value, and for `root` its hash.
 #[derive(Drop)]
 struct Nodes {
     alloc: Global,
@@ -71,7 +71,7 @@ impl Nodes {
         self.keep(node, before)
     }
 
-    // The node's value, and the compressions of the node without and with it.
+    // The node's value, and the compressions without and with those for the value.
     fn keep(&mut self, node: Top, before: u64) -> Result<String, AllocError> {
         let made = self.work.count().wrapping_sub(before);
         let mut text = String::new(self.alloc);
@@ -85,7 +85,7 @@ impl Nodes {
     }
 }
 
-// In a mode the script's lines are answered as they say.
+// In this mode the answers to the script are those in the script.
 fn holds<R: AllocGlobal + Runtime + Abort>(rt: &R, mode: Mode, script: &str) -> Result<(), Fail> {
     let mut work = Work::new(rt);
     let none = Top::of_chunk(&mode, &[], 0, &mut work);
@@ -101,7 +101,7 @@ fn holds<R: AllocGlobal + Runtime + Abort>(rt: &R, mode: Mode, script: &str) -> 
     Ok(())
 }
 
-// The first two chunks, the third of one byte, and two whose last bit is another.
+// The first two chunks, the third of one byte, and two whose last bit differs.
 #[test]
 fn nodes_of_the_hash_mode(rt: HostRuntime) -> Result<(), Fail> {
     holds(

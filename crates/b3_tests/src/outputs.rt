@@ -7,7 +7,7 @@ use std::alloc::{AllocError, Global};
 use std::process::Abort;
 use std::test::Fail;
 
-// A reader of the output of `abc`: `at` sets its position, `fill` fills so many bytes, and tells them where they are few.
+// A reader of the output of `abc`: `at` sets its position, `fill` fills a number of bytes, and returns them if they are few.
 #[derive(Drop)]
 struct Output {
     alloc: Global,
@@ -28,7 +28,7 @@ impl Answers for Output {
 }
 
 impl Output {
-    // The compressions, the position behind, and the bytes; of a refused fill those that stood there before.
+    // The compressions, the position afterwards, and the bytes; for a refused fill the previous contents.
     fn fill(&mut self, len: u64) -> Result<String, AllocError> {
         let mut bytes = Vec::new(self.alloc);
         for _ in 0..len {
@@ -49,7 +49,7 @@ impl Output {
     }
 }
 
-// The script's lines are answered as they say.
+// The answers to the script are those in the script.
 fn holds<R: AllocGlobal + Runtime + Abort>(rt: &R, script: &str) -> Result<(), Fail> {
     let mut work = Work::new(rt);
     let top = Top::of_chunk(&Mode::hash(), b"abc", 0, &mut work);
@@ -63,7 +63,7 @@ fn holds<R: AllocGlobal + Runtime + Abort>(rt: &R, script: &str) -> Result<(), F
     Ok(())
 }
 
-// At each cut the two pieces are the output; its first 131 bytes are those of the reference implementation's command.
+// At each split the two pieces are the output; its first 131 bytes are those of the reference implementation's command.
 #[test]
 fn output_of_abc_in_pieces(rt: HostRuntime) -> Result<(), Fail> {
     holds(

@@ -1,4 +1,4 @@
-//! The hash by several threads of a stream and of bytes at hand, beside that by one.
+//! The hash of a stream and of bytes in memory by several threads, compared with that by one.
 
 use crate::fakes::pattern;
 use b3_core::{Hasher, Mode, Runtime, Work};
@@ -9,7 +9,7 @@ use std::io::{ErrorKind, Read};
 use std::test::Fail;
 use std::thread::Threads;
 
-// Gives at most `most` bytes a call, and fails once it gave `fails_at`.
+// Returns at most `most` bytes per call, and fails after it returned `fails_at`.
 #[derive(Drop)]
 struct PieceReader<'a> {
     bytes: &'a [u8],
@@ -32,7 +32,7 @@ impl Read for PieceReader<'_> {
     }
 }
 
-// Whether the node and the count of bytes that come in pieces are those of one thread.
+// Whether the node and the count of bytes that arrive in pieces are those of one thread.
 fn is_read_alike<T: Threads + Runtime>(
     rt: &T,
     alloc: Global,
@@ -56,13 +56,13 @@ fn is_read_alike<T: Threads + Runtime>(
     Ok(top == wanted && several.count() == one.count() && reader.bytes.is_empty())
 }
 
-// The bytes of a block.
+// The number of bytes of a block.
 const BLOCK: usize = 2 << 20;
 
-// So many bytes, hashed by so many threads, of which so many come at once.
+// A length in bytes, a number of threads, and the maximum number of bytes per read.
 struct Stream(usize, Option<u32>, usize);
 
-// Around blocks and whole subtrees of them; the longest has more blocks than are hashed at once.
+// Lengths around blocks and whole subtrees of them; the longest has more blocks than are hashed at once.
 const STREAMS: &[Stream] = &[
     Stream(0, Some(3), usize::MAX),
     Stream(1025, Some(2), 1),
@@ -92,7 +92,7 @@ fn a_stream_has_the_node_of_one_thread(rt: HostRuntime) -> Result<(), Fail> {
     Ok(())
 }
 
-// What comes of a reader that fails.
+// The error for a reader that fails.
 fn failed_kind<T: Threads + Runtime>(
     rt: &T,
     alloc: Global,
@@ -146,7 +146,7 @@ fn a_read_that_fails_is_told(rt: HostRuntime) -> Result<(), Fail> {
     Ok(())
 }
 
-// Whether a hasher that is given both texts by several threads is as one that one thread gives them.
+// Whether a hasher that is given both texts by several threads is like one that is given them by one thread.
 fn is_updated_alike<T: Threads + Sync + Runtime>(
     rt: &T,
     alloc: Global,

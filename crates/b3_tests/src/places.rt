@@ -1,4 +1,4 @@
-//! The hash of bytes that threads read from any place, beside that of one thread.
+//! The hash of bytes that threads read at any offset, compared with that of one thread.
 
 ghost use Rattle.std.specs.Prelude.{Some, None};
 ghost use Rattle.std.specs.Arc.{arc_value};
@@ -13,7 +13,7 @@ use std::sync::Arc;
 use std::test::Fail;
 use std::thread::Threads;
 
-// Bytes that are known.
+// Known bytes.
 #[derive(Drop)]
 struct Shelf(Arc<Vec<u8>>);
 
@@ -32,7 +32,7 @@ impl Source for Shelf {
     }
 }
 
-// Bytes of which at most 700 are read at once, and none from a place on.
+// Bytes of which at most 700 are returned per read, and none from some offset on.
 #[derive(Drop)]
 struct Torn {
     shelf: Shelf,
@@ -58,7 +58,7 @@ impl Source for Torn {
     }
 }
 
-// A shelf with so many bytes of the pattern.
+// A shelf with `len` bytes of the pattern.
 fn shelf_of(alloc: Global, len: u64) -> Result<Shelf, AllocError> {
     Ok(Shelf(Arc::new(alloc, pattern(alloc, 0, len)?)?))
 }
@@ -72,8 +72,8 @@ fn by_one<T: Runtime>(rt: &T, shelf: &Shelf) -> (Top, u64) {
     (top, work.count())
 }
 
-// What comes of a source, told as so many bytes: the node and the count of one thread ("alike"), none and no count ("none"), or
-// anything else.
+// The result for a source of the stated length: the node and the count of one thread ("alike"), none and no count ("none"), or anything
+// else.
 fn told<T: Threads + Runtime, S: Source + Send + Drop + 'static>(
     rt: &T,
     alloc: Global,
@@ -92,7 +92,7 @@ fn told<T: Threads + Runtime, S: Source + Send + Drop + 'static>(
     }
 }
 
-// The bytes of a block, and the fewest for which threads are started.
+// The number of bytes of a block, and the minimum number for which threads are started.
 const BLOCK: u64 = 512 << 10;
 
 const LEAST: u64 = 16 << 20;
@@ -104,7 +104,7 @@ const LENGTHS: [u64; 4] = [
     LEAST + 3 * BLOCK + 2049,
 ];
 
-// Whether several threads give the node and the count of one for so many bytes.
+// Whether several threads have the node and the count of one thread for `len` bytes.
 fn are_alike<T: Threads + Runtime + AllocGlobal>(rt: &T, len: u64) -> Result<bool, AllocError> {
     let shelf = shelf_of(rt.alloc(), len)?;
     let wanted = by_one(rt, &shelf);
@@ -124,7 +124,7 @@ fn each_length_has_the_node_of_one_thread(rt: HostRuntime) -> Result<(), Fail> {
     Ok(())
 }
 
-// There is a node up to the length of all whole blocks and of the one behind them.
+// There is a node up to the length of all whole blocks and of the one after them.
 #[test]
 fn a_length_that_is_told_wrong(rt: HostRuntime) -> Result<(), Fail> {
     let len = LEAST + BLOCK + 5000;

@@ -1,14 +1,14 @@
-//! Scripts: each line is a command and, behind ` > `, the answer that it must have.
+//! Scripts: each line is a command and, after ` > `, the answer that it must have.
 
 use std::alloc::{AllocError, Global};
 
-/// What is told of such lines.
+/// Answers such commands.
 pub trait Answers {
     /// The answer to a command.
     fn answer(&mut self, command: &str) -> Result<String, AllocError>;
 }
 
-/// The script again, as its commands are answered; a line that has no answer is told as one that has none.
+/// The script again, with the actual answers to its commands; also a line without an answer gets its answer.
 pub fn told<A: Answers>(alloc: Global, on: &mut A, script: &str) -> Result<String, AllocError> {
     let mut told = String::new(alloc);
     for line in script.lines() {
@@ -30,12 +30,12 @@ fn command_of(line: &str) -> &str {
     }
 }
 
-/// A text up to its first space, and what stands behind that.
+/// A text up to its first space, and the text after that.
 pub fn cut(text: &str) -> (&str, &str) {
     text.split_once(' ').unwrap_or((text, ""))
 }
 
-/// A number; what is none is the greatest.
+/// A number; for anything else, the largest one.
 pub fn number(text: &str) -> u64 {
     text.parse::<u64>().unwrap_or(u64::MAX)
 }

@@ -1,4 +1,4 @@
-//! Parts whose bytes others hold too.
+//! Parts whose bytes are shared.
 
 ghost use Rattle.std.specs.Prelude.{◌<◌};
 
@@ -10,7 +10,7 @@ use std::alloc::{AllocError, Global};
 use std::sync::Arc;
 use std::test::Fail;
 
-// What is shown of a part, its pieces, and the compressions since the count was so many; or its refusal.
+// The debug text of a part, its pieces, and the compressions since the count was `before`; or its refusal.
 fn shown(
     alloc: Global,
     part: Option<&Prepared>,
@@ -24,7 +24,7 @@ fn shown(
     }
 }
 
-// What is shown of the part of the pattern of 2049 bytes that is made with bytes of its own.
+// The debug text of the part of the pattern of 2049 bytes, made with its own bytes.
 fn made(alloc: Global, offset: u64, len: u64, work: &mut Work) -> Result<String, Fail> {
     let plan = Plan::new(2049).ok().ok_or("no plan")?;
     let bytes = pattern(alloc, offset, len)?;
@@ -33,7 +33,7 @@ fn made(alloc: Global, offset: u64, len: u64, work: &mut Work) -> Result<String,
     Ok(shown(alloc, part.ok().as_ref(), before, work)?)
 }
 
-// The same of one that shares its bytes.
+// The same for a part that shares its bytes.
 fn shared(alloc: Global, offset: u64, len: u64, work: &mut Work) -> Result<String, Fail> {
     let plan = Plan::new(2049).ok().ok_or("no plan")?;
     let bytes = Arc::new(alloc, pattern(alloc, offset, len)?)
@@ -44,7 +44,7 @@ fn shared(alloc: Global, offset: u64, len: u64, work: &mut Work) -> Result<Strin
     Ok(shown(alloc, part.ok().as_ref(), before, work)?)
 }
 
-// The same of one that is prepared from the whole pattern in stretches of so many bytes.
+// The same for a part prepared from the whole pattern in stretches of `stretch_len` bytes.
 fn prepared(
     alloc: Global,
     stretch_len: usize,
@@ -65,7 +65,7 @@ fn prepared(
     Ok(shown(alloc, part.ok().as_ref(), before, work)?)
 }
 
-// Good parts, and those that F2, F3 and F5 refuse.
+// Valid parts, and those refused by F2, F3 and F5.
 #[test]
 fn shared_parts_are_as_made_ones(rt: HostRuntime) -> Result<(), Fail> {
     let alloc = rt.alloc();
@@ -94,7 +94,7 @@ fn shared_parts_are_as_made_ones(rt: HostRuntime) -> Result<(), Fail> {
     Ok(())
 }
 
-// A part that shares a stretch hands no bytes back while others hold it, and one that has a copy does.
+// A part that shares a stretch does not return its bytes while others hold it; a part with a copy does.
 #[test]
 fn stretches_are_shared_where_they_are_parts(rt: HostRuntime) -> Result<(), Fail> {
     let alloc = rt.alloc();

@@ -1,4 +1,4 @@
-//! How much there is to hash, and how much of it is left.
+//! How much there is to hash, and how much of it remains.
 
 use b3_check::{Name, NameFault, Names, NumberedLine};
 use b3_core::Top;
@@ -6,7 +6,7 @@ use std::fs;
 use std::sync::atomic::{AtomicU64, Ordering};
 use store_engines::{FileFault, Reason, Sources};
 
-/// How many files and bytes there are to hash, as far as that is known, and how many of the files are left.
+/// The numbers of files and bytes to hash, if they are known, and the number of files that remain.
 #[derive(Drop)]
 pub(crate) struct Extent {
     is_told: bool,
@@ -16,7 +16,7 @@ pub(crate) struct Extent {
 }
 
 impl Extent {
-    /// Nothing is known. Bytes of files are asked for only where progress is told.
+    /// Nothing is known yet. The sizes of files are looked up only if progress is shown.
     pub(crate) fn new(is_told: bool) -> Extent {
         Extent {
             is_told,
@@ -26,12 +26,12 @@ impl Extent {
         }
     }
 
-    /// Notes how many bytes there are, where that is known.
+    /// Records the number of bytes, if it is known.
     pub(crate) fn note_bytes(&self, bytes: Option<u64>) {
         self.bytes.store(bytes.unwrap_or(0), Ordering::Relaxed);
     }
 
-    // Notes how many files are left, and answers whether these are all and their bytes are asked for.
+    // Records the number of files that remain. Returns whether these are all files and their sizes have to be looked up.
     fn note_left(&self, left: usize) -> bool {
         self.left.store(left as u64, Ordering::Relaxed);
         if self.files.load(Ordering::Relaxed) > 0 {
@@ -41,7 +41,7 @@ impl Extent {
         self.is_told
     }
 
-    /// How many files are done, and how many there are.
+    /// The number of files that are done, and the number of all files, if there is more than one.
     pub(crate) fn files(&self) -> Option<(u64, u64)> {
         let files = self.files.load(Ordering::Relaxed);
         let left = self.left.load(Ordering::Relaxed);
@@ -52,7 +52,7 @@ impl Extent {
         }
     }
 
-    /// How many bytes there are, where that is known.
+    /// The number of bytes, if it is known.
     pub(crate) fn bytes(&self) -> Option<u64> {
         match self.bytes.load(Ordering::Relaxed) {
             0 => None,
@@ -61,7 +61,7 @@ impl Extent {
     }
 }
 
-/// Files by their names, of which an extent is told.
+/// Files by name, whose numbers are recorded in an extent.
 #[derive(Drop)]
 pub(crate) struct Metered<'a, S: Drop> {
     rt: &'a HostRuntime,
@@ -74,7 +74,7 @@ impl<'a, S: Drop> Metered<'a, S> {
         Metered { rt, extent, within }
     }
 
-    // So many bytes and those of the file of a name, where it is a regular file.
+    // The sum of `bytes` and the size of the named file, if it is a regular file.
     fn with_file(&self, bytes: u64, name: &Name) -> Option<u64> {
         let path = str::from_utf8(name.as_bytes()).ok()?;
         let found = fs::metadata(self.rt, path).ok()?;
@@ -85,7 +85,7 @@ impl<'a, S: Drop> Metered<'a, S> {
         }
     }
 
-    // How many bytes the files of these names have, where all are regular files.
+    // The total size of the named files, if all are regular files.
     fn bytes_of(&self, names: &[Name]) -> Option<u64> {
         let mut bytes = 0;
         for name in names {
@@ -94,7 +94,7 @@ impl<'a, S: Drop> Metered<'a, S> {
         Some(bytes)
     }
 
-    // The same of the names of lines, but of those with a fault.
+    // The same for the names in lines, except those with a fault.
     fn bytes_of_lines(&self, lines: &[NumberedLine]) -> Option<u64> {
         let mut bytes = 0;
         for line in lines {

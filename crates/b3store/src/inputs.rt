@@ -5,7 +5,7 @@ ghost use Rattle.b3_check.specs.Names.{IsName};
 ghost use Rattle.store_command_line.specs.Ranges.{IsSumInRange};
 
 use crate::extent::{Extent, Metered};
-use crate::standard::{StandardError, StandardInput, StandardOutput};
+use crate::standard::{StandardError, StandardInput, standard_output};
 use crate::telling::{misused, opened, status, stopped};
 use b3_check::Name;
 use b3_core::{Runtime, Work};
@@ -18,7 +18,7 @@ use store_engines::{
     sum, sum_files, write_root,
 };
 
-// The mode that is asked for, or the status where its key can't be had.
+// The requested mode, or the exit status if its key is not available.
 fn mode_of<'a>(rt: &HostRuntime, asked: AskedMode<'a>) -> Result<SumMode<'a>, u8> {
     let path = match asked {
         AskedMode::Known(mode) => return Ok(mode),
@@ -35,7 +35,7 @@ fn mode_of<'a>(rt: &HostRuntime, asked: AskedMode<'a>) -> Result<SumMode<'a>, u8
     }
 }
 
-// The names that a reader gives, or the status where they can't be had.
+// The names that a reader returns, or the exit status if they are not available.
 fn names_from<R: Read>(rt: &HostRuntime, reader: &mut R, has_nuls: bool) -> Result<Vec<Name>, u8> {
     match read_names(rt.alloc(), reader, has_nuls) {
         Ok(Some(names)) => Ok(names),
@@ -47,7 +47,7 @@ fn names_from<R: Read>(rt: &HostRuntime, reader: &mut R, has_nuls: bool) -> Resu
     }
 }
 
-// The names in a list, or the status where they can't be had.
+// The names in a list, or the exit status if they are not available.
 fn names_in(rt: &HostRuntime, names: &NameList<'_>) -> Result<Vec<Name>, u8> {
     match names.list {
         Input::Standard => names_from(rt, &mut rt.stdin(), names.has_nuls),
@@ -65,7 +65,7 @@ fn sum_standard<T: Threads + Runtime>(
     requires { IsName request.now.name.now }
 {
     let mut work = Work::new(rt);
-    let (mut input, mut writer) = (StandardInput::new(rt), StandardOutput::new(rt));
+    let (mut input, mut writer) = (StandardInput::new(rt), standard_output(rt));
     extent.note_bytes(input.len_left());
     let mut files = SystemFiles::new(rt, threads, request.mode, request.threads);
     if let Some(root) = files.root_of_file_input(&mut input) {
@@ -91,7 +91,7 @@ fn sum_standard<T: Threads + Runtime>(
     Ok(Verdict::Good)
 }
 
-// Writes the hash of what has each name.
+// Writes the hash of each named file.
 fn sum_named<T: Threads + Runtime>(
     rt: &HostRuntime,
     threads: &T,
@@ -100,7 +100,7 @@ fn sum_named<T: Threads + Runtime>(
     options: &SumOptions<'_>,
     names: &[Name],
 ) -> Result<Verdict, Cause> {
-    let Ok(mut writer) = LineWriter::new(rt.alloc(), StandardOutput::new(rt)) else {
+    let Ok(mut writer) = LineWriter::new(rt.alloc(), standard_output(rt)) else {
         return Err(Cause::OutOfMemory);
     };
     let files = SystemFiles::new(rt, threads, mode, options.threads);
@@ -117,7 +117,7 @@ fn sum_named<T: Threads + Runtime>(
     )
 }
 
-// The status of `sum`, or that of what it needs and can't have.
+// The exit status of `sum`, or that of something it needs and cannot get.
 fn summed<T: Threads + Runtime>(
     rt: &HostRuntime,
     threads: &T,
@@ -149,7 +149,7 @@ fn summed<T: Threads + Runtime>(
     ))
 }
 
-/// The status of `sum`.
+/// The exit status of `sum`.
 pub(crate) fn sum_status<T: Threads + Runtime>(
     rt: &HostRuntime,
     threads: &T,
@@ -164,7 +164,7 @@ pub(crate) fn sum_status<T: Threads + Runtime>(
     }
 }
 
-// Verifies the check lines that a reader gives.
+// Verifies the check lines that a reader returns.
 fn checked<T: Threads + Runtime, R: Read>(
     rt: &HostRuntime,
     threads: &T,
@@ -172,7 +172,7 @@ fn checked<T: Threads + Runtime, R: Read>(
     options: &CheckOptions<'_>,
     reader: &mut R,
 ) -> Result<Verdict, Cause> {
-    let Ok(mut writer) = LineWriter::new(rt.alloc(), StandardOutput::new(rt)) else {
+    let Ok(mut writer) = LineWriter::new(rt.alloc(), standard_output(rt)) else {
         return Err(Cause::OutOfMemory);
     };
     let files = SystemFiles::new(rt, threads, SumMode::Hash, options.threads);
@@ -180,7 +180,7 @@ fn checked<T: Threads + Runtime, R: Read>(
     check(rt.alloc(), options.shown, &mut names, reader, &mut writer)
 }
 
-/// The status of `check`.
+/// The exit status of `check`.
 pub(crate) fn check_status<T: Threads + Runtime>(
     rt: &HostRuntime,
     threads: &T,

@@ -1,4 +1,4 @@
-//! The program `b3store`: it reads the command line, calls the engine of the subcommand, and makes its answer the exit status.
+//! The program `b3store`: it parses the command line, calls the engine of the subcommand, and turns its result into the exit status.
 #![tactic(auto)]
 
 ghost use Rattle.store_command_line.specs.Ranges.{InRange};
@@ -6,6 +6,7 @@ ghost use Rattle.store_command_line.specs.Ranges.{InRange};
 mod extent;
 mod inputs;
 mod progress;
+mod sessions;
 mod standard;
 mod telling;
 
@@ -14,7 +15,8 @@ use edge::UploadOptions;
 use extent::Extent;
 use inputs::{check_status, sum_status};
 use progress::with_progress;
-use standard::{StandardInput, StandardOutput};
+use sessions::serve_status;
+use standard::{StandardInput, standard_output, standard_streams};
 use std::io::{BufReader, BufWriter, ErrorKind, IsTerminal};
 use std::marker::Brand;
 use std::process::ExitCode;
@@ -23,14 +25,12 @@ use std::sync::ledger::Blank;
 use std::thread::Threads;
 use store_command_line::{Fault, Options, SumInputs, options};
 use store_engines::{ALL_PARTS, Cause, Verdict, audit, migrate, upload};
+use store_history::UnnamedHistory;
 use store_script::run;
 use store_session::serve;
 use telling::{GOOD, USAGE, status, stopped};
 
-// How many bytes a session reads at a time.
-const AT_A_TIME: usize = 1 << 16;
-
-// The words of the command line. The system's words may be any bytes; those that are not UTF-8 are a usage fault.
+// The arguments of the command line. The system's arguments may be any bytes; those that are not UTF-8 are a usage fault.
 fn words_of(rt: &HostRuntime) -> Result<Vec<String>, Fault> {
     let words = match std::env::args(rt) {
         Ok(words) => words,
@@ -49,7 +49,7 @@ fn answered(rt: &HostRuntime) -> Result<Verdict, Cause> {
     let Ok(mut lines) = BufReader::new(rt.alloc(), rt.stdin()) else {
         return Err(Cause::OutOfMemory);
     };
-    let Ok(mut answers) = BufWriter::new(rt.alloc(), StandardOutput::new(rt)) else {
+    let Ok(mut answers) = BufWriter::new(rt.alloc(), standard_output(rt)) else {
         return Err(Cause::OutOfMemory);
     };
     let mut work = Work::new(rt);
@@ -58,12 +58,7 @@ fn answered(rt: &HostRuntime) -> Result<Verdict, Cause> {
 
 // Serves a session over standard input and output.
 fn served(rt: &HostRuntime) -> Result<Verdict, Cause> {
-    let Ok(mut lines) = BufReader::with_capacity(rt.alloc(), AT_A_TIME, rt.stdin()) else {
-        return Err(Cause::OutOfMemory);
-    };
-    let Ok(mut answers) = BufWriter::new(rt.alloc(), StandardOutput::new(rt)) else {
-        return Err(Cause::OutOfMemory);
-    };
+    let (mut lines, mut answers) = standard_streams(rt)?;
     let mut work = Work::new(rt);
     serve(rt.alloc(), &mut lines, &mut answers, &mut work)
 }
@@ -76,21 +71,23 @@ fn uploaded<T: Threads + Wait + Sync + Runtime>(
     options: UploadOptions,
 ) -> Result<Verdict, Cause> {
     extent.note_bytes(StandardInput::new(rt).len_left());
-    let (mut reader, mut writer) = (rt.stdin(), StandardOutput::new(rt));
+    let (mut reader, mut writer) = (rt.stdin(), standard_output(rt));
     let (bytes, calls) = (Blank::new(ALL_PARTS), Blank::new(ALL_PARTS));
+    let history = UnnamedHistory::new(rt.alloc())?;
     upload::<Brand, _, _, _>(
         threads,
         rt.alloc(),
         options,
         bytes,
         calls,
+        history,
         &mut reader,
         &mut writer,
     )
 }
 
-// Does what is asked for, and answers the status.
-fn perform<T: Threads + Wait + Sync + Runtime>(
+// Performs the subcommand, and returns the exit status.
+fn perform<T: Threads + Wait + Copy + Send + Sync + Runtime + 'static>(
     rt: &HostRuntime,
     threads: &T,
     extent: &Extent,
@@ -99,11 +96,12 @@ fn perform<T: Threads + Wait + Sync + Runtime>(
     requires { InRange options.now }
 {
     let alloc = rt.alloc();
-    let (mut reader, mut writer) = (rt.stdin(), StandardOutput::new(rt));
+    let (mut reader, mut writer) = (rt.stdin(), standard_output(rt));
     match options {
         Options::Sum(options) => sum_status(rt, threads, extent, options),
         Options::Run => status(rt, answered(rt)),
-        Options::Serve => status(rt, served(rt)),
+        Options::Serve(None) => status(rt, served(rt)),
+        Options::Serve(Some(door)) => serve_status(rt, threads, door),
         Options::Upload(asked) => status(rt, uploaded(rt, threads, extent, asked.options)),
         Options::Check(options) => check_status(rt, threads, extent, options),
         Options::Audit => status(rt, audit(alloc, &mut reader, &mut writer)),
@@ -111,7 +109,7 @@ fn perform<T: Threads + Wait + Sync + Runtime>(
     }
 }
 
-// Whether progress is told: where it is not unwanted, standard error is a terminal, and no lines go to a terminal meanwhile.
+// Whether progress is shown: if it is not turned off, standard error is a terminal, and no lines are written to a terminal meanwhile.
 fn tells_progress(rt: &HostRuntime, options: &Options<'_>) -> bool {
     let (is_unwanted, writes_lines) = match options {
         Options::Sum(options) => (
@@ -125,8 +123,8 @@ fn tells_progress(rt: &HostRuntime, options: &Options<'_>) -> bool {
     !is_unwanted && rt.stderr().is_terminal() && !(writes_lines && rt.stdout().is_terminal())
 }
 
-// Does what is asked for, with progress told where it is wanted, and answers the status.
-fn perform_telling<T: Threads + Wait + Sync + Runtime>(
+// Performs the subcommand, with progress if it is wanted, and returns the exit status.
+fn perform_telling<T: Threads + Wait + Copy + Send + Sync + Runtime + 'static>(
     rt: &HostRuntime,
     threads: &T,
     options: &Options<'_>,
@@ -148,7 +146,7 @@ fn perform_telling<T: Threads + Wait + Sync + Runtime>(
     )
 }
 
-// Tells why there are no options, and answers the status.
+// Reports why there are no options, and returns the exit status.
 fn unusable(rt: &HostRuntime, fault: Fault) -> u8 {
     match fault {
         Fault::Usage(text) => {

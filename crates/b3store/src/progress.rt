@@ -1,4 +1,4 @@
-//! How far work is, told on standard error while it goes on.
+//! Shows the progress of work on standard error.
 
 use crate::extent::Extent;
 use std::alloc::Global;
@@ -9,13 +9,13 @@ use std::thread::{Parker, Threads};
 use std::time::{Duration, Instant};
 use std::{fs, io, thread};
 
-// How many milliseconds pass from one time that progress is told to the next.
+// The interval between two reports of progress, in milliseconds.
 const PAUSE: u64 = 200;
 
-// What a terminal takes to empty the rest of the line that the cursor is in.
+// Erases the rest of a terminal's line, from the cursor on.
 const EMPTIED: &str = "\x1b[K";
 
-// Tells the thread that tells progress that the work is done.
+// Signals to the thread that reports progress that the work is done.
 #[derive(Drop)]
 struct Signal {
     parker: Parker,
@@ -30,7 +30,7 @@ impl Signal {
         }
     }
 
-    // Waits, and answers whether the work goes on.
+    // Waits, and returns whether the work continues.
     fn wait<T: Wait>(&self, waiter: &T) -> bool {
         self.parker
             .park_timeout(waiter, Duration::from_millis(PAUSE));
@@ -43,14 +43,14 @@ impl Signal {
     }
 }
 
-// How many bytes this process has read, as the system counts them.
+// The number of bytes that this process has read, as counted by the system.
 fn bytes_read(rt: &HostRuntime) -> Option<u64> {
     let text = fs::read_to_string(rt, "/proc/self/io").ok()?;
     let line = text.lines().next()?;
     line.strip_prefix("rchar: ")?.parse().ok()
 }
 
-// What is known of the files, before what is told of bytes.
+// What is known about the files; it is shown before the bytes.
 fn files_text(alloc: Global, extent: &Extent) -> Option<String> {
     let text = match extent.files() {
         Some((done, files)) => format!(in alloc; "{done} of {files} files, "),
@@ -59,7 +59,7 @@ fn files_text(alloc: Global, extent: &Extent) -> Option<String> {
     text.ok()
 }
 
-// How many MiB were read, and of how many where that is known.
+// The number of MiB read, and of how many if that is known.
 fn bytes_text(alloc: Global, extent: &Extent, mib: u64) -> Option<String> {
     let text = match extent.bytes() {
         Some(bytes) => {
@@ -72,7 +72,7 @@ fn bytes_text(alloc: Global, extent: &Extent, mib: u64) -> Option<String> {
     text.ok()
 }
 
-// The line of what was done since the work began. The cursor is left where it begins, so that what is written next is written over it.
+// Shows a line with what was done since the work began. The cursor is left at the start of the line, so that the next output overwrites it.
 fn tell(rt: &HostRuntime, extent: &Extent, start: Instant) -> Option<()> {
     let elapsed = start.elapsed(rt).ok()?;
     let seconds = elapsed.as_secs();
@@ -86,7 +86,7 @@ fn tell(rt: &HostRuntime, extent: &Extent, start: Instant) -> Option<()> {
     eprint!(rt; "b3store: {files}{bytes} in {seconds} s, {rate} MiB/s{EMPTIED}\r").ok()
 }
 
-// Tells progress until the work is done, and leaves the line empty.
+// Reports progress until the work is done, and leaves the line empty.
 fn tell_on<T: Wait>(rt: &HostRuntime, waiter: &T, extent: &Extent, signal: &Signal) {
     let Ok(start) = Instant::now(rt) else {
         return;
@@ -100,9 +100,8 @@ fn tell_on<T: Wait>(rt: &HostRuntime, waiter: &T, extent: &Extent, signal: &Sign
     }
 }
 
-/// Does some work, and tells beside it by a thread of its own how many files are done and how many bytes were read, and of how many where
-/// that is known: from the first second on, five times a second. Where no thread can be started, or the system doesn't tell what was read,
-/// nothing is told.
+/// Does some work. Meanwhile another thread reports the numbers of files done and bytes read, and of how many if that is known: after the
+/// first second, five times a second. If no thread can be started, or the system does not report the bytes read, no progress is shown.
 pub(crate) fn with_progress<T: Threads + Wait + Sync, F: FnOnce() -> u8>(
     rt: &HostRuntime,
     threads: &T,

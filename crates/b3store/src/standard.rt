@@ -1,12 +1,12 @@
 //! The standard streams.
 
 use std::fs::File;
-use std::io::{ErrorKind, IsTerminal, Read, Write};
+use std::io::{BufReader, BufWriter, ErrorKind, IsTerminal, Printer, Read, Write};
 use std::rt::Stdin;
 use std::{fs, io};
-use store_engines::Standing;
+use store_engines::{Cause, Standing};
 
-// The name by which the system opens the file that standard input is, and the file that tells where it stands there.
+// The name by which the system opens standard input as a file, and the file that contains its position.
 const PATH: &str = "/dev/stdin";
 
 const PLACE: &str = "/proc/self/fdinfo/0";
@@ -28,7 +28,7 @@ impl<'a> StandardInput<'a> {
         }
     }
 
-    /// How many bytes are left of the file that standard input is, where it is one.
+    /// The number of remaining bytes in the file that standard input is, if it is one.
     pub(crate) fn len_left(&self) -> Option<u64> {
         let found = fs::metadata(self.rt, PATH).ok()?;
         if !found.is_file() {
@@ -37,7 +37,7 @@ impl<'a> StandardInput<'a> {
         Some(found.len().saturating_sub(self.place()?))
     }
 
-    // Where standard input stands in its file, as the system tells it.
+    // The position of standard input in its file, as reported by the system.
     fn place(&self) -> Option<u64> {
         let text = fs::read_to_string(self.rt, PLACE).ok()?;
         let line = text.lines().next()?;
@@ -70,28 +70,28 @@ impl Standing for StandardInput<'_> {
     }
 }
 
-/// Standard output. After a failed write nothing more is written, so a buffer that is dropped with bytes left in it doesn't write them again.
+/// A writer that writes nothing more after a failed write, so that a buffer dropped with bytes left in it does not write them again.
 #[derive(Drop)]
-pub(crate) struct StandardOutput<'a> {
-    rt: &'a HostRuntime,
+pub(crate) struct LastingFailure<W> {
+    writer: W,
     has_failed: bool,
 }
 
-impl<'a> StandardOutput<'a> {
-    pub(crate) fn new(rt: &'a HostRuntime) -> StandardOutput<'a> {
-        StandardOutput {
-            rt,
+impl<W> LastingFailure<W> {
+    pub(crate) fn new(writer: W) -> LastingFailure<W> {
+        LastingFailure {
+            writer,
             has_failed: false,
         }
     }
 }
 
-impl Write for StandardOutput<'_> {
+impl<W: Write> Write for LastingFailure<W> {
     fn write(&mut self, buf: &[u8]) -> io::Result<usize> {
         if self.has_failed {
             return Err(ErrorKind::Other.into());
         }
-        let written = io::writer(self.rt).write(buf);
+        let written = self.writer.write(buf);
         self.has_failed = match &written {
             Ok(count) => *count == 0 && !buf.is_empty(),
             Err(error) => error.kind() != ErrorKind::Interrupted,
@@ -100,14 +100,38 @@ impl Write for StandardOutput<'_> {
     }
 
     fn flush(&mut self) -> io::Result<()> {
-        io::writer(self.rt).flush()
+        self.writer.flush()
     }
 }
 
-// What a terminal takes to empty the rest of the line that the cursor is in.
+/// Standard output.
+pub(crate) type StandardOutput<'a> = LastingFailure<Printer<'a, HostRuntime>>;
+
+/// Standard output, with nothing written yet.
+pub(crate) fn standard_output(rt: &HostRuntime) -> StandardOutput<'_> {
+    LastingFailure::new(io::writer(rt))
+}
+
+/// The number of bytes that a session reads at a time.
+pub(crate) const AT_A_TIME: usize = 1 << 16;
+
+/// The buffered streams of a session over standard input and output.
+pub(crate) fn standard_streams(
+    rt: &HostRuntime,
+) -> Result<(BufReader<Stdin>, BufWriter<StandardOutput<'_>>), Cause> {
+    let Ok(lines) = BufReader::with_capacity(rt.alloc(), AT_A_TIME, rt.stdin()) else {
+        return Err(Cause::OutOfMemory);
+    };
+    let Ok(answers) = BufWriter::new(rt.alloc(), standard_output(rt)) else {
+        return Err(Cause::OutOfMemory);
+    };
+    Ok((lines, answers))
+}
+
+// Erases the rest of a terminal's line, from the cursor on.
 const EMPTIED: &[u8] = b"\x1b[K";
 
-/// Standard error, where a line of progress may stand.
+/// Standard error, which may show a line of progress.
 #[derive(Drop)]
 pub(crate) struct StandardError<'a> {
     rt: &'a HostRuntime,

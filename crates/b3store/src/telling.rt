@@ -1,4 +1,4 @@
-//! Exit statuses, and what is told on standard error. A standard error that can't be written changes no status.
+//! Exit statuses and messages on standard error. A standard error that cannot be written changes no status.
 
 use std::fs::File;
 use std::io;
@@ -12,19 +12,19 @@ pub(crate) const USAGE: u8 = 2;
 
 pub(crate) const STOPPED: u8 = 3;
 
-/// Tells the cause, and answers the status.
+/// Reports the cause, and returns the exit status.
 pub(crate) fn stopped(rt: &HostRuntime, cause: Cause) -> u8 {
     let _ = eprintln!(rt; "b3store: {cause}");
     STOPPED
 }
 
-/// Tells a text, and answers the status of usage.
+/// Reports a text, and returns the exit status of usage.
 pub(crate) fn misused(rt: &HostRuntime, text: &str) -> u8 {
     let _ = eprintln!(rt; "b3store: {text}");
     USAGE
 }
 
-/// The status of an engine's end.
+/// The exit status of an engine's end.
 pub(crate) fn status(rt: &HostRuntime, ended: Result<Verdict, Cause>) -> u8 {
     match ended {
         Ok(Verdict::Good) => GOOD,
@@ -33,8 +33,8 @@ pub(crate) fn status(rt: &HostRuntime, ended: Result<Verdict, Cause>) -> u8 {
     }
 }
 
-// Tells why a file can't be opened, and answers the status.
-fn unopened(rt: &HostRuntime, path: &str, error: &io::Error) -> u8 {
+/// Reports why a file cannot be opened, and returns the exit status.
+pub(crate) fn unopened(rt: &HostRuntime, path: &str, error: &io::Error) -> u8 {
     match fault_of(error) {
         FileFault::NoMemory => stopped(rt, Cause::OutOfMemory),
         FileFault::Failed(reason) => {
@@ -45,7 +45,7 @@ fn unopened(rt: &HostRuntime, path: &str, error: &io::Error) -> u8 {
     }
 }
 
-/// A file to be read, or the status where it can't be opened, which is told.
+/// Opens a file for reading; if that fails, reports why and returns the exit status.
 pub(crate) fn opened(rt: &HostRuntime, path: &str) -> Result<File, u8> {
     match File::open(rt, path) {
         Ok(file) => Ok(file),

@@ -1,4 +1,4 @@
-//! Parts added to a forest that holds many pieces.
+//! Adding parts to a forest that holds many pieces.
 
 use b3_core::{Runtime, Work};
 use b3_forest::{Forest, Plan, Prepared};
@@ -8,7 +8,7 @@ use std::io::ErrorKind;
 use std::rt::Clock;
 use std::time::Instant;
 
-// How many parts are timed at once.
+// The number of parts timed together.
 const TIMED: u64 = 512;
 
 const CHUNK_LEN: u64 = 1024;
@@ -26,7 +26,7 @@ fn chunk(alloc: Global, plan: &Plan, number: u64, work: &mut Work) -> io::Result
     }
 }
 
-// The nanoseconds that one part takes on average, of parts at so many chunks from `first` on, `step` apart.
+// The average time of adding a part in nanoseconds, for parts of one chunk from chunk `first` on, `step` chunks apart.
 fn time_parts<R: Clock + AllocGlobal>(
     rt: &R,
     forest: &mut Forest,
@@ -50,8 +50,8 @@ fn time_parts<R: Clock + AllocGlobal>(
     Ok(time.as_nanos() / 512)
 }
 
-/// Times `Forest::add` where 2^log2 pieces are held, alternate chunks of an upload: parts behind all of them, which
-/// merge with nothing, and parts among them, which do.
+/// Times `Forest::add` with 2^`log2` pieces held, alternate chunks of an upload: for parts after all of them, which merge with nothing, and
+/// for parts among them, which merge.
 pub fn time_add(
     rt: &(impl Print + Eprint + Clock + AllocGlobal + Runtime),
     log2: u16,
@@ -68,22 +68,22 @@ pub fn time_add(
             return Err(failed());
         }
     }
-    let behind = time_parts(rt, &mut forest, pieces.wrapping_mul(2), 2, &mut work)?;
+    let following = time_parts(rt, &mut forest, pieces.wrapping_mul(2), 2, &mut work)?;
     let step = (pieces / TIMED).wrapping_mul(2);
     let among = time_parts(rt, &mut forest, 1, step, &mut work)?;
     println!(rt; "{}", forest.parts())?;
-    eprintln!(rt; "{behind} {among}")
+    eprintln!(rt; "{following} {among}")
 }
 
-// How many parts are held once all are added.
+// The number of parts held once all are added.
 const ALL: u64 = 1 << 16;
 
-// The number of the `i`th chunk to be added: each number below 2^16 once, in an order that jumps about.
+// The `i`th chunk to add: each number below 2^16 once, in a scattered order.
 fn jumping(i: u64) -> u64 {
     i.wrapping_mul(40_503) & (ALL - 1)
 }
 
-// The nanoseconds that one part takes on average, of the `TIMED` parts that lead to so many held ones.
+// The average time of adding a part in nanoseconds, for the last `TIMED` parts until `held` are held.
 fn time_until<R: Clock + AllocGlobal>(
     rt: &R,
     forest: &mut Forest,
@@ -112,8 +112,7 @@ fn time_until<R: Clock + AllocGlobal>(
     Ok(time.as_nanos() / 512)
 }
 
-/// Times `Forest::add` of 2^16 parts of one chunk in an order that jumps about: the nanoseconds of a part near 2^10,
-/// 2^13 and 2^16 held parts.
+/// Times `Forest::add` for 2^16 parts of one chunk in a scattered order: the nanoseconds of a part near 2^10, 2^13 and 2^16 held parts.
 pub fn time_jumping(rt: &(impl Print + Eprint + Clock + AllocGlobal + Runtime)) -> io::Result<()> {
     let mut work = Work::new(rt);
     let Ok(plan) = Plan::new(1 << 26) else {

@@ -7,7 +7,7 @@ use std::io::ErrorKind;
 use std::rt::Clock;
 use std::time::Instant;
 
-/// So many MiB of the pattern bytes `i mod 251`.
+/// `mib` MiB of the pattern bytes `i mod 251`.
 pub fn pattern(alloc: Global, mib: u16) -> Result<Vec<u8>, AllocError> {
     let mut bytes = vec![in alloc; 0u8; mib as usize * 1_048_576]?;
     let mut next = 0u8;
@@ -18,7 +18,7 @@ pub fn pattern(alloc: Global, mib: u16) -> Result<Vec<u8>, AllocError> {
     Ok(bytes)
 }
 
-/// Writes a hash, and the microseconds.
+/// Writes a hash, and the time in microseconds.
 pub fn report(
     rt: &(impl Print + Eprint + AllocGlobal),
     digest: &[u8; 32],
@@ -55,7 +55,7 @@ pub fn time_hash_wide(
     report(rt, &digest, time.as_micros())
 }
 
-/// Times the hash by eight chunks at a time of so many bytes, so many times.
+/// Times the hash by eight chunks at a time of `len` bytes, `turns` times.
 pub fn time_length(
     rt: &(impl Print + Eprint + Clock + AllocGlobal + Runtime),
     len: u16,

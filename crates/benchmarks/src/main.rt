@@ -1,9 +1,8 @@
-//! Times the crates' calls over bytes in memory. It writes what was computed to standard output, and the
-//! microseconds that it took to standard error. `bench/run` calls it and prints ratios.
+//! Times the crates' calls over bytes in memory. It writes what was computed to standard output, and the time in microseconds to standard
+//! error. `bench/run` calls it and prints ratios.
 //!
-//! Words: `hash MIB`, `hash_wide MIB`, `hash_length BYTES TURNS`, `make PARTS`, `upload MIB WORKERS PART_CHUNKS`,
-//! `upload_slowly`; or `add LOG2`, `add_jumping` and
-//! `store LOG2`, whose numbers are nanoseconds.
+//! Arguments: `hash MIB`, `hash_wide MIB`, `hash_length BYTES TURNS`, `make PARTS`, `upload MIB WORKERS PART_CHUNKS`, `upload_slowly`; or
+//! `add LOG2`, `add_jumping` and `store LOG2`, whose numbers are nanoseconds.
 #![tactic(auto)]
 
 mod adding;

@@ -1,4 +1,4 @@
-//! Parts of an upload, hashed alone.
+//! Parts of an upload, hashed independently.
 
 use b3_core::{Runtime, Work};
 use b3_forest::{Plan, Prepared};
@@ -9,7 +9,7 @@ use std::time::Instant;
 
 const PART_MIB: u16 = 16;
 
-/// Times `Prepared::make` over so many parts of 16 MiB.
+/// Times `Prepared::make` over `parts` parts of 16 MiB.
 pub fn time_make(
     rt: &(impl Print + Eprint + Clock + AllocGlobal + Runtime),
     parts: u16,

@@ -9,7 +9,7 @@ use std::rt::Clock;
 use std::time::Instant;
 use store_core::{Address, Limits, Refusal, Store, TenantId, UploadId};
 
-// How many commands are timed at once.
+// The number of commands timed together.
 const TIMED: u64 = 512;
 
 fn refused(_refusal: Refusal) -> io::Error {
@@ -42,8 +42,7 @@ fn file(
     Ok(sealed.address)
 }
 
-/// Times a store of 2^log2 objects: the nanoseconds that the three commands of an object more take together, and those
-/// of a `forget`.
+/// Times a store of 2^`log2` objects: the nanoseconds of the three commands that file one more object, and those of a `forget`.
 pub fn time_store(
     rt: &(impl Print + Eprint + Clock + AllocGlobal + Runtime),
     log2: u16,

@@ -13,6 +13,7 @@ use std::thread::Threads;
 use std::time::{Duration, Instant};
 use std::{io, thread};
 use store_core::Limits;
+use store_history::UnnamedHistory;
 use store_shared::{
     ALL_PARTS, Draw, Gate, GateStop, Ledgers, PassAll, Shared, lent_open_tenant, upload,
 };
@@ -20,7 +21,7 @@ use store_shared::{
 // The tenant's limit, in bytes.
 const LIMIT: u64 = 1 << 40;
 
-/// How much is uploaded, at most so many bytes, by how many workers, and in parts of how many chunks.
+/// The input, `mib` MiB of which at most `most` bytes are uploaded, the number of workers, and the number of chunks of a part.
 #[derive(Clone, Copy, Debug)]
 pub struct Load {
     pub mib: u16,
@@ -56,14 +57,16 @@ fn time_one<L: Ledgers, G: Gate + Sync, T: Threads + Wait + Sync + Runtime>(
     load: Load,
     bytes: Blank,
     calls: Blank,
+    history: UnnamedHistory,
 ) -> io::Result<()>
     requires bytes { (bytes.name ≡ L.bytes_name) × (bytes.parts ≡ L.bytes_parts) × (bytes.parts ≡ 2 ^ 32) }
     requires calls { (calls.name ≡ L.calls_name) × (calls.parts ≡ L.calls_parts) × (calls.parts ≡ 2 ^ 32) }
+    requires history { history ≡ L.history }
 {
     let alloc = rt.alloc();
     let input = pattern(alloc, load.mib)?;
     let most = load.most.min(input.len());
-    let (shared, share): (Shared<L>, _) = Shared::new(alloc, Limits::full(), bytes, calls);
+    let (shared, share): (Shared<L>, _) = Shared::new(alloc, Limits::full(), bytes, calls, history);
     let Ok(tenant) = lent_open_tenant(&mut *shared.lock(threads), LIMIT) else {
         return Err(io::Error::from(ErrorKind::Other));
     };
@@ -87,7 +90,7 @@ fn time_one<L: Ledgers, G: Gate + Sync, T: Threads + Wait + Sync + Runtime>(
     }
 }
 
-/// Times the upload alone.
+/// Times only the upload.
 pub fn time_upload<T: Threads + Wait + Sync + Runtime>(
     rt: &(impl Print + Eprint + Clock + AllocGlobal),
     threads: &T,
@@ -95,7 +98,8 @@ pub fn time_upload<T: Threads + Wait + Sync + Runtime>(
 ) -> io::Result<()> {
     let bytes = Blank::new(ALL_PARTS);
     let calls = Blank::new(ALL_PARTS);
-    time_one::<Brand, _, _>(rt, threads, &PassAll, load, bytes, calls)
+    let history = UnnamedHistory::new(rt.alloc())?;
+    time_one::<Brand, _, _>(rt, threads, &PassAll, load, bytes, calls, history)
 }
 
 /// Times an upload of 200 parts of one chunk by one worker, with a gate that takes 10 ms for each.
@@ -112,5 +116,6 @@ pub fn time_slow_upload<T: Threads + Wait + Sync + Runtime + Clock>(
     let gate = Slow { clock: threads };
     let bytes = Blank::new(ALL_PARTS);
     let calls = Blank::new(ALL_PARTS);
-    time_one::<Brand, _, _>(rt, threads, &gate, load, bytes, calls)
+    let history = UnnamedHistory::new(rt.alloc())?;
+    time_one::<Brand, _, _>(rt, threads, &gate, load, bytes, calls, history)
 }

@@ -1,23 +1,23 @@
-//! What is to be timed.
+//! What to time.
 
 use crate::uploading::Load;
 
 /// One measurement.
 #[derive(Clone, Copy, Debug)]
 pub enum Job {
-    /// The plain hash of so many MiB.
+    /// The plain hash of `mib` MiB.
     Hash { mib: u16 },
     /// The hash by eight chunks at a time.
     HashWide { mib: u16 },
-    /// The same of so many bytes, so many times.
+    /// The same for `bytes` bytes, `turns` times.
     HashLength { bytes: u16, turns: u16 },
-    /// Parts of 16 MiB, made.
+    /// Making parts of 16 MiB.
     Make { parts: u16 },
-    /// Parts added to a forest of 2^log2 pieces.
+    /// Adding parts to a forest of 2^`log2` pieces.
     Add { log2: u16 },
-    /// Commands of a store of 2^log2 objects.
+    /// Commands of a store of 2^`log2` objects.
     Store { log2: u16 },
-    /// 2^16 parts of one chunk added to a forest in an order that jumps about.
+    /// Adding 2^16 parts of one chunk to a forest in a scattered order.
     AddJumping,
     /// One upload by several workers.
     Upload(Load),
@@ -29,7 +29,7 @@ fn number(word: &String) -> Option<u16> {
     word.parse::<u16>().ok()
 }
 
-/// The measurement that the words name, the first of them being the program's name.
+/// The measurement that the arguments name; the first of them is the program's name.
 pub fn job_of(words: &[String]) -> Option<Job> {
     if words.len() == 2 && words[1].as_str() == "add_jumping" {
         return Some(Job::AddJumping);

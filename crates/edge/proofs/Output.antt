@@ -18,13 +18,13 @@ pub AllBut-kept : (old mid new : Option (List ℕ)) (text rest : List ℕ) → A
 AllBut-kept old mid new text rest h same = record { front = h.front; is = h.is; went = Appends-kept old mid new h.front h.went same }
 
 -- a text was cut off in a part of it, before which all went out
-pub cut_between : (old mid new : Option (List ℕ)) (done part behind : List ℕ) → Appends old mid done → IsCutOff mid new part → IsCutOff old new (done ++ (part ++ behind))
-cut_between old mid new done part behind was h = record {
-  rest = h.rest ++ behind;
-  some = omega (arith, length-append h.rest behind, h.some);
+pub cut_between : (old mid new : Option (List ℕ)) (done part following : List ℕ) → Appends old mid done → IsCutOff mid new part → IsCutOff old new (done ++ (part ++ following))
+cut_between old mid new done part following was h = record {
+  rest = h.rest ++ following;
+  some = omega (arith, length-append h.rest following, h.some);
   front = record {
     front = done ++ h.front.front;
-    is = ap (λ z. done ++ (z ++ behind)) h.front.is ∙ ap (λ z. done ++ z) (append_assoc h.front.front h.rest behind) ∙ sym (append_assoc done h.front.front (h.rest ++ behind));
+    is = ap (λ z. done ++ (z ++ following)) h.front.is ∙ ap (λ z. done ++ z) (append_assoc h.front.front h.rest following) ∙ sym (append_assoc done h.front.front (h.rest ++ following));
     went = Appends-trans old mid new done h.front.front was h.front.went;
   };
 }

@@ -1,4 +1,4 @@
--- What is shown of the cause that stopped an engine.
+-- The text of the cause that stopped an engine.
 use Rattle.std.specs.Prelude.{ℕ, List, codes}
 use Rattle.edge.specs.declared.outcome.Cause.{Cause}
 use Rattle.edge.specs.declared.outcome.Cause.TheVariants.{CannotRead, CannotWrite, OutOfMemory}

@@ -1,4 +1,4 @@
--- The fields of a line: parted by one space; and numbers among them.
+-- The fields of a line, separated by one space, and numbers among them.
 use Rattle.std.specs.Prelude.{◌^◌, ◌==◌, ◌&&◌, ℕ, List, [], ◌∷◌, ◌++◌, Option, Some, None, if◌then◌else◌, nat_lt, option_map}
 use Rattle.std.specs.Fmt.{decimal}
 use Rattle.std.specs.Str.{bytes_eq}
@@ -9,7 +9,7 @@ space = 32
 
 -- ---- writing
 
--- fields parted by one space
+-- fields separated by one space
 abbrev pub two_fields : List ℕ → List ℕ → List ℕ
 two_fields first second = first ++ (space ∷ second)
 
@@ -18,16 +18,16 @@ three_fields first second third = first ++ (space ∷ (second ++ (space ∷ thir
 
 -- ---- reading
 
--- what stands before the first of these bytes, and what stands behind it
+-- the bytes before the first of these, and those after it
 abbrev pub cut_at : ℕ → List ℕ → Option (List ℕ × List ℕ)
 cut_at mark [] = None
 cut_at mark (b ∷ bytes) = if b == mark then Some ([], bytes) else option_map (λ x. (b ∷ x.0, x.1)) (cut_at mark bytes)
 
--- the number that is written so: in decimal, without leading zeros, below 2^64
+-- the number with these digits: in decimal, without leading zeros, below 2^64
 abbrev pub number_at : List ℕ → Option ℕ
 number_at digits = if bytes_eq (decimal (digits_value 10 digits)) digits && nat_lt (digits_value 10 digits) (2 ^ 64) then Some (digits_value 10 digits) else None
 
--- the second step, where the first gave a value
+-- the second step, if the first returned a value
 infixl 10 ◌>>=◌
 abbrev pub ◌>>=◌ : {A B : Type 0} → Option A → (A → Option B) → Option B
 None >>= f = None

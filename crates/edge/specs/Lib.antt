@@ -1,4 +1,4 @@
--- What a reader has to believe, each file behind those that it rests on; inner is what only proofs and functions within use.
+-- The definitions that a reader has to trust, each file after those it uses; inner has those that only proofs and private functions use.
 pub mod Fields
 pub mod Lines
 pub mod Output

@@ -1,19 +1,19 @@
--- What went out of a text.
+-- What was written of a text.
 use Rattle.std.specs.Prelude.{◌≡◌, ◌<◌, ℕ, List, ◌++◌, Option, length}
 use Rattle.std.specs.Io.KnownBytes.{Appends}
 
--- all of the text went out but the rest at its end
+-- all of the text was written except the rest at its end
 pub record AllBut (old new : Option (List ℕ)) (text rest : List ℕ) : Type 0 where
   pub front : List ℕ
   pub is : text ≡ front ++ rest
   pub went : Appends old new front
 
--- a beginning of the text went out, and not all of it
+-- a proper prefix of the text was written
 pub record IsCutOff (old new : Option (List ℕ)) (text : List ℕ) : Type 0 where
   pub rest : List ℕ
   pub some : 0 < length rest
   pub front : AllBut old new text rest
 
--- a beginning of the text went out: none of it, some, or all
+-- a prefix of the text was written: none of it, some, or all
 abbrev pub WroteSome : Option (List ℕ) → Option (List ℕ) → List ℕ → Type 0
 WroteSome old new text = (rest : List ℕ) × AllBut old new text rest

@@ -1,2 +1,2 @@
--- What only proofs and functions within use.
+-- Definitions that only proofs and private functions use.
 pub mod Reads

@@ -1,7 +1,7 @@
-//! Hexadecimal digits without a branch for each digit, under the contracts of the crate `hex`.
+//! Hexadecimal digits without a branch for each digit, with the contracts of the crate `hex`.
 //!
-//! A text whose digits are all good is decoded in one pass that asks for no digit by itself: whether each is one is gathered, and
-//! looked at behind the last. Any other text is given to `hex`, which tells the first fault.
+//! A text of valid digits is decoded in one pass without a test for each: whether every byte is a digit is accumulated, and tested at the
+//! end. Any other text is given to `hex`, which returns the first fault.
 ghost use Rattle.std.specs.Prelude.{◌≡◌, ◌*◌, ◌%◌, ◌<◌, ◌≤◌, ◌⊎◌, IfErr, IfOk, IfSome, IsTrue, OnErr, OnOk, Err, Ok, length, slice_index};
 ghost use Rattle.std.specs.Io.KnownBytes.{Appends};
 ghost use Rattle.hex.specs.Hex.{decode_of, decode_pairs, encode_lower, hex_digit_value, is_hex_digit, lower_digits};
@@ -14,7 +14,7 @@ use hex::FromHexError;
 use std::alloc::Global;
 use std::io::Write;
 
-/// The bytes of digits of either case, two for each; or the first fault, or want of memory.
+/// Decodes digits of either case, two for each byte. Returns the first fault, or `OutOfMemory`.
 pub fn decode(alloc: Global, digits: &[u8]) -> Result<Vec<u8>, FromHexError>
     ensures ok { IfOk result (λ bytes. decode_of digits.now ≡ Ok bytes.items) }
     ensures err { IfErr result (λ e. (e ≡ OutOfMemory) ⊎ (decode_of digits.now ≡ Err e)) }
@@ -30,7 +30,7 @@ pub fn decode(alloc: Global, digits: &[u8]) -> Result<Vec<u8>, FromHexError>
     hex::decode(alloc, digits)
 }
 
-// Writes the bytes of the digits, if each is one. If not, what `bytes` then holds is not said.
+// Writes the bytes of the digits and returns true, if all are digits. Otherwise the contents of `bytes` are unspecified.
 fn decode_into(digits: &[u8], bytes: &mut [u8]) -> bool
     requires { length digits.now ≡ 2 * length bytes.old }
     ensures { IsTrue result → decode_pairs 0 digits.now ≡ Ok bytes.new }
@@ -52,7 +52,7 @@ fn is_digit(c: u8) -> bool
     (c >= b'A') & (c <= b'F') | (c >= b'a') & (c <= b'f') | (c >= b'0') & (c <= b'9')
 }
 
-// The value of a digit; of another byte, some number below 16. A letter's low half is 9 below its value.
+// The value of a digit; for another byte, some number below 16. The low half of a letter is 9 less than its value.
 #[inline(always)]
 fn worth(c: u8) -> u8
     ensures value { IfSome (hex_digit_value c) (λ value. result ≡ value) }
@@ -61,7 +61,7 @@ fn worth(c: u8) -> u8
     (c % 16 + c / 64 * 9) % 16
 }
 
-// Puts two digits for each byte, in lower case.
+// Writes two digits for each byte, in lower case.
 fn encode_into(bytes: &[u8], digits: &mut [u8])
     requires { length digits.old ≡ 2 * length bytes.now }
     ensures { digits.new ≡ encode_lower bytes.now }
@@ -86,8 +86,8 @@ fn digit(value: u8) -> u8
     }
 }
 
-/// Writes two digits for each byte, in lower case, by way of `room`: half as many bytes at a time as it has room for digits. It takes no
-/// memory. Behind a failed write a beginning of the digits went out.
+/// Writes two digits for each byte, in lower case, through the buffer `room`: half as many bytes at a time as `room` holds digits.
+/// Allocates nothing. After a failed write a prefix of the digits was written.
 pub fn write_encoded<W: Write>(writer: &mut W, bytes: &[u8], room: &mut [u8]) -> Result<(), Cause>
     requires { 2 ≤ length room.old }
     ensures written { OnOk result (Appends (W.contents writer.old) (W.contents writer.new) (encode_lower bytes.now)) }
@@ -96,14 +96,14 @@ pub fn write_encoded<W: Write>(writer: &mut W, bytes: &[u8], room: &mut [u8]) ->
 {
     let mut rest = bytes;
     while !rest.is_empty() {
-        let (front, behind) = rest.split_at(rest.len().min(room.len() / 2));
+        let (front, following) = rest.split_at(rest.len().min(room.len() / 2));
         write_piece(writer, front, room)?;
-        rest = behind;
+        rest = following;
     }
     Ok(())
 }
 
-// Writes the digits of bytes for which there is room.
+// Writes the digits of `bytes`, which fit in `room`.
 fn write_piece<W: Write>(writer: &mut W, bytes: &[u8], room: &mut [u8]) -> Result<(), Cause>
     requires { 2 * length bytes.now ≤ length room.old }
     ensures written { OnOk result (Appends (W.contents writer.old) (W.contents writer.new) (encode_lower bytes.now)) }

@@ -1,12 +1,12 @@
-//! What each engine needs of the world outside.
+//! The interface of each engine to the outside.
 //!
-//! - `Cause` says what stopped an engine, `Verdict` how one that came to its end found its input; `write_all`, or `write_bytes` and
-//!   `flush`, write an output, and `write_whole` tells the writer's own error.
-//! - `SumMode` and `UploadOptions` are what words ask of an engine.
-//! - `read_line` reads a line within a limit, `first_line` cuts one off bytes that are at hand. A line feed ends a line, and the last one may
-//!   lack it (`specs/Lines.antt`).
-//! - `cut_at`, `number`, `two_numbers` and `three_numbers` read fields that one space parts (`specs/Fields.antt`).
-//! - `decode` turns hexadecimal digits into bytes, as the crate `hex` defines it, and `write_encoded` writes the digits of bytes.
+//! - `Cause` says what stopped an engine; `Verdict` is the result of one that completed. `write_all`, or `write_bytes` and `flush`, write
+//!   an output; `write_whole` returns the writer's own error.
+//! - `SumMode` and `UploadOptions` are what a command line asks of an engine.
+//! - `read_line` reads a line up to a maximum length; `first_line` splits one off bytes in memory. Each line ends with a newline, which may
+//!   be missing on the last line (`specs/Lines.antt`).
+//! - `cut_at`, `number`, `two_numbers` and `three_numbers` read fields separated by one space (`specs/Fields.antt`).
+//! - `decode` turns hexadecimal digits into bytes, as the crate `hex` defines it; `write_encoded` writes the digits of bytes.
 #![tactic(auto)]
 
 mod digits;

@@ -1,22 +1,22 @@
-//! What the words of a command line ask of an engine.
+//! What a command line asks of an engine.
 
 /// The mode that `sum` hashes in.
 #[derive(Clone, Copy, Debug)]
 pub enum SumMode<'a> {
-    /// Without a key.
+    /// The default hash, without a key.
     Hash,
-    /// With this key.
+    /// The keyed hash with this key.
     Keyed([u8; 32]),
-    /// With the key that is derived in this context.
+    /// A key derived in this context.
     Derive(&'a str),
 }
 
-/// How `upload` cuts its input, and what it writes.
+/// How `upload` splits its input, and what it writes.
 #[derive(Clone, Copy, Debug)]
 pub struct UploadOptions {
-    /// How many workers hash parts.
+    /// The number of workers that hash parts.
     pub workers: u32,
-    /// How many chunks of 1024 bytes a part has.
+    /// The number of chunks, of 1024 bytes, in a part.
     pub part_chunks: u32,
     /// Whether the journal's text is written too.
     pub journal: bool,

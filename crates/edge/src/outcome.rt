@@ -1,4 +1,4 @@
-//! How an engine ends: its verdict, or what stopped it.
+//! How an engine ends: with a verdict, or with what stopped it.
 
 ghost use Rattle.std.specs.Prelude.{◌≡◌, Some};
 ghost use Rattle.edge.specs.Causes.{cause_text};
@@ -8,23 +8,23 @@ use std::alloc::AllocError;
 use std::error::Error;
 use std::fmt;
 
-/// How an engine that came to its end found its input.
+/// The result of an engine that completed.
 #[derive(Clone, Copy, Debug, PartialEq, Eq)]
 pub enum Verdict {
-    /// All was good.
+    /// Everything passed.
     Good,
-    /// Something was refused, bad or failed.
+    /// Something was refused, wrong or failed.
     Refused,
 }
 
-/// What stopped an engine, the first cause of it.
+/// The first cause that stopped an engine.
 #[derive(Clone, Copy, Debug, PartialEq, Eq)]
 pub enum Cause {
-    /// A read failed, or was given up.
+    /// A read failed, or was abandoned.
     CannotRead,
     /// A write failed.
     CannotWrite,
-    /// Memory was refused.
+    /// Out of memory.
     OutOfMemory,
 }
 

@@ -8,7 +8,7 @@ use crate::outcome::Cause;
 use std::io;
 use std::io::{ErrorKind, Write};
 
-/// Writes all of `bytes`, and flushes. Behind a failed write or flush a beginning of them went out.
+/// Writes all of `bytes`, and flushes. After a failed write or flush a prefix of them was written.
 pub fn write_all<W: Write>(writer: &mut W, bytes: &[u8]) -> Result<(), Cause>
     ensures written { OnOk result (Appends (W.contents writer.old) (W.contents writer.new) bytes.now) }
     ensures failed { OnErr result (WroteSome (W.contents writer.old) (W.contents writer.new) bytes.now) }
@@ -18,7 +18,7 @@ pub fn write_all<W: Write>(writer: &mut W, bytes: &[u8]) -> Result<(), Cause>
     flush(writer)
 }
 
-/// Writes all of `bytes`, behind which more is to come. Behind a failed write a beginning of them went out.
+/// Writes all of `bytes`, without flushing, as more follow. After a failed write a prefix of them was written.
 pub fn write_bytes<W: Write>(writer: &mut W, bytes: &[u8]) -> Result<(), Cause>
     ensures written { OnOk result (Appends (W.contents writer.old) (W.contents writer.new) bytes.now) }
     ensures failed { OnErr result (IsCutOff (W.contents writer.old) (W.contents writer.new) bytes.now) }
@@ -27,8 +27,8 @@ pub fn write_bytes<W: Write>(writer: &mut W, bytes: &[u8]) -> Result<(), Cause>
     write_whole(writer, bytes).map_err(|_| Cause::CannotWrite)
 }
 
-/// Writes all of `bytes`. An error is the writer's, which took a beginning of them and not all: what it answered, `WriteZero`
-/// where it took nothing, or `Interrupted` where it was interrupted 2^64-1 times.
+/// Writes all of `bytes`. An error is that of the writer, after it accepted a proper prefix of them: the error that it returned,
+/// `WriteZero` if it accepted nothing, or `Interrupted` if it was interrupted 2^64-1 times.
 pub fn write_whole<W: Write>(writer: &mut W, bytes: &[u8]) -> io::Result<()>
     ensures written { OnOk result (Appends (W.contents writer.old) (W.contents writer.new) bytes.now) }
     ensures failed { OnErr result (IsCutOff (W.contents writer.old) (W.contents writer.new) bytes.now) }

@@ -1,4 +1,4 @@
-//! The engine of `check`, where there is no memory for a name.
+//! The engine of `check`, without memory for a name.
 
 use crate::fakes::NoNames;
 use b3_check::Shown;

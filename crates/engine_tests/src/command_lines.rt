@@ -1,4 +1,4 @@
-//! What the words of a command line say.
+//! The meaning of the arguments of a command line.
 
 use edge::{SumMode, UploadOptions};
 use std::alloc::{AllocError, Global};
@@ -7,7 +7,7 @@ use store_command_line::{
     AskedMode, AskedUpload, CheckOptions, Fault, Options, SumInputs, SumOptions, options,
 };
 
-// The mode that is asked for.
+// The requested mode.
 fn mode_text(alloc: Global, mode: AskedMode<'_>) -> Result<String, AllocError> {
     match mode {
         AskedMode::Known(SumMode::Hash) => format!(in alloc; "hash"),
@@ -17,7 +17,7 @@ fn mode_text(alloc: Global, mode: AskedMode<'_>) -> Result<String, AllocError> {
     }
 }
 
-// What is hashed.
+// The inputs to hash.
 fn inputs_text(alloc: Global, inputs: &SumInputs<'_>) -> Result<String, AllocError> {
     match inputs {
         SumInputs::Standard(name) => format!(in alloc; "{name}"),
@@ -26,7 +26,7 @@ fn inputs_text(alloc: Global, inputs: &SumInputs<'_>) -> Result<String, AllocErr
     }
 }
 
-// What the options of `sum` are: what is hashed, the mode, the length and the threads.
+// The options of `sum`: the inputs, the mode, the length and the threads.
 fn sum_text(alloc: Global, said: &SumOptions<'_>) -> Result<String, AllocError> {
     let inputs = inputs_text(alloc, &said.inputs)?;
     let mode = mode_text(alloc, said.mode)?;
@@ -34,7 +34,7 @@ fn sum_text(alloc: Global, said: &SumOptions<'_>) -> Result<String, AllocError> 
     format!(in alloc; "sum {inputs} {mode} {length:?} {threads:?} {no_progress}")
 }
 
-// What the words say. A fault of usage has a text.
+// The meaning of the arguments. A usage fault has a text.
 fn said(alloc: Global, words: &[&str]) -> Result<String, AllocError> {
     match options(alloc, words) {
         Ok(Options::Sum(said)) => sum_text(alloc, &said),
@@ -76,8 +76,8 @@ fn said(alloc: Global, words: &[&str]) -> Result<String, AllocError> {
     }
 }
 
-// What the program does can't tell these: the options' own values, the greatest length, and a byte 0, with which no process can
-// be given a word.
+// What running the program cannot show: the options' values, the largest length, and a zero byte, which no argument of a process can
+// contain.
 const SAID: &[(&[&str], &str)] = &[
     (&["b3store", "sum"], "sum - hash None None false"),
     (

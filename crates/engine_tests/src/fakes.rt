@@ -1,5 +1,5 @@
-//! A reader and a writer that give and take one byte a call, fail at a call or are interrupted, a writer that allocates nothing,
-//! names that are not there, sources of one name, and sources that keep what was asked of them.
+//! A reader and a writer that process one byte per call, fail at a call or are interrupted, a writer that allocates nothing, names without
+//! files, sources with one name, and sources that record the calls.
 
 use b3_check::{Name, NameFault, Names};
 use b3_core::{Mode, Top, Work};
@@ -9,7 +9,7 @@ use std::io::{ErrorKind, Read, Write};
 use std::marker::Model;
 use store_engines::{FileFault, Reason, Sources};
 
-/// Gives one byte a call. The call with the number `fails_at`, from 0, and all later ones fail. One that is interrupted answers
+/// Returns one byte per call. The call with the number `fails_at`, from 0, and all later ones fail. With `is_interrupted` it returns
 /// `Interrupted` before each byte and before the end.
 #[derive(Drop)]
 pub struct ByteReader<'a> {
@@ -51,8 +51,8 @@ impl Read for ByteReader<'_> {
     }
 }
 
-/// Takes one byte a write. The call with the number `fails_at`, from 0, be it a write or a flush, and all later ones fail. One that is
-/// interrupted answers `Interrupted` before it takes a byte.
+/// Accepts one byte per write. The call with the number `fails_at`, from 0, a write or a flush, and all later ones fail. With
+/// `is_interrupted` it returns `Interrupted` before it accepts a byte.
 #[derive(Drop)]
 pub struct ByteWriter {
     pub taken: Vec<u8>,
@@ -75,12 +75,12 @@ impl ByteWriter {
         }
     }
 
-    /// Whether a call failed, no call came behind it, and what was taken is the beginning of a text.
+    /// Whether a call failed, no call came after it, and what was accepted is a prefix of a text.
     pub fn has_stopped_in(&self, text: &[u8]) -> bool {
         self.calls == self.fails_at && self.failed == 1 && text.starts_with(self.taken.as_slice())
     }
 
-    // Counts a call, and fails it from the one on that is to fail.
+    // Counts a call, and returns the error from call `fails_at` on.
     fn count(&mut self) -> io::Result<()> {
         if self.calls >= self.fails_at {
             self.failed = self.failed.saturating_add(1);
@@ -110,7 +110,7 @@ impl Write for ByteWriter {
     }
 }
 
-/// Takes at most 1024 bytes, one a call, and allocates nothing.
+/// Accepts at most 1024 bytes, one per call, and allocates nothing.
 #[derive(Drop)]
 pub struct FixedWriter {
     pub taken: [u8; 1024],
@@ -118,7 +118,7 @@ pub struct FixedWriter {
 }
 
 impl FixedWriter {
-    /// How many bytes at its beginning are those of a text.
+    /// The length of the common prefix with a text.
     pub fn common(&self, text: &[u8]) -> usize {
         for (i, (taken, byte)) in self.taken.iter().zip(text).enumerate() {
             if i >= self.len || taken != byte {
@@ -128,15 +128,15 @@ impl FixedWriter {
         text.len()
     }
 
-    /// Whether a text, and nothing more, stands behind so many bytes.
-    pub fn ends_with(&self, behind: usize, text: &[u8]) -> bool {
+    /// Whether the bytes from `following` on are this text.
+    pub fn ends_with(&self, following: usize, text: &[u8]) -> bool {
         for (i, byte) in text.iter().enumerate() {
-            match self.taken.get(behind.saturating_add(i)) {
+            match self.taken.get(following.saturating_add(i)) {
                 Some(taken) if taken == byte => {}
                 _ => return false,
             }
         }
-        self.len == behind.saturating_add(text.len())
+        self.len == following.saturating_add(text.len())
     }
 }
 
@@ -155,7 +155,7 @@ impl Write for FixedWriter {
     }
 }
 
-/// Names of which none is there, or for which there is no memory.
+/// Names without files, or without memory for a lookup.
 #[derive(Drop)]
 pub struct NoNames {
     pub has_memory: bool,
@@ -184,8 +184,8 @@ impl Names for NoNames {
     }
 }
 
-/// Sources that have the bytes `abc` under that name, no memory for the name `full`, and nothing under others. They count the calls, and
-/// keep what they were told.
+/// Sources with the bytes `abc` for that name, no memory for the name `full`, and nothing for others. They count the calls, and keep what
+/// was reported to them.
 #[derive(Drop)]
 pub struct AbcSources {
     pub calls: u64,
@@ -225,8 +225,8 @@ impl Sources for AbcSources {
     }
 }
 
-/// Sources that have nothing. They keep what was asked of them: of each hint its names, each behind a space, and a semicolon; of each name
-/// that was asked for the name and a question mark. Contracts see nothing of it.
+/// Sources without files. They record the calls: for each hint its names, each after a space, and a semicolon; for each lookup the name and
+/// a question mark. Contracts do not see the record.
 #[derive(Drop)]
 pub struct HintedSources {
     asked: Vec<u8>,
@@ -247,7 +247,7 @@ impl HintedSources {
         }
     }
 
-    /// What was asked.
+    /// The record of the calls.
     pub fn asked(self) -> Vec<u8> {
         let HintedSources { asked } = self;
         asked

@@ -1,5 +1,5 @@
-//! A script where one growth of memory is refused. tests/growths runs this test again and again, and refuses another growth of the
-//! process each time.
+//! A script in which one allocation fails. tests/growths runs this test many times, and lets another allocation of the process fail each
+//! time.
 
 use crate::fakes::FixedWriter;
 use b3_core::{Runtime, Work};
@@ -14,7 +14,7 @@ const SHARED: &[u8] =
 const SHARED_ANSWERS: &[u8] =
     b"tenant 0\ntenant 1\nupload 0\nheld 2048 all\nnew e776b6028c7cd22a4d0ba182a8bf62205d2ef576467e838ed6f2529b85fba24a 2048\nupload 1\nheld 2048 all\nknown e776b6028c7cd22a4d0ba182a8bf62205d2ef576467e838ed6f2529b85fba24a 2048\nused 2048 reserved 0 limit 4096\nused 2048 reserved 0 limit 4096\nobjects 1 bytes 2048 uploads 0 held 0 parts 0\n";
 
-// Of each command of the script, the answers from it on where it is refused memory.
+// For each command of the script, the answers from it on if an allocation fails in it.
 const REFUSED: [&[u8]; 8] = [
     b"refused S14\ntenant 0\nupload 0\nheld 2048 all\nnew e776b6028c7cd22a4d0ba182a8bf62205d2ef576467e838ed6f2529b85fba24a 2048\nrefused S1\nrefused S7\nrefused S7\nused 2048 reserved 0 limit 4096\nrefused S1\nobjects 1 bytes 2048 uploads 0 held 0 parts 0\n",
     b"refused S14\nupload 0\nheld 2048 all\nnew e776b6028c7cd22a4d0ba182a8bf62205d2ef576467e838ed6f2529b85fba24a 2048\nrefused S1\nrefused S7\nrefused S7\nused 2048 reserved 0 limit 4096\nrefused S1\nobjects 1 bytes 2048 uploads 0 held 0 parts 0\n",
@@ -26,7 +26,7 @@ const REFUSED: [&[u8]; 8] = [
     b"refused S14\nused 2048 reserved 0 limit 4096\nused 0 reserved 2048 limit 4096\nobjects 1 bytes 2048 uploads 1 held 2048 parts 1\n",
 ];
 
-// How many lines a text has.
+// The number of lines of a text.
 fn lines_in(text: &[u8]) -> usize {
     let mut lines = 0usize;
     for byte in text {
@@ -37,7 +37,7 @@ fn lines_in(text: &[u8]) -> usize {
     lines
 }
 
-// Whether the answers are those of a script of which one command was refused memory, or end with a line.
+// Whether the answers are those of a script in which an allocation failed in one command, or end with a line.
 fn is_refused_once(writer: &FixedWriter) -> bool {
     let common = writer.common(SHARED_ANSWERS);
     let Some(before) = SHARED_ANSWERS.get(..common) else {
@@ -52,8 +52,8 @@ fn is_refused_once(writer: &FixedWriter) -> bool {
     }
 }
 
-// Whether the script is answered as if no growth had been refused. Where one was, the command that it was for is refused, and
-// those behind it are answered from the store as it stands; or the run ends between two answers.
+// Whether the script is answered as if no allocation had failed. If one did, its command is refused, and those after it are answered from
+// the resulting store; or the run ends between two answers.
 fn is_answered<R: AllocGlobal + Runtime + Abort>(rt: &R) -> bool {
     let mut reader = SHARED;
     let mut writer = FixedWriter {
@@ -70,8 +70,8 @@ fn is_answered<R: AllocGlobal + Runtime + Abort>(rt: &R) -> bool {
     found == Ok(Verdict::Good)
 }
 
-// Whatever growth is refused, the script is answered in the end, since no second growth is refused. So a run that always tells
-// want of memory fails.
+// Whichever allocation fails, the script is answered in the end, since no second one fails. So a run that always reports running out of
+// memory fails the test.
 #[test]
 fn run_script(rt: HostRuntime) {
     if !is_answered(&rt) {

@@ -1,5 +1,5 @@
-//! Tests of command lines and engines, that of scripts among them, over the public calls of `store_command_line` and `store_engines`.
-//! What text in and text out of a process can show stands in tests/cases.
+//! Tests of command lines and engines, including the one for scripts, over the public calls of `store_command_line` and `store_engines`.
+//! What can be shown by the input and output of a process is in tests/cases.
 #![tactic(auto)]
 
 #[cfg(test)]
@@ -10,6 +10,8 @@ mod command_lines;
 mod fakes;
 #[cfg(test)]
 mod growths;
+#[cfg(test)]
+mod sessions;
 #[cfg(test)]
 mod streams;
 #[cfg(test)]

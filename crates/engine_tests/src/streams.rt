@@ -1,4 +1,4 @@
-//! All engines with a reader or a writer that fails at a call, and with those that give and take one byte a call.
+//! All engines with a reader or a writer that fails at a call, and with those that process one byte per call.
 
 use crate::fakes::{ByteReader, ByteWriter, NoNames};
 use crate::uploads::uploaded;
@@ -35,7 +35,7 @@ const ENGINES: [Engine; 7] = [
     Engine::Upload,
 ];
 
-// What an engine reads.
+// The input of an engine.
 fn input(engine: Engine) -> &'static [u8] {
     match engine {
         Engine::Audit | Engine::Migrate => b"tenant 0 5\n",
@@ -46,7 +46,7 @@ fn input(engine: Engine) -> &'static [u8] {
     }
 }
 
-// What it writes of that.
+// Its output.
 fn output(engine: Engine) -> &'static [u8] {
     match engine {
         Engine::Audit => b"objects 0 bytes 0 uploads 0 held 0 parts 0\naccepted 0 0\n",
@@ -61,8 +61,8 @@ fn output(engine: Engine) -> &'static [u8] {
     }
 }
 
-// How many calls of a writer that takes one byte a call that takes. A flush follows each answer of a script and of a session, and
-// all else.
+// The number of calls for that output to a writer that accepts one byte per call. There is a flush after each answer of a script and of a
+// session, and after the whole output of the other engines.
 fn writes(engine: Engine) -> u64 {
     let flushes = match engine {
         Engine::Run => 2u64,
@@ -72,8 +72,8 @@ fn writes(engine: Engine) -> u64 {
     flushes.saturating_add(output(engine).len() as u64)
 }
 
-// What it writes where the read of this number fails, of one byte each. Lines are answered once they were read with the bytes behind
-// them: of a script these have 9 bytes and 10, of a session 9, 9, 14, 14 and 10.
+// The output if the read with this number fails, with one byte per read. Lines are answered once they were read with the bytes after them:
+// in a script these have 9 and 10 bytes, in a session 9, 9, 14, 14 and 10.
 fn answered(engine: Engine, fails_at: u64) -> &'static [u8] {
     match engine {
         Engine::Run | Engine::Serve if fails_at < 9 => b"",
@@ -100,7 +100,7 @@ const ONE_WORKER: UploadOptions = UploadOptions {
     journal: false,
 };
 
-// How an engine ends.
+// The result of an engine.
 fn ended<R: Threads + Wait + Sync + AllocGlobal + Runtime>(
     rt: &R,
     engine: Engine,
@@ -187,7 +187,7 @@ fn one_byte_a_call_and_interruptions_are_no_fault(rt: HostRuntime) {
 // The check line of 2 MiB of the pattern and a byte.
 const LONG_LINE: &[u8] = b"52dc212cb4cc61cb94d25bd7b1d47b256e4c3a6d68956df50c235c37a2aeacd7  -\n";
 
-// What stands behind the first 2 MiB is read in blocks, for threads.
+// The bytes after the first 2 MiB are read in blocks, for threads.
 #[test]
 fn a_long_input_is_read_on_behind_interruptions(rt: HostRuntime) -> Result<(), Fail> {
     let input = pattern(rt.alloc(), 0, 2_097_153)?;

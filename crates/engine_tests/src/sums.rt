@@ -1,4 +1,4 @@
-//! The engine of `sum` over files, with sources of one name, or of none.
+//! The engine of `sum` over files, with sources that have one name, or none.
 
 use crate::fakes::{AbcSources, ByteWriter, HintedSources};
 use b3_check::Name;
@@ -7,7 +7,7 @@ use std::alloc::{AllocError, Global};
 use std::test::Fail;
 use store_engines::{Cause, Verdict, names_of, sum_files};
 
-// Names that a check line may have.
+// Names that can be in a check line.
 fn names(alloc: Global, words: &[&str]) -> Result<Vec<Name>, AllocError> {
     let mut names = Vec::new(alloc);
     for word in words {
@@ -18,7 +18,7 @@ fn names(alloc: Global, words: &[&str]) -> Result<Vec<Name>, AllocError> {
     Ok(names)
 }
 
-// How the sum of some names ends, what it writes, which is cut off at a call, and what the sources tell: the calls, and the faults.
+// The result of the sum of some names, its output, which fails at a call, and the record of the sources: the calls, and the faults.
 fn summed<R: AllocGlobal + Runtime>(
     rt: &R,
     words: &[&str],

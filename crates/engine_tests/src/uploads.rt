@@ -10,9 +10,10 @@ use std::sync::ledger::Blank;
 use std::test::Fail;
 use std::thread::Threads;
 use store_engines::{Cause, Verdict, audit, upload};
+use store_history::UnnamedHistory;
 use store_ledger::ALL_PARTS;
 
-/// How an upload ends.
+/// The result of an upload.
 pub(crate) fn uploaded<R: Threads + Wait + Sync + AllocGlobal + Runtime>(
     rt: &R,
     options: UploadOptions,
@@ -20,14 +21,24 @@ pub(crate) fn uploaded<R: Threads + Wait + Sync + AllocGlobal + Runtime>(
     writer: &mut ByteWriter,
 ) -> Result<Verdict, Cause> {
     let (bytes, calls) = (Blank::new(ALL_PARTS), Blank::new(ALL_PARTS));
-    upload::<Brand, _, _, _>(rt, rt.alloc(), options, bytes, calls, reader, writer)
+    let history = UnnamedHistory::new(rt.alloc())?;
+    upload::<Brand, _, _, _>(
+        rt,
+        rt.alloc(),
+        options,
+        bytes,
+        calls,
+        history,
+        reader,
+        writer,
+    )
 }
 
-// What is told of the pattern of 2049 bytes in three parts, before its journal.
+// The output for the pattern of 2049 bytes in three parts, before its journal.
 const HEAD: &[u8] =
     b"5f4d72f40d7a5f82b15ca2b2e44b1de3c2ef86c426c95c1af0b6879522563030  -\naccepted 2049 3\n";
 
-// What its journal leaves.
+// The result of its journal.
 const TOTALS: &[u8] = b"objects 1 bytes 2049 uploads 0 held 0 parts 0\naccepted 2049 3\n";
 
 #[test]
@@ -53,7 +64,7 @@ fn a_journal_by_three_workers_is_legal(rt: HostRuntime) -> Result<(), Fail> {
     Ok(())
 }
 
-// No worker: a cut that no command line asks for.
+// No worker: a cut that no command line can request.
 #[test]
 fn a_cut_without_workers_is_refused(rt: HostRuntime) {
     let options = UploadOptions {

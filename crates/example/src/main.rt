@@ -1,14 +1,15 @@
-//! The crates as a library: a small backup tool. It reads standard input, puts it into a store in parts, the last part
-//! first, and seals it; then it does so again, from the first part on, as of a stream whose length is known at its end; and
-//! once more by two threads, in a store that they share. It writes the address, what the stores say of themselves, and the
-//! bytes that the first store gives back.
+//! The crates as a library: a small backup tool. It reads standard input, puts it into a store in parts, the last part first, and seals it.
+//! Then it does so again, from the first part on, as a stream whose length is known at its end; and once more by two threads, in a store
+//! that they share. It writes the address, the totals and counts of the stores, and the bytes returned by the first store.
 #![tactic(auto)]
 
+mod calls;
 mod sharing;
 
 use anyhow::Result;
 use b3_core::{Runtime, Work};
 use b3_forest::{Plan, Prepared};
+use calls::{digest_of_pieces, digest_of_reader, stored_len};
 use sharing::back_up_shared;
 use std::alloc::Global;
 use std::io;
@@ -20,8 +21,8 @@ use store_core::{Address, Limits, Store, TenantId, UploadId};
 // The bytes of a part. All parts but the last are whole chunks of 1024 bytes.
 const PART_LEN: usize = 1024;
 
-// The most bytes of a stream; a part behind them is refused.
-const MOST_LEN: u64 = 1 << 30;
+// The maximum length of a stream in bytes; a part beyond it is refused.
+const MAX_LEN: u64 = 1 << 30;
 
 // Hashes one part, which needs no store, and puts it to its upload.
 fn put(
@@ -40,7 +41,7 @@ fn put(
     Ok(())
 }
 
-// Files bytes for a tenant, and answers their address.
+// Files bytes for a tenant, and returns their address.
 fn back_up(
     alloc: Global,
     store: &mut Store,
@@ -61,7 +62,7 @@ fn back_up(
     Ok(sealed.address)
 }
 
-// Files for a tenant what a reader gives, which is as long as it turns out to be, and answers its address.
+// Files for a tenant what a reader returns, whatever its length, and returns the address.
 fn back_up_stream<R: Read>(
     alloc: Global,
     store: &mut Store,
@@ -69,7 +70,7 @@ fn back_up_stream<R: Read>(
     reader: &mut R,
     work: &mut Work,
 ) -> Result<Address> {
-    let (upload, plan) = store.begin_open(tenant, MOST_LEN)?;
+    let (upload, plan) = store.begin_open(tenant, MAX_LEN)?;
     let mut len = 0;
     for _ in 0..u64::MAX {
         let mut bytes = Vec::new(alloc);
@@ -102,6 +103,19 @@ fn give_back<W: Write>(
     Ok(())
 }
 
+// Prints the hash of some bytes by the first calls of two crates, and their length in a store.
+fn show_calls<T: Threads + Runtime>(rt: &HostRuntime, threads: &T, bytes: &[u8]) -> Result<()> {
+    let (first, second) = bytes.split_at(bytes.len() / 2);
+    let pieces = Address::new(digest_of_pieces(rt, first, second));
+    let mut reader = bytes;
+    let read = Address::new(digest_of_reader(threads, rt.alloc(), &mut reader)?);
+    let mut own = Vec::with_capacity(rt.alloc(), bytes.len())?;
+    own.extend_from_slice(bytes)?;
+    let len = stored_len(rt, rt.alloc(), own)?;
+    println!(rt; "{pieces}\n{read}\n{len} bytes")?;
+    Ok(())
+}
+
 fn run<T: Threads + Wait + Sync + Runtime>(rt: &HostRuntime, threads: &T) -> Result<()> {
     let alloc = rt.alloc();
     let mut work = Work::new(rt);
@@ -126,6 +140,7 @@ fn run<T: Threads + Wait + Sync + Runtime>(rt: &HostRuntime, threads: &T) -> Res
         work.count()
     )?;
     println!(rt; "accepted {} {}", accepted.bytes, accepted.calls)?;
+    show_calls(rt, threads, input.as_slice())?;
     let mut writer = io::writer(rt);
     give_back(&store, tenant, address, &mut writer)?;
     writer.flush()?;

@@ -10,7 +10,7 @@ use Rattle.std.specs.Ordering.{nat_cmp}
 use Rattle.std.specs.Str.{bytes_eq}
 use Rattle.std.proofs.lemmas.Slice.Eq.{bytes_eq-Decides}
 use Rattle.store_books.specs.Books.{Filed, addressed, object_among}
-use Rattle.store_books.specs.inner.Catalog.{AreCatalogued, Catalogued, IsAddressed}
+use Rattle.store_books.specs.inner.Catalog.{AreCatalogued, ModelCatalog, IsAddressed}
 use Rattle.store_books.specs.Commands.{with_holders}
 use Rattle.store_books.proofs.AddressedObjects.{readdressed}
 use Rattle.store_books.proofs.Lists.{all_push, all_removed, all_set, values_push as values-push}
@@ -34,7 +34,7 @@ module _ {O : Type 0} where
   shown es = values_of (values_of es)
 
   -- the catalog of these
-  abbrev pub catalog_of : ℕ → (BTreeMap ℕ (List ℕ × Filed O)) → (Catalogued O)
+  abbrev pub catalog_of : ℕ → (BTreeMap ℕ (List ℕ × Filed O)) → (ModelCatalog O)
   catalog_of k m = record { objects = shown m.entries; filings = k }
 
   same_look_up : (n : ℕ) (x : Option (List ℕ × (Filed O))) (m r : (BTreeMap ℕ (List ℕ × Filed O))) → r.entries ≡ m.entries → get nat_cmp r n ≡ x → get nat_cmp m n ≡ x
@@ -53,9 +53,9 @@ module _ {O : Type 0} (address : O → List ℕ) where
   unnumbered k m p are a none = among a m.entries are.addressed ∙ object_missing k m p are.filed a none
 
   -- an object that is shown has a number
-  pub is_numbered : (k : ℕ) (m : (BTreeMap ℕ (List ℕ × Filed O))) (p : Numbers) (x : (Catalogued O)) → AreCatalogued address k m p → catalog_of k m ≡ x → (a : List ℕ) → IsSome (object_among address x.objects a) → p a ≡ None → ⊥
+  pub is_numbered : (k : ℕ) (m : (BTreeMap ℕ (List ℕ × Filed O))) (p : Numbers) (x : (ModelCatalog O)) → AreCatalogued address k m p → catalog_of k m ≡ x → (a : List ℕ) → IsSome (object_among address x.objects a) → p a ≡ None → ⊥
   is_numbered k m p x are is a found none =
-      let absent = sym (ap (λ (y : (Catalogued O)). object_among address y.objects a) is) ∙ unnumbered k m p are a none in
+      let absent = sym (ap (λ (y : (ModelCatalog O)). object_among address y.objects a) is) ∙ unnumbered k m p are a none in
       let never = rw absent at found in
       absurd (cc)
 
@@ -65,10 +65,10 @@ module _ {O : Type 0} (address : O → List ℕ) where
   shown_more k m p are a o =
       ap shown (inserted_last k (a, o) m.entries (all_below m k are.filed.ordered are.filed.before)) ∙ ap values_of (values-push m.entries k (a, o)) ∙ values-push (values_of m.entries) a o
 
-  pub catalog_more : (k : ℕ) (m n : (BTreeMap ℕ (List ℕ × Filed O))) (p : Numbers) (x : (Catalogued O)) → AreCatalogued address k m p → catalog_of k m ≡ x → (a : List ℕ) (o : (Filed O)) → n.entries ≡ insert_entry nat_cmp m.entries k (a, o)
+  pub catalog_more : (k : ℕ) (m n : (BTreeMap ℕ (List ℕ × Filed O))) (p : Numbers) (x : (ModelCatalog O)) → AreCatalogued address k m p → catalog_of k m ≡ x → (a : List ℕ) (o : (Filed O)) → n.entries ≡ insert_entry nat_cmp m.entries k (a, o)
       → catalog_of (k + 1) n ≡ record { objects = x.objects ++ o ∷ []; filings = x.filings + 1 }
   catalog_more k m n p x are is a o entries =
-      ap (λ (os : List (Filed O)). record { objects = os; filings = k + 1 }) (ap shown entries ∙ shown_more k m p are a o) ∙ ap (λ (y : (Catalogued O)). record { objects = y.objects ++ o ∷ []; filings = y.filings + 1 }) is
+      ap (λ (os : List (Filed O)). record { objects = os; filings = k + 1 }) (ap shown entries ∙ shown_more k m p are a o) ∙ ap (λ (y : (ModelCatalog O)). record { objects = y.objects ++ o ∷ []; filings = y.filings + 1 }) is
 
   pub catalogued_more : (k : ℕ) (m n : (BTreeMap ℕ (List ℕ × Filed O))) (p r : Numbers) (a : List ℕ) (o : (Filed O)) → object_among address (shown m.entries) a ≡ None → a ≡ address o.content → n.entries ≡ insert_entry nat_cmp m.entries k (a, o) → IsOrdered nat_cmp n
       → ((q : ℕ) → get nat_cmp n q ≡ cond (is_at (nat_cmp k) q) (Some (a, o)) (get nat_cmp m q)) → ((b : List ℕ) → r b ≡ cond (bytes_eq a b) (Some k) (p b)) → AreCatalogued address k m p → AreCatalogued address (k + 1) n r
@@ -91,12 +91,12 @@ module _ {O : Type 0} (address : O → List ℕ) where
       ap values_of (replaced (is_at (nat_cmp n)) a (record o { holders = hs }) m.entries (agrees k m p are.filed a n at))
       ∙ ap (λ (es : List (List ℕ × (Filed O))). values_of (set_value (bytes_eq a) es (record o { holders = hs }))) (sym (readdressed address (values_of m.entries) are.addressed)) ∙ sym (nonempty_with (shown m.entries) a o hs some)
 
-  pub catalog_after : (k : ℕ) (m n : (BTreeMap ℕ (List ℕ × Filed O))) (p : Numbers) (x : (Catalogued O)) → AreCatalogued address k m p → catalog_of k m ≡ x → (a : List ℕ) (q : ℕ) → p a ≡ Some q → (o : (Filed O)) (hs : List ℕ) → 0 < length hs → object_among address x.objects a ≡ Some o
+  pub catalog_after : (k : ℕ) (m n : (BTreeMap ℕ (List ℕ × Filed O))) (p : Numbers) (x : (ModelCatalog O)) → AreCatalogued address k m p → catalog_of k m ≡ x → (a : List ℕ) (q : ℕ) → p a ≡ Some q → (o : (Filed O)) (hs : List ℕ) → 0 < length hs → object_among address x.objects a ≡ Some o
       → (get nat_cmp m q ≡ Some (a, o) → WritesThrough nat_cmp (nat_cmp q) m (a, record o { holders = hs }) n) → catalog_of k n ≡ record x { objects = with_holders address x.objects a o hs }
   catalog_after k m n p x are is a q number o hs some found writes =
-      let at = placed k m p are.filed a q number o (sym (among a m.entries are.addressed) ∙ ap (λ (y : (Catalogued O)). object_among address y.objects a) is ∙ found) in
+      let at = placed k m p are.filed a q number o (sym (among a m.entries are.addressed) ∙ ap (λ (y : (ModelCatalog O)). object_among address y.objects a) is ∙ found) in
       ap (λ (os : List (Filed O)). record { objects = os; filings = k }) (ap shown (writes at).0 ∙ shown_changed k m p are a q number o hs some)
-      ∙ ap (λ (y : (Catalogued O)). record y { objects = with_holders address y.objects a o hs }) is
+      ∙ ap (λ (y : (ModelCatalog O)). record y { objects = with_holders address y.objects a o hs }) is
 
   pub catalogued_after : (k : ℕ) (m n : (BTreeMap ℕ (List ℕ × Filed O))) (p : Numbers) (a : List ℕ) (q : ℕ) (o : (Filed O)) (hs : List ℕ) → p a ≡ Some q → get nat_cmp m q ≡ Some (a, o)
       → WritesThrough nat_cmp (nat_cmp q) m (a, record o { holders = hs }) n → AreCatalogued address k m p → AreCatalogued address k n p
@@ -116,10 +116,10 @@ module _ {O : Type 0} (address : O → List ℕ) where
   shown_less k m p are a n at o =
       ap values_of (removed (is_at (nat_cmp n)) a m.entries (agrees k m p are.filed a n at)) ∙ ap (λ (es : List (List ℕ × (Filed O))). values_of (remove_entry (bytes_eq a) es)) (sym (readdressed address (values_of m.entries) are.addressed))
 
-  pub catalog_less : (k : ℕ) (m n : (BTreeMap ℕ (List ℕ × Filed O))) (p : Numbers) (x : (Catalogued O)) → AreCatalogued address k m p → catalog_of k m ≡ x → (a : List ℕ) (q : ℕ) → p a ≡ Some q → n.entries ≡ remove_entry (is_at (nat_cmp q)) m.entries
+  pub catalog_less : (k : ℕ) (m n : (BTreeMap ℕ (List ℕ × Filed O))) (p : Numbers) (x : (ModelCatalog O)) → AreCatalogued address k m p → catalog_of k m ≡ x → (a : List ℕ) (q : ℕ) → p a ≡ Some q → n.entries ≡ remove_entry (is_at (nat_cmp q)) m.entries
       → (o : (Filed O)) → catalog_of k n ≡ record x { objects = with_holders address x.objects a o [] }
   catalog_less k m n p x are is a q number entries o =
-      ap (λ (os : List (Filed O)). record { objects = os; filings = k }) (ap shown entries ∙ shown_less k m p are a q number o) ∙ ap (λ (y : (Catalogued O)). record y { objects = with_holders address y.objects a o [] }) is
+      ap (λ (os : List (Filed O)). record { objects = os; filings = k }) (ap shown entries ∙ shown_less k m p are a q number o) ∙ ap (λ (y : (ModelCatalog O)). record y { objects = with_holders address y.objects a o [] }) is
 
   pub catalogued_less : (k : ℕ) (m n : (BTreeMap ℕ (List ℕ × Filed O))) (p r : Numbers) (a : List ℕ) (q : ℕ) → p a ≡ Some q → n.entries ≡ remove_entry (is_at (nat_cmp q)) m.entries → IsOrdered nat_cmp n
       → ((j : ℕ) → get nat_cmp n j ≡ cond (is_at (nat_cmp q) j) None (get nat_cmp m j)) → ((b : List ℕ) → r b ≡ cond (bytes_eq a b) None (p b)) → AreCatalogued address k m p → AreCatalogued address k n r
@@ -146,9 +146,9 @@ module _ {O : Type 0} (address : O → List ℕ) where
   }
 
   -- the object of an address stands under its number
-  pub placed_at : (k : ℕ) (m : BTreeMap ℕ (List ℕ × Filed O)) (p : Numbers) (x : Catalogued O) → AreCatalogued address k m p → catalog_of k m ≡ x → (a : List ℕ) (q : ℕ) → p a ≡ Some q → (o : Filed O) → object_among address x.objects a ≡ Some o → get nat_cmp m q ≡ Some (a, o)
-  placed_at k m p x are is a q number o found = placed k m p are.filed a q number o (sym (among a m.entries are.addressed) ∙ ap (λ (y : Catalogued O). object_among address y.objects a) is ∙ found)
+  pub placed_at : (k : ℕ) (m : BTreeMap ℕ (List ℕ × Filed O)) (p : Numbers) (x : ModelCatalog O) → AreCatalogued address k m p → catalog_of k m ≡ x → (a : List ℕ) (q : ℕ) → p a ≡ Some q → (o : Filed O) → object_among address x.objects a ≡ Some o → get nat_cmp m q ≡ Some (a, o)
+  placed_at k m p x are is a q number o found = placed k m p are.filed a q number o (sym (among a m.entries are.addressed) ∙ ap (λ (y : ModelCatalog O). object_among address y.objects a) is ∙ found)
 
   -- an object that is not shown has no number
-  pub is_unnumbered : (k : ℕ) (m : BTreeMap ℕ (List ℕ × Filed O)) (p : Numbers) (x : Catalogued O) → AreCatalogued address k m p → catalog_of k m ≡ x → (a : List ℕ) → object_among address x.objects a ≡ None → p a ≡ None
-  is_unnumbered k m p x are is a none = unplaced k m p are.filed a (sym (among a m.entries are.addressed) ∙ ap (λ (y : Catalogued O). object_among address y.objects a) is ∙ none)
+  pub is_unnumbered : (k : ℕ) (m : BTreeMap ℕ (List ℕ × Filed O)) (p : Numbers) (x : ModelCatalog O) → AreCatalogued address k m p → catalog_of k m ≡ x → (a : List ℕ) → object_among address x.objects a ≡ None → p a ≡ None
+  is_unnumbered k m p x are is a none = unplaced k m p are.filed a (sym (among a m.entries are.addressed) ∙ ap (λ (y : ModelCatalog O). object_among address y.objects a) is ∙ none)

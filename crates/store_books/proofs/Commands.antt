@@ -10,9 +10,9 @@ use Rattle.std.proofs.lemmas.Map.{keys-set_value}
 use Rattle.std.proofs.lemmas.Map.Entries.{sum_by-remove_entry, sum_by-set_value}
 use Rattle.store_books.specs.declared.refusal.Refusal.TheVariants.{JournalFull, NoTenant, TooLong}
 use Rattle.store_books.specs.declared.tenant.Change.{Change}
-use Rattle.store_books.specs.Books.{AreSound, Begun, Books, IsBegunUpload, IsRisingFrom, held_bytes_of, in_use, is_absent, is_full, is_number, limit_of, parts_of, reserved_by, reserved_of, upload_at}
+use Rattle.store_books.specs.Books.{AreSound, ModelOwnedUpload, Books, IsOwnedUpload, IsRisingFrom, held_bytes_of, in_use, is_absent, is_full, is_number, limit_of, parts_of, reserved_by, reserved_of, upload_at}
 use Rattle.store_books.specs.Commands.{add_refused, begin_refusal, fix_refused, full_refusal, with_begun, with_upload, without_upload}
-use Rattle.store_upload.specs.Uploads.{Fits, IsUpload, UploadPlan, first_end, fix_refusal, fixed_at, held_bytes, length_of, most_bytes, new_upload, place_refusal, with_more}
+use Rattle.store_upload.specs.Uploads.{Fits, IsUpload, UploadPlan, first_end, fix_refusal, fixed_at, held_bytes, length_of, max_bytes, new_upload, place_refusal, with_more}
 use Rattle.store_upload.proofs.Ends.{fixed_within, fixes, grown, nothing_held}
 use Rattle.store_upload.proofs.Places.{not_some}
 use Rattle.store_books.proofs.Lists.{all_found, all_push, all_removed, all_set, all_weaker, values_push}
@@ -81,20 +81,20 @@ all_keys n (e ∷ es) h = (h.0, all_keys n es h.1)
 -- ---- what is reserved
 
 module _ {P : Type 0} where
-  pub reserved_mine : (u : Begun P) → reserved_by u.tenant u ≡ length_of u.upload
+  pub reserved_mine : (u : ModelOwnedUpload P) → reserved_by u.tenant u ≡ length_of u.upload
   reserved_mine u = rw (eq-eqb u.tenant u.tenant refl) refl
 
-  pub reserved_others : (q : ℕ) (u : Begun P) → (u.tenant ≡ q → ⊥) → reserved_by q u ≡ 0
+  pub reserved_others : (q : ℕ) (u : ModelOwnedUpload P) → (u.tenant ≡ q → ⊥) → reserved_by q u ≡ 0
   reserved_others q u apart = rw (ne_eqb u.tenant q apart) refl
 
   -- sums with another value in the place of one, and without it
-  pub instead : (f : Begun P → ℕ) (n : ℕ) (us : List (ℕ × Begun P)) (u w : Begun P) → lookup (is_number n) us ≡ Some u → sum_by f (values_of (set_value (is_number n) us w)) + f u ≡ sum_by f (values_of us) + f w
+  pub instead : (f : ModelOwnedUpload P → ℕ) (n : ℕ) (us : List (ℕ × ModelOwnedUpload P)) (u w : ModelOwnedUpload P) → lookup (is_number n) us ≡ Some u → sum_by f (values_of (set_value (is_number n) us w)) + f u ≡ sum_by f (values_of us) + f w
   instead f n us u w found = sum_by-set_value f (is_number n) us u w found
 
-  pub less : (f : Begun P → ℕ) (n : ℕ) (us : List (ℕ × Begun P)) (u : Begun P) → lookup (is_number n) us ≡ Some u → sum_by f (values_of (remove_entry (is_number n) us)) + f u ≡ sum_by f (values_of us)
-  less f n us u found = ap (λ (o : Option (Begun P)). sum_by f (values_of (remove_entry (is_number n) us)) + unwrap_or (option_map f o) 0) (sym found) ∙ sum_by-remove_entry f (is_number n) us
+  pub less : (f : ModelOwnedUpload P → ℕ) (n : ℕ) (us : List (ℕ × ModelOwnedUpload P)) (u : ModelOwnedUpload P) → lookup (is_number n) us ≡ Some u → sum_by f (values_of (remove_entry (is_number n) us)) + f u ≡ sum_by f (values_of us)
+  less f n us u found = ap (λ (o : Option (ModelOwnedUpload P)). sum_by f (values_of (remove_entry (is_number n) us)) + unwrap_or (option_map f o) 0) (sym found) ∙ sum_by-remove_entry f (is_number n) us
 
-  more : (f : Begun P → ℕ) (us : List (ℕ × Begun P)) (n : ℕ) (u : Begun P) → sum_by f (values_of (us ++ (n, u) ∷ [])) ≡ sum_by f (values_of us) + f u
+  more : (f : ModelOwnedUpload P → ℕ) (us : List (ℕ × ModelOwnedUpload P)) (n : ℕ) (u : ModelOwnedUpload P) → sum_by f (values_of (us ++ (n, u) ∷ [])) ≡ sum_by f (values_of us) + f u
   more f us n u = ap (sum_by f) (values_push us n u) ∙ sum_by_push f (values_of us) u
 
 -- ---- an upload is begun
@@ -115,19 +115,19 @@ module _ {P O : Type 0} (len : P → ℕ) (size : O → ℕ) (address : O → Li
   pub begins : (b : Books P O) (tenant : ℕ) (plan : UploadPlan) → begin_refusal size b tenant plan.bound ≡ None → AreSound len size address b → Begins b tenant plan
   begins b tenant plan free sound =
       let there = passed (is_absent b tenant) NoTenant _ free in
-      let short = passed (nat_lt most_bytes plan.bound) TooLong _ there.1 in
+      let short = passed (nat_lt max_bytes plan.bound) TooLong _ there.1 in
       let fits = passed (nat_lt (limit_of b tenant) (in_use size b tenant + plan.bound)) _ _ short.1 in
-      let u : Begun P = record { tenant = tenant; upload = new_upload plan } in
+      let u : ModelOwnedUpload P = record { tenant = tenant; upload = new_upload plan } in
       let within = ltb-false (limit_of b tenant) (in_use size b tenant + plan.bound) fits.0 in
       let bound = no_longer_than plan in
       let mine = more (reserved_by tenant) b.uploads b.begun u in
       let own = reserved_mine u in
-      let held = more (λ (v : Begun P). held_bytes len v.upload.parts) b.uploads b.begun u in
-      let parts = more (λ (v : Begun P). length v.upload.parts) b.uploads b.begun u in
-      let among : IsBegunUpload len (length b.limits) (b.begun + 1) (b.begun, u) = record {
+      let held = more (λ (v : ModelOwnedUpload P). held_bytes len v.upload.parts) b.uploads b.begun u in
+      let parts = more (λ (v : ModelOwnedUpload P). length v.upload.parts) b.uploads b.begun u in
+      let among : IsOwnedUpload len (length b.limits) (b.begun + 1) (b.begun, u) = record {
         number = omega arith;
         tenant = leb-false (length b.limits) tenant there.0;
-        upload = nothing_held len plan [] (ltb-false most_bytes plan.bound short.0) refl;
+        upload = nothing_held len plan [] (ltb-false max_bytes plan.bound short.0) refl;
       } in
       record {
         moves = record {
@@ -145,10 +145,10 @@ module _ {P O : Type 0} (len : P → ℕ) (size : O → ℕ) (address : O → Li
           others_reserve = λ q apart. let other = reserved_others q u apart in let sum = more (reserved_by q) b.uploads b.begun u in omega (arith, other, sum);
           fits = omega (arith, mine, own, bound, within);
           begun = omega arith;
-          uploads = all_push (IsBegunUpload len (length b.limits) (b.begun + 1)) b.uploads (b.begun, u)
-              (all_weaker (IsBegunUpload len (length b.limits) b.begun) (IsBegunUpload len (length b.limits) (b.begun + 1)) b.uploads (λ e is. record { number = omega (arith, is.number); tenant = is.tenant; upload = is.upload }) sound.uploads) among;
+          uploads = all_push (IsOwnedUpload len (length b.limits) (b.begun + 1)) b.uploads (b.begun, u)
+              (all_weaker (IsOwnedUpload len (length b.limits) b.begun) (IsOwnedUpload len (length b.limits) (b.begun + 1)) b.uploads (λ e is. record { number = omega (arith, is.number); tenant = is.tenant; upload = is.upload }) sound.uploads) among;
           sorted = subst (IsRisingFrom 0) (sym (keys_push b.uploads (b.begun, u)))
-              (rising_push 0 b.begun (keys_of b.uploads) (omega arith) (all_keys b.begun b.uploads (all_weaker (IsBegunUpload len (length b.limits) b.begun) (λ e. e.0 < b.begun) b.uploads (λ e is. is.number) sound.uploads)) sound.sorted);
+              (rising_push 0 b.begun (keys_of b.uploads) (omega arith) (all_keys b.begun b.uploads (all_weaker (IsOwnedUpload len (length b.limits) b.begun) (λ e. e.0 < b.begun) b.uploads (λ e is. is.number) sound.uploads)) sound.sorted);
           objects = sound.objects;
           apart = sound.apart;
           stored = omega (arith, held);
@@ -160,19 +160,19 @@ module _ {P O : Type 0} (len : P → ℕ) (size : O → ℕ) (address : O → Li
 
   -- ---- an upload is replaced by a lawful one that is no longer
 
-  pub record Replaces (b : Books P O) (number : ℕ) (u w : Begun P) : Type 0 where
+  pub record Replaces (b : Books P O) (number : ℕ) (u w : ModelOwnedUpload P) : Type 0 where
     pub moves : Moves len size address u.tenant none (record { less = length_of u.upload; more = length_of w.upload }) b (with_upload b number w)
     pub held : held_bytes_of len (with_upload b number w) + held_bytes len u.upload.parts ≡ held_bytes_of len b + held_bytes len w.upload.parts
     pub parts : parts_of (with_upload b number w) + length u.upload.parts ≡ parts_of b + length w.upload.parts
 
-  pub found_among : (b : Books P O) (number : ℕ) (u : Begun P) → upload_at b number ≡ Some u → AreSound len size address b → (u.tenant < length b.limits) × IsUpload len u.upload
+  pub found_among : (b : Books P O) (number : ℕ) (u : ModelOwnedUpload P) → upload_at b number ≡ Some u → AreSound len size address b → (u.tenant < length b.limits) × IsUpload len u.upload
   found_among b number u found sound =
-      all_found (IsBegunUpload len (length b.limits) b.begun) (λ v. (v.tenant < length b.limits) × IsUpload len v.upload) (is_number number) b.uploads u (λ k x is. (is.tenant, is.upload)) found sound.uploads
+      all_found (IsOwnedUpload len (length b.limits) b.begun) (λ v. (v.tenant < length b.limits) × IsUpload len v.upload) (is_number number) b.uploads u (λ k x is. (is.tenant, is.upload)) found sound.uploads
 
-  reserved_within : (b : Books P O) (number : ℕ) (u : Begun P) → upload_at b number ≡ Some u → length_of u.upload ≤ reserved_of b u.tenant
+  reserved_within : (b : Books P O) (number : ℕ) (u : ModelOwnedUpload P) → upload_at b number ≡ Some u → length_of u.upload ≤ reserved_of b u.tenant
   reserved_within b number u found = let sum = less (reserved_by u.tenant) number b.uploads u found in let own = reserved_mine u in omega (arith, sum, own)
 
-  pub replaces : (b : Books P O) (number : ℕ) (u w : Begun P) → upload_at b number ≡ Some u → AreSound len size address b → b.accepted < b.entries → w.tenant ≡ u.tenant → IsUpload len w.upload → length_of w.upload ≤ length_of u.upload
+  pub replaces : (b : Books P O) (number : ℕ) (u w : ModelOwnedUpload P) → upload_at b number ≡ Some u → AreSound len size address b → b.accepted < b.entries → w.tenant ≡ u.tenant → IsUpload len w.upload → length_of w.upload ≤ length_of u.upload
       → held_bytes len w.upload.parts ≤ held_bytes len u.upload.parts + 2 ^ 24 → length w.upload.parts ≤ length u.upload.parts + 1 → Replaces b number u w
   replaces b number u w found sound room tenant lawful no_longer bytes count =
       let was = found_among b number u found sound in
@@ -181,8 +181,8 @@ module _ {P O : Type 0} (len : P → ℕ) (size : O → ℕ) (address : O → Li
       let reserved = instead (reserved_by u.tenant) number b.uploads u w found in
       let own = reserved_mine u in
       let now : reserved_by u.tenant w ≡ length_of w.upload = subst (λ (t : ℕ). reserved_by t w ≡ length_of w.upload) tenant (reserved_mine w) in
-      let held = instead (λ (v : Begun P). held_bytes len v.upload.parts) number b.uploads u w found in
-      let parts = instead (λ (v : Begun P). length v.upload.parts) number b.uploads u w found in
+      let held = instead (λ (v : ModelOwnedUpload P). held_bytes len v.upload.parts) number b.uploads u w found in
+      let parts = instead (λ (v : ModelOwnedUpload P). length v.upload.parts) number b.uploads u w found in
       record {
         moves = record {
           tenants = refl;
@@ -203,7 +203,7 @@ module _ {P O : Type 0} (len : P → ℕ) (size : O → ℕ) (address : O → Li
               omega (arith, before, after, sum);
           fits = omega (arith, within, reserved, own, now, no_longer);
           begun = omega arith;
-          uploads = all_set (IsBegunUpload len (length b.limits) b.begun) (is_number number) b.uploads u w (λ k is. record { number = is.number; tenant = omega (arith, tenant, there); upload = lawful }) found sound.uploads;
+          uploads = all_set (IsOwnedUpload len (length b.limits) b.begun) (is_number number) b.uploads u w (λ k is. record { number = is.number; tenant = omega (arith, tenant, there); upload = lawful }) found sound.uploads;
           sorted = subst (IsRisingFrom 0) (sym (keys-set_value (is_number number) b.uploads w)) sound.sorted;
           objects = sound.objects;
           apart = sound.apart;
@@ -215,24 +215,24 @@ module _ {P O : Type 0} (len : P → ℕ) (size : O → ℕ) (address : O → Li
       }
 
   -- a part is put
-  pub record Puts (b : Books P O) (number offset : ℕ) (part : P) (u : Begun P) : Type 0 where
+  pub record Puts (b : Books P O) (number offset : ℕ) (part : P) (u : ModelOwnedUpload P) : Type 0 where
     pub replaced : Replaces b number u (record u { upload = with_more len u.upload offset part })
     pub held : held_bytes_of len (with_upload b number (record u { upload = with_more len u.upload offset part })) ≡ held_bytes_of len b + len part
     pub parts : parts_of (with_upload b number (record u { upload = with_more len u.upload offset part })) ≡ parts_of b + 1
 
-  pub puts : (b : Books P O) (number offset : ℕ) (part : P) (u : Begun P) → upload_at b number ≡ Some u → AreSound len size address b → Fits u.upload.plan offset (len part)
+  pub puts : (b : Books P O) (number offset : ℕ) (part : P) (u : ModelOwnedUpload P) → upload_at b number ≡ Some u → AreSound len size address b → Fits u.upload.plan offset (len part)
       → option_or (option_map add_refused (place_refusal len u.upload offset (len part))) (full_refusal b) ≡ None → Puts b number offset part u
   puts b number offset part u found sound fits free =
       let both = neither add_refused (place_refusal len u.upload offset (len part)) (full_refusal b) free in
       let was = found_among b number u found sound in
       let grow = grown len u.upload offset part was.1 both.0 fits in
-      let w : Begun P = record u { upload = with_more len u.upload offset part } in
+      let w : ModelOwnedUpload P = record u { upload = with_more len u.upload offset part } in
       let small = fits.small in
       let put = replaces b number u w found sound (room b both.1) refl grow.lawful grow.no_longer (omega (arith, grow.bytes, small)) (omega (arith, grow.count)) in
       record { replaced = put; held = omega (arith, put.held, grow.bytes); parts = omega (arith, put.parts, grow.count) }
 
   -- an end is fixed
-  pub ends : (b : Books P O) (number n : ℕ) (u : Begun P) → upload_at b number ≡ Some u → AreSound len size address b → option_or (option_map fix_refused (fix_refusal len u.upload n)) (full_refusal b) ≡ None
+  pub ends : (b : Books P O) (number n : ℕ) (u : ModelOwnedUpload P) → upload_at b number ≡ Some u → AreSound len size address b → option_or (option_map fix_refused (fix_refusal len u.upload n)) (full_refusal b) ≡ None
       → Replaces b number u (record u { upload = fixed_at u.upload n })
   ends b number n u found sound free =
       let both = neither fix_refused (fix_refusal len u.upload n) (full_refusal b) free in
@@ -242,20 +242,20 @@ module _ {P O : Type 0} (len : P → ℕ) (size : O → ℕ) (address : O → Li
 
   -- ---- an upload goes
 
-  pub record Goes (b : Books P O) (number : ℕ) (u : Begun P) : Type 0 where
+  pub record Goes (b : Books P O) (number : ℕ) (u : ModelOwnedUpload P) : Type 0 where
     pub moves : Moves len size address u.tenant none (falls (length_of u.upload)) b (without_upload b number)
     pub held : held_bytes_of len (without_upload b number) + held_bytes len u.upload.parts ≡ held_bytes_of len b
     pub parts : parts_of (without_upload b number) + length u.upload.parts ≡ parts_of b
 
-  pub goes : (b : Books P O) (number : ℕ) (u : Begun P) → upload_at b number ≡ Some u → AreSound len size address b → b.accepted < b.entries → Goes b number u
+  pub goes : (b : Books P O) (number : ℕ) (u : ModelOwnedUpload P) → upload_at b number ≡ Some u → AreSound len size address b → b.accepted < b.entries → Goes b number u
   goes b number u found sound room =
       let was = found_among b number u found sound in
       let there = was.0 in
       let within = sound.within u.tenant there in
       let reserved = less (reserved_by u.tenant) number b.uploads u found in
       let own = reserved_mine u in
-      let held = less (λ (v : Begun P). held_bytes len v.upload.parts) number b.uploads u found in
-      let parts = less (λ (v : Begun P). length v.upload.parts) number b.uploads u found in
+      let held = less (λ (v : ModelOwnedUpload P). held_bytes len v.upload.parts) number b.uploads u found in
+      let parts = less (λ (v : ModelOwnedUpload P). length v.upload.parts) number b.uploads u found in
       record {
         moves = record {
           tenants = refl;
@@ -272,7 +272,7 @@ module _ {P O : Type 0} (len : P → ℕ) (size : O → ℕ) (address : O → Li
           others_reserve = λ q apart. let other = reserved_others q u apart in let sum = less (reserved_by q) number b.uploads u found in omega (arith, other, sum);
           fits = omega (arith, within, reserved, own);
           begun = omega arith;
-          uploads = all_removed (IsBegunUpload len (length b.limits) b.begun) (is_number number) b.uploads sound.uploads;
+          uploads = all_removed (IsOwnedUpload len (length b.limits) b.begun) (is_number number) b.uploads sound.uploads;
           sorted = rising_removed (is_number number) 0 b.uploads sound.sorted;
           objects = sound.objects;
           apart = sound.apart;

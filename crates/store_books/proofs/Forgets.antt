@@ -19,8 +19,8 @@ use Rattle.store_upload.specs.declared.refusal.FixFault.{FixFault}
 use Rattle.store_upload.specs.declared.refusal.AddFault.TheVariants.{Overlap, PastLast}
 use Rattle.store_upload.specs.declared.refusal.FinishFault.TheVariants.{Incomplete, NotFixed}
 use Rattle.store_upload.specs.declared.refusal.FixFault.TheVariants as fix
-use Rattle.store_upload.specs.Uploads.{Upload, finish_refusal, first_gap, fix_refusal, held_bytes, is_ragged, last_end, length_of, most_bytes, new_upload, overlap_at, overlaps, place_refusal, with_more}
-use Rattle.store_books.specs.Books.{Begun, Books, Filed, addressed, in_use, is_absent, is_held_by, is_number, limit_of, most_limit, object_among, object_at, reserved_by, reserved_of, totals_of, upload_at, use_by, use_of}
+use Rattle.store_upload.specs.Uploads.{Upload, finish_refusal, first_gap, fix_refusal, held_bytes, is_ragged, last_end, length_of, max_bytes, new_upload, overlap_at, overlaps, place_refusal, with_more}
+use Rattle.store_books.specs.Books.{ModelOwnedUpload, Books, Filed, addressed, in_use, is_absent, is_held_by, is_number, limit_of, max_limit, object_among, object_at, reserved_by, reserved_of, totals_of, upload_at, use_by, use_of}
 use Rattle.store_books.specs.Commands.{add_refused, finish_refused, fix_refused, full_refusal, join_refusal, with_begun, with_end, with_holder, with_holders, with_known, with_left, with_new, with_part, without_holder}
 use Rattle.store_books.specs.Forgetting.{Forgets, SeesCommands, SeesRefusals, bare, bare_begun, bare_object, bare_upload, label_of}
 use Rattle.store_books.specs.Bare.{Bare, as_it_is, label_address, label_len}
@@ -144,17 +144,17 @@ module _ {P O : Type 0} (len : P → ℕ) (size : O → ℕ) (address : O → Li
   object_same b at = among_seen size address b.objects at
 
   abbrev limit_by : Books P O → ℕ → ℕ → ℕ → Option Refusal
-  limit_by b t limit used = if is_absent b t then Some NoTenant else if nat_lt most_limit limit then Some LimitTooLarge else if nat_lt limit used then Some (BelowUse used) else full_refusal b
+  limit_by b t limit used = if is_absent b t then Some NoTenant else if nat_lt max_limit limit then Some LimitTooLarge else if nat_lt limit used then Some (BelowUse used) else full_refusal b
 
   abbrev begin_by : Books P O → ℕ → ℕ → ℕ → Option Refusal
   begin_by b t n used =
-      if is_absent b t then Some NoTenant else if nat_lt most_bytes n then Some TooLong else if nat_lt (limit_of b t) (used + n) then Some (OverQuota (limit_of b t - used)) else full_refusal b
+      if is_absent b t then Some NoTenant else if nat_lt max_bytes n then Some TooLong else if nat_lt (limit_of b t) (used + n) then Some (OverQuota (limit_of b t - used)) else full_refusal b
 
-  abbrev join_by : Books P O → Begun P → Filed O → ℕ → Option Refusal
+  abbrev join_by : Books P O → ModelOwnedUpload P → Filed O → ℕ → Option Refusal
   join_by b u o used =
       if not (is_held_by u.tenant o) && nat_lt (length_of u.upload + (limit_of b u.tenant - used)) (size o.content) then Some (OverQuota (limit_of b u.tenant - used)) else full_refusal b
 
-  join_same : (b : Books P O) (u : Begun P) (f : Option (Filed O)) → join_refusal label_len label_address (bare len size address b) (bare_begun len u) (option_map (bare_object size address) f) ≡ join_refusal size address b u f
+  join_same : (b : Books P O) (u : ModelOwnedUpload P) (f : Option (Filed O)) → join_refusal label_len label_address (bare len size address b) (bare_begun len u) (option_map (bare_object size address) f) ≡ join_refusal size address b u f
   join_same b u None = refl
   join_same b u (Some o) = ap (join_by b u o) (in_use_same b u.tenant)
 
@@ -172,62 +172,62 @@ module _ {P O : Type 0} (len : P → ℕ) (size : O → ℕ) (address : O → Li
     limit = λ t limit. ap (limit_by b t limit) (in_use_same b t);
     begin = λ t n. ap (begin_by b t n) (in_use_same b t);
     put = λ number offset n.
-        let g : Begun ℕ → Option Refusal = λ u. option_or (option_map add_refused (place_refusal as_it_is u.upload offset n)) (full_refusal b) in
-        let h : Begun P → Option Refusal = λ u. option_or (option_map add_refused (place_refusal len u.upload offset n)) (full_refusal b) in
-        ap (λ (o : Option (Begun ℕ)). option_map_or g o (Some NoUpload)) (upload_same b number)
+        let g : ModelOwnedUpload ℕ → Option Refusal = λ u. option_or (option_map add_refused (place_refusal as_it_is u.upload offset n)) (full_refusal b) in
+        let h : ModelOwnedUpload P → Option Refusal = λ u. option_or (option_map add_refused (place_refusal len u.upload offset n)) (full_refusal b) in
+        ap (λ (o : Option (ModelOwnedUpload ℕ)). option_map_or g o (Some NoUpload)) (upload_same b number)
         ∙ on_seen (bare_begun len) g h (λ u. ap (λ x. option_or (option_map add_refused x) (full_refusal b)) (place_same len u.upload offset n)) (upload_at b number);
     fix = λ number n.
-        let g : Begun ℕ → Option Refusal = λ u. option_or (option_map fix_refused (fix_refusal as_it_is u.upload n)) (full_refusal b) in
-        let h : Begun P → Option Refusal = λ u. option_or (option_map fix_refused (fix_refusal len u.upload n)) (full_refusal b) in
-        ap (λ (o : Option (Begun ℕ)). option_map_or g o (Some NoUpload)) (upload_same b number)
+        let g : ModelOwnedUpload ℕ → Option Refusal = λ u. option_or (option_map fix_refused (fix_refusal as_it_is u.upload n)) (full_refusal b) in
+        let h : ModelOwnedUpload P → Option Refusal = λ u. option_or (option_map fix_refused (fix_refusal len u.upload n)) (full_refusal b) in
+        ap (λ (o : Option (ModelOwnedUpload ℕ)). option_map_or g o (Some NoUpload)) (upload_same b number)
         ∙ on_seen (bare_begun len) g h (λ u. ap (λ x. option_or (option_map fix_refused x) (full_refusal b)) (fix_same len u.upload n)) (upload_at b number);
     ready = λ number.
-        let g : Begun ℕ → Option Refusal = λ u. option_map finish_refused (finish_refusal as_it_is u.upload) in
-        let h : Begun P → Option Refusal = λ u. option_map finish_refused (finish_refusal len u.upload) in
-        ap (λ (o : Option (Begun ℕ)). option_map_or g o (Some NoUpload)) (upload_same b number)
+        let g : ModelOwnedUpload ℕ → Option Refusal = λ u. option_map finish_refused (finish_refusal as_it_is u.upload) in
+        let h : ModelOwnedUpload P → Option Refusal = λ u. option_map finish_refused (finish_refusal len u.upload) in
+        ap (λ (o : Option (ModelOwnedUpload ℕ)). option_map_or g o (Some NoUpload)) (upload_same b number)
         ∙ on_seen (bare_begun len) g h (λ u. ap (option_map finish_refused) (finish_same len u.upload)) (upload_at b number);
     file = λ number at.
-        let g : Begun ℕ → Option Refusal = λ u. join_refusal label_len label_address (bare len size address b) u (object_at label_address (bare len size address b) at) in
-        let h : Begun P → Option Refusal = λ u. join_refusal size address b u (object_at address b at) in
-        ap (λ (o : Option (Begun ℕ)). option_map_or g o (Some NoUpload)) (upload_same b number)
+        let g : ModelOwnedUpload ℕ → Option Refusal = λ u. join_refusal label_len label_address (bare len size address b) u (object_at label_address (bare len size address b) at) in
+        let h : ModelOwnedUpload P → Option Refusal = λ u. join_refusal size address b u (object_at address b at) in
+        ap (λ (o : Option (ModelOwnedUpload ℕ)). option_map_or g o (Some NoUpload)) (upload_same b number)
         ∙ on_seen (bare_begun len) g h (λ u. ap (join_refusal label_len label_address (bare len size address b) (bare_begun len u)) (object_same b at) ∙ join_same b u (object_at address b at)) (upload_at b number);
     abort = λ number.
-        let g : Begun ℕ → Option Refusal = λ u. full_refusal b in
-        let h : Begun P → Option Refusal = λ u. full_refusal b in
-        ap (λ (o : Option (Begun ℕ)). option_map_or g o (Some NoUpload)) (upload_same b number) ∙ on_seen (bare_begun len) g h (λ u. refl) (upload_at b number);
+        let g : ModelOwnedUpload ℕ → Option Refusal = λ u. full_refusal b in
+        let h : ModelOwnedUpload P → Option Refusal = λ u. full_refusal b in
+        ap (λ (o : Option (ModelOwnedUpload ℕ)). option_map_or g o (Some NoUpload)) (upload_same b number) ∙ on_seen (bare_begun len) g h (λ u. refl) (upload_at b number);
     forget = λ t at.
         ap (held_by b t) (ap (λ (f : Option (Filed ObjectLabel)). option_map_or (λ (o : Filed ObjectLabel). if is_held_by t o then None else Some NotHeld) f (Some NotHeld)) (object_same b at) ∙ held_same b t (object_at address b at));
   }
 
   -- ---- what commands leave
 
-  abbrev with_uploads : Books P O → List (ℕ × Begun ℕ) → Bare
+  abbrev with_uploads : Books P O → List (ℕ × ModelOwnedUpload ℕ) → Bare
   with_uploads b us = record (bare len size address b) { uploads = us; accepted = b.accepted + 1 }
 
-  set_same : (b : Books P O) (number : ℕ) (w : Begun P) → seen (bare_begun len) (set_value (is_number number) b.uploads w) ≡ set_value (is_number number) (seen (bare_begun len) b.uploads) (bare_begun len w)
+  set_same : (b : Books P O) (number : ℕ) (w : ModelOwnedUpload P) → seen (bare_begun len) (set_value (is_number number) b.uploads w) ≡ set_value (is_number number) (seen (bare_begun len) b.uploads) (bare_begun len w)
   set_same b number w = sym (set_seen (bare_begun len) (is_number number) b.uploads w)
 
   removed_same : (b : Books P O) (number : ℕ) → seen (bare_begun len) (remove_entry (is_number number) b.uploads) ≡ remove_entry (is_number number) (seen (bare_begun len) b.uploads)
   removed_same b number = sym (removed_seen (bare_begun len) (is_number number) b.uploads)
 
-  part_same : (b : Books P O) (number offset : ℕ) (part : P) (o : Option (Begun P)) → bare len size address (with_part len b number offset part o) ≡ with_part as_it_is (bare len size address b) number offset (len part) (option_map (bare_begun len) o)
+  part_same : (b : Books P O) (number offset : ℕ) (part : P) (o : Option (ModelOwnedUpload P)) → bare len size address (with_part len b number offset part o) ≡ with_part as_it_is (bare len size address b) number offset (len part) (option_map (bare_begun len) o)
   part_same b number offset part None = refl
   part_same b number offset part (Some u) =
-      let with : Upload ℕ → Begun ℕ = λ x. record { tenant = u.tenant; upload = x } in
+      let with : Upload ℕ → ModelOwnedUpload ℕ = λ x. record { tenant = u.tenant; upload = x } in
       ap (with_uploads b) (set_same b number (record u { upload = with_more len u.upload offset part }) ∙ ap (λ (x : Upload ℕ). set_value (is_number number) (seen (bare_begun len) b.uploads) (with x)) (more_same len u.upload offset part))
 
-  end_same : (b : Books P O) (number n : ℕ) (o : Option (Begun P)) → bare len size address (with_end b number n o) ≡ with_end (bare len size address b) number n (option_map (bare_begun len) o)
+  end_same : (b : Books P O) (number n : ℕ) (o : Option (ModelOwnedUpload P)) → bare len size address (with_end b number n o) ≡ with_end (bare len size address b) number n (option_map (bare_begun len) o)
   end_same b number n None = refl
   end_same b number n (Some u) = ap (with_uploads b) (set_same b number _)
 
-  abbrev with_both : Books P O → List (ℕ × Begun ℕ) → List (Filed ObjectLabel) → Bare
+  abbrev with_both : Books P O → List (ℕ × ModelOwnedUpload ℕ) → List (Filed ObjectLabel) → Bare
   with_both b us os = record (bare len size address b) { uploads = us; objects = os; accepted = b.accepted + 1 }
 
-  new_same : (b : Books P O) (number : ℕ) (content : O) (o : Option (Begun P)) → bare len size address (with_new b number content o) ≡ with_new (bare len size address b) number (label_of size address content) (option_map (bare_begun len) o)
+  new_same : (b : Books P O) (number : ℕ) (content : O) (o : Option (ModelOwnedUpload P)) → bare len size address (with_new b number content o) ≡ with_new (bare len size address b) number (label_of size address content) (option_map (bare_begun len) o)
   new_same b number content None = refl
   new_same b number content (Some u) = ap₂ (with_both b) (removed_same b number) (map-append (bare_object size address) b.objects (record { content = content; holders = u.tenant ∷ [] } ∷ []))
 
-  known_same : (b : Books P O) (number : ℕ) (at : List ℕ) (o : Option (Begun P)) (f : Option (Filed O))
+  known_same : (b : Books P O) (number : ℕ) (at : List ℕ) (o : Option (ModelOwnedUpload P)) (f : Option (Filed O))
       → bare len size address (with_known address b number at o f) ≡ with_known label_address (bare len size address b) number at (option_map (bare_begun len) o) (option_map (bare_object size address) f)
   known_same b number at None f = refl
   known_same b number at (Some u) None = refl
@@ -244,7 +244,7 @@ module _ {P O : Type 0} (len : P → ℕ) (size : O → ℕ) (address : O → Li
   sees_commands b = record {
     tenant = λ limit. refl;
     limit = λ t limit. refl;
-    begin = λ t plan. ap (λ (us : List (ℕ × Begun ℕ)). record (with_begun (bare len size address b) t plan) { uploads = us }) (map-append (λ (e : ℕ × Begun P). (e.0, bare_begun len e.1)) b.uploads ((b.begun, record { tenant = t; upload = new_upload plan }) ∷ []));
+    begin = λ t plan. ap (λ (us : List (ℕ × ModelOwnedUpload ℕ)). record (with_begun (bare len size address b) t plan) { uploads = us }) (map-append (λ (e : ℕ × ModelOwnedUpload P). (e.0, bare_begun len e.1)) b.uploads ((b.begun, record { tenant = t; upload = new_upload plan }) ∷ []));
     put = λ number offset part. part_same b number offset part (upload_at b number) ∙ ap (with_part as_it_is (bare len size address b) number offset (len part)) (sym (upload_same b number));
     fix = λ number n. end_same b number n (upload_at b number) ∙ ap (with_end (bare len size address b) number n) (sym (upload_same b number));
     new = λ number content. new_same b number content (upload_at b number) ∙ ap (with_new (bare len size address b) number (label_of size address content)) (sym (upload_same b number));
@@ -262,9 +262,9 @@ module _ {P O : Type 0} (len : P → ℕ) (size : O → ℕ) (address : O → Li
   sees_totals b = λ i. record {
     objects = length-map {B = Filed ObjectLabel} b.objects (bare_object size address) i;
     object_bytes = sum_list_seen (bare_object size address) (λ (o : Filed ObjectLabel). label_len o.content) (λ (o : Filed O). size o.content) (λ o. refl) b.objects i;
-    uploads = length-map {B = ℕ × Begun ℕ} b.uploads (λ (e : ℕ × Begun P). (e.0, bare_begun len e.1)) i;
-    held_bytes = sum_values_seen (bare_begun len) (λ (u : Begun ℕ). held_bytes as_it_is u.upload.parts) (λ (u : Begun P). held_bytes len u.upload.parts) (λ u. held_bytes_same u.upload.parts) b.uploads i;
-    parts = sum_values_seen (bare_begun len) (λ (u : Begun ℕ). length u.upload.parts) (λ (u : Begun P). length u.upload.parts) (λ u. length-map {B = ℕ × ℕ} u.upload.parts (λ (p : ℕ × P). (p.0, len p.1))) b.uploads i;
+    uploads = length-map {B = ℕ × ModelOwnedUpload ℕ} b.uploads (λ (e : ℕ × ModelOwnedUpload P). (e.0, bare_begun len e.1)) i;
+    held_bytes = sum_values_seen (bare_begun len) (λ (u : ModelOwnedUpload ℕ). held_bytes as_it_is u.upload.parts) (λ (u : ModelOwnedUpload P). held_bytes len u.upload.parts) (λ u. held_bytes_same u.upload.parts) b.uploads i;
+    parts = sum_values_seen (bare_begun len) (λ (u : ModelOwnedUpload ℕ). length u.upload.parts) (λ (u : ModelOwnedUpload P). length u.upload.parts) (λ u. length-map {B = ℕ × ℕ} u.upload.parts (λ (p : ℕ × P). (p.0, len p.1))) b.uploads i;
   }
 
   pub forgets : Forgets len size address

@@ -33,7 +33,7 @@ has_none t [] apart = refl
 has_none t (x ∷ hs) apart = rw (ne_eqb x t (apart 0 (omega arith))) (has_none t hs (λ k lt. apart (suc k) (omega (arith, lt))))
 
 side_of : (t : ℕ) (hs : List ℕ) (i k : ℕ) → ((k : ℕ) → k < i → get_or hs k 0 < t) → ((k : ℕ) → i ≤ k → k < length hs → t < get_or hs k 0) → k < length hs → get_or hs k 0 ≢ t
-side_of t hs i k before behind lt is = elim (cases_lt k i) [ inl less ↦ omega (arith, is, before k less) | inr more ↦ omega (arith, is, behind k more lt) ]
+side_of t hs i k before following lt is = elim (cases_lt k i) [ inl less ↦ omega (arith, is, before k less) | inr more ↦ omega (arith, is, following k more lt) ]
 
 found_is : (t : ℕ) (hs : List ℕ) (r : Result ℕ ℕ)
     → MatchResult r (λ i. (i < length hs) × (get_or hs i 0 ≡ t)) (λ i. (i ≤ length hs) × ((k : ℕ) → k < i → get_or hs k 0 < t) × ((k : ℕ) → i ≤ k → k < length hs → t < get_or hs k 0)) → is_ok r ≡ has t hs
@@ -53,13 +53,13 @@ with_found m t (x ∷ hs) (suc i) rising lt is =
     with_later t x hs (omega arith) (λ same. omega (arith, same)) ∙ ap (λ xs. x ∷ xs) (with_found (x + 1) t hs i rising.1 (omega (arith, lt)) is)
 
 with_placed : (t : ℕ) (hs : List ℕ) (i : ℕ) → i ≤ length hs → ((k : ℕ) → k < i → get_or hs k 0 < t) → ((k : ℕ) → i ≤ k → k < length hs → t < get_or hs k 0) → with_holder t hs ≡ insert hs i t
-with_placed t [] zero le before behind = with_none t
-with_placed t [] (suc i) le before behind = absurd (omega (arith, le))
-with_placed t (x ∷ hs) zero le before behind = with_before t x hs (behind 0 (omega arith) (omega arith))
-with_placed t (x ∷ hs) (suc i) le before behind =
+with_placed t [] zero le before following = with_none t
+with_placed t [] (suc i) le before following = absurd (omega (arith, le))
+with_placed t (x ∷ hs) zero le before following = with_before t x hs (following 0 (omega arith) (omega arith))
+with_placed t (x ∷ hs) (suc i) le before following =
     let less : x < t = before 0 (omega arith) in
     with_later t x hs (omega arith) (λ same. omega (arith, same))
-    ∙ ap (λ xs. x ∷ xs) (with_placed t hs i (omega (arith, le)) (λ k lt. before (suc k) (omega (arith, lt))) (λ k from lt. behind (suc k) (omega (arith, from)) (omega (arith, lt))))
+    ∙ ap (λ xs. x ∷ xs) (with_placed t hs i (omega (arith, le)) (λ k lt. before (suc k) (omega (arith, lt))) (λ k from lt. following (suc k) (omega (arith, from)) (omega (arith, lt))))
 
 without_found : (m t : ℕ) (hs : List ℕ) (i : ℕ) → IsRisingFrom m hs → i < length hs → get_or hs i 0 ≡ t → without_holder t hs ≡ remove hs i
 without_found m t [] i rising lt is = absurd (omega arith)

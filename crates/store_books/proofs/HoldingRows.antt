@@ -254,12 +254,12 @@ module _ {O : Type 0} (size : O → ℕ) (address : O → List ℕ) where
   told_row m [] = refl
   told_row m (p ∷ ps) = ap (λ xs. told (get nat_cmp m p.1) ∷ xs) (told_row m ps)
 
-  told_entries : (t : ℕ) (m : (BTreeMap ℕ (List ℕ × Filed O))) (es : List (ℕ × (List ℕ × Filed O))) → AllByRecursion (λ e. get nat_cmp m e.0 ≡ Some e.1) es
+  copied_entries : (t : ℕ) (m : (BTreeMap ℕ (List ℕ × Filed O))) (es : List (ℕ × (List ℕ × Filed O))) → AllByRecursion (λ e. get nat_cmp m e.0 ≡ Some e.1) es
       → map (λ n. told (get nat_cmp m n)) (filter (λ n. is_holding t (get nat_cmp m n)) (keys_of es)) ≡ listed size address t (shown es)
-  told_entries t m [] h = refl
-  told_entries t m (e ∷ es) h =
+  copied_entries t m [] h = refl
+  copied_entries t m (e ∷ es) h =
       ap (λ (b : Bool). map f (cond b (e.0 ∷ ns) ns)) (ap (is_holding t) h.0)
-      ∙ listed_step (is_held_by t e.1.1) (told (Some e.1)) e.1.1 (filter (is_held_by t) (shown es)) e.0 ns f (λ o. (address o.content, size o.content)) (ap told h.0) (told_entries t m es h.1)
+      ∙ listed_step (is_held_by t e.1.1) (told (Some e.1)) e.1.1 (filter (is_held_by t) (shown es)) e.0 ns f (λ o. (address o.content, size o.content)) (ap told h.0) (copied_entries t m es h.1)
     where
       f : ℕ → List ℕ × ℕ
       f n = told (get nat_cmp m n)
@@ -272,6 +272,6 @@ module _ {O : Type 0} (size : O → ℕ) (address : O → List ℕ) where
       → (told_of m ps ≡ listed size address t (shown m.entries)) × AreThere m ps
   row_told k t m h ps ordered before are is =
       let numbers : map (λ p. p.1) ps ≡ kept t m = ap (map (λ (p : ℕ × ℕ). p.1)) is ∙ row_is k t m h ordered before are in (
-        told_row m ps ∙ ap (map (λ (n : ℕ). told (get nat_cmp m n))) numbers ∙ told_entries t m m.entries (all_found m ordered),
+        told_row m ps ∙ ap (map (λ (n : ℕ). told (get nat_cmp m n))) numbers ∙ copied_entries t m m.entries (all_found m ordered),
         subst (AllByRecursion (λ n. IsSome (get nat_cmp m n))) (sym numbers) (all_some t m (keys_of m.entries)),
       )

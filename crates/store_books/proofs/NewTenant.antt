@@ -10,7 +10,7 @@ use Rattle.std.proofs.lemmas.List.{map-append}
 use Rattle.std.proofs.lemmas.List.Sums.{sum_by-cons}
 use Rattle.store_books.specs.declared.refusal.Refusal.TheVariants.{LimitTooLarge, TenantsFull}
 use Rattle.store_books.specs.declared.tenant.Tenant.{Tenant}
-use Rattle.store_books.specs.Books.{AreSound, Begun, Books, Filed, IsBegunUpload, IsFiledAmong, most_limit, reserved_by, reserved_of, use_by, use_of}
+use Rattle.store_books.specs.Books.{AreSound, ModelOwnedUpload, Books, Filed, IsOwnedUpload, IsFiledAmong, max_limit, reserved_by, reserved_of, use_by, use_of}
 use Rattle.store_books.specs.Commands.{tenant_refusal, with_tenant}
 use Rattle.store_books.specs.Kept.{AreKept, IsSummed, limits_of, no_tenant, tenant_at}
 use Rattle.store_upload.specs.Uploads.{length_of}
@@ -18,7 +18,7 @@ use Rattle.store_books.proofs.Commands.{passed, room}
 use Rattle.store_books.proofs.Lists.{all_weaker}
 use Rattle.store_books.proofs.Sums.{count_is}
 
-nothing_reserved : {P : Type 0} (len : P → ℕ) (n b : ℕ) (us : List (ℕ × Begun P)) → AllByRecursion (IsBegunUpload len n b) us → sum_by (reserved_by n) (values_of us) ≡ 0
+nothing_reserved : {P : Type 0} (len : P → ℕ) (n b : ℕ) (us : List (ℕ × ModelOwnedUpload P)) → AllByRecursion (IsOwnedUpload len n b) us → sum_by (reserved_by n) (values_of us) ≡ 0
 nothing_reserved len n b [] h = refl
 nothing_reserved len n b (e ∷ us) h =
     let low = h.0.tenant in
@@ -38,10 +38,10 @@ module _ {P O : Type 0} (len : P → ℕ) (size : O → ℕ) (address : O → Li
   pub all_tenants : (b : Books P O) (limit : ℕ) → tenant_refusal b limit ≡ None → AreSound len size address b → AreSound len size address (with_tenant b limit)
   all_tenants b limit free old =
       let full = passed (nat_le b.tenants (length b.limits)) TenantsFull _ free in
-      let large = passed (nat_lt most_limit limit) LimitTooLarge _ full.1 in
+      let large = passed (nat_lt max_limit limit) LimitTooLarge _ full.1 in
       let room = room b large.1 in
       let few = leb-false b.tenants (length b.limits) full.0 in
-      let most = ltb-false most_limit limit large.0 in
+      let most = ltb-false max_limit limit large.0 in
       let count = length-append b.limits (limit ∷ []) in
       let n = length b.limits in
       let last : (k : ℕ) → n ≤ k → k < length (b.limits ++ limit ∷ []) → k ≡ n = λ k low high. omega (arith, low, high, count) in
@@ -51,21 +51,21 @@ module _ {P O : Type 0} (len : P → ℕ) (size : O → ℕ) (address : O → Li
         tenants = omega (arith, count, few);
         accepted = omega (arith, room);
         begun = omega (arith, old.begun);
-        uploads = all_weaker (IsBegunUpload len n b.begun) (IsBegunUpload len (length (b.limits ++ limit ∷ [])) b.begun) b.uploads (λ e is. record { number = is.number; tenant = omega (arith, is.tenant, count); upload = is.upload }) old.uploads;
+        uploads = all_weaker (IsOwnedUpload len n b.begun) (IsOwnedUpload len (length (b.limits ++ limit ∷ [])) b.begun) b.uploads (λ e is. record { number = is.number; tenant = omega (arith, is.tenant, count); upload = is.upload }) old.uploads;
         sorted = old.sorted;
         objects = all_weaker (IsFiledAmong n) (IsFiledAmong (length (b.limits ++ limit ∷ []))) b.objects (λ o is. record { tenants = all_weaker (λ h. h < n) (λ h. h < length (b.limits ++ limit ∷ [])) o.holders (λ h low. omega (arith, low, count)) is.tenants; rising = is.rising }) old.objects;
         apart = old.apart;
         within = λ k there. elim (cases_lt k n) [
           | inl before ↦ let is = get_or-append b.limits (limit ∷ []) 0 k before in let within = old.within k before in omega (arith, is, within)
-          | inr behind ↦
-              let is = last k behind there in
+          | inr following ↦
+              let is = last k following there in
               let used = ap (λ (q : ℕ). use_of size b q) is ∙ nothing_used size n b.objects old.objects in
               let reserved = ap (λ (q : ℕ). reserved_of b q) is ∙ nothing_reserved len n b.begun b.uploads old.uploads in
               omega (arith, used, reserved)
         ];
         limited = λ k there. elim (cases_lt k n) [
           | inl before ↦ let is = get_or-append b.limits (limit ∷ []) 0 k before in let limited = old.limited k before in omega (arith, is, limited)
-          | inr behind ↦ let is = ap (λ (q : ℕ). get_or (b.limits ++ limit ∷ []) q 0) (last k behind there) ∙ get_or-append_seam b.limits limit [] 0 in omega (arith, is, most)
+          | inr following ↦ let is = ap (λ (q : ℕ). get_or (b.limits ++ limit ∷ []) q 0) (last k following there) ∙ get_or-append_seam b.limits limit [] 0 in omega (arith, is, most)
         ];
         stored = omega (arith, old.stored);
         parts = omega (arith, old.parts);
@@ -84,8 +84,8 @@ module _ {P O : Type 0} (len : P → ℕ) (size : O → ℕ) (address : O → Li
       let reserved : reserved_of b n ≡ 0 = ap (λ (q : ℕ). reserved_of b q) (sym same) ∙ nothing_reserved len (length b.limits) b.begun b.uploads kept.sound.uploads in
       let sums : (k : ℕ) → k < length (tenants ++ fresh ∷ []) → IsSummed size (with_tenant b limit) k (tenant_at (tenants ++ fresh ∷ []) k) = λ k there. elim (cases_lt k n) [
         | inl before ↦ let old = kept.sums k before in subst (λ (t : Tenant). IsSummed size (with_tenant b limit) k t) (sym (get_or-append tenants (fresh ∷ []) no_tenant k before)) (record { used = old.used; reserved = old.reserved })
-        | inr behind ↦
-            let last : k ≡ n = omega (arith, behind, there, count) in
+        | inr following ↦
+            let last : k ≡ n = omega (arith, following, there, count) in
             subst (λ (q : ℕ). IsSummed size (with_tenant b limit) q (tenant_at (tenants ++ fresh ∷ []) q)) (sym last)
             (subst (λ (t : Tenant). IsSummed size (with_tenant b limit) n t) (sym (get_or-append_seam tenants fresh [] no_tenant)) (record { used = sym used; reserved = sym reserved }))
       ] in

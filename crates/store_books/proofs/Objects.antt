@@ -8,7 +8,7 @@ use Rattle.std.proofs.lemmas.Bool.{cases_Bool, eq-eqb, ltb-false, ne_eqb}
 use Rattle.std.proofs.lemmas.List.Sums.{sum_by_push}
 use Rattle.store_books.specs.declared.refusal.Refusal.{Refusal}
 use Rattle.store_books.specs.declared.refusal.Refusal.TheVariants.{NotHeld}
-use Rattle.store_books.specs.Books.{AreSound, Begun, Books, Filed, IsFiledAmong, IsRisingFrom, addressed, free_of, is_held_by, object_among, object_at, object_bytes_of, upload_at, use_by, use_of, held_bytes_of, parts_of}
+use Rattle.store_books.specs.Books.{AreSound, ModelOwnedUpload, Books, Filed, IsFiledAmong, IsRisingFrom, addressed, free_of, is_held_by, object_among, object_at, object_bytes_of, upload_at, use_by, use_of, held_bytes_of, parts_of}
 use Rattle.store_books.specs.Commands.{is_over, with_holder, with_holders, with_known, with_left, with_new, without_holder}
 use Rattle.store_upload.specs.Uploads.{finish_refusal, held_bytes, length_of}
 use Rattle.store_upload.proofs.Complete.{whole_is}
@@ -81,13 +81,13 @@ module _ {O : Type 0} (address : O → List ℕ) where
 module _ {P O : Type 0} (len : P → ℕ) (size : O → ℕ) (address : O → List ℕ) where
   -- ---- a complete upload is filed
 
-  pub record Files (b : Books P O) (number : ℕ) (content : O) (u : Begun P) : Type 0 where
+  pub record Files (b : Books P O) (number : ℕ) (content : O) (u : ModelOwnedUpload P) : Type 0 where
     pub moves : Moves len size address u.tenant (rises (length_of u.upload)) (falls (length_of u.upload)) b (with_new b number content (Some u))
     pub bytes : object_bytes_of size (with_new b number content (Some u)) ≡ object_bytes_of size b + length_of u.upload
     pub held : held_bytes_of len (with_new b number content (Some u)) + held_bytes len u.upload.parts ≡ held_bytes_of len b
     pub parts : parts_of (with_new b number content (Some u)) + length u.upload.parts ≡ parts_of b
 
-  pub files : (b : Books P O) (number : ℕ) (content : O) (u : Begun P) → upload_at b number ≡ Some u → AreSound len size address b → b.accepted < b.entries → finish_refusal len u.upload ≡ None → object_at address b (address content) ≡ None
+  pub files : (b : Books P O) (number : ℕ) (content : O) (u : ModelOwnedUpload P) → upload_at b number ≡ Some u → AreSound len size address b → b.accepted < b.entries → finish_refusal len u.upload ≡ None → object_at address b (address content) ≡ None
       → size content ≡ length_of u.upload → Files b number content u
   files b number content u found sound room ready absent long =
       let was = found_among len size address b number u found sound in
@@ -134,10 +134,10 @@ module _ {P O : Type 0} (len : P → ℕ) (size : O → ℕ) (address : O → Li
   -- ---- a complete upload's tenant joins
 
   -- what the tenant uses more
-  abbrev pub more_by : Begun P → Filed O → ℕ
+  abbrev pub more_by : ModelOwnedUpload P → Filed O → ℕ
   more_by u o = where_so (not (is_held_by u.tenant o)) (size o.content)
 
-  pub record Joins (b : Books P O) (number : ℕ) (at : List ℕ) (u : Begun P) (o : Filed O) : Type 0 where
+  pub record Joins (b : Books P O) (number : ℕ) (at : List ℕ) (u : ModelOwnedUpload P) (o : Filed O) : Type 0 where
     pub moves : Moves len size address u.tenant (rises (more_by u o)) (falls (length_of u.upload)) b (with_known address b number at (Some u) (Some o))
     pub bytes : object_bytes_of size (with_known address b number at (Some u) (Some o)) ≡ object_bytes_of size b
     pub held : held_bytes_of len (with_known address b number at (Some u) (Some o)) + held_bytes len u.upload.parts ≡ held_bytes_of len b
@@ -151,7 +151,7 @@ module _ {P O : Type 0} (len : P → ℕ) (size : O → ℕ) (address : O → Li
   more_fits true n most over = omega arith
   more_fits false n most over = ltb-false most n over
 
-  pub joins : (b : Books P O) (number : ℕ) (at : List ℕ) (u : Begun P) (o : Filed O) → upload_at b number ≡ Some u → object_at address b at ≡ Some o → AreSound len size address b → b.accepted < b.entries → is_over size address b u o ≡ false → Joins b number at u o
+  pub joins : (b : Books P O) (number : ℕ) (at : List ℕ) (u : ModelOwnedUpload P) (o : Filed O) → upload_at b number ≡ Some u → object_at address b at ≡ Some o → AreSound len size address b → b.accepted < b.entries → is_over size address b u o ≡ false → Joins b number at u o
   joins b number at u o found known sound room over =
       let was = found_among len size address b number u found sound in
       let there = was.0 in

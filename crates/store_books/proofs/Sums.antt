@@ -9,7 +9,7 @@ use Rattle.std.proofs.lemmas.List.{get_or-set_other, get_or-set_same, length-map
 use Rattle.store_books.specs.declared.limits.Limits.{Limits}
 use Rattle.store_books.specs.declared.tenant.Change.{Change}
 use Rattle.store_books.specs.declared.tenant.Tenant.{Tenant}
-use Rattle.store_books.specs.Books.{AreDistinct, AreSound, Begun, Books, Filed, IsBegunUpload, IsFiledAmong, IsRisingFrom, addresses, held_bytes_of, in_use, limit_of, most_limit, object_bytes_of, parts_of, reserved_of, use_of}
+use Rattle.store_books.specs.Books.{AreDistinct, AreSound, ModelOwnedUpload, Books, Filed, IsOwnedUpload, IsFiledAmong, IsRisingFrom, addresses, held_bytes_of, in_use, limit_of, max_limit, object_bytes_of, parts_of, reserved_of, use_of}
 use Rattle.store_books.specs.Kept.{AreKept, IsSummed, books_of, limits_of, no_tenant, tenant_at}
 use Rattle.store_books.specs.inner.Kept.{HasRoom, changed, changed_sums, with_sums}
 
@@ -44,7 +44,7 @@ module _ {P O : Type 0} (len : P → ℕ) (size : O → ℕ) (address : O → Li
     pub others_reserve : (q : ℕ) → (t ≡ q → ⊥) → reserved_of c q ≡ reserved_of b q
     pub fits : in_use size c t ≤ limit_of b t
     pub begun : c.begun ≤ b.begun + 1
-    pub uploads : AllByRecursion (IsBegunUpload len (length b.limits) c.begun) c.uploads
+    pub uploads : AllByRecursion (IsOwnedUpload len (length b.limits) c.begun) c.uploads
     pub sorted : IsRisingFrom 0 (keys_of c.uploads)
     pub objects : AllByRecursion (IsFiledAmong (length b.limits)) c.objects
     pub apart : AreDistinct (addresses address c.objects)
@@ -60,7 +60,7 @@ module _ {P O : Type 0} (len : P → ℕ) (size : O → ℕ) (address : O → Li
         tenants = omega (arith, count, m.tenants, old.tenants);
         accepted = omega (arith, m.accepted, m.room, m.entries);
         begun = omega (arith, m.begun, m.accepted, old.begun);
-        uploads = subst (λ (ns : List ℕ). AllByRecursion (IsBegunUpload len (length ns) c.begun) c.uploads) (sym m.limits) m.uploads;
+        uploads = subst (λ (ns : List ℕ). AllByRecursion (IsOwnedUpload len (length ns) c.begun) c.uploads) (sym m.limits) m.uploads;
         sorted = m.sorted;
         objects = subst (λ (ns : List ℕ). AllByRecursion (IsFiledAmong (length ns)) c.objects) (sym m.limits) m.objects;
         apart = m.apart;
@@ -85,7 +85,7 @@ module _ {P O : Type 0} (len : P → ℕ) (size : O → ℕ) (address : O → Li
     pub used : x.used ≡ use_of size b t
     pub reserved : x.reserved ≡ reserved_of b t
     pub within : x.used + x.reserved ≤ x.limit
-    pub most : x.limit ≤ most_limit
+    pub most : x.limit ≤ max_limit
 
   pub tenant_is : (b : Books P O) (tenants : List Tenant) (t filings object_bytes held parts : ℕ) → b.limits ≡ limits_of tenants → t < length b.limits → AreKept len size address b tenants filings object_bytes held parts → IsAt b t (tenant_at tenants t)
   tenant_is b tenants t filings object_bytes held parts limits there kept =
@@ -142,11 +142,11 @@ module _ {P O : Type 0} (len : P → ℕ) (size : O → ℕ) (address : O → Li
       }
 
   -- the same books, as the code keeps them
-  pub kept_as : (most : Limits) (t : ℕ) (used reserved : Change) (begun accepted filings object_bytes held parts : ℕ) (tenants now : List Tenant) (us vs : List (ℕ × Begun P)) (os qs : List (Filed O)) → now ≡ changed_sums tenants t used reserved → vs ≡ us → qs ≡ os
+  pub kept_as : (most : Limits) (t : ℕ) (used reserved : Change) (begun accepted filings object_bytes held parts : ℕ) (tenants now : List Tenant) (us vs : List (ℕ × ModelOwnedUpload P)) (os qs : List (Filed O)) → now ≡ changed_sums tenants t used reserved → vs ≡ us → qs ≡ os
       → AreKept len size address (books_of most tenants begun us os accepted) (changed_sums tenants t used reserved) filings object_bytes held parts → AreKept len size address (books_of most now begun vs qs accepted) now filings object_bytes held parts
   kept_as most t used reserved begun accepted filings object_bytes held parts tenants now us vs os qs now_is vs_is qs_is kept =
       let with_limits : List ℕ → Books P O = λ ls. record (books_of most tenants begun us os accepted) { limits = ls } in
       let mine = subst (λ (ls : List ℕ). AreKept len size address (with_limits ls) (changed_sums tenants t used reserved) filings object_bytes held parts) (sym (limits_stay tenants t _ _)) kept in
       subst (λ (xs : List (Filed O)). AreKept len size address (books_of most now begun vs xs accepted) now filings object_bytes held parts) (sym qs_is)
-      (subst (λ (ws : List (ℕ × Begun P)). AreKept len size address (books_of most now begun ws os accepted) now filings object_bytes held parts) (sym vs_is)
+      (subst (λ (ws : List (ℕ × ModelOwnedUpload P)). AreKept len size address (books_of most now begun ws os accepted) now filings object_bytes held parts) (sym vs_is)
       (subst (λ (ts : List Tenant). AreKept len size address (books_of most ts begun us os accepted) ts filings object_bytes held parts) (sym now_is) mine))

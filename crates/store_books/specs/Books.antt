@@ -1,5 +1,5 @@
--- The books of a store: tenants, open uploads and objects, whatever parts and objects are. `len` tells how many bytes a part has, `size`
--- how many an object has, and `address` under which address an object stands.
+-- The books of a store: tenants, open uploads and objects, for parts and objects of any type. `len` is the number of bytes of a part,
+-- `size` that of an object, and `address` is the address of an object.
 use Rattle.std.specs.Prelude.{◌≡◌, ◌+◌, ◌-◌, ◌*◌, ◌^◌, ◌<◌, ◌≤◌, ◌==◌, ℕ, Bool, false, List, [], ◌∷◌, Option, length, map, if◌then◌else◌, nat_le, sum_by}
 use Rattle.std.specs.BTreeMap.{is_at}
 use Rattle.std.specs.List.{AllByRecursion, list_any, slice_index_or}
@@ -7,23 +7,23 @@ use Rattle.std.specs.Map.{keys_of, lookup, values_of}
 use Rattle.std.specs.Ordering.{nat_cmp}
 use Rattle.std.specs.Str.{bytes_eq}
 use Rattle.store_books.specs.declared.totals.Totals.{Totals}
-use Rattle.store_upload.specs.Uploads.{IsUpload, Upload, held_bytes, length_of, most_part_bytes}
+use Rattle.store_upload.specs.Uploads.{IsUpload, Upload, held_bytes, length_of, max_part_bytes}
 
--- the most bytes of a tenant's limit, and the most tenants, entries, and workers of an upload
-abbrev pub most_limit : ℕ
-most_limit = 2 ^ 46
+-- the maximum limit of a tenant in bytes, and the maximum numbers of tenants, entries, and workers of an upload
+abbrev pub max_limit : ℕ
+max_limit = 2 ^ 46
 
-abbrev pub most_tenants : ℕ
-most_tenants = 2 ^ 16
+abbrev pub max_tenants : ℕ
+max_tenants = 2 ^ 16
 
-abbrev pub most_entries : ℕ
-most_entries = 2 ^ 32
+abbrev pub max_entries : ℕ
+max_entries = 2 ^ 32
 
-abbrev pub most_workers : ℕ
-most_workers = 16
+abbrev pub max_workers : ℕ
+max_workers = 16
 
--- an upload that is open, and the tenant that began it
-pub record Begun (P : Type 0) : Type 0 where
+-- an open upload, and the tenant that began it
+pub record ModelOwnedUpload (P : Type 0) : Type 0 where
   pub tenant : ℕ
   pub upload : Upload P
 
@@ -33,22 +33,22 @@ pub record Filed (O : Type 0) : Type 0 where
   pub holders : List ℕ
 
 pub record Books (P O : Type 0) : Type 0 where
-  -- how many tenants, entries, and workers of an upload there may be
+  -- the maximum numbers of tenants, entries, and workers of an upload
   pub tenants : ℕ
   pub entries : ℕ
   pub workers : ℕ
   -- the tenants' limits
   pub limits : List ℕ
-  -- how many uploads were begun
+  -- the number of uploads begun
   pub begun : ℕ
   -- the open uploads with their numbers, by number
-  pub uploads : List (ℕ × Begun P)
+  pub uploads : List (ℕ × ModelOwnedUpload P)
   -- the objects, in filing order
   pub objects : List (Filed O)
-  -- how many commands were accepted
+  -- the number of commands accepted
   pub accepted : ℕ
 
--- books of nothing
+-- empty books
 abbrev pub empty_books : {P O : Type 0} → ℕ → ℕ → ℕ → Books P O
 empty_books tenants entries workers = record { tenants = tenants; entries = entries; workers = workers; limits = []; begun = 0; uploads = []; objects = []; accepted = 0 }
 
@@ -56,8 +56,8 @@ empty_books tenants entries workers = record { tenants = tenants; entries = entr
 abbrev pub is_number : ℕ → ℕ → Bool
 is_number number = is_at (nat_cmp number)
 
--- what a tenant reserves by an open upload, and uses by an object
-abbrev pub reserved_by : {P : Type 0} → ℕ → Begun P → ℕ
+-- the bytes that a tenant reserves by an open upload, and that it uses by an object
+abbrev pub reserved_by : {P : Type 0} → ℕ → ModelOwnedUpload P → ℕ
 reserved_by tenant u = if u.tenant == tenant then length_of u.upload else 0
 
 abbrev pub is_held_by : {O : Type 0} → ℕ → Filed O → Bool
@@ -67,7 +67,7 @@ abbrev pub use_by : {O : Type 0} → (O → ℕ) → ℕ → Filed O → ℕ
 use_by size tenant o = if is_held_by tenant o then size o.content else 0
 
 module _ {P O : Type 0} where
-  abbrev pub upload_at : Books P O → ℕ → Option (Begun P)
+  abbrev pub upload_at : Books P O → ℕ → Option (ModelOwnedUpload P)
   upload_at b number = lookup (is_number number) b.uploads
 
   abbrev pub limit_of : Books P O → ℕ → ℕ
@@ -79,23 +79,23 @@ module _ {P O : Type 0} where
   abbrev pub is_full : Books P O → Bool
   is_full b = nat_le b.entries b.accepted
 
-  -- the lengths of the tenant's open uploads together
+  -- the sum of the lengths of the tenant's open uploads
   abbrev pub reserved_of : Books P O → ℕ → ℕ
   reserved_of b tenant = sum_by (reserved_by tenant) (values_of b.uploads)
 
-  -- how many parts open uploads hold
+  -- the number of parts that open uploads hold
   abbrev pub parts_of : Books P O → ℕ
   parts_of b = sum_by (λ u. length u.upload.parts) (values_of b.uploads)
 
 module _ {P O : Type 0} (size : O → ℕ) where
-  -- the lengths of the objects that the tenant holds together
+  -- the sum of the lengths of the objects that the tenant holds
   abbrev pub use_of : Books P O → ℕ → ℕ
   use_of b tenant = sum_by (use_by size tenant) b.objects
 
   abbrev pub in_use : Books P O → ℕ → ℕ
   in_use b tenant = use_of b tenant + reserved_of b tenant
 
-  -- the limit less use and reservation
+  -- the limit minus use and reservation
   abbrev pub free_of : Books P O → ℕ → ℕ
   free_of b tenant = limit_of b tenant - in_use b tenant
 
@@ -125,7 +125,7 @@ module _ {O : Type 0} (address : O → List ℕ) where
   abbrev pub addresses : List (Filed O) → List (List ℕ)
   addresses objects = keys_of (addressed objects)
 
-  -- the object of the address
+  -- the object at the address
   abbrev pub object_among : List (Filed O) → List ℕ → Option (Filed O)
   object_among objects at = lookup (bytes_eq at) (addressed objects)
 
@@ -133,15 +133,15 @@ module _ {P O : Type 0} (address : O → List ℕ) where
   abbrev pub object_at : Books P O → List ℕ → Option (Filed O)
   object_at b at = object_among address b.objects at
 
--- ---- what is true of books
+-- ---- invariants of books
 
 -- an open upload among n tenants and b uploads begun
-pub record IsBegunUpload {P : Type 0} (len : P → ℕ) (n b : ℕ) (e : ℕ × Begun P) : Type 0 where
+pub record IsOwnedUpload {P : Type 0} (len : P → ℕ) (n b : ℕ) (e : ℕ × ModelOwnedUpload P) : Type 0 where
   pub number : e.0 < b
   pub tenant : e.1.tenant < n
   pub upload : IsUpload len e.1.upload
 
--- numbers from the first on, each above the one before
+-- ascending numbers, from the first on
 abbrev pub IsRisingFrom : ℕ → List ℕ → Type 0
 IsRisingFrom least [] = Unit {0}
 IsRisingFrom least (n ∷ others) = (least ≤ n) × IsRisingFrom (n + 1) others
@@ -157,19 +157,19 @@ AreDistinct [] = Unit {0}
 AreDistinct (a ∷ others) = AllByRecursion (λ b. bytes_eq b a ≡ false) others × AreDistinct others
 
 pub record AreSound {P O : Type 0} (len : P → ℕ) (size : O → ℕ) (address : O → List ℕ) (b : Books P O) : Type 0 where
-  pub few_tenants : b.tenants ≤ most_tenants
-  pub few_entries : b.entries ≤ most_entries
+  pub few_tenants : b.tenants ≤ max_tenants
+  pub few_entries : b.entries ≤ max_entries
   pub tenants : length b.limits ≤ b.tenants
   pub accepted : b.accepted ≤ b.entries
   pub begun : b.begun ≤ b.accepted
-  pub uploads : AllByRecursion (IsBegunUpload len (length b.limits) b.begun) b.uploads
-  -- each number stands once, in order
+  pub uploads : AllByRecursion (IsOwnedUpload len (length b.limits) b.begun) b.uploads
+  -- each number occurs once, in order
   pub sorted : IsRisingFrom 0 (keys_of b.uploads)
   pub objects : AllByRecursion (IsFiledAmong (length b.limits)) b.objects
   pub apart : AreDistinct (addresses address b.objects)
-  -- use and reservation are within the limit, which is at most `most_limit`
+  -- use and reservation are within the limit, which is at most `max_limit`
   pub within : (n : ℕ) → n < length b.limits → in_use size b n ≤ limit_of b n
-  pub limited : (n : ℕ) → n < length b.limits → limit_of b n ≤ most_limit
+  pub limited : (n : ℕ) → n < length b.limits → limit_of b n ≤ max_limit
   -- no more is stored than was put
-  pub stored : object_bytes_of size b + held_bytes_of len b ≤ most_part_bytes * b.accepted
+  pub stored : object_bytes_of size b + held_bytes_of len b ≤ max_part_bytes * b.accepted
   pub parts : parts_of b ≤ b.accepted

@@ -1,4 +1,4 @@
--- Commands on the books: why each is refused, the first reason that applies, and what it leaves where it is accepted.
+-- Commands on the books: why each is refused, the first matching reason, and its result if it is accepted.
 use Rattle.std.specs.Prelude.{◌+◌, ◌==◌, ◌&&◌, ℕ, Bool, true, false, not, List, [], ◌∷◌, ◌++◌, Option, Some, None, length, if◌then◌else◌, nat_le, nat_lt, option_map, slice_set}
 use Rattle.std.specs.Map.{remove_entry, set_value, values_of}
 use Rattle.std.specs.Option.{option_map_or, option_or}
@@ -11,10 +11,10 @@ use Rattle.store_upload.specs.declared.refusal.FinishFault.{FinishFault}
 use Rattle.store_upload.specs.declared.refusal.FinishFault.TheVariants as finish
 use Rattle.store_upload.specs.declared.refusal.FixFault.{FixFault}
 use Rattle.store_upload.specs.declared.refusal.FixFault.TheVariants as fix
-use Rattle.store_upload.specs.Uploads.{UploadPlan, finish_refusal, fix_refusal, fixed_at, length_of, most_bytes, new_upload, place_refusal, with_more}
-use Rattle.store_books.specs.Books.{Begun, Books, Filed, addressed, free_of, in_use, is_absent, is_full, is_held_by, is_number, limit_of, most_limit, object_at, upload_at}
+use Rattle.store_upload.specs.Uploads.{UploadPlan, finish_refusal, fix_refusal, fixed_at, length_of, max_bytes, new_upload, place_refusal, with_more}
+use Rattle.store_books.specs.Books.{ModelOwnedUpload, Books, Filed, addressed, free_of, in_use, is_absent, is_full, is_held_by, is_number, limit_of, max_limit, object_at, upload_at}
 
--- what an upload's refusals are in a store
+-- the store's refusals for those of an upload
 abbrev pub add_refused : AddFault → Refusal
 add_refused add.WrongPlan = WrongPlan
 add_refused (add.Overlap at) = Overlap at
@@ -34,8 +34,8 @@ module _ {P O : Type 0} where
   abbrev pub full_refusal : Books P O → Option Refusal
   full_refusal b = if is_full b then Some JournalFull else None
 
-  -- what speaks against a command on the open upload of the number
-  abbrev pub on_upload : Books P O → ℕ → (Begun P → Option Refusal) → Option Refusal
+  -- why a command on the open upload of the number is refused
+  abbrev pub on_upload : Books P O → ℕ → (ModelOwnedUpload P → Option Refusal) → Option Refusal
   on_upload b number rest = option_map_or rest (upload_at b number) (Some NoUpload)
 
   -- ---- tenants
@@ -43,10 +43,10 @@ module _ {P O : Type 0} where
   abbrev pub tenant_refusal : Books P O → ℕ → Option Refusal
   tenant_refusal b limit =
       if nat_le b.tenants (length b.limits) then Some TenantsFull
-      else if nat_lt most_limit limit then Some LimitTooLarge
+      else if nat_lt max_limit limit then Some LimitTooLarge
       else full_refusal b
 
-  -- a tenant more, under the next number
+  -- one more tenant, under the next number
   abbrev pub with_tenant : Books P O → ℕ → Books P O
   with_tenant b limit = record b { limits = b.limits ++ limit ∷ []; accepted = b.accepted + 1 }
 
@@ -57,22 +57,22 @@ module _ {P O : Type 0} (size : O → ℕ) where
   abbrev pub limit_refusal : Books P O → ℕ → ℕ → Option Refusal
   limit_refusal b tenant limit =
       if is_absent b tenant then Some NoTenant
-      else if nat_lt most_limit limit then Some LimitTooLarge
+      else if nat_lt max_limit limit then Some LimitTooLarge
       else if nat_lt limit (in_use size b tenant) then Some (BelowUse (in_use size b tenant))
       else full_refusal b
 
   -- ---- uploads
 
-  -- of an upload of that bound
+  -- of an upload with that bound
   abbrev pub begin_refusal : Books P O → ℕ → ℕ → Option Refusal
   begin_refusal b tenant bound =
       if is_absent b tenant then Some NoTenant
-      else if nat_lt most_bytes bound then Some TooLong
+      else if nat_lt max_bytes bound then Some TooLong
       else if nat_lt (limit_of b tenant) (in_use size b tenant + bound) then Some (OverQuota (free_of size b tenant))
       else full_refusal b
 
 module _ {P O : Type 0} where
-  -- an upload more, under the next number
+  -- one more upload, under the next number
   abbrev pub with_begun : Books P O → ℕ → UploadPlan → Books P O
   with_begun b tenant plan = record b {
     begun = b.begun + 1;
@@ -80,11 +80,11 @@ module _ {P O : Type 0} where
     accepted = b.accepted + 1;
   }
 
-  -- another upload of the number
-  abbrev pub with_upload : Books P O → ℕ → Begun P → Books P O
+  -- the upload of the number is replaced
+  abbrev pub with_upload : Books P O → ℕ → ModelOwnedUpload P → Books P O
   with_upload b number u = record b { uploads = set_value (is_number number) b.uploads u; accepted = b.accepted + 1 }
 
-  -- no upload of the number
+  -- the upload of the number is removed
   abbrev pub without_upload : Books P O → ℕ → Books P O
   without_upload b number = record b { uploads = remove_entry (is_number number) b.uploads; accepted = b.accepted + 1 }
 
@@ -92,7 +92,7 @@ module _ {P O : Type 0} where
   abort_refusal b number = on_upload b number (λ u. full_refusal b)
 
   -- the end of the upload of the number is fixed
-  abbrev pub with_end : Books P O → ℕ → ℕ → Option (Begun P) → Books P O
+  abbrev pub with_end : Books P O → ℕ → ℕ → Option (ModelOwnedUpload P) → Books P O
   with_end b number n None = b
   with_end b number n (Some u) = with_upload b number (record u { upload = fixed_at u.upload n })
 
@@ -104,8 +104,8 @@ module _ {P O : Type 0} (len : P → ℕ) where
   abbrev pub put_refusal : Books P O → ℕ → ℕ → ℕ → Option Refusal
   put_refusal b number offset n = on_upload b number (λ u. option_or (option_map add_refused (place_refusal len u.upload offset n)) (full_refusal b))
 
-  -- the upload of the number holds the part
-  abbrev pub with_part : Books P O → ℕ → ℕ → P → Option (Begun P) → Books P O
+  -- the part is added to the upload of the number
+  abbrev pub with_part : Books P O → ℕ → ℕ → P → Option (ModelOwnedUpload P) → Books P O
   with_part b number offset part None = b
   with_part b number offset part (Some u) = with_upload b number (record u { upload = with_more len u.upload offset part })
 
@@ -117,11 +117,11 @@ module _ {P O : Type 0} (len : P → ℕ) where
 
   -- ---- objects
 
-  -- of a seal, before its content is looked at: the upload is not open, has no end, or is not complete
+  -- of a seal, before its content is read: the upload is not open, its end is not fixed, or it is not complete
   abbrev pub ready_refusal : Books P O → ℕ → Option Refusal
   ready_refusal b number = on_upload b number (λ u. option_map finish_refused (finish_refusal len u.upload))
 
--- the tenant among holders, by number
+-- the tenant inserted among the holders, by number
 unfoldable pub with_holder : ℕ → List ℕ → List ℕ
 with_holder tenant [] = tenant ∷ []
 with_holder tenant (h ∷ holders) =
@@ -136,18 +136,18 @@ without_holder tenant [] = []
 without_holder tenant (h ∷ holders) = elim (tenant == h) [ true ↦ holders | false ↦ h ∷ without_holder tenant holders ]
 
 module _ {O : Type 0} (address : O → List ℕ) where
-  -- the objects with these holders of the address's object, without it where there are none; the others keep their order
+  -- the objects with these holders of the object at the address, or without it if there are none; the others keep their order
   abbrev pub with_holders : List (Filed O) → List ℕ → Filed O → List ℕ → List (Filed O)
   with_holders objects at object [] = values_of (remove_entry (bytes_eq at) (addressed address objects))
   with_holders objects at object (h ∷ holders) = values_of (set_value (bytes_eq at) (addressed address objects) (record object { holders = h ∷ holders }))
 
 module _ {P O : Type 0} (size : O → ℕ) (address : O → List ℕ) where
-  -- the filed object is not held by the tenant yet, and has more bytes than the upload's length and what is free
-  abbrev pub is_over : Books P O → Begun P → Filed O → Bool
+  -- the filed object is not held by the tenant yet, and is longer than the upload's length and the free bytes together
+  abbrev pub is_over : Books P O → ModelOwnedUpload P → Filed O → Bool
   is_over b u object = not (is_held_by u.tenant object) && nat_lt (length_of u.upload + free_of size b u.tenant) (size object.content)
 
-  -- of a complete upload, where this is filed under its content's address
-  abbrev pub join_refusal : Books P O → Begun P → Option (Filed O) → Option Refusal
+  -- of a complete upload, if this is filed at its content's address
+  abbrev pub join_refusal : Books P O → ModelOwnedUpload P → Option (Filed O) → Option Refusal
   join_refusal b u None = full_refusal b
   join_refusal b u (Some object) = if is_over b u object then Some (OverQuota (free_of size b u.tenant)) else full_refusal b
 
@@ -156,8 +156,8 @@ module _ {P O : Type 0} (size : O → ℕ) (address : O → List ℕ) where
   file_refusal b number at = on_upload b number (λ u. join_refusal b u (object_at address b at))
 
 module _ {P O : Type 0} where
-  -- the upload goes, and its content is filed last
-  abbrev pub with_new : Books P O → ℕ → O → Option (Begun P) → Books P O
+  -- the upload is removed, and its content is filed last
+  abbrev pub with_new : Books P O → ℕ → O → Option (ModelOwnedUpload P) → Books P O
   with_new b number content None = b
   with_new b number content (Some u) = record (without_upload b number) { objects = b.objects ++ record { content = content; holders = u.tenant ∷ [] } ∷ [] }
 
@@ -165,8 +165,8 @@ module _ {P O : Type 0} where
   with_filed b number content = with_new b number content (upload_at b number)
 
 module _ {P O : Type 0} (address : O → List ℕ) where
-  -- the upload goes, and its tenant joins the holders of the object of the address
-  abbrev pub with_known : Books P O → ℕ → List ℕ → Option (Begun P) → Option (Filed O) → Books P O
+  -- the upload is removed, and its tenant joins the holders of the object at the address
+  abbrev pub with_known : Books P O → ℕ → List ℕ → Option (ModelOwnedUpload P) → Option (Filed O) → Books P O
   with_known b number at None object = b
   with_known b number at (Some u) None = b
   with_known b number at (Some u) (Some object) = record (without_upload b number) { objects = with_holders address b.objects at object (with_holder u.tenant object.holders) }
@@ -174,7 +174,7 @@ module _ {P O : Type 0} (address : O → List ℕ) where
   abbrev pub with_joined : Books P O → ℕ → List ℕ → Books P O
   with_joined b number at = with_known b number at (upload_at b number) (object_at address b at)
 
-  -- the tenant is no holder of the object of the address, which goes where it has no other
+  -- the tenant is removed from the holders of the object at the address; an object without holders is removed
   abbrev pub with_left : Books P O → ℕ → List ℕ → Option (Filed O) → Books P O
   with_left b tenant at None = b
   with_left b tenant at (Some object) = record b { objects = with_holders address b.objects at object (without_holder tenant object.holders); accepted = b.accepted + 1 }
@@ -182,7 +182,7 @@ module _ {P O : Type 0} (address : O → List ℕ) where
   abbrev pub with_forgotten : Books P O → ℕ → List ℕ → Books P O
   with_forgotten b tenant at = with_left b tenant at (object_at address b at)
 
-  -- what speaks against a question on the object of the address that the tenant holds
+  -- why a question on the object at the address that the tenant holds is refused
   abbrev pub holding_refusal : Books P O → ℕ → List ℕ → Option Refusal
   holding_refusal b tenant at =
       if is_absent b tenant then Some NoTenant

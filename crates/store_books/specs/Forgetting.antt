@@ -1,7 +1,7 @@
--- Books without what parts and objects are: of parts their lengths are left, of objects their addresses and their lengths.
+-- Books reduced to lengths and labels: of parts their lengths remain, of objects their addresses and their lengths.
 use Rattle.std.specs.Prelude.{◌≡◌, ℕ, List, map}
 use Rattle.store_books.specs.declared.content.ObjectLabel.{ObjectLabel}
-use Rattle.store_books.specs.Books.{Begun, Books, Filed, totals_of}
+use Rattle.store_books.specs.Books.{ModelOwnedUpload, Books, Filed, totals_of}
 use Rattle.store_books.specs.Commands.{abort_refusal, begin_refusal, end_refusal, file_refusal, forget_refusal, limit_refusal, put_refusal, ready_refusal, tenant_refusal, with_begun, with_filed, with_fixed, with_forgotten, with_joined, with_limit, with_put, with_tenant, without_upload}
 use Rattle.store_books.specs.Bare.{Bare, as_it_is, label_address, label_len}
 use Rattle.store_upload.specs.Uploads.{Upload, UploadPlan}
@@ -10,7 +10,7 @@ module _ {P : Type 0} (len : P → ℕ) where
   abbrev pub bare_upload : Upload P → Upload ℕ
   bare_upload u = record { plan = u.plan; end = u.end; parts = map (λ p. (p.0, len p.1)) u.parts }
 
-  abbrev pub bare_begun : Begun P → Begun ℕ
+  abbrev pub bare_begun : ModelOwnedUpload P → ModelOwnedUpload ℕ
   bare_begun u = record { tenant = u.tenant; upload = bare_upload u.upload }
 
 module _ {O : Type 0} (size : O → ℕ) (address : O → List ℕ) where
@@ -33,7 +33,7 @@ module _ {P O : Type 0} (len : P → ℕ) (size : O → ℕ) (address : O → Li
     accepted = b.accepted;
   }
 
-  -- each refusal is seen without parts and objects
+  -- each refusal can be determined without parts and objects
   pub record SeesRefusals (b : Books P O) : Type 0 where
     pub tenant : (limit : ℕ) → tenant_refusal (bare b) limit ≡ tenant_refusal b limit
     pub limit : (tenant limit : ℕ) → limit_refusal label_len (bare b) tenant limit ≡ limit_refusal size b tenant limit
@@ -45,7 +45,7 @@ module _ {P O : Type 0} (len : P → ℕ) (size : O → ℕ) (address : O → Li
     pub abort : (number : ℕ) → abort_refusal (bare b) number ≡ abort_refusal b number
     pub forget : (tenant : ℕ) (at : List ℕ) → forget_refusal label_address (bare b) tenant at ≡ forget_refusal address b tenant at
 
-  -- and so is what each command leaves
+  -- and so can the result of each command
   pub record SeesCommands (b : Books P O) : Type 0 where
     pub tenant : (limit : ℕ) → bare (with_tenant b limit) ≡ with_tenant (bare b) limit
     pub limit : (tenant limit : ℕ) → bare (with_limit b tenant limit) ≡ with_limit (bare b) tenant limit
@@ -57,7 +57,7 @@ module _ {P O : Type 0} (len : P → ℕ) (size : O → ℕ) (address : O → Li
     pub abort : (number : ℕ) → bare (without_upload b number) ≡ without_upload (bare b) number
     pub forget : (tenant : ℕ) (at : List ℕ) → bare (with_forgotten address b tenant at) ≡ with_forgotten label_address (bare b) tenant at
 
-  -- what is refused, what is left, and the totals, are seen without parts and objects
+  -- refusals, results and totals can be determined without parts and objects
   pub record Forgets : Type 0 where
     pub refusals : (b : Books P O) → SeesRefusals b
     pub commands : (b : Books P O) → SeesCommands b

@@ -3,7 +3,7 @@ use Rattle.std.specs.Prelude.{◌≡◌, ◌<◌, ◌≤◌, ℕ, List, length, 
 use Rattle.std.specs.List.{slice_index_or}
 use Rattle.store_books.specs.declared.limits.Limits.{Limits}
 use Rattle.store_books.specs.declared.tenant.Tenant.{Tenant}
-use Rattle.store_books.specs.Books.{AreSound, Begun, Books, Filed, held_bytes_of, object_bytes_of, parts_of, reserved_of, use_of}
+use Rattle.store_books.specs.Books.{AreSound, ModelOwnedUpload, Books, Filed, held_bytes_of, object_bytes_of, parts_of, reserved_of, use_of}
 
 abbrev pub limits_of : List Tenant → List ℕ
 limits_of tenants = map (λ t. t.limit) tenants
@@ -14,7 +14,7 @@ no_tenant = record { limit = 0; used = 0; reserved = 0 }
 abbrev pub tenant_at : List Tenant → ℕ → Tenant
 tenant_at tenants n = slice_index_or tenants n no_tenant
 
-abbrev pub books_of : {P O : Type 0} → Limits → List Tenant → ℕ → List (ℕ × Begun P) → List (Filed O) → ℕ → Books P O
+abbrev pub books_of : {P O : Type 0} → Limits → List Tenant → ℕ → List (ℕ × ModelOwnedUpload P) → List (Filed O) → ℕ → Books P O
 books_of most tenants begun uploads objects accepted = record {
   tenants = most.tenants;
   entries = most.entries;

@@ -1,11 +1,11 @@
--- What questions tell of the books.
+-- What questions report about the books.
 use Rattle.std.specs.Prelude.{◌==◌, ℕ, List, Result, Ok, Err, filter, length, map, if◌then◌else◌}
 use Rattle.std.specs.List.{range_with_len}
-use Rattle.store_books.specs.declared.books.OpenUpload.{OpenUpload}
+use Rattle.store_books.specs.declared.books.UploadStatus.{UploadStatus}
 use Rattle.store_books.specs.declared.books.Usage.{Usage}
 use Rattle.store_books.specs.declared.refusal.Refusal.{Refusal}
 use Rattle.store_books.specs.declared.refusal.Refusal.TheVariants.{NoTenant}
-use Rattle.store_books.specs.Books.{Begun, Books, Filed, is_absent, is_held_by, limit_of, reserved_of, use_of}
+use Rattle.store_books.specs.Books.{ModelOwnedUpload, Books, Filed, is_absent, is_held_by, limit_of, reserved_of, use_of}
 use Rattle.store_upload.specs.Uploads.{held_bytes}
 
 module _ {P O : Type 0} (size : O → ℕ) where
@@ -21,15 +21,15 @@ module _ {P O : Type 0} (size : O → ℕ) where
   usages_of b = map (usage_of b) (range_with_len 0 (length b.limits))
 
 module _ {P : Type 0} (len : P → ℕ) where
-  -- what is told of an open upload
-  abbrev pub open_upload_of : ℕ × Begun P → OpenUpload
+  -- what is reported about an open upload
+  abbrev pub open_upload_of : ℕ × ModelOwnedUpload P → UploadStatus
   open_upload_of e = record { upload = e.0; bound = e.1.upload.plan.bound; end = e.1.upload.end; held = held_bytes len e.1.upload.parts }
 
   -- the tenant's among open uploads, in their order
-  abbrev pub open_uploads : ℕ → List (ℕ × Begun P) → List OpenUpload
+  abbrev pub open_uploads : ℕ → List (ℕ × ModelOwnedUpload P) → List UploadStatus
   open_uploads tenant uploads = map open_upload_of (filter (λ e. e.1.tenant == tenant) uploads)
 
 module _ {O : Type 0} (size : O → ℕ) (address : O → List ℕ) where
-  -- addresses and lengths of those objects that the tenant holds, in their order
+  -- the addresses and lengths of the objects that the tenant holds, in their order
   abbrev pub listed : ℕ → List (Filed O) → List (List ℕ × ℕ)
   listed tenant objects = map (λ o. (address o.content, size o.content)) (filter (is_held_by tenant) objects)

@@ -1,11 +1,11 @@
--- The numbers and the texts of refusals.
+-- The codes and the texts of refusals.
 use Rattle.std.specs.Prelude.{ℕ, List, [], ◌++◌, codes}
 use Rattle.std.specs.Fmt.{decimal}
 use Rattle.hex.specs.Hex.{encode_lower}
 use Rattle.store_books.specs.declared.refusal.Refusal.{Refusal}
 use Rattle.store_books.specs.declared.refusal.Refusal.TheVariants.{BelowUse, Incomplete, JournalFull, LimitTooLarge, NoMemory, NoTenant, NoUpload, NotFixed, NotHeld, OverQuota, Overlap, PastLast, TenantsFull, TooLong, WrongAddress, WrongPlan}
 
--- the number of a refusal
+-- the code of a refusal
 abbrev pub refusal_code : Refusal → List ℕ
 refusal_code NoTenant = codes "S1"
 refusal_code TenantsFull = codes "S2"
@@ -24,7 +24,7 @@ refusal_code NoMemory = codes "S14"
 refusal_code (PastLast end) = codes "S15"
 refusal_code NotFixed = codes "S16"
 
--- what a refusal carries
+-- the data of a refusal
 abbrev pub carried_text : Refusal → List ℕ
 carried_text NoTenant = []
 carried_text TenantsFull = []
@@ -43,14 +43,14 @@ carried_text NoMemory = []
 carried_text (PastLast end) = codes " end " ++ decimal end
 carried_text NotFixed = []
 
--- the number of a refusal, and what it carries
+-- the code of a refusal, and its data
 abbrev pub refusal_text : Refusal → List ℕ
 refusal_text refusal = refusal_code refusal ++ carried_text refusal
 
--- the number of limits that no store has
+-- the code for limits that no store has
 abbrev pub bad_limits_code : List ℕ
 bad_limits_code = codes "S0"
 
--- what is shown of them
+-- the text for them
 abbrev pub bad_limits_text : List ℕ
 bad_limits_text = bad_limits_code ++ codes ": a limit is zero, or more than a store takes"

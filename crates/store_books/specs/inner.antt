@@ -1,3 +1,3 @@
--- What only proofs and functions within use.
+-- Definitions that only proofs and private functions use.
 pub mod Catalog
 pub mod Kept

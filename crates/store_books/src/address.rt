@@ -6,7 +6,7 @@ ghost use Rattle.hex.specs.Hex.{encode_lower};
 use std::fmt;
 use std::marker::Model;
 
-/// An object's address: the 32 bytes of the BLAKE3 hash of its bytes. Contracts see it as the list of its bytes.
+/// An object's address: the 32 bytes of the BLAKE3 hash of its bytes. In contracts it is the list of these bytes.
 #[derive(Clone, Copy, Debug, PartialEq, Eq, PartialOrd, Ord, Hash)]
 pub struct Address {
     bytes: [u8; 32],
@@ -23,14 +23,14 @@ impl Model for Address {
 }
 
 impl Address {
-    /// The address of these bytes.
+    /// The address with these bytes.
     pub fn new(bytes: [u8; 32]) -> Address
         ensures { result ≡ bytes }
     {
         Address { bytes }
     }
 
-    /// The bytes.
+    /// The bytes of the address.
     pub fn bytes(&self) -> [u8; 32]
         ensures { result ≡ self.now }
     {

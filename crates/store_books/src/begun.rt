@@ -1,9 +1,9 @@
-//! Open uploads with their tenants, by their numbers.
+//! Open uploads with their tenants, by number.
 
 ghost use Rattle.std.specs.Prelude.{◌≡◌, ◌<◌, ◌∷◌, ◌++◌, [], IfErr, IfOk, IfSome, IsSome, None, OnErr, OnOk, Some, length};
 ghost use Rattle.std.specs.List.{AllByRecursion};
 ghost use Rattle.std.specs.Map.{lookup, remove_entry, set_value};
-ghost use Rattle.store_books.specs.Books.{Begun, is_number};
+ghost use Rattle.store_books.specs.Books.{ModelOwnedUpload, is_number};
 ghost use Rattle.store_upload.specs.Uploads.{Fits, IsUpload, fix_refusal, fixed_at, length_of, place_refusal, with_more};
 
 use std::alloc::AllocError;
@@ -13,25 +13,25 @@ use store_upload::{HeldParts, Open};
 
 /// An upload that is not closed yet, and the tenant that began it.
 #[derive(Drop)]
-pub struct BegunUpload<H: HeldParts> {
+pub struct OwnedUpload<H: HeldParts> {
     tenant: u64,
     upload: Open<H>,
 }
 
-impl<H: HeldParts> Model for BegunUpload<H> {
-    ghost use Rattle.store_books.specs.Books.{Begun};
+impl<H: HeldParts> Model for OwnedUpload<H> {
+    ghost use Rattle.store_books.specs.Books.{ModelOwnedUpload};
 
-    ghost Value = { Begun H.Part };
+    ghost Value = { ModelOwnedUpload H.Part };
 
     ghost view = { λ u. record { tenant = u.tenant; upload = u.upload } };
 }
 
-impl<H: HeldParts> BegunUpload<H> {
-    /// A tenant's upload.
-    pub(crate) fn new(tenant: u64, upload: Open<H>) -> BegunUpload<H>
+impl<H: HeldParts> OwnedUpload<H> {
+    /// An upload of `tenant`.
+    pub(crate) fn new(tenant: u64, upload: Open<H>) -> OwnedUpload<H>
         ensures { result ≡ record { tenant = tenant; upload = upload } }
     {
-        BegunUpload { tenant, upload }
+        OwnedUpload { tenant, upload }
     }
 
     /// The number of the tenant that began it.
@@ -41,22 +41,22 @@ impl<H: HeldParts> BegunUpload<H> {
         self.tenant
     }
 
-    /// The upload.
+    /// The open upload.
     pub fn upload(&self) -> &Open<H>
         ensures { result.now ≡ self.now.upload }
     {
         &self.upload
     }
 
-    /// The upload, taken out.
+    /// Returns the upload.
     pub(crate) fn into_upload(self) -> Open<H>
         ensures { result ≡ self.upload }
     {
-        let BegunUpload { upload, .. } = self;
+        let OwnedUpload { upload, .. } = self;
         upload
     }
 
-    // The upload takes the part. Answers its length then.
+    // Adds a part to the upload. Returns the upload's length afterwards.
     fn put(&mut self, part: H::Given, work: &mut H::Work) -> Result<u64, H::Given>
         requires fits { Fits self.old.upload.plan (H.start part) (H.Part.len (H.kept part)) }
         requires free { place_refusal H.Part.len self.old.upload (H.start part) (H.Part.len (H.kept part)) ≡ None }
@@ -73,7 +73,7 @@ impl<H: HeldParts> BegunUpload<H> {
         }
     }
 
-    // The upload's end is fixed.
+    // Fixes the upload's end.
     fn fix(&mut self, len: u64)
         requires { fix_refusal H.Part.len self.old.upload len ≡ None }
         ensures { self.new ≡ record self.old { upload = fixed_at self.old.upload len } }
@@ -82,11 +82,11 @@ impl<H: HeldParts> BegunUpload<H> {
     }
 }
 
-/// An upload behind all others.
+/// Adds an upload after all others.
 pub(crate) fn begin<H: HeldParts>(
-    uploads: &mut BTreeMap<u64, BegunUpload<H>>,
+    uploads: &mut BTreeMap<u64, OwnedUpload<H>>,
     number: u64,
-    begun: BegunUpload<H>,
+    begun: OwnedUpload<H>,
 ) -> Result<(), AllocError>
     requires { AllByRecursion (λ e. e.0 < number) uploads.old.entries }
     ensures begun { OnOk result (uploads.new.entries ≡ uploads.old.entries ++ (number, begun) ∷ []) }
@@ -98,9 +98,9 @@ pub(crate) fn begin<H: HeldParts>(
     Ok(())
 }
 
-/// The upload of the number takes the part. Answers its length then.
+/// Adds a part to the upload `number`. Returns the upload's length afterwards.
 pub(crate) fn put<H: HeldParts>(
-    uploads: &mut BTreeMap<u64, BegunUpload<H>>,
+    uploads: &mut BTreeMap<u64, OwnedUpload<H>>,
     number: u64,
     part: H::Given,
     work: &mut H::Work,
@@ -108,10 +108,10 @@ pub(crate) fn put<H: HeldParts>(
     requires there { IsSome (lookup (is_number number) uploads.old.entries) }
     requires fits { IfSome (lookup (is_number number) uploads.old.entries) (λ u. Fits u.upload.plan (H.start part) (H.Part.len (H.kept part))) }
     requires free { IfSome (lookup (is_number number) uploads.old.entries) (λ u. place_refusal H.Part.len u.upload (H.start part) (H.Part.len (H.kept part)) ≡ None) }
-    ensures put { OnOk result ((u : Begun H.Part) → lookup (is_number number) uploads.old.entries ≡ Some u
+    ensures put { OnOk result ((u : ModelOwnedUpload H.Part) → lookup (is_number number) uploads.old.entries ≡ Some u
         → uploads.new.entries ≡ set_value (is_number number) uploads.old.entries (record u { upload = with_more H.Part.len u.upload (H.start part) (H.kept part) })) }
-    ensures length { IfOk result (λ n. (u : Begun H.Part) → lookup (is_number number) uploads.old.entries ≡ Some u → n ≡ length_of (with_more H.Part.len u.upload (H.start part) (H.kept part))) }
-    ensures count { OnOk result ((u : Begun H.Part) → lookup (is_number number) uploads.old.entries ≡ Some u → work.new ≡ H.works u.upload.parts (H.start part) (H.kept part) work.old) }
+    ensures length { IfOk result (λ n. (u : ModelOwnedUpload H.Part) → lookup (is_number number) uploads.old.entries ≡ Some u → n ≡ length_of (with_more H.Part.len u.upload (H.start part) (H.kept part))) }
+    ensures count { OnOk result ((u : ModelOwnedUpload H.Part) → lookup (is_number number) uploads.old.entries ≡ Some u → work.new ≡ H.works u.upload.parts (H.start part) (H.kept part) work.old) }
     ensures back { IfErr result (λ back. back ≡ part) }
     ensures unchanged { OnErr result (uploads.new.entries ≡ uploads.old.entries) }
     ensures uncounted { OnErr result (work.new ≡ work.old) }
@@ -122,11 +122,11 @@ pub(crate) fn put<H: HeldParts>(
     }
 }
 
-/// The end of the upload of the number is fixed.
-pub(crate) fn fix<H: HeldParts>(uploads: &mut BTreeMap<u64, BegunUpload<H>>, number: u64, len: u64)
+/// Fixes the end of the upload `number`.
+pub(crate) fn fix<H: HeldParts>(uploads: &mut BTreeMap<u64, OwnedUpload<H>>, number: u64, len: u64)
     requires there { IsSome (lookup (is_number number) uploads.old.entries) }
     requires may { IfSome (lookup (is_number number) uploads.old.entries) (λ u. fix_refusal H.Part.len u.upload len ≡ None) }
-    ensures { (u : Begun H.Part) → lookup (is_number number) uploads.old.entries ≡ Some u → uploads.new.entries ≡ set_value (is_number number) uploads.old.entries (record u { upload = fixed_at u.upload len }) }
+    ensures { (u : ModelOwnedUpload H.Part) → lookup (is_number number) uploads.old.entries ≡ Some u → uploads.new.entries ≡ set_value (is_number number) uploads.old.entries (record u { upload = fixed_at u.upload len }) }
 {
     match uploads.get_mut(&number) {
         Some(begun) => begun.fix(len),

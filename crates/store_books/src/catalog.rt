@@ -1,11 +1,11 @@
-//! Filed objects in filing order, which their addresses lead to, and who holds which.
+//! Filed objects in filing order, found by their addresses, and who holds which.
 
 ghost use Rattle.std.specs.Prelude.{◌≡◌, ◌+◌, ◌<◌, ◌∷◌, ◌++◌, [], false, ℕ, List, None, Some, IfNone, IfOk, IfSome, IsSome, OnErr, OnOk, length, nat_le, true, if◌then◌else◌};
 ghost use Rattle.std.specs.BTreeMap.{WritesThrough, get};
 ghost use Rattle.std.specs.Map.{values_of};
 ghost use Rattle.std.specs.Option.{option_map};
 ghost use Rattle.std.specs.Ordering.{nat_cmp};
-ghost use Rattle.store_books.specs.Books.{Filed as Item, is_held_by, most_entries, object_among};
+ghost use Rattle.store_books.specs.Books.{Filed as Item, is_held_by, max_entries, object_among};
 ghost use Rattle.store_books.specs.inner.Catalog.{IsKnown};
 ghost use Rattle.store_books.specs.Commands.{with_holder, with_holders, without_holder};
 ghost use Rattle.store_books.specs.Questions.{listed};
@@ -20,8 +20,7 @@ use std::collections::btree_map::Values;
 use std::collections::{BTreeMap, BTreeSet};
 use std::marker::Model;
 
-// Each object stands under the number of its filing, and that number under the object's address, and beside each tenant
-// that holds it.
+// Each object is kept under the number of its filing. That number is kept under the object's address, and for each tenant that holds it.
 #[derive(Drop)]
 pub(crate) struct Catalog<O: Content, I: AddressIndex> {
     numbers: I,
@@ -30,12 +29,12 @@ pub(crate) struct Catalog<O: Content, I: AddressIndex> {
     held: BTreeSet<(u64, u64)>,
 }
 
-// Contracts see it as the objects in filing order, and how many filings there were.
+// In contracts it is the objects in filing order, and the number of filings.
 impl<O: Content, I: AddressIndex> Model for Catalog<O, I> {
     ghost use Rattle.std.specs.Map.{values_of};
-    ghost use Rattle.store_books.specs.inner.Catalog.{AreCatalogued, AreHoldings, Catalogued};
+    ghost use Rattle.store_books.specs.inner.Catalog.{AreCatalogued, AreHoldings, ModelCatalog};
 
-    ghost Value = { Catalogued O };
+    ghost Value = { ModelCatalog O };
 
     ghost view = { λ c. record { objects = values_of (values_of c.filed.entries); filings = c.filings } };
 
@@ -43,7 +42,7 @@ impl<O: Content, I: AddressIndex> Model for Catalog<O, I> {
 }
 
 impl<O: Content, I: AddressIndex> Catalog<O, I> {
-    /// A catalog of no objects.
+    /// An empty catalog.
     pub(crate) fn new(alloc: Global) -> Catalog<O, I>
         ensures { result ≡ record { objects = []; filings = 0 } }
     {
@@ -55,7 +54,7 @@ impl<O: Content, I: AddressIndex> Catalog<O, I> {
         }
     }
 
-    /// How many objects are filed.
+    /// The number of objects.
     pub(crate) fn len(&self) -> u64
         ensures { result ≡ length self.now.objects }
     {
@@ -69,7 +68,7 @@ impl<O: Content, I: AddressIndex> Catalog<O, I> {
         self.filed.values()
     }
 
-    // The object of the address.
+    // The object at the address.
     fn find(&self, address: Address) -> Option<&FiledObject<O>>
         ensures { option_map (λ f. f.now.1) result ≡ object_among O.address self.now.objects address }
     {
@@ -79,7 +78,7 @@ impl<O: Content, I: AddressIndex> Catalog<O, I> {
         }
     }
 
-    /// What is filed under the address.
+    /// What is filed at the address.
     pub(crate) fn known(&self, address: Address, tenant: u64) -> Option<Known>
         ensures found { IfSome result (IsKnown O.size O.address self.now.objects address tenant) }
         ensures absent { IfNone result (object_among O.address self.now.objects address ≡ None) }
@@ -94,7 +93,7 @@ impl<O: Content, I: AddressIndex> Catalog<O, I> {
         })
     }
 
-    /// The object of the address.
+    /// The object at the address.
     pub(crate) fn content(&self, address: Address) -> Option<&O>
         ensures found { IfSome result (λ content. (o : Item O) × (object_among O.address self.now.objects address ≡ Some o) × (content.now ≡ o.content)) }
         ensures none { IfNone result (object_among O.address self.now.objects address ≡ None) }
@@ -105,7 +104,7 @@ impl<O: Content, I: AddressIndex> Catalog<O, I> {
         }
     }
 
-    /// The address and length of each object that a tenant holds.
+    /// The addresses and lengths of the objects that a tenant holds.
     pub(crate) fn list(&self, alloc: Global, tenant: u64) -> Result<Vec<(Address, u64)>, AllocError>
         ensures { IfOk result (λ list. list.items ≡ listed O.size O.address tenant self.now.objects) }
     {
@@ -121,7 +120,7 @@ impl<O: Content, I: AddressIndex> Catalog<O, I> {
         Ok(list)
     }
 
-    /// Files an object of one tenant last. A refusal leaves all as it was.
+    /// Files an object with one holder as the last one. A failure leaves everything unchanged.
     pub(crate) fn file_last(
         &mut self,
         alloc: Global,
@@ -129,7 +128,7 @@ impl<O: Content, I: AddressIndex> Catalog<O, I> {
         tenant: u64,
     ) -> Result<(), AllocError>
         requires absent { object_among O.address self.old.objects (O.address content) ≡ None }
-        requires room { self.old.filings < most_entries }
+        requires room { self.old.filings < max_entries }
         ensures filed { OnOk result (self.new ≡ record { objects = self.old.objects ++ record { content = content; holders = tenant ∷ [] } ∷ []; filings = self.old.filings + 1 }) }
         ensures unchanged { OnErr result (self.new ≡ self.old) }
     {
@@ -149,7 +148,7 @@ impl<O: Content, I: AddressIndex> Catalog<O, I> {
         Ok(())
     }
 
-    /// Adds a holder to the object of the address.
+    /// Adds a holder to the object at the address.
     pub(crate) fn add_holder(&mut self, address: Address, tenant: u64) -> Result<(), AllocError>
         requires { IsSome (object_among O.address self.old.objects address) }
         ensures objects { OnOk result ((o : Item O) → object_among O.address self.old.objects address ≡ Some o
@@ -171,7 +170,7 @@ impl<O: Content, I: AddressIndex> Catalog<O, I> {
         Err(refused)
     }
 
-    /// Takes a holder from the object of the address, and hands out the object where it has no other.
+    /// Removes a holder from the object at the address. Returns the object if it has no other holder.
     pub(crate) fn drop_holder(&mut self, address: Address, tenant: u64, is_alone: bool) -> Option<O>
         requires found { IsSome (object_among O.address self.old.objects address) }
         requires held { (o : Item O) → object_among O.address self.old.objects address ≡ Some o → (is_held_by tenant o ≡ true) × (is_alone ≡ nat_le (length o.holders) 1) }
@@ -195,7 +194,7 @@ impl<O: Content, I: AddressIndex> Catalog<O, I> {
     }
 }
 
-// Adds a holder to the object of the number.
+// Adds a holder to the object `number`.
 fn add_at<O: Content>(
     filed: &mut BTreeMap<u64, FiledObject<O>>,
     number: u64,
@@ -211,7 +210,7 @@ fn add_at<O: Content>(
     }
 }
 
-// Takes a holder from the object of the number.
+// Removes a holder from the object `number`.
 fn leave_at<O: Content>(filed: &mut BTreeMap<u64, FiledObject<O>>, number: u64, tenant: u64)
     requires { IsSome (get nat_cmp filed.old number) }
     ensures left { (f : List ℕ × Item O) → get nat_cmp filed.old number ≡ Some f → WritesThrough nat_cmp (nat_cmp number) filed.old (f.0, record f.1 { holders = without_holder tenant f.1.holders }) filed.new }

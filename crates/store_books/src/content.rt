@@ -4,23 +4,23 @@ ghost use Rattle.std.specs.Prelude.{◌≡◌, ℕ, List};
 
 use crate::address::Address;
 
-/// What an object is: it has a length and an address.
+/// An object: it has a length and an address.
 pub trait Content: Drop {
-    // How many bytes it has, and the address under which it stands.
+    // The number of its bytes, and its address.
     ghost size: { Self → ℕ };
 
     ghost address: { Self → List ℕ };
 
-    /// How many bytes it has.
+    /// The number of bytes.
     fn length(&self) -> u64
         ensures { result ≡ size self.now };
 
-    /// The address under which it stands.
+    /// The address.
     fn address(&self) -> Address
         ensures { result ≡ address self.now };
 }
 
-/// An object without its bytes: what a journal tells of it.
+/// An object without its bytes: what a journal records about it.
 #[derive(Clone, Copy, Debug, PartialEq, Eq)]
 pub struct ObjectLabel {
     /// Its address.

@@ -10,14 +10,14 @@ use crate::holders;
 use std::alloc::{AllocError, Global};
 use std::marker::Model;
 
-/// A filed object, and the numbers of the tenants that hold it, in rising order.
+/// A filed object, and the numbers of the tenants that hold it, in ascending order.
 #[derive(Drop)]
 pub struct FiledObject<O: Content> {
     content: O,
     holders: Vec<u64>,
 }
 
-// Contracts see it as its address and the rest.
+// In contracts it is the address and the rest.
 impl<O: Content> Model for FiledObject<O> {
     ghost use Rattle.std.specs.Prelude.{ℕ, List};
     ghost use Rattle.store_books.specs.Books.{Filed, IsRisingFrom};
@@ -30,7 +30,7 @@ impl<O: Content> Model for FiledObject<O> {
 }
 
 impl<O: Content> FiledObject<O> {
-    /// The object of one holder.
+    /// An object with one holder.
     pub(crate) fn new(alloc: Global, content: O, tenant: u64) -> Result<FiledObject<O>, AllocError>
         ensures { IfOk result (λ f. f ≡ (O.address content, record { content = content; holders = tenant ∷ [] })) }
     {
@@ -46,7 +46,7 @@ impl<O: Content> FiledObject<O> {
         &self.content
     }
 
-    /// The object, given back.
+    /// Returns the object.
     pub(crate) fn into_content(self) -> O
         ensures { result ≡ self.1.content }
     {
@@ -68,7 +68,7 @@ impl<O: Content> FiledObject<O> {
         self.content.length()
     }
 
-    /// The numbers of the tenants that hold it, in rising order.
+    /// The numbers of the tenants that hold it, in ascending order.
     pub fn holders(&self) -> &[u64]
         ensures { result.now ≡ self.now.1.holders }
     {
@@ -82,14 +82,14 @@ impl<O: Content> FiledObject<O> {
         holders::has(self.holders.as_slice(), tenant)
     }
 
-    /// Whether it has one holder alone.
+    /// Whether it has only one holder.
     pub(crate) fn is_alone(&self) -> bool
         ensures { result ≡ nat_le (length self.now.1.holders) 1 }
     {
         self.holders.len() <= 1
     }
 
-    /// The tenant is among the holders from here on.
+    /// Adds a holder.
     pub(crate) fn add(&mut self, tenant: u64) -> Result<(), AllocError>
         ensures holders { OnOk result (self.new ≡ (self.old.0, record self.old.1 { holders = with_holder tenant self.old.1.holders })) }
         ensures unchanged { OnErr result (self.new ≡ self.old) }
@@ -97,7 +97,7 @@ impl<O: Content> FiledObject<O> {
         holders::add(&mut self.holders, tenant)
     }
 
-    /// The tenant is no holder from here on.
+    /// Removes a holder.
     pub(crate) fn leave(&mut self, tenant: u64)
         ensures holders { self.new ≡ (self.old.0, record self.old.1 { holders = without_holder tenant self.old.1.holders }) }
         ensures gone { is_held_by_in tenant (record self.old.1 { holders = without_holder tenant self.old.1.holders }) ≡ false }

@@ -1,4 +1,4 @@
-//! Holders of an object, by number.
+//! The holders of an object, by number.
 
 ghost use Rattle.std.specs.Prelude.{◌≡◌, ◌==◌, OnErr, OnOk};
 ghost use Rattle.std.specs.List.{list_any};
@@ -7,7 +7,7 @@ ghost use Rattle.store_books.specs.Books.{IsRisingFrom};
 
 use std::alloc::AllocError;
 
-/// Whether the tenant is among the holders, which are in rising order.
+/// Whether the tenant is among the holders, which are in ascending order.
 pub(crate) fn has(holders: &[u64], tenant: u64) -> bool
     requires { IsRisingFrom 0 holders.now }
     ensures { result ≡ list_any (λ h. h == tenant) holders.now }
@@ -15,7 +15,7 @@ pub(crate) fn has(holders: &[u64], tenant: u64) -> bool
     holders.binary_search(&tenant).is_ok()
 }
 
-/// Adds a tenant in its place, where it isn't there.
+/// Inserts a tenant in order, if it is not there.
 pub(crate) fn add(holders: &mut Vec<u64>, tenant: u64) -> Result<(), AllocError>
     requires { IsRisingFrom 0 holders.old.items }
     ensures added { OnOk result (holders.new.items ≡ with_holder tenant holders.old.items) }
@@ -30,7 +30,7 @@ pub(crate) fn add(holders: &mut Vec<u64>, tenant: u64) -> Result<(), AllocError>
     Ok(())
 }
 
-/// Takes a tenant away.
+/// Removes a tenant.
 pub(crate) fn leave(holders: &mut Vec<u64>, tenant: u64)
     requires { IsRisingFrom 0 holders.old.items }
     ensures { holders.new.items ≡ without_holder tenant holders.old.items }

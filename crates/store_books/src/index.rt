@@ -10,12 +10,12 @@ use crate::address::Address;
 use std::alloc::{AllocError, Global};
 use std::collections::BTreeMap;
 
-/// What leads from addresses to numbers.
+/// Maps addresses to numbers.
 pub trait AddressIndex: Drop {
     // The number of an address.
     ghost number_of: { Self → List ℕ → Option ℕ };
 
-    /// It leads nowhere. It takes no memory.
+    /// An empty map. Allocates nothing.
     fn new(alloc: Global) -> Self
         ensures { (a : List ℕ) → number_of result a ≡ None };
 
@@ -23,18 +23,18 @@ pub trait AddressIndex: Drop {
     fn get(&self, address: Address) -> Option<u64>
         ensures { result ≡ number_of self.now address };
 
-    /// Leads from the address, from which it led nowhere, to the number.
+    /// Maps the address, which has no number yet, to `number`.
     fn insert(&mut self, address: Address, number: u64) -> Result<(), AllocError>
         requires { number_of self.old address ≡ None }
         ensures inserted { OnOk result ((a : List ℕ) → number_of self.new a ≡ (if bytes_eq address a then Some number else number_of self.old a)) }
         ensures unchanged { OnErr result ((a : List ℕ) → number_of self.new a ≡ number_of self.old a) };
 
-    /// Leads nowhere from the address.
+    /// Removes the address.
     fn remove(&mut self, address: Address)
         ensures { (a : List ℕ) → number_of self.new a ≡ (if bytes_eq address a then None else number_of self.old a) };
 }
 
-/// An ordered map: addresses may be whatever a text says, and none costs more than another.
+/// An ordered map: a text can contain any addresses, and none of them is slower to find than another.
 impl AddressIndex for BTreeMap<[u8; 32], u64> {
     ghost number_of = { λ m address. get (slice_cmp nat_cmp) m address };
 

@@ -1,8 +1,8 @@
-//! Objects that are filed already.
+//! Objects that are already filed.
 
 ghost use Rattle.std.specs.Prelude.{◌≡◌, ◌&&◌, if◌then◌else◌, nat_lt, not};
 
-// A filed object's length, whether a tenant holds it, and whether it has one holder alone.
+// The length of a filed object, whether a tenant holds it, and whether it has only one holder.
 #[derive(Clone, Copy, Debug)]
 pub(crate) struct Known {
     pub(crate) size: u64,
@@ -11,7 +11,7 @@ pub(crate) struct Known {
 }
 
 impl Known {
-    /// Whether the tenant doesn't hold the object yet, and it is longer than this.
+    /// Whether the tenant does not hold the object yet, and its length exceeds `most`.
     pub(crate) fn is_over(&self, most: u64) -> bool
         ensures { result ≡ (not self.now.is_holder && nat_lt most self.now.size) }
     {
@@ -21,14 +21,14 @@ impl Known {
         self.size > most
     }
 
-    /// What the tenant uses more where it holds the object.
+    /// By how much the tenant's use grows if it holds the object.
     pub(crate) fn more_used(&self) -> u64
         ensures { result ≡ (if not self.now.is_holder then self.now.size else 0) }
     {
         if self.is_holder { 0 } else { self.size }
     }
 
-    /// The bytes that go where the tenant holds the object no longer.
+    /// The bytes that are freed when the tenant stops holding the object.
     pub(crate) fn gone(&self) -> u64
         ensures { result ≡ (if self.now.is_alone then self.now.size else 0) }
     {

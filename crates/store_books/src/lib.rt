@@ -1,13 +1,13 @@
-//! The books of a store: all that can be said of it without bytes.
+//! The books of a store: everything that can be said about it without bytes.
 //!
-//! - `TenantId`, `UploadId` and `Address` name tenants, uploads and objects. `Refusal` says why a command was not accepted. `Limits` says
-//!   how many tenants, entries and workers there may be.
-//! - `Books` keeps tenants with their limits, their use and their reservation, open uploads, and objects in the order in which they were
-//!   filed. Each command has a question beside it, which tells why it would be refused. Open uploads hold their parts in any `HeldParts`,
-//!   objects are any `Content`, and an `AddressIndex` leads to them.
+//! - `TenantId`, `UploadId` and `Address` name tenants, uploads and objects. `Refusal` says why a command was not accepted. `Limits` are
+//!   the maximum numbers of tenants, entries and workers.
+//! - `Books` keeps tenants with their limits, their use and their reservation, open uploads, and objects in filing order. Each command has
+//!   a function beside it that returns why it would be refused. Open uploads hold their parts in any `HeldParts`, objects are any
+//!   `Content`, and an `AddressIndex` finds them.
 //!
-//! Contracts see books as lists (`specs/Books.antt`), and each command as its refusals in order and what it leaves
-//! (`specs/Commands.antt`). `forgetting_laws` states that both are seen without what parts and objects are.
+//! In contracts books are lists (`specs/Books.antt`), and each command is its refusals in order and its result (`specs/Commands.antt`).
+//! `forgetting_laws` states that both depend only on the lengths of parts and the labels of objects.
 #![tactic(auto)]
 
 mod address;
@@ -28,13 +28,13 @@ mod totals;
 mod upload_id;
 
 pub use address::Address;
-pub use begun::BegunUpload;
-pub use books::{Books, OpenUpload, Usage};
+pub use begun::OwnedUpload;
+pub use books::{Books, UploadStatus, Usage};
 pub use content::{Content, ObjectLabel};
 pub use filed::FiledObject;
 pub use index::AddressIndex;
 pub use laws::{forgetting_laws, sound_laws};
-pub use limits::{BadLimits, Limits, MOST_ENTRIES, MOST_LIMIT, MOST_TENANTS};
+pub use limits::{BadLimits, Limits, MAX_ENTRIES, MAX_LIMIT, MAX_TENANTS};
 pub use refusal::Refusal;
 pub use tenant_id::TenantId;
 pub use totals::Totals;

@@ -1,30 +1,30 @@
-//! How much a store takes.
+//! The limits of a store.
 
 ghost use Rattle.std.specs.Prelude.{◌≡◌, ◌<◌, ◌≤◌, ◌⊎◌, ◌↔◌, IfOk, IsErr, Some};
 ghost use Rattle.store_books.specs.Refusals.{bad_limits_code, bad_limits_text};
-ghost use Rattle.store_books.specs.Books.{most_entries, most_tenants};
+ghost use Rattle.store_books.specs.Books.{max_entries, max_tenants};
 
 use std::error::Error;
 use std::fmt;
 
-/// The most tenants of a store, 2^16.
-pub const MOST_TENANTS: u64 = 1 << 16;
+/// The maximum number of tenants of a store, 2^16.
+pub const MAX_TENANTS: u64 = 1 << 16;
 
-/// The most entries of a journal, 2^32.
-pub const MOST_ENTRIES: u64 = 1 << 32;
+/// The maximum number of entries of a journal, 2^32.
+pub const MAX_ENTRIES: u64 = 1 << 32;
 
-/// The most bytes of a tenant's limit, 2^46.
-pub const MOST_LIMIT: u64 = 1 << 46;
+/// The maximum limit of a tenant in bytes, 2^46.
+pub const MAX_LIMIT: u64 = 1 << 46;
 
-// The most workers of an upload.
-const MOST_WORKERS: u64 = 16;
+// The maximum number of workers of an upload.
+const MAX_WORKERS: u64 = 16;
 
 /// S0: a limit is zero, or above 2^16 tenants, 2^32 entries or 16 workers.
 #[derive(Clone, Copy, Debug, PartialEq, Eq)]
 pub struct BadLimits;
 
 impl BadLimits {
-    /// The refusal's number, `S0`.
+    /// The code of the refusal, `S0`.
     pub fn code(self) -> &'static str
         ensures { result.now ≡ bad_limits_code }
     {
@@ -47,7 +47,7 @@ impl fmt::Display for BadLimits {
 
 impl Error for BadLimits {}
 
-/// How many tenants, journal entries and workers of an upload a store allows.
+/// The numbers of tenants, journal entries and workers of an upload that a store allows.
 #[derive(Clone, Copy, Debug, PartialEq, Eq)]
 pub struct Limits {
     /// 1 to 2^16.
@@ -57,30 +57,30 @@ pub struct Limits {
     /// 1 to 16.
     pub workers: u64,
     pub ghost some: { (0 < tenants) × (0 < entries) × (0 < workers) },
-    pub ghost most: { (tenants ≤ most_tenants) × (entries ≤ most_entries) × (workers ≤ 16) },
+    pub ghost most: { (tenants ≤ max_tenants) × (entries ≤ max_entries) × (workers ≤ 16) },
 }
 
 impl Limits {
     /// The widest limits: 2^16 tenants, 2^32 entries and 16 workers.
     pub fn full() -> Limits
-        ensures { (result.tenants ≡ most_tenants) × (result.entries ≡ most_entries) × (result.workers ≡ 16) }
+        ensures { (result.tenants ≡ max_tenants) × (result.entries ≡ max_entries) × (result.workers ≡ 16) }
     {
         Limits {
-            tenants: MOST_TENANTS,
-            entries: MOST_ENTRIES,
-            workers: MOST_WORKERS,
+            tenants: MAX_TENANTS,
+            entries: MAX_ENTRIES,
+            workers: MAX_WORKERS,
         }
     }
 
-    /// These limits. S0 where one of them is zero or above the widest.
+    /// These limits. S0 if one of them is zero or above the widest.
     pub fn new(tenants: u64, entries: u64, workers: u64) -> Result<Limits, BadLimits>
         ensures limits { IfOk result (λ l. (l.tenants ≡ tenants) × (l.entries ≡ entries) × (l.workers ≡ workers)) }
-        ensures bad { IsErr result ↔ ((tenants ≡ 0) ⊎ (entries ≡ 0) ⊎ (workers ≡ 0) ⊎ (most_tenants < tenants) ⊎ (most_entries < entries) ⊎ (16 < workers)) }
+        ensures bad { IsErr result ↔ ((tenants ≡ 0) ⊎ (entries ≡ 0) ⊎ (workers ≡ 0) ⊎ (max_tenants < tenants) ⊎ (max_entries < entries) ⊎ (16 < workers)) }
     {
         if tenants == 0 || entries == 0 || workers == 0 {
             return Err(BadLimits);
         }
-        if tenants > MOST_TENANTS || entries > MOST_ENTRIES || workers > MOST_WORKERS {
+        if tenants > MAX_TENANTS || entries > MAX_ENTRIES || workers > MAX_WORKERS {
             return Err(BadLimits);
         }
         Ok(Limits {

@@ -7,47 +7,47 @@ use crate::address::Address;
 use std::error::Error;
 use std::fmt;
 
-/// Why a command or a question is refused. Of those that apply, the first in a call's own list is answered. Each leaves
-/// the store as it was.
+/// Why a command or a question is refused. If several apply, the first one in the list of the call is returned. A refusal leaves the store
+/// unchanged.
 #[derive(Clone, Copy, Debug, PartialEq, Eq)]
 pub enum Refusal {
     /// S1: no tenant has this number.
     NoTenant,
-    /// S2: there are as many tenants as the limits allow.
+    /// S2: the number of tenants has reached its limit.
     TenantsFull,
-    /// S3: the tenant's limit is above 2^46 bytes.
+    /// S3: the tenant's limit exceeds 2^46 bytes.
     LimitTooLarge,
-    /// S4: the new limit is below the tenant's use and reservation together, in bytes.
+    /// S4: the new limit is below the sum of the tenant's use and reservation, in bytes.
     BelowUse { in_use: u64 },
-    /// S5: the upload's length is above 2^44 bytes, or its end above its plan's bound.
+    /// S5: the upload's length exceeds 2^44 bytes, or its end exceeds its plan's bound.
     TooLong,
-    /// S6: the tenant has too few bytes left; `free` is its limit less its use and its reservation.
+    /// S6: the tenant has too few bytes left; `free` is its limit minus its use and its reservation.
     OverQuota { free: u64 },
     /// S7: no open upload has this number.
     NoUpload,
     /// S8: the part was made for another plan.
     WrongPlan,
-    /// S9: the least offset of the part that the upload holds already.
+    /// S9: the lowest offset of the part that the upload holds already.
     Overlap { at: u64 },
-    /// S10: the least offset of the upload that is not held.
+    /// S10: the lowest offset of the upload that is not held.
     Incomplete { missing: u64 },
-    /// S11: the content has another address than the one handed in.
+    /// S11: the content has another address than the one given; `found` is its address.
     WrongAddress { found: Address },
-    /// S12: the tenant holds no object of this address.
+    /// S12: the tenant holds no object at this address.
     NotHeld,
-    /// S13: the journal has as many entries as the limits allow.
+    /// S13: the number of journal entries has reached its limit.
     JournalFull,
-    /// S14: memory was refused.
+    /// S14: out of memory.
     NoMemory,
-    /// S15: the part or the end lies past the last byte, or before one that is held: `end` is the upload's end, or while
-    /// there is none the greatest end of a part that it holds.
+    /// S15: the part or the end is past the last byte, or before one that is held: `end` is the upload's end or, if that is not fixed,
+    /// the end of the last part that it holds.
     PastLast { end: u64 },
     /// S16: the upload's end is not fixed.
     NotFixed,
 }
 
 impl Refusal {
-    /// The refusal's number, `S1` to `S16`.
+    /// The code of the refusal, `S1` to `S16`.
     pub fn code(self) -> &'static str
         ensures { result.now ≡ refusal_code self }
     {
@@ -72,8 +72,8 @@ impl Refusal {
     }
 }
 
-/// The refusal's name with what it carries: `S4 use N`, `S6 free N`, `S9 at N`, `S10 missing N`, `S11 found ADDRESS`, `S15 end N`,
-/// and the name alone for all others.
+/// The code of the refusal with its data: `S4 use N`, `S6 free N`, `S9 at N`, `S10 missing N`, `S11 found ADDRESS`, `S15 end N`, and only
+/// the code for all others.
 impl fmt::Display for Refusal {
     ghost output = { λ refusal. Some (refusal_text refusal) };
 

@@ -4,7 +4,7 @@ ghost use Rattle.std.specs.Prelude.{◌≡◌, ◌<◌, length, slice_set};
 ghost use Rattle.store_books.specs.Kept.{limits_of, tenant_at};
 ghost use Rattle.store_books.specs.inner.Kept.{HasRoom, changed_sums};
 
-// A tenant's limit, with its use and its reservation as running sums, in bytes.
+// A tenant's limit, and running sums of its use and its reservation, in bytes.
 #[derive(Clone, Copy, Debug)]
 pub(crate) struct Tenant {
     pub(crate) limit: u64,
@@ -12,7 +12,7 @@ pub(crate) struct Tenant {
     pub(crate) reserved: u64,
 }
 
-/// The tenant of the number.
+/// The tenant `number`.
 pub(crate) fn tenant_of(tenants: &Vec<Tenant>, number: u64) -> Tenant
     requires { number < length tenants.now.items }
     ensures { result ≡ tenant_at tenants.now.items number }
@@ -20,14 +20,14 @@ pub(crate) fn tenant_of(tenants: &Vec<Tenant>, number: u64) -> Tenant
     tenants[number as usize]
 }
 
-// What a sum falls by, and then rises by.
+// By how much a sum falls, and then by how much it rises.
 #[derive(Clone, Copy, Debug)]
 pub(crate) struct Change {
     pub(crate) less: u64,
     pub(crate) more: u64,
 }
 
-/// A tenant's use and its reservation change.
+/// Changes a tenant's use and reservation.
 pub(crate) fn change_sums(tenants: &mut Vec<Tenant>, number: u64, used: Change, reserved: Change)
     requires { HasRoom tenants.old.items number used reserved }
     ensures sums { tenants.new.items ≡ changed_sums tenants.old.items number used reserved }
@@ -38,7 +38,7 @@ pub(crate) fn change_sums(tenants: &mut Vec<Tenant>, number: u64, used: Change, 
     tenant.reserved = tenant.reserved - reserved.less + reserved.more;
 }
 
-/// Gives a tenant another limit.
+/// Changes a tenant's limit.
 pub(crate) fn change_limit(tenants: &mut Vec<Tenant>, number: u64, limit: u64)
     requires { number < length tenants.old.items }
     ensures limit { tenants.new.items ≡ slice_set tenants.old.items number (record { limit = limit; used = (tenant_at tenants.old.items number).used; reserved = (tenant_at tenants.old.items number).reserved }) }

@@ -6,7 +6,7 @@ ghost use Rattle.std.specs.Fmt.{decimal};
 use std::fmt;
 use std::marker::Model;
 
-/// The tenant's number. Contracts see it as that number.
+/// The number of a tenant. In contracts it is that number.
 #[derive(Clone, Copy, Debug, PartialEq, Eq, PartialOrd, Ord, Hash)]
 pub struct TenantId {
     number: u64,
@@ -23,7 +23,7 @@ impl Model for TenantId {
 }
 
 impl TenantId {
-    /// The tenant of this number.
+    /// The tenant with this number.
     pub fn new(number: u64) -> TenantId
         ensures { result ≡ number }
     {

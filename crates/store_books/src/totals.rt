@@ -1,12 +1,11 @@
-//! Sums over a store.
+//! Totals of a store.
 
 ghost use Rattle.std.specs.Prelude.{Some};
 ghost use Rattle.store_books.specs.Totals.{totals_text};
 
 use std::fmt;
 
-/// How many objects and open uploads there are, the bytes of the objects, and the bytes and the number of the parts that
-/// open uploads hold.
+/// The numbers of objects and open uploads, the bytes of the objects, and the bytes and the number of the parts that open uploads hold.
 #[derive(Clone, Copy, Debug, PartialEq, Eq)]
 pub struct Totals {
     pub objects: u64,
@@ -16,7 +15,7 @@ pub struct Totals {
     pub parts: u64,
 }
 
-/// One line, without its line feed: `objects O bytes B uploads U held H parts P`.
+/// One line, without its newline: `objects O bytes B uploads U held H parts P`.
 impl fmt::Display for Totals {
     ghost output = { λ totals. Some (totals_text totals) };
 

@@ -6,7 +6,7 @@ ghost use Rattle.std.specs.Fmt.{decimal};
 use std::fmt;
 use std::marker::Model;
 
-/// The upload's number. Contracts see it as that number.
+/// The number of an upload. In contracts it is that number.
 #[derive(Clone, Copy, Debug, PartialEq, Eq, PartialOrd, Ord, Hash)]
 pub struct UploadId {
     number: u64,
@@ -23,7 +23,7 @@ impl Model for UploadId {
 }
 
 impl UploadId {
-    /// The upload of this number.
+    /// The upload with this number.
     pub fn new(number: u64) -> UploadId
         ensures { result ≡ number }
     {

@@ -10,7 +10,7 @@ use Rattle.store_command_line.specs.Ranges.{AreNamed, IsWithin}
 use Rattle.store_command_line.specs.Stated.{IsFaultAt, SaysFlag, SaysInputs, SaysNumber, SpellsOr}
 use Rattle.store_command_line.specs.declared.said.Fault.{Fault}
 use Rattle.store_command_line.specs.declared.said.Fault.TheVariants.{NoMemory, Usage, Version}
-use Rattle.store_command_line.specs.inner.Faults.{IsNoVersion, TellsKind}
+use Rattle.store_command_line.specs.inner.Faults.{IsNoVersion, ReportsKind}
 use Rattle.store_command_line.specs.declared.said.SumInputs.{SumInputs}
 use Rattle.store_command_line.specs.declared.said.SumInputs.TheVariants.{Standard, Named, Listed}
 use Rattle.clap.specs.Words.{App, HasKind, IsAmong, Row, Text, fault_of, is_simple_and_free, kind_of, subcommand_name_of, subcommand_of, subcommand_rows_of}
@@ -63,11 +63,11 @@ memory a words e shape fails is = go (subst (λ ks. HasKind ks e) (ap (λ (b : A
 
 -- what is told where a parse fails
 pub told_at : (a : App) (words : List Text) (e : Error) (fault : Fault) → a ≡ command_line → (is_simple_and_free a ≡ true → HasKind (fault_of a words) e)
-    → (kind_of e ≡ kinds.OutOfMemory → fault ≡ NoMemory) → TellsKind (kind_of e) fault → IsFaultAt words fault
+    → (kind_of e ≡ kinds.OutOfMemory → fault ≡ NoMemory) → ReportsKind (kind_of e) fault → IsFaultAt words fault
 unfolding AsksVersion MayAskVersion
 told_at a words e fault shape fails short tells = go fault (subst (λ ks. HasKind ks e) (ap (λ (b : App). fault_of b words) shape) (fails (ap is_simple_and_free shape))) short tells
   where
-    go : (f : Fault) → HasKind (fault_of command_line words) e → (kind_of e ≡ kinds.OutOfMemory → f ≡ NoMemory) → TellsKind (kind_of e) f → IsFaultAt words f
+    go : (f : Fault) → HasKind (fault_of command_line words) e → (kind_of e ≡ kinds.OutOfMemory → f ≡ NoMemory) → ReportsKind (kind_of e) f → IsFaultAt words f
     go (Version t) (inl h) short tells = absurd (cc)
     go (Version t) (inr h) short tells = subst (λ k. IsAmong k (fault_of command_line words)) tells h
     go (Usage t) (inl h) short tells = absurd (let is = short h in cc)
@@ -93,18 +93,18 @@ spelled_or most other n (Some t) P spells within f = f (Some n) spells within
 
 -- ---- the names of files
 
-abbrev behind : List (Bor Text) → List Text
-behind = map (λ t. t.now)
+abbrev following : List (Bor Text) → List Text
+following = map (λ t. t.now)
 
-each_behind : (P : Text → Type 0) (texts : List (Bor Text)) → All P (behind texts) → All (λ t. P t.now) texts
+each_behind : (P : Text → Type 0) (texts : List (Bor Text)) → All P (following texts) → All (λ t. P t.now) texts
 each_behind P texts h = λ k d lt. subst P (get_or-map (λ (t : Bor Text). t.now) texts k d) (h k d.now (omega (arith, length-map texts (λ (t : Bor Text). t.now))))
 
-named_too : (P : Text → Type 0) (names texts : List (Bor Text)) → behind names ≡ behind texts → All (λ n. P n.now) names → All (λ t. P t.now) texts
+named_too : (P : Text → Type 0) (names texts : List (Bor Text)) → following names ≡ following texts → All (λ n. P n.now) names → All (λ t. P t.now) texts
 named_too P names texts same h = each_behind P texts (subst (All P) same (All-map P (λ (n : Bor Text). n.now) names h))
 
 -- where words without an option are given, only their names are hashed
 pub only_named : (i : SumInputs) (files : Option (List Text)) (said list null : Option Text) (texts : List (Bor Text)) (P : Type 0)
-    → files ≡ Some (behind texts) → SaysInputs i files said list null → AreNamed i → (All (λ t. IsName t.now) texts → P) → P
+    → files ≡ Some (following texts) → SaysInputs i files said list null → AreNamed i → (All (λ t. IsName t.now) texts → P) → P
 only_named (Standard name) files said list null texts P is says named f = absurd (let none = says.1 in cc)
 only_named (Named names) files said list null texts P is says named f = f (let both = says.0 in named_too IsName names.items texts (cc) named)
 only_named (Listed l) files said list null texts P is says named f = absurd (let none = says.2 in cc)

@@ -1,25 +1,32 @@
--- The command line, as the program states it to clap.
+-- The command line as the program declares it to clap.
 use Rattle.std.specs.Prelude.{◌≡◌, ◌∷◌, ℕ, List, [], Some, pos, true, codes}
 use Rattle.clap.specs.Words.{App, IsAmong, Rule, Text, fault_of, new_app, new_rule, with_rule, with_subcommand}
 use Rattle.clap.specs.declared.builder.action.ArgAction.TheVariants.{Append, SetTrue}
 use Rattle.clap.specs.declared.error.kind.ErrorKind.TheVariants.{DisplayVersion}
 use Rattle.clap.specs.declared.builder.value_parser.ValueParser.TheVariants as vp
-use Rattle.store_upload.specs.Uploads.{most_part_chunks}
+use Rattle.store_upload.specs.Uploads.{max_part_chunks}
 
--- the most threads that hash an input, and the most workers of an upload
-abbrev pub most_threads : ℕ
-most_threads = 16
+-- the maximum number of threads that hash an input, and of workers of an upload
+abbrev pub max_threads : ℕ
+max_threads = 16
 
--- the workers of an upload, and the chunks of its parts, where no option says them
-abbrev pub usual_workers : ℕ
-usual_workers = 4
+-- the default number of workers of an upload, and of chunks of its parts
+abbrev pub default_workers : ℕ
+default_workers = 4
 
-abbrev pub usual_part_chunks : ℕ
-usual_part_chunks = 64
+abbrev pub default_part_chunks : ℕ
+default_part_chunks = 64
 
--- the most bytes of the extended output that are written as digits
-abbrev pub most_output_len : ℕ
-most_output_len = 65536
+-- the maximum number of bytes of extended output that are written as digits
+abbrev pub max_output_len : ℕ
+max_output_len = 65536
+
+-- the maximum number of clients served at a time, and its default
+abbrev pub max_sessions : ℕ
+max_sessions = 64
+
+abbrev pub default_sessions : ℕ
+default_sessions = 16
 
 -- an option `--ID VALUE`
 abbrev pub value_rule : Text → Rule
@@ -33,11 +40,11 @@ number_rule id most = record (value_rule id) { parser = Some (vp.Signed (pos 1) 
 abbrev pub flag_rule : Text → Rule
 flag_rule id = record (new_rule id) { long = Some id; action = Some SetTrue }
 
--- a flag that has a letter too
+-- a flag that also has a letter
 abbrev pub short_flag_rule : Text → ℕ → Rule
 short_flag_rule id letter = record (flag_rule id) { short = Some letter }
 
--- a word without an option, and any number of such words
+-- a positional argument, and any number of them
 abbrev pub word_rule : Text → Rule
 word_rule id = record (new_rule id) { value_names = 1 }
 
@@ -58,23 +65,27 @@ with_mode a = with_rule (with_rule (with_rule a (value_rule (codes "key"))) (val
 
 -- `[--threads T] [--no-progress]`
 abbrev pub with_work : App → App
-with_work a = with_rule (with_rule a (number_rule (codes "threads") most_threads)) (flag_rule (codes "no-progress"))
+with_work a = with_rule (with_rule a (number_rule (codes "threads") max_threads)) (flag_rule (codes "no-progress"))
 
 -- `sum` with these, and `[--length N]`
 abbrev pub sum_line : App
-sum_line = with_work (with_rule (with_mode (with_list (with_names (new_app (codes "sum"))))) (number_rule (codes "length") most_output_len))
+sum_line = with_work (with_rule (with_mode (with_list (with_names (new_app (codes "sum"))))) (number_rule (codes "length") max_output_len))
 
 -- `run`
 abbrev pub run_line : App
 run_line = new_app (codes "run")
 
--- `serve`
+-- `[--at PATH] [--sessions N]`
+abbrev pub with_door : App → App
+with_door a = with_rule (with_rule a (value_rule (codes "at"))) (number_rule (codes "sessions") max_sessions)
+
+-- `serve` with these
 abbrev pub serve_line : App
-serve_line = new_app (codes "serve")
+serve_line = with_door (new_app (codes "serve"))
 
 -- `[--workers W] [--part-chunks P]`
 abbrev pub with_cut : App → App
-with_cut a = with_rule (with_rule a (number_rule (codes "workers") most_threads)) (number_rule (codes "part-chunks") most_part_chunks)
+with_cut a = with_rule (with_rule a (number_rule (codes "workers") max_threads)) (number_rule (codes "part-chunks") max_part_chunks)
 
 -- `upload` with these, and `[--journal] [--no-progress]`
 abbrev pub upload_line : App
@@ -96,7 +107,7 @@ audit_line = new_app (codes "audit")
 abbrev pub migrate_line : App
 migrate_line = new_app (codes "migrate")
 
--- the program's line, which has a version
+-- the program's command line, which has a version
 abbrev pub program_line : App
 program_line = let bare = new_app (codes "b3store") in record bare { top = record bare.top { has_version = true } }
 
@@ -112,14 +123,14 @@ storing_line = with_subcommand answering_line upload_line.top
 abbrev pub command_line : App
 command_line = with_subcommand (with_subcommand (with_subcommand storing_line check_line.top) audit_line.top) migrate_line.top
 
--- clap finds no fault in the words, of which the first is the program's name
+-- clap finds no fault in the arguments; the first of them is the program's name
 unfoldable pub IsTaken : List Text → Type 0
 IsTaken words = fault_of command_line words ≡ []
 
--- clap finds that the words ask for the version, and nothing else
+-- clap finds that the arguments ask for the version, and no other fault
 unfoldable pub AsksVersion : List Text → Type 0
 AsksVersion words = fault_of command_line words ≡ DisplayVersion ∷ []
 
--- clap finds that, or one of some others
+-- clap finds that, or one of some other faults
 unfoldable pub MayAskVersion : List Text → Type 0
 MayAskVersion words = IsAmong DisplayVersion (fault_of command_line words)

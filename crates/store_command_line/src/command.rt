@@ -1,10 +1,10 @@
-//! The command line, as clap is told it: one builder for each subcommand.
+//! The command line as it is declared to clap: one builder for each subcommand.
 
 ghost use Rattle.std.specs.Prelude.{◌≡◌, IfOk, codes, false};
 ghost use Rattle.clap.specs.Words.{app_of, new_app, rule_of};
 ghost use Rattle.clap.specs.declared.builder.command.Command.TheViews.{out-Command as fields_of};
-ghost use Rattle.store_upload.specs.Uploads.{most_part_chunks};
-ghost use Rattle.store_command_line.specs.CommandLine.{most_output_len, most_threads, value_rule, flag_rule, short_flag_rule, word_rule, words_rule, program_line, with_list, with_cut, with_mode, with_names, with_shown, with_work, sum_line, run_line, serve_line, upload_line, check_line, audit_line, migrate_line, answering_line, storing_line, command_line, number_rule};
+ghost use Rattle.store_upload.specs.Uploads.{max_part_chunks};
+ghost use Rattle.store_command_line.specs.CommandLine.{max_sessions, max_output_len, max_threads, value_rule, flag_rule, short_flag_rule, word_rule, words_rule, program_line, with_list, with_cut, with_door, with_mode, with_names, with_shown, with_work, sum_line, run_line, serve_line, upload_line, check_line, audit_line, migrate_line, answering_line, storing_line, command_line, number_rule};
 
 use clap::{Arg, ArgAction, Command, value_parser};
 use std::alloc::{AllocError, Global};
@@ -20,16 +20,16 @@ fn value_argument<'a>(alloc: Global, id: &'a str, value_name: &'a str, help: &'a
         .help(help)
 }
 
-// The option of what hashes by several threads.
+// The option `--threads`.
 fn threads_argument<'a>(alloc: Global) -> Arg<'a>
-    ensures rule { rule_of result ≡ number_rule (codes "threads") most_threads }
+    ensures rule { rule_of result ≡ number_rule (codes "threads") max_threads }
     ensures local { result.global ≡ false }
 {
     let help = "Hash by at most this many threads (1 to 16, by default one for each processor)";
     value_argument(alloc, "threads", "T", help).value_parser(value_parser!(u32).range(1..17))
 }
 
-// A word without an option.
+// A positional argument.
 fn word_argument<'a>(alloc: Global, id: &'a str, value_name: &'a str, help: &'a str) -> Arg<'a>
     ensures rule { rule_of result ≡ word_rule id.entry.now }
     ensures local { result.global ≡ false }
@@ -37,8 +37,8 @@ fn word_argument<'a>(alloc: Global, id: &'a str, value_name: &'a str, help: &'a 
     Arg::new(alloc, id).value_name(value_name).help(help)
 }
 
-// The names of files, and the name of standard input. An argument is made where it is taken, so that none is in hand where an earlier
-// one is refused memory.
+// The names of files, and the name of standard input. An argument is made where it is added, so that none has to be dropped if an
+// allocation for an earlier one fails.
 fn with_names<'a>(alloc: Global, command: Command<'a>) -> Result<Command<'a>, AllocError>
     requires { (fields_of command).has_globals ≡ false }
     ensures shape { IfOk result (λ c. app_of c ≡ with_names (app_of command.entry)) }
@@ -51,7 +51,7 @@ fn with_names<'a>(alloc: Global, command: Command<'a>) -> Result<Command<'a>, Al
         .arg(value_argument(alloc, "name", "NAME", name))
 }
 
-// The flag by which a byte 0 ends names.
+// The flag for names that end with a zero byte.
 fn null_argument<'a>(alloc: Global) -> Arg<'a>
     ensures rule { rule_of result ≡ short_flag_rule (codes "null") 48 }
     ensures local { result.global ≡ false }
@@ -60,7 +60,7 @@ fn null_argument<'a>(alloc: Global) -> Arg<'a>
     flag_argument(alloc, "null", help).short('0')
 }
 
-// The names of files in a list.
+// Names of files from a list.
 fn with_list<'a>(alloc: Global, command: Command<'a>) -> Result<Command<'a>, AllocError>
     requires { (fields_of command).has_globals ≡ false }
     ensures shape { IfOk result (λ c. app_of c ≡ with_list (app_of command.entry)) }
@@ -88,7 +88,7 @@ fn with_mode<'a>(alloc: Global, command: Command<'a>) -> Result<Command<'a>, All
         .arg(value_argument(alloc, "context", "TEXT", context))
 }
 
-// The flag by which no progress is shown.
+// The flag that turns off progress.
 fn progress_argument<'a>(alloc: Global) -> Arg<'a>
     ensures rule { rule_of result ≡ flag_rule (codes "no-progress") }
     ensures local { result.global ≡ false }
@@ -97,7 +97,7 @@ fn progress_argument<'a>(alloc: Global) -> Arg<'a>
     flag_argument(alloc, "no-progress", help)
 }
 
-// By how many threads is hashed, and whether progress is shown.
+// The number of threads, and the flag that turns off progress.
 fn with_work<'a>(alloc: Global, command: Command<'a>) -> Result<Command<'a>, AllocError>
     requires { (fields_of command).has_globals ≡ false }
     ensures shape { IfOk result (λ c. app_of c ≡ with_work (app_of command.entry)) }
@@ -110,14 +110,14 @@ fn with_work<'a>(alloc: Global, command: Command<'a>) -> Result<Command<'a>, All
 
 // The length of the extended output.
 fn length_argument<'a>(alloc: Global) -> Arg<'a>
-    ensures rule { rule_of result ≡ number_rule (codes "length") most_output_len }
+    ensures rule { rule_of result ≡ number_rule (codes "length") max_output_len }
     ensures local { result.global ≡ false }
 {
     let help = "Write this many bytes of the extended output as digits, and no name (1 to 65536)";
     value_argument(alloc, "length", "N", help).value_parser(value_parser!(u32).range(1..65537))
 }
 
-// `sum` without options.
+// `sum` without its options.
 fn bare_sum<'a>(alloc: Global) -> Command<'a>
     ensures shape { app_of result ≡ new_app (codes "sum") }
     ensures local { (fields_of result).has_globals ≡ false }
@@ -138,7 +138,7 @@ fn sum_command<'a>(alloc: Global) -> Result<Command<'a>, AllocError>
     with_work(alloc, command)
 }
 
-// The lines that a store answers, each with what it does: a script's, followed by those that are passed.
+// The lines that a store answers, each with its effect: those of a script, followed by those passed to the macro.
 macro_rules! listed_lines {
     ($($more:literal),*) => {
         concat!(
@@ -163,12 +163,12 @@ macro_rules! listed_lines {
     };
 }
 
-// The end of the help of `run`: a script's lines.
+// The end of the help of `run`: the lines of a script.
 fn script_lines() -> &'static str {
     listed_lines!()
 }
 
-// The end of the help of `serve`: a script's lines, followed by a session's own.
+// The end of the help of `serve`: the lines of a script, followed by those of a session.
 fn session_lines() -> &'static str {
     listed_lines!(
         "\n  putb U OFFSET LEN   a part of upload U: the LEN raw bytes after the line",
@@ -176,7 +176,7 @@ fn session_lines() -> &'static str {
         "\n  has T ADDRESS       the object's length",
         "\n  uploads T           the tenant's open uploads",
         "\n  tenants             what each tenant uses",
-        "\n  entries FROM        the journal's entries from number FROM on"
+        "\n  entries FROM        the journal's entries from number FROM on; with COUNT, at most COUNT of them"
     )
 }
 
@@ -191,13 +191,42 @@ fn run_command<'a>(alloc: Global) -> Command<'a>
         .after_help(script_lines())
 }
 
-fn serve_command<'a>(alloc: Global) -> Command<'a>
-    ensures shape { app_of result ≡ serve_line }
+// The option `--sessions`.
+fn sessions_argument<'a>(alloc: Global) -> Arg<'a>
+    ensures rule { rule_of result ≡ number_rule (codes "sessions") max_sessions }
+    ensures local { result.global ≡ false }
+{
+    let help = "With --at: serve this many clients at a time (1 to 64, 16 by default)";
+    value_argument(alloc, "sessions", "N", help).value_parser(value_parser!(u32).range(1..65))
+}
+
+// The options for clients of a shared store.
+fn with_door<'a>(alloc: Global, command: Command<'a>) -> Result<Command<'a>, AllocError>
+    requires { (fields_of command).has_globals ≡ false }
+    ensures shape { IfOk result (λ c. app_of c ≡ with_door (app_of command.entry)) }
+    ensures local { IfOk result (λ c. (fields_of c).has_globals ≡ false) }
+{
+    let at = "Serve the same store to clients that write their number to this named pipe";
+    command
+        .arg(value_argument(alloc, "at", "PATH", at))?
+        .arg(sessions_argument(alloc))
+}
+
+// `serve` without its options.
+fn bare_serve<'a>(alloc: Global) -> Command<'a>
+    ensures shape { app_of result ≡ new_app (codes "serve") }
     ensures local { (fields_of result).has_globals ≡ false }
 {
     Command::new(alloc, "serve")
-        .about("Answer a program's commands for a store line by line, with raw bytes behind them")
+        .about("Answer a program's commands for a store line by line, with raw bytes after them")
         .after_help(session_lines())
+}
+
+fn serve_command<'a>(alloc: Global) -> Result<Command<'a>, AllocError>
+    ensures shape { IfOk result (λ c. app_of c ≡ serve_line) }
+    ensures local { IfOk result (λ c. (fields_of c).has_globals ≡ false) }
+{
+    with_door(alloc, bare_serve(alloc))
 }
 
 // An option `--ID` without a value.
@@ -211,18 +240,18 @@ fn flag_argument<'a>(alloc: Global, id: &'a str, help: &'a str) -> Arg<'a>
         .help(help)
 }
 
-// The option of how many workers an upload has.
+// The option `--workers`.
 fn workers_argument<'a>(alloc: Global) -> Arg<'a>
-    ensures rule { rule_of result ≡ number_rule (codes "workers") most_threads }
+    ensures rule { rule_of result ≡ number_rule (codes "workers") max_threads }
     ensures local { result.global ≡ false }
 {
     let help = "Hash parts by this many threads (1 to 16, 4 by default)";
     value_argument(alloc, "workers", "W", help).value_parser(value_parser!(u32).range(1..17))
 }
 
-// The option of how many chunks a part has.
+// The option `--part-chunks`.
 fn part_chunks_argument<'a>(alloc: Global) -> Arg<'a>
-    ensures rule { rule_of result ≡ number_rule (codes "part-chunks") most_part_chunks }
+    ensures rule { rule_of result ≡ number_rule (codes "part-chunks") max_part_chunks }
     ensures local { result.global ≡ false }
 {
     let help =
@@ -230,7 +259,7 @@ fn part_chunks_argument<'a>(alloc: Global) -> Arg<'a>
     value_argument(alloc, "part-chunks", "P", help).value_parser(value_parser!(u32).range(1..16385))
 }
 
-// How an upload is cut, and by how many workers.
+// How an upload is split into parts, and the number of workers.
 fn with_cut<'a>(alloc: Global, command: Command<'a>) -> Result<Command<'a>, AllocError>
     requires { (fields_of command).has_globals ≡ false }
     ensures shape { IfOk result (λ c. app_of c ≡ with_cut (app_of command.entry)) }
@@ -241,7 +270,7 @@ fn with_cut<'a>(alloc: Global, command: Command<'a>) -> Result<Command<'a>, Allo
         .arg(part_chunks_argument(alloc))
 }
 
-// `upload` without options.
+// `upload` without its options.
 fn bare_upload<'a>(alloc: Global) -> Command<'a>
     ensures shape { app_of result ≡ new_app (codes "upload") }
     ensures local { (fields_of result).has_globals ≡ false }
@@ -260,12 +289,12 @@ fn upload_command<'a>(alloc: Global) -> Result<Command<'a>, AllocError>
         .arg(progress_argument(alloc))
 }
 
-// What stands at the end of the help of `check`.
+// The end of the help of `check`.
 fn check_codes() -> &'static str {
     "Faults of a line, of which the first is told:\n  C1  a tagged line\n  C2  too short\n  C3  no hexadecimal digit\n  C4  not two spaces\n  C5  no name\n  C6  a wrong escape\n  C7  a byte 0 in the name"
 }
 
-// `check` without options.
+// `check` without its options.
 fn bare_check<'a>(alloc: Global) -> Command<'a>
     ensures shape { app_of result ≡ new_app (codes "check") }
     ensures local { (fields_of result).has_globals ≡ false }
@@ -275,7 +304,7 @@ fn bare_check<'a>(alloc: Global) -> Command<'a>
         .after_help(check_codes())
 }
 
-// Where the check lines are, and which lines of the report are written.
+// The name of the list, and which lines of the report are written.
 fn with_shown<'a>(alloc: Global, command: Command<'a>) -> Result<Command<'a>, AllocError>
     requires { (fields_of command).has_globals ≡ false }
     ensures shape { IfOk result (λ c. app_of c ≡ with_shown (app_of command.entry)) }
@@ -298,7 +327,7 @@ fn check_command<'a>(alloc: Global) -> Result<Command<'a>, AllocError>
     with_work(alloc, command)
 }
 
-// What stands at the end of the help of subcommands that read a journal.
+// The end of the help of subcommands that read a journal.
 fn journal_codes() -> &'static str {
     "Refusals of a journal:\n  J2 N  line N is outside the grammar\n  J1 N  else, entry N is not legal"
 }
@@ -321,12 +350,12 @@ fn migrate_command<'a>(alloc: Global) -> Command<'a>
         .after_help(journal_codes())
 }
 
-// The program's version, and the line of the toolchain's that it is proved with.
+// The program's version, and that of the logic that it is proved with.
 fn version() -> &'static str {
     "1.0.0 (proved with a Rattle kit of logic dac8208d650f15bf)"
 }
 
-// The program's command without subcommands.
+// The program's command without its subcommands.
 fn bare_program<'a>(alloc: Global) -> Command<'a>
     ensures shape { app_of result ≡ program_line }
     ensures local { (fields_of result).has_globals ≡ false }
@@ -342,13 +371,14 @@ fn answering_program<'a>(alloc: Global) -> Result<Command<'a>, AllocError>
     ensures local { IfOk result (λ c. (fields_of c).has_globals ≡ false) }
 {
     let sum = sum_command(alloc)?;
+    let serve = serve_command(alloc)?;
     bare_program(alloc)
         .subcommand(sum)?
         .subcommand(run_command(alloc))?
-        .subcommand(serve_command(alloc))
+        .subcommand(serve)
 }
 
-// The same with the one that stores an input.
+// The same, with the subcommand that stores an input.
 fn storing_program<'a>(alloc: Global) -> Result<Command<'a>, AllocError>
     ensures shape { IfOk result (λ c. app_of c ≡ storing_line) }
     ensures local { IfOk result (λ c. (fields_of c).has_globals ≡ false) }

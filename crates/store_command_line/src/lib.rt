@@ -1,23 +1,22 @@
-//! The command line of the program `b3store`: what its words say.
+//! The command line of the program `b3store`: what its arguments mean.
 //!
-//! `options` reads the words as clap is told them, and gives the subcommand with its options, or why there are none: a text for
-//! the user, or want of memory.
+//! `options` parses the arguments with clap, and returns the subcommand with its options, or why there are none: a text for the user, or
+//! out of memory.
 //!
 //! | Subcommand | Options |
 //! |---|---|
 //! | `sum` | `--key HEX64`, `--key-file FILE` or `--context TEXT`; `--length N` with N from 1 to 65536, `--threads T` with T from 1 to 16, `--no-progress`; `--name NAME`, or files' names, or `--files-from LIST` with or without `--null` |
 //! | `run` | |
-//! | `serve` | |
-//! | `upload` | `--workers W` from 1 to 16, else 4; `--part-chunks P` from 1 to 16384, else 64; `--journal`, `--no-progress` |
+//! | `serve` | `--at PATH`, and with it `--sessions N` with N from 1 to 64, by default 16 |
+//! | `upload` | `--workers W` from 1 to 16, by default 4; `--part-chunks P` from 1 to 16384, by default 64; `--journal`, `--no-progress` |
 //! | `check` | a list's name, `--quiet`, `--status`, `--threads T` with T from 1 to 16, `--no-progress` |
 //! | `audit` | |
 //! | `migrate` | |
 //!
-//! Contracts see a command line by `specs/CommandLine.antt`, as it is stated to clap, and by `specs/Stated.antt`: the options are
-//! the subcommand that was entered, with the values that its words have. `specs/Ranges.antt` has what holds of options beside
-//! this: numbers are within their ranges, and names are such that a check line may have. Words are accepted exactly where
-//! clap finds no fault in them and they say options of which this holds, unless memory is refused. No clause says what a
-//! text of a usage fault says.
+//! Contracts describe a command line by `specs/CommandLine.antt`, as it is declared to clap, and by `specs/Stated.antt`: the options are
+//! the subcommand that was given, with the values of its arguments. `specs/Ranges.antt` states what else holds for options: numbers are
+//! within their ranges, and names can be in a check line. Arguments are accepted if and only if clap finds no fault in them and they result
+//! in such options, unless an allocation fails. No clause describes the text of a usage fault.
 #![tactic(auto)]
 
 mod command;
@@ -25,6 +24,7 @@ mod said;
 mod words;
 
 pub use said::{
-    AskedMode, AskedUpload, CheckOptions, Fault, Input, NameList, Options, SumInputs, SumOptions,
+    AskedMode, AskedUpload, CheckOptions, DoorOptions, Fault, Input, NameList, Options, SumInputs,
+    SumOptions,
 };
 pub use words::options;

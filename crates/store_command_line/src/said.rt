@@ -1,4 +1,4 @@
-//! What a command line says.
+//! The options of a command line.
 
 ghost use Rattle.std.specs.Prelude.{◌≡◌};
 ghost use Rattle.store_command_line.specs.declared.said.Fault.TheVariants.{NoMemory};
@@ -7,30 +7,30 @@ use b3_check::Shown;
 use edge::{SumMode, UploadOptions};
 use std::alloc::AllocError;
 
-/// An input that words name.
+/// An input given by arguments.
 #[derive(Clone, Copy, Debug)]
 pub enum Input<'a> {
-    /// Standard input, which is named `-`, and is meant where no input is named.
+    /// Standard input, which is named `-`, and is the default.
     Standard,
     /// The file of this path.
     File(&'a str),
 }
 
-/// The mode that the words of `sum` ask for.
+/// The mode requested of `sum`.
 #[derive(Clone, Copy, Debug)]
 pub enum AskedMode<'a> {
-    /// This one.
+    /// A known mode.
     Known(SumMode<'a>),
-    /// The keyed mode, whose key the file of this path has.
+    /// The keyed mode, with the key in the file of this path.
     KeyFile(&'a str),
 }
 
 /// The names of files, from a list.
 #[derive(Clone, Copy, Debug)]
 pub struct NameList<'a> {
-    /// Where the list is.
+    /// The input with the list.
     pub list: Input<'a>,
-    /// Whether a byte 0 ends each name, and not a line feed.
+    /// Whether each name ends with a zero byte instead of a newline.
     pub has_nuls: bool,
 }
 
@@ -39,9 +39,9 @@ pub struct NameList<'a> {
 pub enum SumInputs<'a> {
     /// Standard input, whose check line has this name.
     Standard(&'a str),
-    /// What has these names; `-` is standard input.
+    /// The files with these names; `-` is standard input.
     Named(Vec<&'a str>),
-    /// What has the names of a list.
+    /// The files named in a list.
     Listed(NameList<'a>),
 }
 
@@ -50,36 +50,45 @@ pub enum SumInputs<'a> {
 pub struct SumOptions<'a> {
     /// What is hashed.
     pub inputs: SumInputs<'a>,
-    /// The mode that it is hashed in.
+    /// The mode to hash in.
     pub mode: AskedMode<'a>,
-    /// How many bytes of the extended output are asked for, in place of the check line.
+    /// The number of bytes of extended output to write instead of the check line.
     pub length: Option<u32>,
-    /// By how many threads an input is hashed, at most; `None` for as many as there are processors.
+    /// The maximum number of threads that hash an input; `None` for as many as the machine has processors.
     pub threads: Option<u32>,
-    /// Whether standard error shows no progress.
+    /// Whether no progress is shown on standard error.
     pub no_progress: bool,
 }
 
-/// What the words of `upload` ask for.
+/// The options of `upload`.
 #[derive(Clone, Copy, Debug)]
 pub struct AskedUpload {
-    /// How the input is cut, and what is written.
+    /// How the input is split, and what is written.
     pub options: UploadOptions,
-    /// Whether standard error shows no progress.
+    /// Whether no progress is shown on standard error.
     pub no_progress: bool,
 }
 
 /// The options of `check`.
 #[derive(Clone, Copy, Debug)]
 pub struct CheckOptions<'a> {
-    /// Where the check lines are.
+    /// The input with the check lines.
     pub list: Input<'a>,
     /// Which lines of the report are written.
     pub shown: Shown,
-    /// By how many threads a file is hashed, at most; `None` for as many as there are processors.
+    /// The maximum number of threads that hash a file; `None` for as many as the machine has processors.
     pub threads: Option<u32>,
-    /// Whether standard error shows no progress.
+    /// Whether no progress is shown on standard error.
     pub no_progress: bool,
+}
+
+/// How clients of a shared store connect, and how many are served at a time.
+#[derive(Clone, Copy, Debug)]
+pub struct DoorOptions<'a> {
+    /// The path of the named pipe to which a client writes its number.
+    pub path: &'a str,
+    /// The maximum number of clients served at a time.
+    pub sessions: u32,
 }
 
 /// A subcommand with its options.
@@ -89,8 +98,8 @@ pub enum Options<'a> {
     Sum(SumOptions<'a>),
     /// `run`.
     Run,
-    /// `serve`.
-    Serve,
+    /// `serve`, also for clients if a named pipe is given.
+    Serve(Option<DoorOptions<'a>>),
     /// `upload`.
     Upload(AskedUpload),
     /// `check`.
@@ -101,14 +110,14 @@ pub enum Options<'a> {
     Migrate,
 }
 
-/// Why a command line gives no options.
+/// Why a command line has no options.
 #[derive(Debug, Drop)]
 pub enum Fault {
-    /// The words are wrong, or ask for help: the text that tells so.
+    /// The arguments are wrong, or ask for help: the text to print.
     Usage(String),
-    /// The words ask for the version: the text that tells it.
+    /// The arguments ask for the version: the text to print.
     Version(String),
-    /// Memory was refused.
+    /// Out of memory.
     NoMemory,
 }
 

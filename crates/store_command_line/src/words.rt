@@ -1,17 +1,18 @@
-//! What the words of the command line say.
+//! Parsing the arguments of the command line.
 
 ghost use Rattle.std.specs.Prelude.{◌≡◌, ◌↔◌, ◌^◌, ◌≤◌, ℕ, All, true, List, Option, Some, None, IfErr, IfOk, IfSome, IsErr, OnOk, codes, map, option_map};
 ghost use Rattle.clap.specs.Values.{kind_of};
 ghost use Rattle.clap.specs.Words.{all_of, found_of, first_of, one_of, rows_of, subcommand_of, subcommand_rows_of};
 ghost use Rattle.b3_check.specs.Names.{IsName};
 ghost use Rattle.edge.specs.declared.options.SumMode.{SumMode as SaidMode};
-ghost use Rattle.store_command_line.specs.CommandLine.{IsTaken, command_line, most_threads};
-ghost use Rattle.store_command_line.specs.Ranges.{AreNamed, AreWithin, InRange, IsSumInRange, IsWithin};
-ghost use Rattle.store_command_line.specs.Stated.{IsFaultAt, IsNotUsage, IsNumber, NamesInput, Says, SaysAsked, SaysCheck, SaysFlag, SaysInput, SaysInputs, SaysMode, SaysName, SaysShown, SaysSum, SaysUpload, SaysNumber, SpellsOr};
-ghost use Rattle.store_command_line.specs.inner.Faults.{IsNoUsage, IsNoVersion, TellsKind};
+ghost use Rattle.store_command_line.specs.CommandLine.{IsTaken, command_line, max_threads};
+ghost use Rattle.store_command_line.specs.Ranges.{AreNamed, AreWithin, InRange, IsDoorInRange, IsSumInRange, IsWithin};
+ghost use Rattle.store_command_line.specs.Stated.{IsFaultAt, IsNotUsage, IsNumber, NamesInput, Says, SaysAsked, SaysCheck, SaysDoor, SaysFlag, SaysInput, SaysInputs, SaysMode, SaysName, SaysShown, SaysSum, SaysUpload, SaysNumber, SpellsOr};
+ghost use Rattle.store_command_line.specs.inner.Faults.{IsNoUsage, IsNoVersion, ReportsKind};
 ghost use Rattle.store_command_line.specs.declared.said.AskedMode.{AskedMode as SaidAsked};
 ghost use Rattle.store_command_line.specs.declared.said.AskedUpload.{AskedUpload as SaidUpload};
 ghost use Rattle.store_command_line.specs.declared.said.CheckOptions.{CheckOptions as SaidCheck};
+ghost use Rattle.store_command_line.specs.declared.said.DoorOptions.{DoorOptions as SaidDoor};
 ghost use Rattle.store_command_line.specs.declared.said.Fault.TheVariants.{NoMemory, Usage};
 ghost use Rattle.store_command_line.specs.declared.said.SumInputs.{SumInputs as SaidInputs};
 ghost use Rattle.store_command_line.specs.declared.said.Options.{Options as Said};
@@ -19,7 +20,8 @@ ghost use Rattle.store_command_line.specs.declared.said.SumOptions.{SumOptions a
 
 use crate::command::program;
 use crate::said::{
-    AskedMode, AskedUpload, CheckOptions, Fault, Input, NameList, Options, SumInputs, SumOptions,
+    AskedMode, AskedUpload, CheckOptions, DoorOptions, Fault, Input, NameList, Options, SumInputs,
+    SumOptions,
 };
 use b3_check::Shown;
 use clap::error::ErrorKind;
@@ -28,20 +30,25 @@ use edge::{SumMode, UploadOptions};
 use hex::FromHex;
 use std::alloc::{AllocError, Global};
 use std::convert::AsStr;
-use store_upload::MOST_PART_CHUNKS;
+use store_upload::MAX_PART_CHUNKS;
 
-// The most threads that hash an input, and the most workers of an upload.
-const MOST_THREADS: u32 = 16;
+// The maximum number of threads that hash an input, and of workers of an upload.
+const MAX_THREADS: u32 = 16;
 
-// The workers of an upload, and the chunks of its parts, where no option says them.
-const USUAL_WORKERS: u32 = 4;
+// The default number of workers of an upload, and of chunks of its parts.
+const DEFAULT_WORKERS: u32 = 4;
 
-const USUAL_PART_CHUNKS: u32 = 64;
+const DEFAULT_PART_CHUNKS: u32 = 64;
 
-// The most bytes of the extended output that are written as digits.
-const MOST_OUTPUT_LEN: u32 = 65536;
+// The maximum number of clients served at a time, and its default.
+const MAX_SESSIONS: u32 = 64;
 
-// The text of a usage fault, where there was memory for it.
+const DEFAULT_SESSIONS: u32 = 16;
+
+// The maximum number of bytes of extended output that are written as digits.
+const MAX_OUTPUT_LEN: u32 = 65536;
+
+// The text of a usage fault, if there was memory for it.
 fn told(text: Result<String, AllocError>) -> Fault
     ensures usage { IfOk text (λ t. result ≡ Usage t) }
     ensures memory { IsErr text → result ≡ NoMemory }
@@ -53,7 +60,7 @@ fn told(text: Result<String, AllocError>) -> Fault
     }
 }
 
-// clap's text of a fault, which at its end names the help of the subcommand that the words name.
+// clap's text for a fault, with a pointer to the help of the given subcommand at its end.
 fn error_text<S: AsStr>(alloc: Global, error: &Error, words: &[S]) -> Result<String, AllocError> {
     let text = error.to_string(alloc)?;
     let Some(front) = text.as_str().strip_suffix("'--help'.\n") else {
@@ -66,10 +73,10 @@ fn error_text<S: AsStr>(alloc: Global, error: &Error, words: &[S]) -> Result<Str
     }
 }
 
-// Why there are no options where clap finds a fault in the words.
+// Why there are no options if clap finds a fault in the arguments.
 fn fault_of<S: AsStr>(alloc: Global, error: &Error, words: &[S]) -> Fault
     ensures memory { kind_of error.now ≡ ErrorKind.OutOfMemory → result ≡ NoMemory }
-    ensures version { TellsKind (kind_of error.now) result }
+    ensures version { ReportsKind (kind_of error.now) result }
 {
     match error.kind() {
         ErrorKind::OutOfMemory => Fault::NoMemory,
@@ -78,7 +85,7 @@ fn fault_of<S: AsStr>(alloc: Global, error: &Error, words: &[S]) -> Fault
     }
 }
 
-// The text of the version, where there was memory for it.
+// The text of the version, if there was memory for it.
 fn version_told(text: Result<String, AllocError>) -> Fault
     ensures { IsNoUsage result }
 {
@@ -88,7 +95,7 @@ fn version_told(text: Result<String, AllocError>) -> Fault
     }
 }
 
-// What is wrong with an option of a subcommand.
+// The fault for a wrong option of a subcommand.
 fn usage(alloc: Global, subcommand: &str, wrong: &str) -> Fault
     ensures { IsNoVersion result }
 {
@@ -100,14 +107,14 @@ fn help_text(alloc: Global) -> Result<String, AllocError> {
     program.render_help()
 }
 
-// The text of an argument, where it is given.
+// The text of an argument, if it is given.
 fn text_of<'a>(found: &ArgMatches<'a>, id: &str) -> Option<&'a str>
     ensures { option_map (λ s. s.now) result ≡ first_of id.now (rows_of (found_of found.now)) }
 {
     found.get_str(id)
 }
 
-// The number that a text spells in decimal digits, without a sign.
+// The number with these decimal digits, without a sign.
 fn digits(text: &str) -> Option<u32>
     ensures found { IfSome result (IsNumber text.now) }
     ensures none { result ≡ None → (n : ℕ) → IsNumber text.now n → 2 ^ 32 ≤ n }
@@ -118,7 +125,7 @@ fn digits(text: &str) -> Option<u32>
     text.parse::<u32>().ok()
 }
 
-// A number from 1 to `most`. clap takes a sign, and states no range inside a subcommand.
+// A number from 1 to `most`. clap accepts a sign, and its contracts state no range within a subcommand.
 fn number_within(
     alloc: Global,
     found: &ArgMatches<'_>,
@@ -164,7 +171,7 @@ fn sum_mode<'a>(alloc: Global, found: &ArgMatches<'a>) -> Result<SumMode<'a>, Fa
     }
 }
 
-// The mode that is asked for.
+// The requested mode.
 fn asked_mode<'a>(alloc: Global, found: &ArgMatches<'a>) -> Result<AskedMode<'a>, Fault>
     ensures says { IfOk result (λ m. let rows = rows_of (found_of found.now) in
         SaysAsked m (first_of (codes "key") rows) (first_of (codes "context") rows) (first_of (codes "key-file") rows)) }
@@ -185,14 +192,14 @@ fn asked_mode<'a>(alloc: Global, found: &ArgMatches<'a>) -> Result<AskedMode<'a>
     }
 }
 
-// Whether a check line may have the name.
+// Whether the name can be in a check line.
 fn is_name(text: &str) -> bool
     ensures { (result ≡ true) ↔ IsName text.now }
 {
     !text.is_empty() && !text.as_bytes().contains(&0)
 }
 
-// The name that a check line gets: `-` where none is given.
+// The name for a check line: `-` if none is given.
 fn sum_name<'a>(alloc: Global, found: &ArgMatches<'a>) -> Result<&'a str, Fault>
     ensures says { IfOk result (λ name. SaysName name.now (first_of (codes "name") (rows_of (found_of found.now)))) }
     ensures lawful { IfOk result (λ name. IsName name.now) }
@@ -213,14 +220,14 @@ fn sum_name<'a>(alloc: Global, found: &ArgMatches<'a>) -> Result<&'a str, Fault>
     Ok(name)
 }
 
-// Whether a check line may have each of the names.
+// Whether each of the names can be in a check line.
 fn are_names(texts: &[&str]) -> bool
     ensures { (result ≡ true) ↔ All (λ text. IsName text.now) texts.now }
 {
     texts.iter().all(|text| is_name(text))
 }
 
-// The input that a text names.
+// The input with this name.
 fn input_of(text: &str) -> Input<'_>
     ensures { NamesInput result text.entry.now }
 {
@@ -231,7 +238,7 @@ fn input_of(text: &str) -> Input<'_>
     }
 }
 
-// The texts of the words without an option.
+// The texts of the positional arguments.
 fn words_of<'a, 'b>(found: &'b ArgMatches<'a>, id: &str) -> Option<&'b [&'a str]>
     ensures { option_map (λ texts. map (λ text. text.now) texts.now) result ≡ all_of id.now (rows_of (found_of found.now)) }
 {
@@ -251,7 +258,7 @@ fn named_inputs<'a>(alloc: Global, files: &[&'a str]) -> Result<SumInputs<'a>, F
     Ok(SumInputs::Named(Vec::from_slice(alloc, files)?))
 }
 
-// What is hashed.
+// The inputs to hash.
 fn sum_inputs<'a>(alloc: Global, found: &ArgMatches<'a>) -> Result<SumInputs<'a>, Fault>
     ensures says { IfOk result (λ i. let rows = rows_of (found_of found.now) in
         SaysInputs i (all_of (codes "file") rows) (first_of (codes "name") rows) (first_of (codes "files-from") rows) (one_of (codes "null") rows)) }
@@ -287,8 +294,8 @@ fn sum_options<'a>(alloc: Global, found: &ArgMatches<'a>) -> Result<SumOptions<'
     ensures no_version { IfErr result IsNoVersion }
 {
     let mode = asked_mode(alloc, found)?;
-    let length = number_within(alloc, found, "sum", "length", MOST_OUTPUT_LEN)?;
-    let threads = number_within(alloc, found, "sum", "threads", MOST_THREADS)?;
+    let length = number_within(alloc, found, "sum", "length", MAX_OUTPUT_LEN)?;
+    let threads = number_within(alloc, found, "sum", "threads", MAX_THREADS)?;
     let inputs = sum_inputs(alloc, found)?;
     Ok(SumOptions {
         inputs,
@@ -314,7 +321,7 @@ fn shown(found: &ArgMatches<'_>) -> Shown
     }
 }
 
-// The input that a word names, or standard input where no word does.
+// The input named by an argument, or standard input if there is none.
 fn word_input<'a>(found: &ArgMatches<'a>, id: &str) -> Input<'a>
     ensures { SaysInput result (first_of id.now (rows_of (found_of found.now))) }
 {
@@ -326,11 +333,11 @@ fn word_input<'a>(found: &ArgMatches<'a>, id: &str) -> Input<'a>
 
 fn check_options<'a>(alloc: Global, found: &ArgMatches<'a>) -> Result<CheckOptions<'a>, Fault>
     ensures says { IfOk result (λ o. SaysCheck o (rows_of (found_of found.now))) }
-    ensures range { IfOk result (λ o. IfSome o.threads (IsWithin most_threads)) }
-    ensures only { (o : SaidCheck) → SaysCheck o (rows_of (found_of found.now)) → IfSome o.threads (IsWithin most_threads) → IsNotUsage result }
+    ensures range { IfOk result (λ o. IfSome o.threads (IsWithin max_threads)) }
+    ensures only { (o : SaidCheck) → SaysCheck o (rows_of (found_of found.now)) → IfSome o.threads (IsWithin max_threads) → IsNotUsage result }
     ensures no_version { IfErr result IsNoVersion }
 {
-    let threads = number_within(alloc, found, "check", "threads", MOST_THREADS)?;
+    let threads = number_within(alloc, found, "check", "threads", MAX_THREADS)?;
     Ok(CheckOptions {
         list: word_input(found, "list"),
         shown: shown(found),
@@ -339,10 +346,11 @@ fn check_options<'a>(alloc: Global, found: &ArgMatches<'a>) -> Result<CheckOptio
     })
 }
 
-// A number from 1 to `most` of an option of `upload`, or another where none is given.
+// A number from 1 to `most` of an option of a subcommand, or its default.
 fn number_or(
     alloc: Global,
     found: &ArgMatches<'_>,
+    subcommand: &str,
     id: &str,
     most: u32,
     other: u32,
@@ -354,7 +362,7 @@ fn number_or(
         → IsNotUsage result }
     ensures no_version { IfErr result IsNoVersion }
 {
-    match number_within(alloc, found, "upload", id, most)? {
+    match number_within(alloc, found, subcommand, id, most)? {
         Some(n) => Ok(n),
         None => Ok(other),
     }
@@ -372,9 +380,23 @@ fn upload_options(alloc: Global, found: &ArgMatches<'_>) -> Result<AskedUpload, 
     ensures only { (asked : SaidUpload) → SaysUpload asked (rows_of (found_of found.now)) → AreWithin asked.options → IsNotUsage result }
     ensures no_version { IfErr result IsNoVersion }
 {
-    let workers = number_or(alloc, found, "workers", MOST_THREADS, USUAL_WORKERS)?;
-    let most = MOST_PART_CHUNKS as u32;
-    let part_chunks = number_or(alloc, found, "part-chunks", most, USUAL_PART_CHUNKS)?;
+    let workers = number_or(
+        alloc,
+        found,
+        "upload",
+        "workers",
+        MAX_THREADS,
+        DEFAULT_WORKERS,
+    )?;
+    let most = MAX_PART_CHUNKS as u32;
+    let part_chunks = number_or(
+        alloc,
+        found,
+        "upload",
+        "part-chunks",
+        most,
+        DEFAULT_PART_CHUNKS,
+    )?;
     let options = UploadOptions {
         workers,
         part_chunks,
@@ -386,14 +408,39 @@ fn upload_options(alloc: Global, found: &ArgMatches<'_>) -> Result<AskedUpload, 
     })
 }
 
-// The subcommand that the words enter, and what is found there.
+// How clients connect, if a named pipe is given.
+fn door<'a>(alloc: Global, found: &ArgMatches<'a>) -> Result<Option<DoorOptions<'a>>, Fault>
+    ensures says { IfOk result (λ d. let rows = rows_of (found_of found.now) in SaysDoor d (first_of (codes "at") rows) (first_of (codes "sessions") rows)) }
+    ensures range { IfOk result IsDoorInRange }
+    ensures only { let rows = rows_of (found_of found.now) in (d : Option SaidDoor)
+        → SaysDoor d (first_of (codes "at") rows) (first_of (codes "sessions") rows) → IsDoorInRange d → IsNotUsage result }
+    ensures no_version { IfErr result IsNoVersion }
+{
+    let Some(path) = text_of(found, "at") else {
+        return match text_of(found, "sessions") {
+            None => Ok(None),
+            Some(_) => Err(usage(alloc, "serve", "--sessions takes --at beside it")),
+        };
+    };
+    let sessions = number_or(
+        alloc,
+        found,
+        "serve",
+        "sessions",
+        MAX_SESSIONS,
+        DEFAULT_SESSIONS,
+    )?;
+    Ok(Some(DoorOptions { path, sessions }))
+}
+
+// The given subcommand and its arguments.
 fn entered<'a, 'b>(matches: &'b ArgMatches<'a>) -> Option<(&'a str, &'b ArgMatches<'a>)>
     ensures { option_map (λ p. (p.0.now, rows_of (found_of p.1.now))) result ≡ subcommand_rows_of matches.now }
 {
     matches.subcommand()
 }
 
-// What the subcommand and what is found there say.
+// The options of the subcommand and its arguments.
 fn options_of<'a>(alloc: Global, matches: &ArgMatches<'a>) -> Result<Options<'a>, Fault>
     ensures says { IfOk result (λ o. Says o (subcommand_rows_of matches.now)) }
     ensures range { IfOk result InRange }
@@ -403,7 +450,7 @@ fn options_of<'a>(alloc: Global, matches: &ArgMatches<'a>) -> Result<Options<'a>
     match entered(matches) {
         Some(("sum", found)) => Ok(Options::Sum(sum_options(alloc, found)?)),
         Some(("run", _)) => Ok(Options::Run),
-        Some(("serve", _)) => Ok(Options::Serve),
+        Some(("serve", found)) => Ok(Options::Serve(door(alloc, found)?)),
         Some(("upload", found)) => Ok(Options::Upload(upload_options(alloc, found)?)),
         Some(("check", found)) => Ok(Options::Check(check_options(alloc, found)?)),
         Some(("audit", _)) => Ok(Options::Audit),
@@ -412,20 +459,20 @@ fn options_of<'a>(alloc: Global, matches: &ArgMatches<'a>) -> Result<Options<'a>
     }
 }
 
-/// What the words say, the first of them being the program's name.
+/// Parses the arguments; the first of them is the program's name.
 ///
-/// `Ok` with the subcommand and the values that clap states of the words, where clap finds no fault in them, each number is
-/// decimal digits without a sign and within its range, names are not empty and have no byte 0, and no two options are given that exclude
-/// each other. Words that ask for the version are `Version`. All other words are `Usage`, a request for help too, as no word but the
-/// program's name is one. `NoMemory` where memory is refused.
+/// Returns the subcommand with the values that clap finds in the arguments, if clap finds no fault in them, each number is decimal digits
+/// without a sign and within its range, names are not empty and have no zero byte, and no options are given that exclude each other. The
+/// fault is `Version` if the arguments ask for the version, and `NoMemory` if an allocation fails. For all other arguments it is `Usage`;
+/// this includes requests for help, and no argument besides the program's name.
 pub fn options<'a, S: AsStr>(alloc: Global, words: &'a [S]) -> Result<Options<'a>, Fault>
     ensures says { IfOk result (λ o. Says o (subcommand_of command_line (map S.text words.entry.now))) }
     ensures range { IfOk result InRange }
     ensures taken { OnOk result (IsTaken (map S.text words.entry.now)) }
-    // Words in which clap finds no fault, and which say options within their ranges, are refused for want of memory alone.
+    // If clap finds no fault in the arguments, and they mean options within their ranges, the only possible fault is running out of memory.
     ensures only { (o : Said) → IsTaken (map S.text words.entry.now) → Says o (subcommand_of command_line (map S.text words.entry.now)) → InRange o
         → IsNotUsage result }
-    // The version is told where it is asked for, and there alone.
+    // The version is returned if it is asked for, and only then.
     ensures version { IfErr result (IsFaultAt (map S.text words.entry.now)) }
 {
     let matches = match program(alloc)?.try_get_matches_from(words) {

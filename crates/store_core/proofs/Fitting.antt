@@ -2,7 +2,7 @@
 use Rattle.std.proofs.Common.{◌≡◌, ◌+◌, ℕ, Bool, true, false, None, refl, arith, inl, inr}
 use Rattle.std.specs.Prelude.{◌==◌, ◌&&◌, ◌%◌, not}
 use Rattle.std.proofs.lemmas.Bool.{cases_eq, eq-eqb, le-ltb, ne_eqb}
-use Rattle.store_upload.specs.Uploads.{Fits, UploadPlan, most_part_bytes, part_refusal}
+use Rattle.store_upload.specs.Uploads.{Fits, UploadPlan, max_part_bytes, part_refusal}
 
 -- bytes that fit a plan have none of the faults
 pub fits_none : (plan : UploadPlan) (offset n : ℕ) → Fits plan offset n → part_refusal plan offset n ≡ None
@@ -11,7 +11,7 @@ fits_none plan offset n f =
     let full = ne_eqb n 0 (λ none. omega (arith, none, some)) in
     let aligned = eq-eqb (offset % 1024) 0 f.aligned in
     let within = le-ltb plan.bound (offset + n) f.within in
-    let small = le-ltb most_part_bytes n f.small in
+    let small = le-ltb max_part_bytes n f.small in
     let whole : (not plan.is_open && not (n % 1024 == 0) && not (offset + n == plan.bound)) ≡ false = by plan.is_open refl in
     rw (full, aligned, within, whole, small) refl
   where

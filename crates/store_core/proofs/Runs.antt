@@ -2,7 +2,7 @@
 use Rattle.std.proofs.Common.{◌≡◌, ◌∙◌, ℕ, List, [], ◌∷◌, Option, Some, None, refl, ap, sym, length, subst, Ok, Err}
 use Rattle.std.specs.Prelude.{Result, if◌then◌else◌}
 use Rattle.b3_core.specs.Modes.{hash_of}
-use Rattle.b3_forest.specs.Parts.{PlannedPart}
+use Rattle.b3_forest.specs.Parts.{ModelPrepared}
 use Rattle.store_books.specs.declared.refusal.Refusal.{Refusal}
 use Rattle.store_books.specs.Books.{object_at, upload_at}
 use Rattle.store_books.specs.Commands.{abort_refusal, begin_refusal, end_refusal, file_refusal, forget_refusal, limit_refusal, put_refusal, ready_refusal, tenant_refusal}
@@ -55,11 +55,11 @@ kept_on seen (Err first) old new (Ok reply) go h step = absurd step
 -- ---- a part
 
 -- a part that is not refused fits the upload's plan, and is put
-pub record IsPut (s : ModelStore) (number : ℕ) (p : PlannedPart) : Type 0 where
+pub record IsPut (s : ModelStore) (number : ℕ) (p : ModelPrepared) : Type 0 where
   pub fits : (u : ModelUpload) → upload_at s number ≡ Some u → Fits u.upload.plan p.part.offset (length p.part.bytes)
   pub free : put_refusal length s number p.part.offset (length p.part.bytes) ≡ None
 
-pub is_put : (s : ModelStore) (number : ℕ) (p : PlannedPart) → FitsItsPlan p → part_refused s number p ≡ None → IsPut s number p
+pub is_put : (s : ModelStore) (number : ℕ) (p : ModelPrepared) → FitsItsPlan p → part_refused s number p ≡ None → IsPut s number p
 is_put s number p own free =
     let is = is_for_plan s number p free in
     let fits = subst (λ (plan : UploadPlan). Fits plan p.part.offset (length p.part.bytes)) (same_plan_is p.plan is.upload.upload.plan is.same) own in

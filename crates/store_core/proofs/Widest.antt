@@ -6,10 +6,10 @@ use Rattle.std.proofs.lemmas.Bool.{leb-false, lt-leb}
 use Rattle.store_books.specs.declared.content.ObjectLabel.{ObjectLabel}
 use Rattle.store_books.specs.declared.refusal.Refusal.{Refusal}
 use Rattle.store_books.specs.declared.refusal.Refusal.TheVariants.{BelowUse, LimitTooLarge, NoTenant, NoUpload, OverQuota, TenantsFull, TooLong}
-use Rattle.store_books.specs.Books.{Begun, Books, Filed, free_of, in_use, is_absent, limit_of, most_entries, most_limit, most_tenants, object_at, upload_at}
+use Rattle.store_books.specs.Books.{ModelOwnedUpload, Books, Filed, free_of, in_use, is_absent, limit_of, max_entries, max_limit, max_tenants, object_at, upload_at}
 use Rattle.store_books.specs.Commands.{abort_refusal, add_refused, begin_refusal, end_refusal, file_refusal, fix_refused, forget_refusal, full_refusal, holding_refusal, join_refusal, limit_refusal, put_refusal, tenant_refusal, with_end, with_fixed, with_forgotten, with_joined, with_known, with_left, with_new, with_filed, with_part, with_put}
 use Rattle.store_books.specs.Bare.{Bare, as_it_is, label_address, label_len}
-use Rattle.store_upload.specs.Uploads.{fix_refusal, most_bytes, place_refusal}
+use Rattle.store_upload.specs.Uploads.{fix_refusal, max_bytes, place_refusal}
 use Rattle.store_upload.proofs.Places.{not_some}
 use Rattle.store_books.proofs.Commands.{passed, room}
 use Rattle.store_core.specs.Carried.{widest}
@@ -32,81 +32,81 @@ last_on rest other go (Some x) free = go x free
 
 -- books within the widest limits
 pub record IsWithin {P O : Type 0} (b : Books P O) : Type 0 where
-  pub tenants : b.tenants ≤ most_tenants
-  pub entries : b.entries ≤ most_entries
+  pub tenants : b.tenants ≤ max_tenants
+  pub entries : b.entries ≤ max_entries
 
 module _ (b : Bare) (within : IsWithin b) where
   wide_full : full_refusal b ≡ None → full_refusal (widest b) ≡ None
-  wide_full free = let few = room b free in let most = within.entries in rw (lt-leb most_entries b.accepted (omega (arith, few, most))) refl
+  wide_full free = let few = room b free in let most = within.entries in rw (lt-leb max_entries b.accepted (omega (arith, few, most))) refl
 
   pub wide_tenant : (limit : ℕ) → tenant_refusal b limit ≡ None → tenant_refusal (widest b) limit ≡ None
   wide_tenant limit free =
       let first = passed (nat_le b.tenants (length b.limits)) TenantsFull _ free in
       let few = leb-false b.tenants (length b.limits) first.0 in
       let most = within.tenants in
-      rw (lt-leb most_tenants (length b.limits) (omega (arith, few, most))) (last _ _ (full_refusal b) (full_refusal (widest b)) wide_full first.1)
+      rw (lt-leb max_tenants (length b.limits) (omega (arith, few, most))) (last _ _ (full_refusal b) (full_refusal (widest b)) wide_full first.1)
 
   pub wide_limit : (tenant limit : ℕ) → limit_refusal label_len b tenant limit ≡ None → limit_refusal label_len (widest b) tenant limit ≡ None
   wide_limit tenant limit =
-      last (is_absent b tenant) NoTenant _ _ (last (nat_lt most_limit limit) LimitTooLarge _ _ (last (nat_lt limit (in_use label_len b tenant)) (BelowUse (in_use label_len b tenant)) (full_refusal b) (full_refusal (widest b)) wide_full))
+      last (is_absent b tenant) NoTenant _ _ (last (nat_lt max_limit limit) LimitTooLarge _ _ (last (nat_lt limit (in_use label_len b tenant)) (BelowUse (in_use label_len b tenant)) (full_refusal b) (full_refusal (widest b)) wide_full))
 
   pub wide_begin : (tenant bound : ℕ) → begin_refusal label_len b tenant bound ≡ None → begin_refusal label_len (widest b) tenant bound ≡ None
   wide_begin tenant bound =
       last (is_absent b tenant) NoTenant _ _
-      (last (nat_lt most_bytes bound) TooLong _ _ (last (nat_lt (limit_of b tenant) (in_use label_len b tenant + bound)) (OverQuota (free_of label_len b tenant)) (full_refusal b) (full_refusal (widest b)) wide_full))
+      (last (nat_lt max_bytes bound) TooLong _ _ (last (nat_lt (limit_of b tenant) (in_use label_len b tenant + bound)) (OverQuota (free_of label_len b tenant)) (full_refusal b) (full_refusal (widest b)) wide_full))
 
   pub wide_put : (number offset n : ℕ) → put_refusal as_it_is b number offset n ≡ None → put_refusal as_it_is (widest b) number offset n ≡ None
   wide_put number offset n = last_on
-      (λ (u : Begun ℕ). option_or (option_map add_refused (place_refusal as_it_is u.upload offset n)) (full_refusal b))
-      (λ (u : Begun ℕ). option_or (option_map add_refused (place_refusal as_it_is u.upload offset n)) (full_refusal (widest b)))
+      (λ (u : ModelOwnedUpload ℕ). option_or (option_map add_refused (place_refusal as_it_is u.upload offset n)) (full_refusal b))
+      (λ (u : ModelOwnedUpload ℕ). option_or (option_map add_refused (place_refusal as_it_is u.upload offset n)) (full_refusal (widest b)))
       (λ u. last_of _ (full_refusal b) (full_refusal (widest b)) wide_full) (upload_at b number)
 
   pub wide_fix : (number n : ℕ) → end_refusal as_it_is b number n ≡ None → end_refusal as_it_is (widest b) number n ≡ None
   wide_fix number n = last_on
-      (λ (u : Begun ℕ). option_or (option_map fix_refused (fix_refusal as_it_is u.upload n)) (full_refusal b))
-      (λ (u : Begun ℕ). option_or (option_map fix_refused (fix_refusal as_it_is u.upload n)) (full_refusal (widest b)))
+      (λ (u : ModelOwnedUpload ℕ). option_or (option_map fix_refused (fix_refusal as_it_is u.upload n)) (full_refusal b))
+      (λ (u : ModelOwnedUpload ℕ). option_or (option_map fix_refused (fix_refusal as_it_is u.upload n)) (full_refusal (widest b)))
       (λ u. last_of _ (full_refusal b) (full_refusal (widest b)) wide_full) (upload_at b number)
 
-  wide_join : (u : Begun ℕ) (known : Option (Filed ObjectLabel)) → join_refusal label_len label_address b u known ≡ None → join_refusal label_len label_address (widest b) u known ≡ None
+  wide_join : (u : ModelOwnedUpload ℕ) (known : Option (Filed ObjectLabel)) → join_refusal label_len label_address b u known ≡ None → join_refusal label_len label_address (widest b) u known ≡ None
   wide_join u None = wide_full
   wide_join u (Some object) = last _ _ (full_refusal b) (full_refusal (widest b)) wide_full
 
   pub wide_file : (number : ℕ) (at : List ℕ) → file_refusal label_len label_address b number at ≡ None → file_refusal label_len label_address (widest b) number at ≡ None
   wide_file number at = last_on
-      (λ (u : Begun ℕ). join_refusal label_len label_address b u (object_at label_address b at))
-      (λ (u : Begun ℕ). join_refusal label_len label_address (widest b) u (object_at label_address b at))
+      (λ (u : ModelOwnedUpload ℕ). join_refusal label_len label_address b u (object_at label_address b at))
+      (λ (u : ModelOwnedUpload ℕ). join_refusal label_len label_address (widest b) u (object_at label_address b at))
       (λ u. wide_join u (object_at label_address b at)) (upload_at b number)
 
   pub wide_abort : (number : ℕ) → abort_refusal b number ≡ None → abort_refusal (widest b) number ≡ None
-  wide_abort number = last_on (λ (u : Begun ℕ). full_refusal b) (λ (u : Begun ℕ). full_refusal (widest b)) (λ u. wide_full) (upload_at b number)
+  wide_abort number = last_on (λ (u : ModelOwnedUpload ℕ). full_refusal b) (λ (u : ModelOwnedUpload ℕ). full_refusal (widest b)) (λ u. wide_full) (upload_at b number)
 
   pub wide_forget : (tenant : ℕ) (at : List ℕ) → forget_refusal label_address b tenant at ≡ None → forget_refusal label_address (widest b) tenant at ≡ None
   wide_forget tenant at = last_of (holding_refusal label_address b tenant at) (full_refusal b) (full_refusal (widest b)) wide_full
 
 -- ---- what commands leave
 
-part_wide : (b : Bare) (number offset n : ℕ) (found : Option (Begun ℕ)) → with_part as_it_is (widest b) number offset n found ≡ widest (with_part as_it_is b number offset n found)
+part_wide : (b : Bare) (number offset n : ℕ) (found : Option (ModelOwnedUpload ℕ)) → with_part as_it_is (widest b) number offset n found ≡ widest (with_part as_it_is b number offset n found)
 part_wide b number offset n None = refl
 part_wide b number offset n (Some u) = refl
 
 pub put_wide : (b : Bare) (number offset n : ℕ) → with_put as_it_is (widest b) number offset n ≡ widest (with_put as_it_is b number offset n)
 put_wide b number offset n = part_wide b number offset n (upload_at b number)
 
-end_wide : (b : Bare) (number n : ℕ) (found : Option (Begun ℕ)) → with_end (widest b) number n found ≡ widest (with_end b number n found)
+end_wide : (b : Bare) (number n : ℕ) (found : Option (ModelOwnedUpload ℕ)) → with_end (widest b) number n found ≡ widest (with_end b number n found)
 end_wide b number n None = refl
 end_wide b number n (Some u) = refl
 
 pub fixed_wide : (b : Bare) (number n : ℕ) → with_fixed (widest b) number n ≡ widest (with_fixed b number n)
 fixed_wide b number n = end_wide b number n (upload_at b number)
 
-new_wide : (b : Bare) (number : ℕ) (label : ObjectLabel) (found : Option (Begun ℕ)) → with_new (widest b) number label found ≡ widest (with_new b number label found)
+new_wide : (b : Bare) (number : ℕ) (label : ObjectLabel) (found : Option (ModelOwnedUpload ℕ)) → with_new (widest b) number label found ≡ widest (with_new b number label found)
 new_wide b number label None = refl
 new_wide b number label (Some u) = refl
 
 pub filed_wide : (b : Bare) (number : ℕ) (label : ObjectLabel) → with_filed (widest b) number label ≡ widest (with_filed b number label)
 filed_wide b number label = new_wide b number label (upload_at b number)
 
-known_wide : (b : Bare) (number : ℕ) (at : List ℕ) (found : Option (Begun ℕ)) (known : Option (Filed ObjectLabel)) → with_known label_address (widest b) number at found known ≡ widest (with_known label_address b number at found known)
+known_wide : (b : Bare) (number : ℕ) (at : List ℕ) (found : Option (ModelOwnedUpload ℕ)) (known : Option (Filed ObjectLabel)) → with_known label_address (widest b) number at found known ≡ widest (with_known label_address b number at found known)
 known_wide b number at None known = refl
 known_wide b number at (Some u) None = refl
 known_wide b number at (Some u) (Some object) = refl

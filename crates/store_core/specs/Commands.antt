@@ -1,12 +1,12 @@
--- Commands on the store, and questions. A command is refused as the books refuse it, or is accepted: it answers, leaves the books that it
--- leaves there, and has an entry in the journal. A refused command and a question change nothing.
+-- Commands on the store, and questions. A command is refused as the books refuse it, or is accepted: it has a reply, changes the books, and
+-- adds an entry to the journal. A refused command and a question change nothing.
 use Rattle.std.specs.Prelude.{◌≡◌, ◌+◌, ◌-◌, ◌*◌, ◌==◌, ℕ, Bool, true, false, List, [], ◌∷◌, ◌++◌, Option, Some, None, Result, Ok, Err, length, if◌then◌else◌, nat_le}
 use Rattle.std.specs.Option.{option_map_or}
 use Rattle.std.specs.Str.{bytes_eq}
 use Rattle.b3_core.specs.Modes.{hash_of}
-use Rattle.b3_forest.specs.Parts.{PlannedPart}
+use Rattle.b3_forest.specs.Parts.{ModelPrepared}
 use Rattle.b3_forest.specs.Uploads.{content_of, pieces_held, put_work}
-use Rattle.store_books.specs.declared.books.OpenUpload.{OpenUpload}
+use Rattle.store_books.specs.declared.books.UploadStatus.{UploadStatus}
 use Rattle.store_books.specs.declared.books.Usage.{Usage}
 use Rattle.store_books.specs.declared.refusal.Refusal.{Refusal}
 use Rattle.store_books.specs.declared.refusal.Refusal.TheVariants.{NoMemory, NoTenant, NoUpload, WrongAddress, WrongPlan}
@@ -21,51 +21,51 @@ use Rattle.store_journal.specs.declared.entry.Entry.{Entry}
 use Rattle.store_journal.specs.declared.entry.Entry.TheVariants as entry
 use Rattle.store_upload.specs.Uploads.{Upload, UploadPlan, closed_plan, first_missing, held_bytes, new_upload, open_plan, same_plan}
 
--- ---- answers
+-- ---- results
 
--- an acceptance: the reply, the store that it leaves, and its entry in the journal
+-- an acceptance: the reply, the resulting store, and its entry in the journal
 pub record Acceptance (M : Type 0) : Type 0 where
   pub reply : M
   pub state : ModelStore
   pub entry : Entry
 
--- what an acceptance leaves, and the journal with its entry
+-- the store after an acceptance, and the journal with its entry
 abbrev pub advanced : {M : Type 0} → Shown → Acceptance M → Shown
 advanced old a = record { state = a.state; journal = old.journal ++ a.entry ∷ [] }
 
--- what is refused where there is a refusal, and else answered so
+-- the refusal, if there is one, otherwise the answer
 abbrev pub unless : {A : Type 0} → Option Refusal → A → Result A Refusal
 unless None answer = Ok answer
 unless (Some refusal) answer = Err refusal
 
--- A call's answer, seen so, and what it leaves are the model's; or memory was refused, where the model accepts. A refusal
--- leaves store and journal as they were.
+-- A call's result, as viewed, and its effect are the model's; or the model accepts, and it ran out of memory. A refusal leaves store and
+-- journal unchanged.
 abbrev pub StepsAs : {R M : Type 0} → (R → M) → Result (Acceptance M) Refusal → Shown → Result R Refusal → Shown → Type 0
 StepsAs seen (Ok a) old (Ok reply) new = (seen reply ≡ a.reply) × (new ≡ advanced old a)
 StepsAs seen (Ok a) old (Err refusal) new = (refusal ≡ NoMemory) × (new ≡ old)
 StepsAs seen (Err first) old (Err refusal) new = (refusal ≡ first) × (new ≡ old)
 StepsAs seen (Err first) old (Ok reply) new = ⊥
 
--- a result whose reply is seen so
+-- a result, with its reply as viewed
 abbrev pub reply_seen : {R M E : Type 0} → (R → M) → Result R E → Result M E
 reply_seen seen (Ok reply) = Ok (seen reply)
 reply_seen seen (Err refusal) = Err refusal
 
--- a put's result without the part that it hands back
+-- a put's result, without the part that a refusal returns
 abbrev pub put_result : Result Held PutRefused → Result Held Refusal
 put_result (Ok held) = Ok held
 put_result (Err refused) = Err refused.refusal
 
--- a reply that is seen as it is
+-- a reply viewed as it is
 abbrev pub as_is : {R : Type 0} → R → R
 as_is reply = reply
 
--- a question's answer, seen so, is the model's; or memory was refused
-abbrev pub Tells : {R M : Type 0} → (R → M) → Result M Refusal → Result R Refusal → Type 0
-Tells seen (Ok told) (Ok reply) = seen reply ≡ told
-Tells seen (Ok told) (Err refusal) = refusal ≡ NoMemory
-Tells seen (Err first) (Err refusal) = refusal ≡ first
-Tells seen (Err first) (Ok reply) = ⊥
+-- a question's answer, as viewed, is the model's; or it ran out of memory
+abbrev pub AnswersAs : {R M : Type 0} → (R → M) → Result M Refusal → Result R Refusal → Type 0
+AnswersAs seen (Ok told) (Ok reply) = seen reply ≡ told
+AnswersAs seen (Ok told) (Err refusal) = refusal ≡ NoMemory
+AnswersAs seen (Err first) (Err refusal) = refusal ≡ first
+AnswersAs seen (Err first) (Ok reply) = ⊥
 
 -- ---- tenants
 
@@ -89,7 +89,7 @@ set_limit_in s tenant limit = unless (limit_refusal length s tenant limit) (reco
 abbrev pub begin_entry : ℕ → ℕ → UploadPlan → Entry
 begin_entry number tenant plan = if plan.is_open then entry.Open number tenant plan.bound else entry.Begin number tenant plan.bound
 
--- an upload of that plan is begun: the reply is its number and its plan
+-- an upload with that plan is begun: the reply is its number and its plan
 abbrev pub begin_plan_in : ModelStore → ℕ → UploadPlan → Result (Acceptance (ℕ × UploadPlan)) Refusal
 begin_plan_in s tenant plan = unless (begin_refusal length s tenant plan.bound) (record {
   reply = (s.begun, plan);
@@ -103,28 +103,28 @@ begin_in s tenant len = begin_plan_in s tenant (closed_plan len)
 abbrev pub begin_open_in : ModelStore → ℕ → ℕ → Result (Acceptance (ℕ × UploadPlan)) Refusal
 begin_open_in s tenant at_most = begin_plan_in s tenant (open_plan at_most)
 
--- the open upload of the number, and none of its bytes where there is none
+-- the open upload of the number, or an empty one if there is none
 abbrev pub opened : ModelStore → ℕ → Upload (List ℕ)
 opened s number = option_map_or (λ u. u.upload) (upload_at s number) (new_upload (closed_plan 0))
 
--- how many bytes the open upload of the number holds, and its least offset that it doesn't hold
+-- the number of bytes that the open upload holds, and the lowest offset that it does not hold
 abbrev pub held_in : ModelStore → ℕ → Held
 held_in s number = record { held = held_bytes length (opened s number).parts; missing = first_missing length (opened s number) }
 
 -- of a part: the upload is not open, has another plan than the part, or does not take it
-abbrev pub part_refused : ModelStore → ℕ → PlannedPart → Option Refusal
+abbrev pub part_refused : ModelStore → ℕ → ModelPrepared → Option Refusal
 part_refused s number p = option_map_or
     (λ u. if same_plan p.plan u.upload.plan then put_refusal length s number p.part.offset (length p.part.bytes) else Some WrongPlan)
     (upload_at s number) (Some NoUpload)
 
-abbrev pub put_in : ModelStore → ℕ → PlannedPart → Result (Acceptance Held) Refusal
+abbrev pub put_in : ModelStore → ℕ → ModelPrepared → Result (Acceptance Held) Refusal
 put_in s number p = unless (part_refused s number p) (record {
   reply = held_in (with_put length s number p.part.offset p.part.bytes) number;
   state = with_put length s number p.part.offset p.part.bytes;
   entry = entry.Put number p.part.offset (length p.part.bytes);
 })
 
--- the upload's end is fixed, and so what it reserves
+-- the upload's end is fixed, and so is what it reserves
 abbrev pub fix_in : ModelStore → ℕ → ℕ → Result (Acceptance (Unit {0})) Refusal
 fix_in s number len = unless (end_refusal length s number len) (record {
   reply = tt;
@@ -132,7 +132,7 @@ fix_in s number len = unless (end_refusal length s number len) (record {
   entry = entry.Fix number len;
 })
 
--- the upload goes, and what it held is handed back
+-- the upload is removed, and what it held is returned
 abbrev pub abort_in : ModelStore → ℕ → Result (Acceptance (Upload (List ℕ))) Refusal
 abort_in s number = unless (abort_refusal s number) (record {
   reply = opened s number;
@@ -149,14 +149,15 @@ content_in s number = content_of (opened s number).parts
 abbrev pub address_in : ModelStore → ℕ → List ℕ
 address_in s number = hash_of (content_in s number)
 
--- what a seal answers: its content's address, whether no object was filed under it before, the object's bytes, and what the upload held
+-- the result of a seal: its content's address, whether no object was filed there before, the object's bytes, and what the upload held
 pub record ModelSealed : Type 0 where
   pub address : List ℕ
   pub new : Bool
   pub bytes : List ℕ
   pub released : Upload (List ℕ)
 
--- a complete upload goes: where nothing is filed under its content's address that is filed last, and else its tenant joins the holders
+-- a complete upload is removed: if nothing is filed at its content's address, the content is filed last, otherwise its tenant joins the
+-- holders
 abbrev pub sealed_by : ModelStore → ℕ → Option ModelObject → Acceptance ModelSealed
 sealed_by s number None = record {
   reply = record { address = address_in s number; new = true; bytes = content_in s number; released = opened s number };
@@ -172,7 +173,7 @@ sealed_by s number (Some object) = record {
 abbrev pub filed_in : ModelStore → ℕ → Result (Acceptance ModelSealed) Refusal
 filed_in s number = unless (file_refusal length hash_of s number (address_in s number)) (sealed_by s number (object_at hash_of s (address_in s number)))
 
--- what was refused before, and else what follows
+-- the earlier refusal, otherwise what follows
 abbrev pub and_then : {A : Type 0} → Option Refusal → Result A Refusal → Result A Refusal
 and_then None rest = rest
 and_then (Some refusal) rest = Err refusal
@@ -180,14 +181,14 @@ and_then (Some refusal) rest = Err refusal
 abbrev pub seal_in : ModelStore → ℕ → Result (Acceptance ModelSealed) Refusal
 seal_in s number = and_then (ready_refusal length s number) (filed_in s number)
 
--- the content has another address than the one handed in
+-- the content has another address than the one given
 abbrev pub address_refused : ModelStore → ℕ → List ℕ → Option Refusal
 address_refused s number address = if bytes_eq (address_in s number) address then None else Some (WrongAddress (address_in s number))
 
 abbrev pub seal_as_in : ModelStore → ℕ → List ℕ → Result (Acceptance ModelSealed) Refusal
 seal_as_in s number address = and_then (ready_refusal length s number) (and_then (address_refused s number address) (filed_in s number))
 
--- what is gone with its last holder: its bytes
+-- what is removed with its last holder: its bytes
 abbrev pub gone_in : ModelStore → List ℕ → Option (List ℕ)
 gone_in s address = option_map_or (λ o. if nat_le (length o.holders) 1 then Some o.content else None) (object_at hash_of s address) None
 
@@ -200,7 +201,7 @@ forget_in s tenant address = unless (forget_refusal hash_of s tenant address) (r
 
 -- ---- questions
 
--- the plan of an open upload, which never changes
+-- the plan of an open upload; it never changes
 abbrev pub plan_in : ModelStore → ℕ → Result UploadPlan Refusal
 plan_in s number = option_map_or (λ u. Ok u.upload.plan) (upload_at s number) (Err NoUpload)
 
@@ -208,7 +209,7 @@ plan_in s number = option_map_or (λ u. Ok u.upload.plan) (upload_at s number) (
 abbrev pub fetch_in : ModelStore → ℕ → List ℕ → Result (List ℕ) Refusal
 fetch_in s tenant address = unless (holding_refusal hash_of s tenant address) (option_map_or (λ o. o.content) (object_at hash_of s address) [])
 
--- addresses and lengths of those objects that the tenant holds, in their order
+-- addresses and lengths of the objects that the tenant holds, in their order
 abbrev pub list_in : ModelStore → ℕ → Result (List (List ℕ × ℕ)) Refusal
 list_in s tenant = if is_absent s tenant then Err NoTenant else Ok (books.listed length hash_of tenant s.objects)
 
@@ -217,7 +218,7 @@ abbrev pub holds_in : ModelStore → ℕ → List ℕ → Result ℕ Refusal
 holds_in s tenant address = unless (holding_refusal hash_of s tenant address) (option_map_or (λ o. length o.content) (object_at hash_of s address) 0)
 
 -- the tenant's open uploads, by number
-abbrev pub uploads_in : ModelStore → ℕ → Result (List OpenUpload) Refusal
+abbrev pub uploads_in : ModelStore → ℕ → Result (List UploadStatus) Refusal
 uploads_in s tenant = if is_absent s tenant then Err NoTenant else Ok (books.open_uploads length tenant s.uploads)
 
 -- use, reservation and limit of each tenant, by number
@@ -227,14 +228,14 @@ tenants_in s = books.usages_of length s
 -- ---- compressions
 
 -- of a part that is put: two for each merge in its upload
-abbrev pub put_work_in : ModelStore → ℕ → PlannedPart → ℕ
+abbrev pub put_work_in : ModelStore → ℕ → ModelPrepared → ℕ
 put_work_in s number p = put_work (opened s number).parts p.part
 
 -- of a seal of m pieces: one for the root, and two for each piece after the first
 abbrev pub seal_work : ℕ → ℕ
 seal_work m = if m == 0 then 1 else 2 * (m - 1) + 1
 
--- of a seal: none where the upload isn't open and complete
+-- of a seal: none if the upload is not open and complete
 abbrev pub seal_work_of : Option Refusal → ℕ → ℕ
 seal_work_of None pieces = seal_work pieces
 seal_work_of (Some refusal) pieces = 0

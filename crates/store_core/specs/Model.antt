@@ -1,5 +1,5 @@
--- The store that commands speak of: the books over parts and objects with bytes, and the journal. No hash, no tree value and no sum is
--- kept in it: an object's address is the hash of its bytes.
+-- The store that commands are about: the books over parts and objects with bytes, and the journal. It keeps no hash, no tree value and no
+-- sum: an object's address is the hash of its bytes.
 use Rattle.std.specs.Prelude.{◌≡◌, ◌<◌, ℕ, List, [], ◌∷◌, length}
 use Rattle.b3_forest.specs.Parts.{HeldPart}
 use Rattle.store_books.specs.Books.{Books, Filed, empty_books}
@@ -13,7 +13,7 @@ ModelObject = Filed (List ℕ)
 abbrev pub ModelStore : Type 0
 ModelStore = Books (List ℕ) (List ℕ)
 
--- a store, and the journal beside it
+-- a store and its journal
 pub record Shown : Type 0 where
   pub state : ModelStore
   pub journal : List Entry
@@ -22,7 +22,7 @@ pub record Shown : Type 0 where
 abbrev pub start : Limits → Shown
 start l = record { state = empty_books l.tenants l.entries l.workers; journal = [] }
 
--- parts with bytes of which the first begins at offset a, and each other where the one before it ends
+-- parts with bytes, the first at offset a, and each other one where the one before it ends
 abbrev pub AreJoined : ℕ → List HeldPart → Type 0
 AreJoined a [] = Unit {0}
 AreJoined a (p ∷ ps) = (p.0 ≡ a) × (0 < length p.1) × AreJoined (end_of length p) ps

@@ -1,7 +1,7 @@
--- Runs of the model store: calls along a list, with their replies.
+-- Runs of the model store: a list of calls, with their replies.
 use Rattle.std.specs.Prelude.{◌≡◌, ℕ, List, [], ◌∷◌, Result, Ok, Err, length}
-use Rattle.b3_forest.specs.Parts.{PlannedPart}
-use Rattle.store_books.specs.declared.books.OpenUpload.{OpenUpload}
+use Rattle.b3_forest.specs.Parts.{ModelPrepared}
+use Rattle.store_books.specs.declared.books.UploadStatus.{UploadStatus}
 use Rattle.store_books.specs.declared.books.Usage.{Usage}
 use Rattle.store_books.specs.declared.refusal.Refusal.{Refusal}
 use Rattle.store_books.specs.declared.totals.Totals.{Totals}
@@ -13,18 +13,18 @@ use Rattle.store_core.specs.declared.command.Question.{Question}
 use Rattle.store_core.specs.declared.command.Question.TheVariants as questions
 use Rattle.store_core.specs.declared.store.Held.{Held}
 use Rattle.store_core.specs.Carried.{HasTotals, IsCarried}
-use Rattle.store_core.specs.Commands.{Acceptance, StepsAs, ModelSealed, Tells, abort_in, as_is, begin_in, begin_open_in, fetch_in, fix_in, forget_in, holds_in, list_in, open_tenant_in, plan_in, put_in, seal_as_in, seal_in, seal_work_in, set_limit_in, tenants_in, uploads_in}
+use Rattle.store_core.specs.Commands.{Acceptance, StepsAs, ModelSealed, AnswersAs, abort_in, as_is, begin_in, begin_open_in, fetch_in, fix_in, forget_in, holds_in, list_in, open_tenant_in, plan_in, put_in, seal_as_in, seal_in, seal_work_in, set_limit_in, tenants_in, uploads_in}
 use Rattle.store_core.specs.Model.{ModelStore, Shown}
 use Rattle.store_journal.specs.declared.entry.Entry.{Entry}
 use Rattle.store_upload.specs.Uploads.{Fits, UploadPlan}
 
--- a call of the store: a command, a part that is put, or a question
+-- a call of the store: a command, a part to put, or a question
 pub data Call : Type 0 where
   change : Command → Call
-  put : ℕ → PlannedPart → Call
+  put : ℕ → ModelPrepared → Call
   ask : Question → Call
 
--- what an accepted command or an answered question tells
+-- the result of an accepted command or of a question
 pub data Reply : Type 0 where
   -- the new tenant's number; the new upload's number and its plan
   opened_tenant : ℕ → Reply
@@ -37,39 +37,39 @@ pub data Reply : Type 0 where
   the_plan : UploadPlan → Reply
   the_list : List (List ℕ × ℕ) → Reply
   the_length : ℕ → Reply
-  the_uploads : List OpenUpload → Reply
+  the_uploads : List UploadStatus → Reply
   the_tenants : List Usage → Reply
   the_totals : Totals → Reply
   the_journal : List Entry → Reply
 
--- an acceptance with its reply as one of these
+-- an acceptance with its reply as a Reply
 abbrev pub replied : {M : Type 0} → (M → Reply) → Result (Acceptance M) Refusal → Result (Acceptance Reply) Refusal
 replied reply (Ok a) = Ok (record { reply = reply a.reply; state = a.state; entry = a.entry })
 replied reply (Err refusal) = Err refusal
 
--- an answer with its reply as one of these
+-- an answer as a Reply
 abbrev pub told : {M : Type 0} → (M → Reply) → Result M Refusal → Result Reply Refusal
 told reply (Ok answer) = Ok (reply answer)
 told reply (Err refusal) = Err refusal
 
--- a part that is handed in fits the plan that it was made for
-abbrev pub FitsItsPlan : PlannedPart → Type 0
+-- a given part fits the plan that it was made for
+abbrev pub FitsItsPlan : ModelPrepared → Type 0
 FitsItsPlan p = Fits p.plan p.part.offset (length p.part.bytes)
 
--- What a question tells; where it takes memory, it may be refused for the want of it.
+-- The answer to a question; if it allocates, it may run out of memory.
 abbrev pub Answers : Shown → Question → Result Reply Refusal → Type 0
-Answers shown (questions.Fetch tenant address) reply = Tells as_is (told the_bytes (fetch_in shown.state tenant address)) reply
+Answers shown (questions.Fetch tenant address) reply = AnswersAs as_is (told the_bytes (fetch_in shown.state tenant address)) reply
 Answers shown (questions.Usage tenant) reply = reply ≡ told the_usage (usage_in length shown.state tenant)
 Answers shown (questions.Plan upload) reply = reply ≡ told the_plan (plan_in shown.state upload)
-Answers shown (questions.List tenant) reply = Tells as_is (told the_list (list_in shown.state tenant)) reply
+Answers shown (questions.List tenant) reply = AnswersAs as_is (told the_list (list_in shown.state tenant)) reply
 Answers shown (questions.Holds tenant address) reply = reply ≡ told the_length (holds_in shown.state tenant address)
-Answers shown (questions.Uploads tenant) reply = Tells as_is (told the_uploads (uploads_in shown.state tenant)) reply
-Answers shown questions.Tenants reply = Tells as_is (Ok (the_tenants (tenants_in shown.state))) reply
+Answers shown (questions.Uploads tenant) reply = AnswersAs as_is (told the_uploads (uploads_in shown.state tenant)) reply
+Answers shown questions.Tenants reply = AnswersAs as_is (Ok (the_tenants (tenants_in shown.state))) reply
 Answers shown questions.Totals reply = reply ≡ Ok (the_totals (totals_of length length shown.state))
 Answers shown questions.Journal reply = reply ≡ Ok (the_journal shown.journal)
 
--- One step: the reply is the model's, and so is what it leaves. A command that is accepted adds its entry to the journal; one
--- that is refused, and a question, leave store and journal as they were. What takes memory may be refused for the want of it.
+-- One step: the reply and the effect are the model's. An accepted command adds its entry to the journal; a refused command and a question
+-- leave store and journal unchanged. A step that allocates may run out of memory.
 abbrev pub Step : Shown → Call → Result Reply Refusal → Shown → Type 0
 Step old (change (commands.OpenTenant limit)) reply new = StepsAs as_is (replied opened_tenant (open_tenant_in old.state limit)) old reply new
 Step old (change (commands.SetLimit tenant limit)) reply new = StepsAs as_is (replied (λ _. done) (set_limit_in old.state tenant limit)) old reply new
@@ -83,21 +83,20 @@ Step old (change (commands.Forget tenant address)) reply new = StepsAs as_is (re
 Step old (put upload part) reply new = FitsItsPlan part × StepsAs as_is (replied now_held (put_in old.state upload part)) old reply new
 Step old (ask question) reply new = Answers old question reply × (new ≡ old)
 
--- the compressions of a command: those of a seal, and else none
+-- the compressions of a command: those of a seal, otherwise none
 abbrev pub step_work : ModelStore → Command → ℕ
 step_work s (commands.Seal upload) = seal_work_in s upload
 step_work s (commands.SealAs upload address) = seal_work_in s upload
 step_work s _ = 0
 
--- Steps along a list of calls, with their replies in order. The journal grows by the entries of the acceptances, in order, and by
--- nothing else.
+-- Steps along a list of calls, with their replies in order. The journal grows by exactly the entries of the acceptances, in order.
 abbrev pub Run : Shown → List Call → List (Result Reply Refusal) → Shown → Type 0
 Run old [] [] new = new ≡ old
 Run old [] (reply ∷ replies) new = ⊥
 Run old (call ∷ calls) [] new = ⊥
 Run old (call ∷ calls) (reply ∷ replies) new = (then : Shown) × Step old call reply then × Run then calls replies new
 
--- the law of a store goes on along every run: objects stand under their hashes, the totals are the sums, and the journal replays to what
--- the store keeps
+-- the invariant of a store holds along every run: objects are stored at their hashes, the totals are the sums, and the journal replays to
+-- what the store keeps
 abbrev pub RunsCarry : Type 0
 RunsCarry = (old new : Shown) (calls : List Call) (replies : List (Result Reply Refusal)) → IsCarried old → Run old calls replies new → IsCarried new × HasTotals new

@@ -1,4 +1,4 @@
--- What the code replies, as the model has it: objects as their bytes.
+-- The replies of the code, as the model has them: objects as their bytes.
 use Rattle.std.specs.Prelude.{ℕ, List, Option, option_map}
 use Rattle.std.specs.Arc.{arc_value}
 use Rattle.std.specs.declared.sync.Arc.{Arc}
@@ -9,15 +9,15 @@ use Rattle.store_core.specs.Commands.{ModelSealed}
 use Rattle.store_core.specs.Model.{Shown}
 use Rattle.store_core.specs.Runs.{Reply, begun_upload, done, now_held, now_sealed, opened_tenant, the_bytes, the_journal, the_length, the_list, the_plan, the_tenants, the_totals, the_uploads, the_usage}
 
--- a seal's reply, whose object is seen as its bytes
+-- a seal's reply, with the object as its bytes
 abbrev pub sealed_seen : Sealed → ModelSealed
 sealed_seen s = record { address = s.address; new = s.new; bytes = arc_value s.object; released = s.released }
 
--- a forget's reply, whose object is seen as its bytes
+-- a forget's reply, with the object as its bytes
 abbrev pub gone_seen : {Z : Type 0} → Option (Arc (List ℕ) Z) → Option (List ℕ)
 gone_seen gone = option_map (λ object. arc_value object) gone
 
--- the reply of a store that shows this; the journal stays in the store
+-- the reply of a store with this view; the journal stays in the store
 abbrev pub reply_of : Shown → CodeReply → Reply
 reply_of shown (replies.Tenant number) = opened_tenant number
 reply_of shown (replies.Upload number plan) = begun_upload number plan

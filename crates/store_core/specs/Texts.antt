@@ -1,4 +1,4 @@
--- What is shown of a part that was not put.
+-- The debug text of a part that was not put.
 use Rattle.std.specs.Prelude.{ℕ, List, ◌++◌, codes}
 use Rattle.store_books.specs.declared.refusal.Refusal.{Refusal}
 use Rattle.store_books.specs.Refusals.{refusal_text}

@@ -7,7 +7,7 @@ use indexmap::IndexMap;
 use std::alloc::{AllocError, Global};
 use store_books::{Address, AddressIndex};
 
-// A hashed map: a store's addresses are hashes, which spread by themselves.
+// A hash map: a store's addresses are hashes already, and so are evenly distributed.
 #[derive(Drop)]
 pub(crate) struct AddressMap {
     numbers: IndexMap<Address, u64>,

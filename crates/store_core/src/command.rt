@@ -2,7 +2,7 @@
 
 use store_books::{Address, TenantId, UploadId};
 
-/// A command of the store, but for a put. Lengths and limits are in bytes.
+/// A command of the store, except a put. Lengths and limits are in bytes.
 #[derive(Clone, Copy, Debug, PartialEq, Eq)]
 pub enum Command {
     OpenTenant { limit: u64 },
@@ -16,7 +16,7 @@ pub enum Command {
     Forget { tenant: TenantId, address: Address },
 }
 
-/// A question of the store, which changes nothing.
+/// A question to the store. It changes nothing.
 #[derive(Clone, Copy, Debug, PartialEq, Eq)]
 pub enum Question {
     Fetch { tenant: TenantId, address: Address },

@@ -1,13 +1,25 @@
 //! A store of objects under their BLAKE3 hashes, with tenants' quotas, uploads in parts, and a journal.
 //!
-//! - `Limits` says how many tenants, journal entries and workers there may be. `Store::new` makes an empty store.
+//! ```rust
+//! let mut work = Work::new(rt);
+//! let mut store = Store::new(alloc, Limits::full());
+//! let tenant = store.open_tenant(1 << 30)?;
+//! let (upload, plan) = store.begin(tenant, bytes.len() as u64)?;
+//! let part = Prepared::make(alloc, &plan, 0, bytes, &mut work)?;
+//! let _held = store.put(upload, part, &mut work)?;
+//! let sealed = store.seal(upload, &mut work)?;
+//! let object = store.fetch(tenant, sealed.address)?;
+//! ```
+//!
+//! - `Limits` are the maximum numbers of tenants, journal entries and workers. `Store::new` makes an empty store.
 //! - Commands are the methods of `Store` on `&mut self`, questions those on `&self`. A store is the books of `store_books` over parts and
-//!   objects with bytes, and a journal. Each command is refused by the books' first refusal, or leaves their books and adds an entry
-//!   (`specs/Commands.antt`); what holds of each store, whichever commands led to it, stands in `specs/Carried.antt`.
-//! - `Command` and `Question` are these as values: `Store::step` does a command, `Store::ask` asks a question, and both tell a `Reply`.
-//! - `Object` is what a seal files: contracts see it as its bytes. It stands under their hash.
-//! - `run_laws` states that along every list of commands and questions that law goes on.
-//! - Names, limits and refusals come from `store_books`, the journal's entries, text and replay from `store_journal`, and can be named
+//!   objects with bytes, and a journal. Each command is refused with the books' first refusal, or changes the books as they define and adds
+//!   an entry (`specs/Commands.antt`). The facts about every store, whichever commands led to it, are in `specs/Carried.antt`.
+//! - `Command` and `Question` are these as values: `Store::step` executes a command, `Store::ask` answers a question, and both return a
+//!   `Reply`.
+//! - `Object` is what a seal files: in contracts it is its bytes. It is stored under their hash.
+//! - `run_laws` states that this invariant holds along every list of commands and questions.
+//! - Names, limits and refusals come from `store_books`; the journal's entries, text and replay come from `store_journal`. All can be named
 //!   from here too.
 #![tactic(auto)]
 
@@ -27,11 +39,11 @@ pub use refusal::PutRefused;
 pub use reply::Reply;
 pub use store::{Held, Sealed, Store};
 pub use store_books::{
-    Address, BadLimits, Limits, MOST_ENTRIES, MOST_LIMIT, MOST_TENANTS, OpenUpload, Refusal,
-    TenantId, Totals, UploadId, Usage,
+    Address, BadLimits, Limits, MAX_ENTRIES, MAX_LIMIT, MAX_TENANTS, Refusal, TenantId, Totals,
+    UploadId, UploadStatus, Usage,
 };
 pub use store_journal::{
-    AcceptedPuts, BadText, Entry, IllegalEntry, JournalWriter, LeftObject, LeftUpload, ReadError,
-    ReplayError, Replayed, Version, entry_laws, entry_lines, journal_laws, read_entry,
+    AcceptedPuts, BadText, Entry, IllegalEntry, JournalWriter, LeftObject, ReadError, ReplayError,
+    Replayed, ReplayedUpload, Version, entry_laws, entry_lines, journal_laws, read_entry,
     read_journal, replay, write_entries, write_entry, write_journal,
 };

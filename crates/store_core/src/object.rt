@@ -12,7 +12,7 @@ use std::marker::Model;
 use std::sync::Arc;
 use store_books::{Address, Content};
 
-/// Bytes that were filed under their address. Contracts see an object as its bytes.
+/// Bytes that were filed at their address. In contracts an object is its bytes.
 #[derive(Drop)]
 pub struct Object {
     address: Address,
@@ -55,14 +55,14 @@ impl Object {
         self.address
     }
 
-    /// How many bytes there are.
+    /// The number of bytes.
     pub fn len(&self) -> u64
         ensures { result ≡ length self.now }
     {
         self.len
     }
 
-    /// The bytes, in order, as the parts in which they came: none is empty, and each begins where the one before it ends.
+    /// The bytes, in order, as the parts in which they arrived: none is empty, and each starts where the one before it ends.
     pub fn segments(&self) -> &[Segment]
         ensures bytes { content_of (map part_of result.now) ≡ self.now }
         ensures joined { AreJoined 0 (map part_of result.now) }
@@ -70,8 +70,8 @@ impl Object {
         self.segments.as_slice()
     }
 
-    /// Copies the bytes from `offset` on to the front of `room`, as many as there are and fit, and answers how many. The rest of `room`
-    /// stays. Time: linear in them and in the parts before their end.
+    /// Copies the bytes starting at `offset` to the front of `room`, as many as fit, and returns how many. The remaining bytes of `room`
+    /// are unchanged. Time: linear in the copied bytes and in the parts before their end.
     pub fn read(&self, offset: u64, room: &mut [u8]) -> usize
         ensures count { result ≡ min (length room.old) (length self.now - offset) }
         ensures bytes { room.new ≡ take (length room.old) (drop offset self.now) ++ drop result room.old }
@@ -80,7 +80,7 @@ impl Object {
     }
 }
 
-// Copies the bytes of segments from `offset` on to the front of `room`, as many as there are and fit.
+// Copies the bytes of segments, starting at `offset`, to the front of `room`, as many as fit.
 fn read_segments(segments: &[Segment], offset: u64, room: &mut [u8]) -> usize
     ensures count { result ≡ min (length room.old) (length (content_of (map part_of segments.now)) - offset) }
     ensures bytes { room.new ≡ take (length room.old) (drop offset (content_of (map part_of segments.now))) ++ drop result room.old }
@@ -92,21 +92,21 @@ fn read_segments(segments: &[Segment], offset: u64, room: &mut [u8]) -> usize
             return at;
         }
         let bytes = segment.bytes.as_slice();
-        at += copy_at(behind(bytes, skip), room, at);
+        at += copy_at(following(bytes, skip), room, at);
         skip = skip.saturating_sub(bytes.len() as u64);
     }
     at
 }
 
-// The bytes behind so many.
-fn behind(bytes: &[u8], skip: u64) -> &[u8]
+// The bytes after the first `skip`.
+fn following(bytes: &[u8], skip: u64) -> &[u8]
     ensures { result.now ≡ drop skip bytes.now }
 {
     let skip = skip.min(bytes.len() as u64) as usize;
     &bytes[skip..]
 }
 
-// Copies bytes into `room` from a place on, as many as fit, and answers how many.
+// Copies as many bytes as fit into `room`, starting at `at`, and returns how many.
 fn copy_at(bytes: &[u8], room: &mut [u8], at: usize) -> usize
     requires { at ≤ length room.old }
     ensures count { result ≡ min (length bytes.now) (length room.old - at) }
@@ -133,14 +133,14 @@ impl Model for SharedObject {
 }
 
 impl SharedObject {
-    /// An object that others may hold too.
+    /// An object that may be shared.
     pub(crate) fn new(object: Arc<Object>) -> SharedObject
         ensures { result ≡ arc_value object }
     {
         SharedObject { object }
     }
 
-    /// One more handle to the object.
+    /// Another handle to the object.
     pub(crate) fn share(&self) -> Result<Arc<Object>, AllocError>
         ensures { IfOk result (λ object. arc_value object ≡ self.now) }
     {

@@ -9,7 +9,7 @@ use std::error::Error;
 use std::fmt;
 use store_books::Refusal;
 
-/// A part that was not put, handed back.
+/// A part that was not put; it is returned to the caller.
 #[derive(Drop)]
 pub struct PutRefused {
     pub refusal: Refusal,
@@ -17,7 +17,7 @@ pub struct PutRefused {
 }
 
 impl PutRefused {
-    /// The refusal's number.
+    /// The code of the refusal.
     pub fn code(&self) -> &'static str
         ensures { result.now ≡ refusal_code self.now.refusal }
     {
@@ -34,7 +34,7 @@ impl fmt::Display for PutRefused {
     }
 }
 
-/// The refusal, without the part's bytes.
+/// Shows the refusal, without the part's bytes.
 impl fmt::Debug for PutRefused {
     ghost debug_output = { λ refused. Some (put_refused_text refused.refusal) };
 

@@ -1,12 +1,12 @@
-//! What the store replies.
+//! The replies of the store.
 
 use crate::object::Object;
 use crate::store::{Held, Sealed};
 use b3_forest::Plan;
 use std::sync::Arc;
-use store_books::{Address, OpenUpload, TenantId, Totals, UploadId, Usage};
+use store_books::{Address, TenantId, Totals, UploadId, UploadStatus, Usage};
 
-/// What an accepted command or an answered question tells. `Journal` stands for the journal that the store keeps.
+/// The result of an accepted command or of a question. `Journal` stands for the journal that the store keeps.
 #[derive(Drop)]
 pub enum Reply {
     Tenant(TenantId),
@@ -19,7 +19,7 @@ pub enum Reply {
     Plan(Plan),
     List(Vec<(Address, u64)>),
     Length(u64),
-    Uploads(Vec<OpenUpload>),
+    Uploads(Vec<UploadStatus>),
     Tenants(Vec<Usage>),
     Totals(Totals),
     Journal,

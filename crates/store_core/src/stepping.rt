@@ -1,4 +1,4 @@
-//! Commands and questions, done and asked by their values.
+//! Executing commands and answering questions, given as values.
 
 ghost use Rattle.std.specs.Prelude.{◌≡◌};
 ghost use Rattle.b3_core.specs.Work.{counted};
@@ -15,7 +15,7 @@ use b3_core::Work;
 use store_books::{Address, Refusal, TenantId, UploadId};
 
 impl Store {
-    /// Does a command. A seal makes its compressions, any other command none.
+    /// Executes a command. A seal makes its compressions, any other command none.
     pub fn step(&mut self, command: Command, work: &mut Work) -> Result<Reply, Refusal>
         ensures step { Step self.old (change command) (reply_seen (reply_of self.new) result) self.new }
         ensures count { work.new ≡ counted work.old (step_work self.old.state command) }
@@ -33,7 +33,7 @@ impl Store {
         }
     }
 
-    /// Asks a question.
+    /// Answers a question.
     pub fn ask(&self, question: Question) -> Result<Reply, Refusal>
         ensures { Answers self.now question (reply_seen (reply_of self.now) result) }
     {

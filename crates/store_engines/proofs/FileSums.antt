@@ -4,7 +4,7 @@ use Rattle.std.specs.Prelude.{◌≢◌, if◌then◌else◌}
 use Rattle.std.specs.Io.KnownBytes.{Appends}
 use Rattle.std.proofs.KnownBytes.{Appends-trans}
 use Rattle.std.proofs.lemmas.List.{drop_more, take_more}
-use Rattle.b3_core.specs.Tree.{Inputs}
+use Rattle.b3_core.specs.Tree.{ModelTop}
 use Rattle.edge.specs.declared.outcome.Cause.{Cause}
 use Rattle.edge.specs.declared.outcome.Cause.TheVariants.{CannotRead, CannotWrite, OutOfMemory}
 use Rattle.edge.specs.declared.outcome.Verdict.{Verdict}
@@ -15,7 +15,7 @@ use Rattle.store_engines.specs.Sums.{RootAnswer, AreRootAnswers, IsRootAnswer, I
 use Rattle.edge.specs.Output.{WroteSome}
 use Rattle.store_engines.specs.inner.Sums.{IsSumOf, both}
 
-module _ {S : Type 0} (gives : S → List ℕ → Result Inputs FileFault → S → Type 0) (tells : S → List ℕ → Reason → S → Type 0) where
+module _ {S : Type 0} (gives : S → List ℕ → Result ModelTop FileFault → S → Type 0) (tells : S → List ℕ → Reason → S → Type 0) where
   answered_push : (old mid new : S) (names : List (List ℕ)) (answers : List RootAnswer) (name : List ℕ) (answer : RootAnswer)
       → AreRootAnswers gives tells old names answers mid → IsRootAnswer gives tells mid name answer new → AreRootAnswers gives tells old (names ++ name ∷ []) (answers ++ answer ∷ []) new
   answered_push old mid new [] [] name answer h a = (new, subst (λ (s : S). IsRootAnswer gives tells s name answer new) h a, refl)
@@ -42,7 +42,7 @@ verdict_push (Ok root ∷ answers) answer = verdict_push answers answer
 verdict_push (Err reason ∷ answers) answer = refl
 
 -- what holds behind i names
-abbrev pub IsUpTo : {S : Type 0} → (S → List ℕ → Result Inputs FileFault → S → Type 0) → (S → List ℕ → Reason → S → Type 0) → Option ℕ → S → List (List ℕ) → ℕ → S → Verdict → Option (List ℕ) → Option (List ℕ) → Type 0
+abbrev pub IsUpTo : {S : Type 0} → (S → List ℕ → Result ModelTop FileFault → S → Type 0) → (S → List ℕ → Reason → S → Type 0) → Option ℕ → S → List (List ℕ) → ℕ → S → Verdict → Option (List ℕ) → Option (List ℕ) → Type 0
 IsUpTo gives tells len old names i new verdict before after =
     (answers : List RootAnswer) × AreRootAnswers gives tells old (take i names) answers new × Appends before after (root_answers_text len (take i names) answers)
     × (verdict ≡ root_answers_verdict answers)
@@ -50,7 +50,7 @@ IsUpTo gives tells len old names i new verdict before after =
 taken : (names : List (List ℕ)) (i : ℕ) (name : List ℕ) → i < length names → name ≡ get_or names i name → take (i + 1) names ≡ take i names ++ name ∷ []
 taken names i name lt is = take_more names i name lt ∙ ap (λ (n : List ℕ). take i names ++ n ∷ []) (sym is)
 
-pub one_name_more : {S : Type 0} (gives : S → List ℕ → Result Inputs FileFault → S → Type 0) (tells : S → List ℕ → Reason → S → Type 0) (len : Option ℕ) (old mid new : S) (names : List (List ℕ)) (i : ℕ) (name : List ℕ) (verdict found after : Verdict) (before grown last : Option (List ℕ))
+pub one_name_more : {S : Type 0} (gives : S → List ℕ → Result ModelTop FileFault → S → Type 0) (tells : S → List ℕ → Reason → S → Type 0) (len : Option ℕ) (old mid new : S) (names : List (List ℕ)) (i : ℕ) (name : List ℕ) (verdict found after : Verdict) (before grown last : Option (List ℕ))
     → i < length names → name ≡ get_or names i name → IsUpTo gives tells len old names i mid verdict before grown → IsSumOf gives tells len mid name new grown last found → after ≡ both verdict found
     → IsUpTo gives tells len old names (i + 1) new after before last
 one_name_more gives tells len old mid new names i name verdict found after before grown last lt is h a worst =
@@ -64,14 +64,14 @@ one_name_more gives tells len old mid new names i name verdict found after befor
     )
 
 -- there was a root, and what is written of it could not all be had or written
-pub stopped_writing : {S : Type 0} (gives : S → List ℕ → Result Inputs FileFault → S → Type 0) (len : Option ℕ) (old new : S) (name : List ℕ) (root : Inputs) (before after : Option (List ℕ)) (cause : Cause)
+pub stopped_writing : {S : Type 0} (gives : S → List ℕ → Result ModelTop FileFault → S → Type 0) (len : Option ℕ) (old new : S) (name : List ℕ) (root : ModelTop) (before after : Option (List ℕ)) (cause : Cause)
     → gives old name (Ok root) new → cause ≢ CannotRead → (cause ≡ OutOfMemory → after ≡ before) → (cause ≡ CannotWrite → WroteSome before after (root_text len name root))
     → IsStoppedAt gives len cause old name new before after
 stopped_writing gives len old new name root before after CannotRead given read none some = absurd (read refl)
 stopped_writing gives len old new name root before after CannotWrite given read none some = (root, given, some refl)
 stopped_writing gives len old new name root before after OutOfMemory given read none some = (inr (root, given), none refl)
 
-pub stopped_at : {S : Type 0} (gives : S → List ℕ → Result Inputs FileFault → S → Type 0) (tells : S → List ℕ → Reason → S → Type 0) (len : Option ℕ) (old mid new : S) (names : List (List ℕ)) (i : ℕ) (name : List ℕ) (verdict : Verdict) (before grown last : Option (List ℕ)) (cause : Cause)
+pub stopped_at : {S : Type 0} (gives : S → List ℕ → Result ModelTop FileFault → S → Type 0) (tells : S → List ℕ → Reason → S → Type 0) (len : Option ℕ) (old mid new : S) (names : List (List ℕ)) (i : ℕ) (name : List ℕ) (verdict : Verdict) (before grown last : Option (List ℕ)) (cause : Cause)
     → i < length names → name ≡ get_or names i name → IsUpTo gives tells len old names i mid verdict before grown → IsStoppedAt gives len cause mid name new grown last
     → IsSumStopped gives tells len old names cause new before last
 stopped_at gives tells len old mid new names i name verdict before grown last cause lt is h stop = record {

@@ -6,25 +6,27 @@ use Rattle.std.specs.Io.KnownBytes.{Appends}
 use Rattle.b3_core.specs.Modes.{hash_of}
 use Rattle.store_books.specs.declared.refusal.Refusal.{Refusal}
 use Rattle.store_books.specs.declared.refusal.Refusal.TheVariants.{JournalFull, LimitTooLarge, NoTenant, NotHeld, TenantsFull}
-use Rattle.store_books.specs.Books.{is_absent, is_held_by, most_limit, most_workers, object_at}
+use Rattle.store_books.specs.Books.{is_absent, is_held_by, max_limit, max_workers, object_at}
 use Rattle.store_books.specs.Commands.{holding_refusal}
 use Rattle.store_books.specs.Forgetting.{bare_object}
 use Rattle.store_books.proofs.Commands.{passed}
 use Rattle.store_books.proofs.Forgets.{object_same}
 use Rattle.store_core.specs.Carried.{told_of}
-use Rattle.store_core.specs.Commands.{Acceptance, StepsAs, Tells, fetch_in, unless}
+use Rattle.store_core.specs.Commands.{Acceptance, StepsAs, AnswersAs, fetch_in, unless}
 use Rattle.store_core.specs.Model.{ModelObject, ModelStore, Shown}
 use Rattle.store_upload.proofs.Places.{not_some}
 use Rattle.store_ledger.specs.declared.holding.Holding.{Holding}
 use Rattle.store_shared.specs.Cuts.{IsBadCut, cut_of}
+use Rattle.store_core.specs.declared.store.Sealed.{Sealed}
+use Rattle.store_shared.specs.declared.fault.UploadFault.{UploadFault}
 use Rattle.store_shared.specs.declared.fault.UploadFaultKind.{UploadFaultKind}
 use Rattle.store_shared.specs.declared.fault.UploadFaultKind.TheVariants.{BadCut, Stopped, StrangePart}
 use Rattle.store_shared.specs.declared.fault.UploadFaultKind.TheVariants as kinds
 use Rattle.store_shared.specs.Gates.{IsOwnFault}
-use Rattle.store_engines.specs.Uploads.{HasObject, IsUnopened, IsUploadText, MayFail, SomeRefusal, WroteBeginning, WroteMemory, failed_text, is_memory, uploaded_text}
+use Rattle.store_engines.specs.Uploads.{HasObject, IsUnopened, IsUploadText, MayFail, SomeRefusal, WrotePrefix, WroteMemory, failed_text, is_memory, uploaded_text}
 use Rattle.edge.specs.Output.{WroteSome}
 use Rattle.store_engines.proofs.Writes.{wrote_none}
-use Rattle.store_engines.specs.inner.Uploads.{IsFiled, IsTold}
+use Rattle.store_engines.specs.inner.Uploads.{IsFiled, IsUploadReport}
 use Rattle.edge.specs.declared.outcome.Cause.{Cause}
 use Rattle.edge.specs.declared.outcome.Cause.TheVariants.{CannotWrite, OutOfMemory}
 use Rattle.edge.specs.declared.outcome.Verdict.{Verdict}
@@ -57,18 +59,18 @@ told_memory r kind old new wrote other is = go (is_memory kind) refl
 
 -- of a refusal that is no want of memory a beginning went out
 pub told_some : (o : UploadOptions) (r : Result Verdict Cause) (kind : UploadFaultKind) (old new known : Option (List ℕ)) → MayFail o kind → OnErr r (WroteSome old new (failed_text kind)) → (is_memory kind ≡ true → r ≡ Err OutOfMemory) → r ≡ Err CannotWrite
-    → IfSome known (λ input. WroteBeginning o input old new)
+    → IfSome known (λ input. WrotePrefix o input old new)
 told_some o r kind old new None may wrote memory is = tt
 told_some o r kind old new (Some input) may wrote memory is = go (is_memory kind) refl
   where
-    go : (b : Bool) → is_memory kind ≡ b → WroteBeginning o input old new
+    go : (b : Bool) → is_memory kind ≡ b → WrotePrefix o input old new
     go true e = let stopped = memory e in absurd (cc)
     go false e = (failed_text kind, inr (kind, may, e, refl), rw is at wrote)
 
 -- the store opens its tenant, whose limit is none too large, or is full
-pub unopened : {R M : Type 0} (seen : R → M) (limit : ℕ) (a : Acceptance M) (old new : Shown) (full many : Bool) (refusal : Refusal) → nat_lt most_limit limit ≡ false
-    → StepsAs seen (unless (if many then Some TenantsFull else if nat_lt most_limit limit then Some LimitTooLarge else if full then Some JournalFull else None) a) old (Err refusal) new → IsUnopened (kinds.Refused refusal)
-unopened seen limit a old new full many refusal low step = go many (nat_lt most_limit limit) full low step
+pub unopened : {R M : Type 0} (seen : R → M) (limit : ℕ) (a : Acceptance M) (old new : Shown) (full many : Bool) (refusal : Refusal) → nat_lt max_limit limit ≡ false
+    → StepsAs seen (unless (if many then Some TenantsFull else if nat_lt max_limit limit then Some LimitTooLarge else if full then Some JournalFull else None) a) old (Err refusal) new → IsUnopened (kinds.Refused refusal)
+unopened seen limit a old new full many refusal low step = go many (nat_lt max_limit limit) full low step
   where
     go : (x y z : Bool) → y ≡ false → StepsAs seen (unless (if x then Some TenantsFull else if y then Some LimitTooLarge else if z then Some JournalFull else None) a) old (Err refusal) new → IsUnopened (kinds.Refused refusal)
     go true y z e h = subst (λ (r : Refusal). IsUnopened (kinds.Refused r)) (sym h.0) tt
@@ -77,7 +79,7 @@ unopened seen limit a old new full many refusal low step = go many (nat_lt most_
     go false false false e h = subst (λ (r : Refusal). IsUnopened (kinds.Refused r)) (sym h.0) tt
 
 -- no cut is at fault
-pub own_may : (o : UploadOptions) (kind : UploadFaultKind) → IsOwnFault kind → (IsBadCut o.part_chunks o.workers most_workers → IsUnopened kind) → MayFail o kind
+pub own_may : (o : UploadOptions) (kind : UploadFaultKind) → IsOwnFault kind → (IsBadCut o.part_chunks o.workers max_workers → IsUnopened kind) → MayFail o kind
 own_may o kinds.BadCut own bad = absurd own
 own_may o kinds.Stopped own bad = absurd own
 own_may o (kinds.GateFault part code) own bad = absurd own
@@ -85,8 +87,13 @@ own_may o (kinds.Refused refusal) own bad = (own, bad)
 own_may o kinds.NoMemory own bad = (own, bad)
 own_may o kinds.StrangePart own bad = (own, bad)
 
+-- no cut is bad where the upload was sealed
+pub never_bad : (o : UploadOptions) (most : ℕ) (result : Result Sealed UploadFault) (sealed : Sealed) (fault : UploadFault) (A : Type 0) → most ≡ max_workers
+    → (IsBadCut o.part_chunks o.workers most → (result ≡ Err fault) × A) → result ≡ Ok sealed → IsBadCut o.part_chunks o.workers max_workers → ⊥
+never_bad o most result sealed fault A same bad_cut is bad = let e = (bad_cut (subst (λ (m : ℕ). IsBadCut o.part_chunks o.workers m) (sym same) bad)).0 in cc
+
 -- a cut is at fault exactly where it is bad, and the gate never
-pub cut_may : (o : UploadOptions) (kind : UploadFaultKind) → (IsBadCut o.part_chunks o.workers most_workers → kind ≡ kinds.BadCut) → (kind ≡ kinds.BadCut → IsBadCut o.part_chunks o.workers most_workers)
+pub cut_may : (o : UploadOptions) (kind : UploadFaultKind) → (IsBadCut o.part_chunks o.workers max_workers → kind ≡ kinds.BadCut) → (kind ≡ kinds.BadCut → IsBadCut o.part_chunks o.workers max_workers)
     → (kind ≡ kinds.Stopped → ⊥) → ((part code : ℕ) → kind ≡ kinds.GateFault part code → ⊥) → MayFail o kind
 cut_may o kinds.BadCut bad good stopped gate = good refl
 cut_may o kinds.Stopped bad good stopped gate = absurd (stopped refl)
@@ -99,7 +106,7 @@ cut_may o kinds.StrangePart bad good stopped gate = (tt, λ b. let e = bad b in 
 
 -- what is told of a store whose upload was filed is a text of its input
 pub is_upload_text : (o : UploadOptions) (input text address : List ℕ) (share : Holding) (shown : Shown) → address ≡ hash_of input → share.bytes ≡ length input → share.calls ≡ length (cut_of input o.part_chunks)
-    → IsTold o.journal address share shown text → IsUploadText o input text
+    → IsUploadReport o.journal address share shown text → IsUploadText o input text
 is_upload_text o input text address share shown hash bytes calls told = record {
   entries = shown.journal;
   journal = record { left = told.left; legal = told.legal; filed = subst (λ (a : List ℕ). HasObject told.left a (length input)) hash (subst (HasObject told.left address) bytes told.filed); bytes = told.bytes ∙ bytes; calls = told.calls ∙ calls };
@@ -112,7 +119,7 @@ pub has_object : (s : ModelStore) (address : List ℕ) (n : ℕ) → IsFiled s a
 has_object s address n filed = (bare_object length hash_of filed.0, object_same length length hash_of s address ∙ ap (option_map (bare_object length hash_of)) filed.1, filed.2)
 
 -- what is fetched is filed
-pub fetched_is : {R : Type 0} (seen : R → List ℕ) (s : ModelStore) (tenant : ℕ) (address : List ℕ) (reply : R) (n : ℕ) → Tells seen (fetch_in s tenant address) (Ok reply) → length (seen reply) ≡ n → IsFiled s address n
+pub fetched_is : {R : Type 0} (seen : R → List ℕ) (s : ModelStore) (tenant : ℕ) (address : List ℕ) (reply : R) (n : ℕ) → AnswersAs seen (fetch_in s tenant address) (Ok reply) → length (seen reply) ≡ n → IsFiled s address n
 fetched_is seen s tenant address reply n told long = by (holding_refusal hash_of s tenant address) refl told
   where
     found : (known : Option ModelObject) → object_at hash_of s address ≡ known → option_map_or (λ (o : ModelObject). if is_held_by tenant o then None else Some NotHeld) known (Some NotHeld) ≡ None
@@ -120,7 +127,7 @@ fetched_is seen s tenant address reply n told long = by (holding_refusal hash_of
     found None is free same = absurd (not_some NotHeld (sym free))
     found (Some o) is free same = (o, is, ap (λ (b : List ℕ). length b) (sym same) ∙ long)
 
-    by : (refusal : Option Refusal) → holding_refusal hash_of s tenant address ≡ refusal → Tells seen (unless refusal (option_map_or (λ (o : ModelObject). o.content) (object_at hash_of s address) [])) (Ok reply) → IsFiled s address n
+    by : (refusal : Option Refusal) → holding_refusal hash_of s tenant address ≡ refusal → AnswersAs seen (unless refusal (option_map_or (λ (o : ModelObject). o.content) (object_at hash_of s address) [])) (Ok reply) → IsFiled s address n
     by (Some refusal) is told = absurd told
     by None is told = found (object_at hash_of s address) refl (passed (is_absent s tenant) NoTenant _ is).1 told
 

@@ -1,22 +1,22 @@
 -- Names in lists.
 use Rattle.std.specs.Prelude.{◌==◌, ℕ, Bool, List, [], ◌∷◌, ◌++◌, Option, Some, None, length, option_map, if◌then◌else◌}
-use Rattle.edge.specs.Lines.{line_feed}
+use Rattle.edge.specs.Lines.{newline}
 use Rattle.b3_check.specs.Names.{has_nul}
 
--- a name in front of others, unless it is empty; there are none where it has a byte 0
+-- a name before others, unless it is empty; there are none if it contains a zero byte
 abbrev pub name_in_front : List ℕ → Option (List (List ℕ)) → Option (List (List ℕ))
 name_in_front name others =
     if length name == 0 then others
     else if has_nul name then None
     else option_map (λ names. name ∷ names) others
 
--- the names that are ended by a byte, of which the first has this front
+-- the names that end with this byte, where the first begins with these bytes
 unfoldable pub names_from : ℕ → List ℕ → List ℕ → Option (List (List ℕ))
 names_from end front [] = name_in_front front (Some [])
 names_from end front (b ∷ bytes) = if b == end then name_in_front front (names_from end [] bytes) else names_from end (front ++ b ∷ []) bytes
 
 abbrev pub end_of : Bool → ℕ
-end_of has_nuls = if has_nuls then 0 else line_feed
+end_of has_nuls = if has_nuls then 0 else newline
 
 -- the names in a list
 abbrev pub names_at : Bool → List ℕ → Option (List (List ℕ))

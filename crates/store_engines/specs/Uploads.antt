@@ -4,7 +4,7 @@ use Rattle.std.specs.Io.KnownBytes.{Appends}
 use Rattle.b3_check.specs.Lines.{written_line}
 use Rattle.b3_core.specs.Modes.{hash_of}
 use Rattle.store_books.specs.Bare.{Bare, label_address}
-use Rattle.store_books.specs.Books.{Filed, most_workers, object_at}
+use Rattle.store_books.specs.Books.{Filed, max_workers, object_at}
 use Rattle.store_books.specs.declared.content.ObjectLabel.{ObjectLabel}
 use Rattle.store_journal.specs.Journal.{journal_text}
 use Rattle.store_journal.specs.declared.version.Version.TheVariants.{Two}
@@ -20,22 +20,22 @@ use Rattle.store_engines.specs.Audits.{accepted_text}
 use Rattle.edge.specs.Output.{WroteSome}
 use Rattle.edge.specs.declared.options.UploadOptions.{UploadOptions}
 
--- the journal's text, where it is asked for
+-- the journal's text, if it is requested
 abbrev pub journal_part : Bool → List Entry → List ℕ
 journal_part true entries = journal_text Two entries
 journal_part false entries = []
 
--- the check line of an address, what was accepted, and the journal's text where it is asked for
+-- the check line of an address, what was accepted, and the journal's text if it is requested
 abbrev pub uploaded_text : Bool → List ℕ → ℕ → ℕ → List Entry → List ℕ
 uploaded_text journal address bytes calls entries =
     written_line (record { digest = address; name = codes "-" }) ++ (accepted_text bytes calls ++ (codes "\n" ++ journal_part journal entries))
 
--- books that have an object of so many bytes under the address
+-- books that have an object of n bytes at the address
 abbrev pub HasObject : Bare → List ℕ → ℕ → Type 0
 HasObject books address n = (o : Filed ObjectLabel) × (object_at label_address books address ≡ Some o) × (o.content.len ≡ n)
 
--- a legal journal, which leaves an object of the input's length under its hash, and whose put entries are as many as the cut's parts and
--- have as many bytes as the input
+-- a legal journal, which results in an object of the input's length at its hash; its put entries are as many as the parts of the split
+-- input, and have as many bytes as the input
 pub record IsJournal (part_chunks : ℕ) (input : List ℕ) (entries : List Entry) : Type 0 where
   pub left : Bare
   pub legal : replay_of entries ≡ Ok left
@@ -43,7 +43,7 @@ pub record IsJournal (part_chunks : ℕ) (input : List ℕ) (entries : List Entr
   pub bytes : (accepted_of entries).bytes ≡ length input
   pub calls : (accepted_of entries).calls ≡ length (cut_of input part_chunks)
 
--- a text that is written of an input that was filed
+-- a text that is written for an input that was filed
 pub record IsUploadText (o : UploadOptions) (input text : List ℕ) : Type 0 where
   pub entries : List Entry
   pub journal : IsJournal o.part_chunks input entries
@@ -55,7 +55,7 @@ WroteUpload o input old new = (text : List ℕ) × IsUploadText o input text × 
 
 -- ---- failed uploads
 
--- memory was refused, by the store or outside its commands
+-- it ran out of memory, in the store or elsewhere
 abbrev pub is_memory : UploadFaultKind → Bool
 is_memory NoMemory = true
 is_memory (Refused refusals.NoMemory) = true
@@ -72,13 +72,13 @@ IsUnopened (Refused refusals.JournalFull) = Unit {0}
 IsUnopened (Refused refusals.NoMemory) = Unit {0}
 IsUnopened _ = ⊥
 
--- Why an upload by these options may fail, whose gate passes all parts: as a bad cut only where the cut is bad, and there in no other way
--- once the store opened a tenant.
+-- Why an upload with these options may fail, if its gate passes all parts: with BadCut only if the numbers of workers or chunks are out of
+-- range, and then in no other way once the store opened a tenant.
 abbrev pub MayFail : UploadOptions → UploadFaultKind → Type 0
-MayFail o BadCut = IsBadCut o.part_chunks o.workers most_workers
-MayFail o kind = IsOwnFault kind × (IsBadCut o.part_chunks o.workers most_workers → IsUnopened kind)
+MayFail o BadCut = IsBadCut o.part_chunks o.workers max_workers
+MayFail o kind = IsOwnFault kind × (IsBadCut o.part_chunks o.workers max_workers → IsUnopened kind)
 
--- the line of an upload by these options that failed, and not for want of memory
+-- the line of an upload with these options that failed, other than by running out of memory
 abbrev pub IsRefusedText : UploadOptions → List ℕ → Type 0
 IsRefusedText o text = (kind : UploadFaultKind) × MayFail o kind × (is_memory kind ≡ false) × (text ≡ failed_text kind)
 
@@ -88,10 +88,10 @@ SomeRefusal o old new = (text : List ℕ) × IsRefusedText o text × Appends old
 
 -- ---- uploads that were stopped
 
--- of the line of a want of memory a beginning went out, which may be nothing, or all of it
+-- a prefix of the line for running out of memory was written, which may be empty, or the whole line
 abbrev pub WroteMemory : Option (List ℕ) → Option (List ℕ) → Type 0
 WroteMemory old new = (kind : UploadFaultKind) × (is_memory kind ≡ true) × WroteSome old new (failed_text kind)
 
--- a beginning went out of what is written of an input
-abbrev pub WroteBeginning : UploadOptions → List ℕ → Option (List ℕ) → Option (List ℕ) → Type 0
-WroteBeginning o input old new = (text : List ℕ) × (IsUploadText o input text ⊎ IsRefusedText o text) × WroteSome old new text
+-- a prefix of what is written for an input was written
+abbrev pub WrotePrefix : UploadOptions → List ℕ → Option (List ℕ) → Option (List ℕ) → Type 0
+WrotePrefix o input old new = (text : List ℕ) × (IsUploadText o input text ⊎ IsRefusedText o text) × WroteSome old new text

@@ -1,4 +1,4 @@
--- What only proofs and functions within use.
+-- Definitions that only proofs and private functions use.
 pub mod Journals
 pub mod Sums
 pub mod Uploads

@@ -1,7 +1,7 @@
-//! Files that are hashed before they are asked for, by several threads.
+//! Files that several threads hash before they are asked for.
 
 ghost use Rattle.std.specs.Prelude.{◌≡◌, ◌<◌, All, IfErr, IfOk, IfSome};
-ghost use Rattle.b3_core.specs.Tree.{Keying};
+ghost use Rattle.b3_core.specs.Tree.{ModelMode};
 ghost use Rattle.store_engines.specs.Files.{IsKnown, IsSomeRoot};
 
 use b3_check::{Name, NumberedLine};
@@ -13,20 +13,21 @@ use std::rt::HostRuntime;
 use std::thread::{Promise, PromisedHandle, Threads};
 use std::{fs, thread};
 
-// A file of so many bytes or more is not small.
+// Files smaller than this many bytes are small.
 const LIMIT: u64 = 1 << 20;
 
-// How many names are looked up ahead at a time.
+// The number of names that are looked up ahead at a time.
 const STRETCH: usize = 1024;
 
-/// A name, and the root of its file, where that is known.
+/// A name, and the root of its file, if that is known.
 #[derive(Drop)]
 pub(crate) struct Known {
     pub(crate) name: Vec<u8>,
     pub(crate) root: Option<Top>,
 }
 
-// Whether a regular file of less than 1 MiB has the name. One that tells no length may be the system's, and reading it may wait.
+// Whether the name is that of a small regular file that is not empty. A file of length 0 may be a special file of the system, and reading
+// it may block.
 fn is_small(rt: &HostRuntime, path: &str) -> bool {
     match fs::metadata(rt, path) {
         Ok(found) => found.is_file() && 0 < found.len() && found.len() < LIMIT,
@@ -34,7 +35,7 @@ fn is_small(rt: &HostRuntime, path: &str) -> bool {
     }
 }
 
-// Reads all bytes of a file, and answers whether it could, and they are less than 1 MiB.
+// Reads all bytes of a file, and returns whether this succeeded and they are fewer than 1 MiB.
 fn read_small(rt: &HostRuntime, path: &str, room: &mut Vec<u8>) -> bool {
     let Ok(file) = File::open(rt, path) else {
         return false;
@@ -46,8 +47,8 @@ fn read_small(rt: &HostRuntime, path: &str, room: &mut Vec<u8>) -> bool {
     }
 }
 
-/// The root of all bytes of a regular file of less than 1 MiB. There is none of another, or of an empty one, which is not opened, and none where
-/// the file can't be read: whoever asks for it reads it as any other, and learns why. `room` is memory for the bytes, and grows to fit them.
+/// The root of all bytes of a nonempty regular file of less than 1 MiB. `None` for any other file, which is not opened, and if the file
+/// cannot be read: the caller then reads it like any other file, and gets the reason. `room` is memory for the bytes; it grows to fit them.
 pub(crate) fn small_root(
     rt: &HostRuntime,
     mode: &Mode,
@@ -67,7 +68,7 @@ pub(crate) fn small_root(
     }
 }
 
-// Hashes the small ones of some files, one after the other.
+// Hashes the small files among the named ones, one after the other.
 fn hash_each(rt: &HostRuntime, mode: &Mode, names: &mut [Known], work: &mut Work)
     ensures { All (IsKnown mode.now) names.new }
 {
@@ -84,7 +85,7 @@ fn hash_known(rt: &HostRuntime, mode: &Mode, known: &mut Known, room: &mut Vec<u
     known.root = small_root(rt, mode, known.name.as_slice(), room, work);
 }
 
-// Hashes the small ones of some files by this thread.
+// Hashes the small files among the named ones on this thread.
 fn hash_run(rt: HostRuntime, mode: Mode, names: Vec<Known>, work: Work) -> Vec<Known>
     ensures { All (IsKnown mode) result.items }
 {
@@ -94,7 +95,7 @@ fn hash_run(rt: HostRuntime, mode: Mode, names: Vec<Known>, work: Work) -> Vec<K
     known
 }
 
-// The promise that what is known holds in a mode.
+// The promise that what is known holds in this mode.
 #[derive(Drop)]
 struct KnownIn(Mode);
 
@@ -104,7 +105,7 @@ impl Promise<Vec<Known>> for KnownIn {
 
 type Handle = PromisedHandle<Vec<Known>, KnownIn>;
 
-// Hashes the small ones of some files by a thread of its own, or by this one where none can be started.
+// Hashes the small files among the named ones on a new thread, or on this one if none can be started.
 fn start<T: Threads>(
     rt: &HostRuntime,
     starter: &T,
@@ -126,9 +127,9 @@ fn start<T: Threads>(
     }
 }
 
-// What is known of some names, and of others behind them, which are left out where memory is refused.
+// What is known of some names, followed by what is known of others; the others are dropped if an allocation fails.
 fn joined(first: Vec<Known>, others: Vec<Known>) -> Vec<Known>
-    ensures { (mode : Keying) → All (IsKnown mode) first.items → All (IsKnown mode) others.items → All (IsKnown mode) result.items }
+    ensures { (mode : ModelMode) → All (IsKnown mode) first.items → All (IsKnown mode) others.items → All (IsKnown mode) result.items }
 {
     let mut all = first;
     let mut others = others;
@@ -136,8 +137,8 @@ fn joined(first: Vec<Known>, others: Vec<Known>) -> Vec<Known>
     all
 }
 
-/// Hashes the small ones of some files, by a thread for each run of so many, of which the last is this one. Where memory or a thread is refused,
-/// fewer threads hash.
+/// Hashes the small files among the named ones, with a thread for each run of `size` names; this thread hashes the last run. If an
+/// allocation fails or a thread cannot be started, fewer threads hash.
 pub(crate) fn hash_runs<T: Threads>(
     rt: &HostRuntime,
     starter: &T,
@@ -163,14 +164,14 @@ pub(crate) fn hash_runs<T: Threads>(
     }
 }
 
-// Adds a name of which nothing is known.
+// Adds a name with an unknown root.
 fn push_name(known: &mut Vec<Known>, alloc: Global, name: &[u8]) -> Result<(), AllocError> {
     let name = Vec::from_slice(alloc, name)?;
     known.push(Known { name, root: None })?;
     Ok(())
 }
 
-/// The next names, up to 1024, of which nothing is known.
+/// The next names, up to 1024, with unknown roots.
 pub(crate) fn next_names(alloc: Global, names: &[Name]) -> Result<Vec<Known>, AllocError> {
     let mut known = Vec::new(alloc);
     for name in &names[..names.len().min(STRETCH)] {
@@ -179,7 +180,7 @@ pub(crate) fn next_names(alloc: Global, names: &[Name]) -> Result<Vec<Known>, Al
     Ok(known)
 }
 
-/// The names in the next lines, up to 1024, of which nothing is known.
+/// The names in the next lines, up to 1024, with unknown roots.
 pub(crate) fn names_of_lines(
     alloc: Global,
     lines: &[NumberedLine],

@@ -22,11 +22,11 @@ fn verdict_of(counts: Counts) -> Verdict
 
 /// Verifies a check file, and writes what is shown of the report.
 ///
-/// It reads all its input as a check file, and then asks the names for the digest of each line without a fault. What is shown of a line is
-/// written before it asks for the next, and what is shown of the counts at the end. `Good` where all lines are good.
+/// It reads all its input as a check file, and then asks `names` for the digest of each line without a fault. It writes what is shown of a
+/// line before it asks for the next, and the counts, if they are shown, at the end. Returns `Good` if all lines are good.
 ///
-/// It stops at the first read or write that fails, or where memory is refused, to the names too. It writes and asks nothing before it has
-/// read everything.
+/// It stops at the first failed read or write, or if it or `names` is out of memory. It writes and asks nothing before it has read
+/// everything.
 pub fn check<R: Read, W: Write, N: Names>(
     alloc: Global,
     shown: Shown,

@@ -1,11 +1,11 @@
-//! The system's files, by their names.
+//! Files of the file system, by name.
 
 ghost use Rattle.std.specs.Prelude.{◌≡◌, ◌↔◌, ℕ, List, None, Err, IfNone, IfOk, IfSome, OnOk};
 ghost use Rattle.std.specs.Io.KnownBytes.{IsAtEnd};
 ghost use Rattle.std.specs.IoError.{error_kind};
 ghost use Rattle.b3_core.specs.Tree.{tree_top};
 ghost use Rattle.store_engines.specs.Files.{IsSomeRoot};
-ghost use Rattle.store_engines.specs.Sums.{IsRootOfFile, IsRootOfSome, sum_mode};
+ghost use Rattle.store_engines.specs.Sums.{IsRootOfFile, IsRootOfLeft, IsRootOfSome, sum_mode};
 ghost use Rattle.store_engines.specs.declared.sources.FileFault.TheVariants.{Failed, NoMemory};
 ghost use Rattle.store_engines.specs.declared.sources.Reason.TheVariants.{IsFolder, Missing, NoPermission, NotUtf8};
 
@@ -24,7 +24,7 @@ use std::os::unix::fs::FileExt;
 use std::rt::HostRuntime;
 use std::thread::Threads;
 
-// The bytes of an open file from a place on, which threads read without moving its position.
+// The bytes of an open file, starting at an offset. Threads read them without moving the file's position.
 #[derive(Drop)]
 struct FileBytes {
     file: File,
@@ -78,11 +78,12 @@ pub fn fault_of(error: &io::Error) -> FileFault
 }
 
 impl<T: Threads + Runtime> FileHasher<'_, T> {
-    // The root of what is read.
+    // The root of the bytes of a stream.
     fn stream_root<I: Read>(&mut self, input: &mut I) -> Result<Top, FileFault>
         ensures root { IsRootOfSome self.old.mode result }
         ensures mode { self.new.mode ≡ self.old.mode }
         ensures end { OnOk result (IsAtEnd (I.remaining input.new)) }
+        ensures left { IsRootOfLeft (I.remaining input.old) self.old.mode result }
         ensures read { result ≡ Err (Failed NotUtf8) → ⊥ }
     {
         let (starter, alloc, mode) = (self.starter, self.rt.alloc(), self.mode);
@@ -92,7 +93,7 @@ impl<T: Threads + Runtime> FileHasher<'_, T> {
         }
     }
 
-    // The root of an open file by threads that read it from any place, where it is a regular one and they can.
+    // The root of an open file by threads that read it at any offset, if it is a regular file and that is possible.
     fn root_from_places(&mut self, file: &FileBytes) -> Option<Top>
         ensures root { IfSome result (λ top. (bytes : List ℕ) × (top ≡ tree_top bytes 0 self.old.mode)) }
         ensures mode { self.new.mode ≡ self.old.mode }
@@ -115,10 +116,10 @@ impl<T: Threads + Runtime> FileHasher<'_, T> {
         )
     }
 
-    // The root of all bytes of the file of a name.
+    // The root of all bytes of the file with this name.
     //
-    // A small one is read whole. Threads read a regular file of 16 MiB and more from any place, each the blocks that it takes. Where they
-    // can't, or it is shorter by then, this thread reads it from its beginning, and it is hashed as `sum` hashes its input.
+    // A small file is read whole. Threads read a regular file of 16 MiB or more at any offset, each the blocks that it takes. If that
+    // fails, or the file has become shorter, this thread reads the file from its start, and hashes it as `sum` hashes its input.
     fn file_root(&mut self, name: &[u8]) -> Result<Top, FileFault>
         ensures root { IsRootOfSome self.old.mode result }
         ensures mode { self.new.mode ≡ self.old.mode }
@@ -141,11 +142,12 @@ impl<T: Threads + Runtime> FileHasher<'_, T> {
         self.stream_root(&mut file.file)
     }
 
-    // The root of all bytes that an input has left, where it is an open file that threads can read from any place. It has none left then.
+    // The root of all remaining bytes of an input, if it is an open file that threads can read at any offset. Then no bytes remain.
     fn standing_root<I: Standing>(&mut self, input: &mut I) -> Option<Top>
         ensures root { IfSome result (λ top. (bytes : List ℕ) × (top ≡ tree_top bytes 0 self.old.mode)) }
         ensures mode { self.new.mode ≡ self.old.mode }
         ensures end { IfSome result (λ _. IsAtEnd (I.remaining input.new)) }
+        ensures unknown { IfSome result (λ _. I.remaining input.old ≡ None) }
         ensures none { IfNone result (input.new ≡ input.old) }
     {
         let Some((file, start)) = input.as_file() else {
@@ -157,10 +159,11 @@ impl<T: Threads + Runtime> FileHasher<'_, T> {
     }
 }
 
-/// The files of the system. A name is a path, `-` too. Contracts see the mode that they are hashed in, and by how many threads.
+/// The files of the file system. A name is a path, and so is `-`. In contracts this is the mode that they are hashed in, and the number of
+/// threads.
 ///
-/// Names that are expected are looked up ahead, 1024 at a time: several threads hash the regular files among them that are neither empty nor
-/// have 1 MiB or more. Nothing else is opened before it is asked for, and whatever fails ahead is asked for again in its turn.
+/// Names that are expected are looked up ahead, 1024 at a time: several threads hash the regular files among them that are not empty and
+/// smaller than 1 MiB. No other file is opened before it is asked for, and whatever fails ahead is tried again when it is asked for.
 #[derive(Drop)]
 pub struct SystemFiles<'a, T> {
     hasher: FileHasher<'a, T>,
@@ -181,8 +184,8 @@ impl<'a, T> Model for SystemFiles<'a, T> {
 }
 
 impl<'a, T: Threads + Runtime> SystemFiles<'a, T> {
-    /// The files that `rt` reaches, hashed in a mode. A file is hashed by at most so many threads, which `starter` starts, and as many files
-    /// at a time; with `None` by as many as there are processors.
+    /// The files that `rt` can reach, hashed in a mode. At most `threads` threads, started by `starter`, hash a file, and at most as many
+    /// files at a time; with `None` there are as many as the machine has processors.
     pub fn new(
         rt: &'a HostRuntime,
         starter: &'a T,
@@ -209,8 +212,8 @@ impl<'a, T: Threads + Runtime> SystemFiles<'a, T> {
         }
     }
 
-    /// The root of all bytes that an input has left, where it is an open file that several threads can read from any place: a regular one,
-    /// with 16 MiB and more. It has none left then.
+    /// The root of all remaining bytes of an input, if it is an open file that several threads can read at any offset: a regular file, with
+    /// at least 16 MiB remaining. Then no bytes remain.
     pub fn root_of_file_input<I: Standing>(&mut self, input: &mut I) -> Option<Top>
         ensures root { IfSome result (λ top. (bytes : List ℕ) × (top ≡ tree_top bytes 0 self.old.mode)) }
         ensures mode { self.new.mode ≡ self.old.mode }
@@ -220,12 +223,12 @@ impl<'a, T: Threads + Runtime> SystemFiles<'a, T> {
         self.hasher.standing_root(input)
     }
 
-    // Whether several names come next, several threads may hash, and nothing is left of what was looked up before.
+    // Whether several names follow, several threads may hash, and nothing that was looked up before remains.
     fn looks_ahead(&self, coming: usize) -> bool {
         1 < coming && 1 < self.workers && self.known.len() <= self.next
     }
 
-    // Hashes files ahead, and keeps what is then known of them, in place of what was known.
+    // Hashes files ahead, and replaces what was known by the result.
     fn look_up(&mut self, names: Vec<Known>)
         ensures { self.new ≡ self.old }
     {
@@ -240,7 +243,7 @@ impl<'a, T: Threads + Runtime> SystemFiles<'a, T> {
         self.next = 0;
     }
 
-    // Looks up the next of some names ahead.
+    // Looks the first of these names up ahead.
     fn expect_names(&mut self, names: &[Name])
         ensures { self.new ≡ self.old }
     {
@@ -252,7 +255,7 @@ impl<'a, T: Threads + Runtime> SystemFiles<'a, T> {
         }
     }
 
-    // What is known of the next name, if it is this one. If it is another, nothing is known of any.
+    // What is known of the next name, if it is this one. If it is another, everything that is known is dropped.
     fn known_root(&mut self, name: &[u8]) -> Option<Top>
         ensures root { IfSome result (IsSomeRoot self.old.mode name.now) }
         ensures same { self.new ≡ self.old }
@@ -269,7 +272,7 @@ impl<'a, T: Threads + Runtime> SystemFiles<'a, T> {
         }
     }
 
-    // The root of all bytes of the file of a name, as it was hashed ahead or as it is now.
+    // The root of all bytes of the file with this name, as it was hashed ahead or as it is now.
     fn root_of_file(&mut self, name: &[u8]) -> Result<Top, FileFault>
         ensures root { IsRootOfSome self.old.mode result }
         ensures mode { self.new.mode ≡ self.old.mode }
@@ -297,8 +300,8 @@ impl<T: Threads + Runtime> Names for SystemFiles<'_, T> {
         }
     }
 
-    /// The hash of all bytes of the file. No file has the name where the system says so, as of a link to nothing;
-    /// any other failure, as of a directory, is `Unreadable`.
+    /// The hash of all bytes of the file. If the system reports that there is no such file, also for a dangling link, the result is `None`;
+    /// any other failure, such as for a directory, is `Unreadable`.
     fn digest_of(&mut self, name: &[u8]) -> Result<Option<[u8; 32]>, NameFault> {
         match self.root_of_file(name) {
             Ok(root) => Ok(Some(root.root32(&mut self.hasher.work))),
@@ -314,7 +317,7 @@ impl<T: Threads + Runtime> Names for SystemFiles<'_, T> {
     }
 }
 
-/// The files of the system, where `-` is another input, and what is told goes to a writer.
+/// The files of the file system, with another input for `-`, and a writer for messages.
 #[derive(Drop)]
 pub struct SystemInputs<'a, T, I: Standing + Drop, E: Write + Drop> {
     files: SystemFiles<'a, T>,
@@ -323,7 +326,7 @@ pub struct SystemInputs<'a, T, I: Standing + Drop, E: Write + Drop> {
 }
 
 impl<'a, T, I: Standing + Drop, E: Write + Drop> SystemInputs<'a, T, I, E> {
-    /// These files and this input; what is told is written to `told`.
+    /// These files and this input; messages are written to `told`.
     pub fn new(files: SystemFiles<'a, T>, input: I, told: E) -> SystemInputs<'a, T, I, E>
         ensures { result.files ≡ files.entry }
     {
@@ -331,7 +334,7 @@ impl<'a, T, I: Standing + Drop, E: Write + Drop> SystemInputs<'a, T, I, E> {
     }
 }
 
-// Tells a reason by one line, with the name as it stands.
+// Writes the reason in one line, with the literal name.
 fn write_reason<E: Write>(name: &[u8], reason: Reason, told: &mut E) -> io::Result<()> {
     told.write_all(b"b3store: ")?;
     told.write_all(name)?;
@@ -345,14 +348,14 @@ impl<T: Threads + Runtime, I: Standing + Drop, E: Write + Drop> Sources
     for SystemInputs<'_, T, I, E> {
     ghost use Rattle.std.specs.Prelude.{◌≡◌, ◌≢◌, Err, OnOk, codes};
     ghost use Rattle.std.specs.Io.KnownBytes.{IsAtEnd};
-    ghost use Rattle.store_engines.specs.Sums.{IsRootOfFile, IsRootOfSome};
+    ghost use Rattle.store_engines.specs.Sums.{IsRootOfFile, IsRootOfLeft, IsRootOfSome};
     ghost use Rattle.store_engines.specs.declared.sources.FileFault.TheVariants.{Failed};
     ghost use Rattle.store_engines.specs.declared.sources.Reason.TheVariants.{NotUtf8};
 
-    // Of a name but `-` the input gives nothing, and by a root of `-`, which is UTF-8, it is at its end. Nothing is told.
+    // For a name other than `-` the input is not read; after a root for `-`, which is UTF-8, it is at its end. No message is written.
     ghost gives = { λ old name answer new. IsRootOfSome old.files.mode answer
         × (name ≢ codes "-" → IsRootOfFile name answer × (new.input ≡ old.input))
-        × (name ≡ codes "-" → OnOk answer (IsAtEnd (I.remaining new.input)) × (answer ≢ Err (Failed NotUtf8)))
+        × (name ≡ codes "-" → OnOk answer (IsAtEnd (I.remaining new.input)) × (answer ≢ Err (Failed NotUtf8)) × IsRootOfLeft (I.remaining old.input) old.files.mode answer)
         × (new.files.mode ≡ old.files.mode) × (new.told ≡ old.told) };
 
     ghost tells = { λ old name reason new. (new.files ≡ old.files) × (new.input ≡ old.input) };
@@ -373,7 +376,7 @@ impl<T: Threads + Runtime, I: Standing + Drop, E: Write + Drop> Sources
         }
     }
 
-    /// A failed write is not told.
+    /// A failed write is ignored.
     fn tell(&mut self, name: &[u8], reason: Reason) {
         let _ = write_reason(name, reason, &mut self.told);
     }

@@ -10,8 +10,8 @@ use hex::FromHex;
 use std::alloc::Global;
 use std::io::Read;
 
-/// The key that all input is: 32 bytes as they stand, or 64 hexadecimal digits of either case, behind which one line feed may stand.
-/// `None` where it is neither. It stops at the first read that fails, or where memory is refused.
+/// The key in the input: 32 raw bytes, or 64 hexadecimal digits of either case, optionally followed by one newline. `None` if it is
+/// neither. It stops at the first failed read, or if out of memory.
 pub fn read_key<R: Read>(alloc: Global, reader: &mut R) -> Result<Option<[u8; 32]>, Cause>
     ensures key { IfOk result (λ key. IfSome (R.remaining reader.old) (λ text. key ≡ key_at text)) }
     ensures end { OnOk result (IsAtEnd (R.remaining reader.new)) }
@@ -21,7 +21,7 @@ pub fn read_key<R: Read>(alloc: Global, reader: &mut R) -> Result<Option<[u8; 32
     Ok(key_of(text.as_slice()))
 }
 
-// The key that a text is.
+// The key in a text.
 fn key_of(text: &[u8]) -> Option<[u8; 32]>
     ensures { result ≡ key_at text.now }
 {
@@ -36,7 +36,7 @@ fn key_of(text: &[u8]) -> Option<[u8; 32]>
     }
 }
 
-// The digits, without the line feed that may stand behind 64 of them.
+// The digits, without the newline that may follow 64 of them.
 fn without_feed(text: &[u8]) -> &[u8]
     ensures { result.now ≡ without_feed text.now }
 {

@@ -11,8 +11,8 @@ use edge::Cause;
 use std::alloc::{AllocError, Global};
 use std::io::Read;
 
-/// The names in all input, each ended by a line feed, or by a byte 0 where `has_nuls`; the last may lack its end. Empty ones are left
-/// out. `None` where a name has a byte 0. It stops at the first read that fails, or where memory is refused.
+/// The names in the input, each ending with a newline, or with a zero byte if `has_nuls`; the last may lack it. Empty names are skipped.
+/// `None` if a name contains a zero byte. It stops at the first failed read, or if out of memory.
 pub fn read_names<R: Read>(
     alloc: Global,
     reader: &mut R,
@@ -27,7 +27,7 @@ pub fn read_names<R: Read>(
     Ok(names_in(alloc, end, text.as_slice())?)
 }
 
-/// Words as names.
+/// The arguments as names.
 pub fn names_of(alloc: Global, words: &[&str]) -> Result<Vec<Name>, AllocError>
     requires { All (λ word. IsName word.now) words.now }
     ensures { IfOk result (λ names. names.items ≡ map (λ word. word.now) words.now) }
@@ -40,7 +40,7 @@ pub fn names_of(alloc: Global, words: &[&str]) -> Result<Vec<Name>, AllocError>
     Ok(names)
 }
 
-// The names that are ended by a byte.
+// The names that end with this byte.
 fn names_in(alloc: Global, end: u8, text: &[u8]) -> Result<Option<Vec<Name>>, AllocError>
     ensures { IfOk result (λ names. option_map (λ v. v.items) names ≡ names_from end [] text.now) }
 {
@@ -64,7 +64,7 @@ fn names_in(alloc: Global, end: u8, text: &[u8]) -> Result<Option<Vec<Name>>, Al
     }
 }
 
-// Adds a name, unless it is empty. `false` where it has a byte 0.
+// Adds a name, unless it is empty. Returns `false` if it contains a zero byte.
 fn push_name(names: &mut Vec<Name>, bytes: Vec<u8>) -> Result<bool, AllocError>
     ensures good { result ≡ Ok true → (rest : Option (List (List ℕ))) → option_map (λ r. names.old.items ++ r) (name_in_front bytes.items rest) ≡ option_map (λ r. names.new.items ++ r) rest }
     ensures bad { result ≡ Ok false → (rest : Option (List (List ℕ))) → name_in_front bytes.items rest ≡ None }

@@ -1,8 +1,8 @@
-//! Where the bytes come from that are hashed.
+//! Sources of the bytes to hash.
 
-ghost use Rattle.std.specs.Prelude.{◌≡◌, ℕ, List, Result};
+ghost use Rattle.std.specs.Prelude.{◌≡◌, ℕ, List, Result, None, IfSome};
 ghost use Rattle.std.specs.Io.KnownBytes.{IsAtEnd};
-ghost use Rattle.b3_core.specs.Tree.{Inputs};
+ghost use Rattle.b3_core.specs.Tree.{ModelTop};
 ghost use Rattle.store_engines.specs.Sums.{reason_text};
 ghost use Rattle.store_engines.specs.declared.sources.FileFault.{FileFault as Refusal};
 ghost use Rattle.store_engines.specs.declared.sources.Reason.{Reason as Cause};
@@ -12,23 +12,23 @@ use b3_core::Top;
 use std::fs::File;
 use std::io::Read;
 
-/// Why the bytes of a name can't be had.
+/// Why the bytes of a name are not available.
 #[derive(Clone, Copy, Debug, PartialEq, Eq)]
 pub enum Reason {
-    /// Nothing has the name.
+    /// There is no such file.
     Missing,
-    /// A folder has it.
+    /// It is a directory.
     IsFolder,
     /// There is no permission.
     NoPermission,
-    /// The name is not UTF-8, and the program opens no other.
+    /// The name is not UTF-8, and the program cannot open such files.
     NotUtf8,
-    /// Something else, as a ring of links, or a read that failed.
+    /// Something else, such as a loop of links, or a failed read.
     Unreadable,
 }
 
 impl Reason {
-    /// The reason as it is told.
+    /// The reason as a message.
     pub fn text(self) -> &'static str
         ensures { result.now ≡ reason_text self }
     {
@@ -45,41 +45,42 @@ impl Reason {
 /// Why there is no root for a name.
 #[derive(Clone, Copy, Debug, PartialEq, Eq)]
 pub enum FileFault {
-    /// Its bytes can't be had.
+    /// Its bytes are not available.
     Failed(Reason),
-    /// There was no memory.
+    /// Out of memory.
     NoMemory,
 }
 
-/// Gives the roots of what has a name, as of files, and is told where there is none.
+/// Returns the roots of names, such as those of files, and reports why there is none.
 pub trait Sources {
-    // A call on the state before, with this name, may give this answer and leave the state after.
-    ghost gives: { Self → List ℕ → Result Inputs Refusal → Self → Type 0 };
+    // Whether a call in the state before, with this name, may return this result and leave the state after.
+    ghost gives: { Self → List ℕ → Result ModelTop Refusal → Self → Type 0 };
 
-    // A call that tells why there is no root may leave the state after.
+    // Whether a call that reports why there is no root may leave the state after.
     ghost tells: { Self → List ℕ → Cause → Self → Type 0 };
 
-    /// Tells which names come next, in their order, so that they can be looked up ahead. It is a hint: no answer hangs on it, and any other
-    /// name may be asked for.
+    /// Announces the following names, in their order, so that they can be looked up ahead. It is a hint: no result depends on it, and any
+    /// other name may be asked for.
     fn expect(&mut self, _names: &[Name])
         ensures { self.new ≡ self.old }
     {}
 
-    /// The root of all bytes of what has the name.
+    /// The root of all bytes of the file with this name.
     fn root_of(&mut self, name: &[u8]) -> Result<Top, FileFault>
         ensures { gives self.old name.now result self.new };
 
-    /// Tells the user why there is no root for a name.
+    /// Reports to the user why there is no root for a name.
     fn tell(&mut self, name: &[u8], reason: Reason)
         ensures { tells self.old name.now reason self.new };
 }
 
-/// An input that may be an open file, as standard input is where a file is redirected to it.
+/// An input that may be an open file, such as standard input redirected from a file.
 pub trait Standing: Read {
-    /// The file, opened for reading, and the place in it where the input stands.
-    fn as_file(&self) -> Option<(File, u64)>;
+    /// The file, opened for reading, and the current position of the input in it.
+    fn as_file(&self) -> Option<(File, u64)>
+        ensures { IfSome result (λ _. Self.remaining self.now ≡ None) };
 
-    /// Takes all that the file has from there on: the input gives none of it any more.
+    /// Consumes all bytes of the file from that position on: the input returns none of them any more.
     fn take_all(&mut self)
         ensures { IsAtEnd (Self.remaining self.new) };
 }

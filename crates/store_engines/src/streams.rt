@@ -10,7 +10,7 @@ use std::alloc::Global;
 use std::io;
 use std::io::{Error, ErrorKind, Read};
 
-// How many bytes are read at a time that go into stretches.
+// The number of bytes per read into stretches.
 fn at_a_time() -> usize
     ensures { 0 < result }
 {
@@ -29,7 +29,7 @@ pub(crate) fn read_cause(error: &Error) -> Cause
     }
 }
 
-/// All bytes that the reader has left, or why they can't be had.
+/// All bytes that the reader has left, or why they are not available.
 pub fn read_all<R: Read>(alloc: Global, reader: &mut R) -> Result<Vec<u8>, Cause>
     ensures bytes { IfOk result (λ input. IfSome (R.remaining reader.old) (λ left. input.items ≡ left)) }
     ensures end { OnOk result (IsAtEnd (R.remaining reader.new)) }
@@ -42,8 +42,8 @@ pub fn read_all<R: Read>(alloc: Global, reader: &mut R) -> Result<Vec<u8>, Cause
     }
 }
 
-/// All bytes that the reader has left, in stretches of so many, or why they can't be had. Room for a stretch is taken before it is
-/// filled, so they take little more memory than their number.
+/// All bytes that the reader has left, in stretches of `stretch_len` bytes, or why they are not available. Each stretch is allocated before
+/// it is filled, so the stretches take little more memory than the bytes.
 pub fn read_stretches<R: Read>(
     alloc: Global,
     reader: &mut R,

@@ -21,20 +21,20 @@ use std::alloc::{AllocError, Global};
 use std::io::{Read, Write};
 use std::thread::Threads;
 
-/// How an input is hashed, and what is written of it.
+/// How an input is hashed, and what is written about it.
 #[derive(Clone, Copy, Debug)]
 pub struct SumRequest<'a> {
-    /// The name that stands in the check line.
+    /// The name in the check line.
     pub name: &'a str,
     /// The mode that the input is hashed in.
     pub mode: SumMode<'a>,
-    /// How many bytes of the extended output are asked for, in place of the check line.
+    /// The number of bytes of extended output to write instead of the check line.
     pub length: Option<u32>,
-    /// By how many threads the input is hashed, at most; `None` for as many as there are processors.
+    /// The maximum number of threads that hash the input; `None` for as many as the machine has processors.
     pub threads: Option<u32>,
 }
 
-/// The mode that the options say.
+/// The mode that the options ask for.
 pub(crate) fn mode_of(mode: SumMode<'_>, work: &mut Work) -> Mode
     ensures { result ≡ sum_mode mode.entry }
 {
@@ -55,7 +55,7 @@ pub(crate) fn line_of(alloc: Global, digest: [u8; 32], name: &[u8]) -> Result<Ve
     line.text(alloc)
 }
 
-// The check line of the input of which this is the root.
+// The check line of the input with this root.
 fn check_line(
     alloc: Global,
     name: &[u8],
@@ -69,7 +69,7 @@ fn check_line(
     line_of(alloc, digest, name)
 }
 
-// The digits of the first `len` bytes of the extended output of a root, and a line feed.
+// The digits of the first `len` bytes of the extended output of a root, and a newline.
 fn output_line(alloc: Global, root: Top, len: u32, work: &mut Work) -> Result<Vec<u8>, AllocError>
     ensures { IfOk result (λ line. line.items ≡ encode_lower (output_of root 0 len) ++ codes "\n") }
 {
@@ -81,7 +81,7 @@ fn output_line(alloc: Global, root: Top, len: u32, work: &mut Work) -> Result<Ve
     Ok(line.into_bytes())
 }
 
-// What is written of the input of which this is the root.
+// What is written for the input with this root.
 fn text_of(
     alloc: Global,
     length: Option<u32>,
@@ -98,10 +98,10 @@ fn text_of(
     }
 }
 
-/// Writes what is written of the input of which this is the root: without a length the check line of its hash and the name, with one the
-/// digits of so many bytes of the extended output, and a line feed.
+/// Writes the result for an input with this root: without a length the check line of its hash and the name, with one the digits of `length`
+/// bytes of the extended output, and a newline.
 ///
-/// It stops where memory is refused, with nothing written, or where a write fails: then a beginning of that went out.
+/// It stops if out of memory, with nothing written, or at a failed write, after which a prefix of the result was written.
 pub fn write_root<W: Write>(
     alloc: Global,
     length: Option<u32>,
@@ -120,16 +120,16 @@ pub fn write_root<W: Write>(
     write_all(writer, &text)
 }
 
-/// Writes the hash of all its input, as it is asked for.
+/// Writes the hash of all its input, as requested.
 ///
-/// Without a length that is the check line with the name that is asked for; with a length it is the digits of so many bytes of the
-/// extended output, and a line feed.
+/// Without a length that is the check line with the requested name; with a length it is the digits of that many bytes of the extended
+/// output, and a newline.
 ///
-/// The input is hashed as it is read, by at most as many threads as are asked for, in memory that doesn't grow with it. No thread is left
-/// at work.
+/// The input is hashed as it is read, by at most the requested number of threads, in memory that does not grow with it. No thread is left
+/// running.
 ///
-/// It stops at the first read or write that fails, or where memory is refused. It writes nothing before it has
-/// read everything, and behind a failed write a beginning of that went out.
+/// It stops at the first failed read or write, or if out of memory. It writes nothing before it has read everything; after a failed write a
+/// prefix of the result was written.
 pub fn sum<T: Threads + Runtime, R: Read, W: Write>(
     rt: &T,
     alloc: Global,
@@ -155,12 +155,12 @@ pub fn sum<T: Threads + Runtime, R: Read, W: Write>(
     write_root(alloc, request.length, name, root, writer, work)
 }
 
-/// Writes the hash of what has each of the names, in order, each when it is known: its check line, or with a length the digits of so many
-/// bytes of the extended output. Where there is no root for a name, the sources are told, nothing is written of it, and the next name is
-/// next. `Good` where there is a root for each. Before each name it tells the sources which names come next.
+/// Writes the hash of the file of each name, in order, each when it is known: its check line, or with a length the digits of `length` bytes
+/// of the extended output. If there is no root for a name, this is reported to the sources, nothing is written for the name, and the next
+/// one follows. Returns `Good` if there is a root for each name. Before each name it announces the following names to the sources.
 ///
-/// It stops at the first write that fails, or where memory is refused, to the sources too. What is written of the names before went out
-/// then, and of the name that it stopped at a beginning where a write failed, and else nothing.
+/// It stops at the first failed write, or if it or the sources are out of memory. Then everything was written for the names before; for the
+/// name at which it stopped, a prefix was written if a write failed, otherwise nothing.
 pub fn sum_files<S: Sources, W: Write>(
     alloc: Global,
     length: Option<u32>,
@@ -182,7 +182,7 @@ pub fn sum_files<S: Sources, W: Write>(
     Ok(verdict)
 }
 
-// Good where both are.
+// Good if both are.
 fn both(first: Verdict, second: Verdict) -> Verdict
     ensures { result ≡ both first second }
 {
@@ -192,7 +192,7 @@ fn both(first: Verdict, second: Verdict) -> Verdict
     }
 }
 
-// Writes the hash of what has a name, or tells why there is none.
+// Writes the hash of the file of a name, or reports why there is none.
 fn sum_file<S: Sources, W: Write>(
     alloc: Global,
     length: Option<u32>,

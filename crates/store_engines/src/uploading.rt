@@ -2,20 +2,20 @@
 
 ghost use Rattle.std.specs.Prelude.{◌≡◌, ◌≢◌, ◌<◌, ◌++◌, codes, false, true, IfErr, IfOk, IfSome, OnErr, OnOk, Err, Ok};
 ghost use Rattle.std.specs.Io.KnownBytes.{Appends, IsAtEnd};
-ghost use Rattle.store_books.specs.Books.{most_workers};
+ghost use Rattle.store_books.specs.Books.{max_workers};
 ghost use Rattle.store_ledger.specs.Shares.{all_parts};
 ghost use Rattle.store_shared.specs.Cuts.{IsBadCut};
 ghost use Rattle.store_shared.specs.Gates.{IsOwnFault};
-ghost use Rattle.store_engines.specs.Uploads.{SomeRefusal, WroteBeginning, WroteMemory, WroteUpload, failed_text, is_memory, journal_part};
+ghost use Rattle.store_engines.specs.Uploads.{SomeRefusal, WrotePrefix, WroteMemory, WroteUpload, failed_text, is_memory, journal_part};
 ghost use Rattle.edge.specs.Output.{WroteSome};
-ghost use Rattle.store_engines.specs.inner.Uploads.{IsFiled, IsTold};
+ghost use Rattle.store_engines.specs.inner.Uploads.{IsFiled, IsUploadReport};
 
 use crate::auditing::accepted_line;
 use crate::journals::text_of;
 use crate::streams::read_stretches;
 use crate::summing::line_of;
 use b3_core::{CHUNK_LEN, Runtime};
-use b3_forest::{Lent, MOST_PART_BYTES};
+use b3_forest::{Lent, MAX_PART_BYTES};
 use edge::{Cause, UploadOptions, Verdict, write_all};
 use std::alloc::{AllocError, Global};
 use std::io::{Read, Write};
@@ -23,20 +23,21 @@ use std::sync::Wait;
 use std::sync::ledger::Blank;
 use std::thread::Threads;
 use store_core::{Address, Entry, Limits, Refusal, TenantId};
+use store_history::UnnamedHistory;
 use store_ledger::{Ledgers, Share};
 use store_shared::{Locked, PassAll, Shared, UploadFaultKind, UploadRequest, lent_open_tenant};
 
 // The tenant's limit, in bytes.
 const LIMIT: u64 = 1 << 40;
 
-// Whether memory was refused, by the store or outside its commands.
+// Whether it ran out of memory, in the store or elsewhere.
 fn is_memory(kind: &UploadFaultKind) -> bool
     ensures { result ≡ is_memory kind.now }
 {
     *kind == UploadFaultKind::NoMemory || *kind == UploadFaultKind::Refused(Refusal::NoMemory)
 }
 
-// Tells a failed upload. Want of memory is the engine's cause, also where a write fails behind it, and all else a refusal.
+// Reports a failed upload. Out of memory is the engine's cause, even if the write of the report fails; everything else is a refusal.
 fn refuse<W: Write>(alloc: Global, kind: UploadFaultKind, writer: &mut W) -> Result<Verdict, Cause>
     ensures told { OnOk result (Appends (W.contents writer.old) (W.contents writer.new) (failed_text kind)) }
     ensures failed { OnErr result (WroteSome (W.contents writer.old) (W.contents writer.new) (failed_text kind)) }
@@ -55,7 +56,7 @@ fn refuse<W: Write>(alloc: Global, kind: UploadFaultKind, writer: &mut W) -> Res
     Ok(Verdict::Refused)
 }
 
-// A journal's text, where it is asked for.
+// A journal's text, if it is requested.
 fn journal_part(alloc: Global, wanted: bool, entries: &[Entry]) -> Result<Vec<u8>, AllocError>
     ensures { IfOk result (λ text. text.items ≡ journal_part wanted entries.now) }
 {
@@ -66,7 +67,7 @@ fn journal_part(alloc: Global, wanted: bool, entries: &[Entry]) -> Result<Vec<u8
     }
 }
 
-// A line with its line feed, a line without, and more text.
+// A line with its newline, a line without one, and more text.
 fn joined(line: Vec<u8>, second: &[u8], more: &[u8]) -> Result<Vec<u8>, AllocError>
     ensures { IfOk result (λ text. text.items ≡ line.items ++ (second.now ++ (codes "\n" ++ more.now))) }
 {
@@ -77,14 +78,14 @@ fn joined(line: Vec<u8>, second: &[u8], more: &[u8]) -> Result<Vec<u8>, AllocErr
     Ok(text)
 }
 
-// That the tenant holds an object of so many bytes under the address: U1 with the store's refusal, U6 where it has another length.
+// Whether the tenant holds an object of `len` bytes at the address: U1 with the store's refusal, U6 if it has another length.
 fn held<L: Ledgers>(
     locked: &Locked<L>,
     tenant: TenantId,
     address: Address,
     len: u64,
 ) -> Result<(), UploadFaultKind>
-    ensures filed { OnOk result (IsFiled locked.now.state address len) }
+    ensures filed { OnOk result (IsFiled locked.now.store.state address len) }
     ensures own { IfErr result IsOwnFault }
 {
     match locked.store().fetch(tenant, address) {
@@ -94,7 +95,7 @@ fn held<L: Ledgers>(
     }
 }
 
-// What is written of an upload that was filed, from the store that is no longer shared.
+// What is written about a filed upload, from the store, which is no longer shared.
 fn uploaded_text<L: Ledgers>(
     alloc: Global,
     journal: bool,
@@ -103,8 +104,8 @@ fn uploaded_text<L: Ledgers>(
     share: Share<L>,
 ) -> Result<Vec<u8>, AllocError>
     requires whole { share.parts ≡ all_parts }
-    requires filed { IsFiled locked.state address share.bytes }
-    ensures { IfOk result (λ text. IsTold journal address share locked text.items) }
+    requires filed { IsFiled locked.store.state address share.bytes }
+    ensures { IfOk result (λ text. IsUploadReport journal address share locked.store text.items) }
 {
     let mut locked = locked;
     let mut share = share;
@@ -117,49 +118,57 @@ fn uploaded_text<L: Ledgers>(
     joined(line, accepted.as_bytes(), entries.as_slice())
 }
 
-// How many bytes are read in one stretch: those of a part, or of some part where none may have so many chunks.
+// The number of bytes in a stretch: those of a part; if no part can have `part_chunks` chunks, those of the nearest part size.
 fn stretch_len(part_chunks: u32) -> usize
     ensures { 0 < result }
 {
     let len = part_chunks as usize * CHUNK_LEN;
-    len.clamp(CHUNK_LEN, MOST_PART_BYTES as usize)
+    len.clamp(CHUNK_LEN, MAX_PART_BYTES as usize)
 }
 
-/// Uploads all its input into a store of one tenant, and asks the store for it in the end.
+/// Uploads all its input into a store of one tenant, and finally checks that the store has it.
 ///
-/// So many workers as the options say take parts of so many chunks. Then it writes the input's check line, what was accepted,
-/// and the journal's text where it is asked for. A failed upload is told as `refused` and its name: U1 with the store's
-/// refusal, U2 to U6.
+/// The upload uses the number of workers and the size of parts given in the options. Then it writes the input's check line, what was
+/// accepted, and the journal's text if it is requested. A failed upload is reported as `refused` and its code: U1 with the store's refusal,
+/// U2 to U6.
 ///
-/// A bad cut is told as U2 and nothing else, unless the store refuses its tenant by S2 or S13.
+/// Numbers of workers or chunks that are out of range are reported as U2 and nothing else, unless the store refuses its tenant with S2 or
+/// S13.
 ///
-/// It stops at the first read or write that fails, or where memory is refused; `refused U5` and `refused U1 S14` are written
-/// first, and want of memory is told also where that write fails. It writes nothing before it has read everything. For want of
-/// memory it wrote nothing but a beginning of such a line, and behind a failed write a beginning of what is written. The two
-/// blanks are for the store's book.
+/// It stops at the first failed read or write, or if out of memory. `refused U5` and `refused U1 S14` are written first; the result is out
+/// of memory even if that write fails. It writes nothing before it has read everything. If out of memory, it has written at most a prefix
+/// of such a line; after a failed write, a prefix of its output. The two blanks are for the store's book.
 pub fn upload<L: Ledgers, T: Threads + Wait + Sync + Runtime, R: Read, W: Write>(
     rt: &T,
     alloc: Global,
     options: UploadOptions,
     bytes: Blank,
     calls: Blank,
+    history: UnnamedHistory,
     reader: &mut R,
     writer: &mut W,
 ) -> Result<Verdict, Cause>
     requires bytes { (bytes.name ≡ L.bytes_name) × (bytes.parts ≡ L.bytes_parts) × (bytes.parts ≡ all_parts) }
     requires calls { (calls.name ≡ L.calls_name) × (calls.parts ≡ L.calls_parts) × (calls.parts ≡ all_parts) }
+    requires history { history ≡ L.history }
     ensures written { result ≡ Ok Verdict.Good → IfSome (R.remaining reader.old) (λ input.
         WroteUpload options input (W.contents writer.old) (W.contents writer.new)) }
     ensures refused { result ≡ Ok Verdict.Refused → SomeRefusal options (W.contents writer.old) (W.contents writer.new) }
-    ensures bad_cut { IsBadCut options.part_chunks options.workers most_workers → result ≢ Ok Verdict.Good }
+    ensures bad_cut { IsBadCut options.part_chunks options.workers max_workers → result ≢ Ok Verdict.Good }
     ensures end { OnOk result (IsAtEnd (R.remaining reader.new)) }
     ensures silent { result ≡ Err Cause.CannotRead → W.contents writer.new ≡ W.contents writer.old }
     ensures memory { result ≡ Err Cause.OutOfMemory → WroteMemory (W.contents writer.old) (W.contents writer.new) }
     ensures failed { result ≡ Err Cause.CannotWrite → IfSome (R.remaining reader.old) (λ input.
-        WroteBeginning options input (W.contents writer.old) (W.contents writer.new)) }
+        WrotePrefix options input (W.contents writer.old) (W.contents writer.new)) }
 {
     let input = read_stretches(alloc, reader, stretch_len(options.part_chunks))?;
-    let (shared, share): (Shared<L>, Share<L>) = Shared::new(alloc, Limits::full(), bytes, calls);
+    let (shared, share): (Shared<L>, Share<L>) = Shared::new(
+        alloc,
+        Limits::full(),
+        bytes,
+        calls,
+        history,
+    );
     let tenant = match lent_open_tenant(&mut *shared.lock(rt), LIMIT) {
         Ok(tenant) => tenant,
         Err(refusal) => return refuse(alloc, UploadFaultKind::Refused(refusal), writer),

@@ -1,30 +1,30 @@
--- What a book and its shares say was accepted.
+-- What was accepted according to a book and its shares.
 use Rattle.std.specs.Prelude.{◌≡◌, ℕ, ◌+◌, ◌^◌, ◌<◌}
 use Rattle.store_ledger.specs.declared.book.Accepted.{Accepted}
 use Rattle.store_ledger.specs.declared.holding.Holding.{Holding}
 use Rattle.store_ledger.specs.declared.refusal.NotWhole.{NotWhole}
 
--- a book's numbers after one more call with that many bytes
+-- a book's numbers after one more call with this number of bytes
 abbrev pub accepted_after : Accepted → ℕ → Accepted
 accepted_after a bytes = record { bytes = a.bytes + bytes; calls = a.calls + 1 }
 
--- a share after one more call with that many bytes
+-- a share after one more call with this number of bytes
 abbrev pub holding_after : Holding → ℕ → Holding
 holding_after h bytes = record { parts = h.parts; bytes = h.bytes + bytes; calls = h.calls + 1 }
 
--- what two shares have together
+-- the sum of two shares
 abbrev pub sum_of : Holding → Holding → Holding
 sum_of g h = record { parts = g.parts + h.parts; bytes = g.bytes + h.bytes; calls = g.calls + h.calls }
 
--- one more call with that many bytes leaves both numbers of the book below 2^64
+-- after one more call with this number of bytes, both numbers of the book are below 2^64
 abbrev pub BookHasRoom : Accepted → ℕ → Type 0
 BookHasRoom a bytes = (a.bytes + bytes < 2 ^ 64) × (a.calls + 1 < 2 ^ 64)
 
--- the parts of a book
+-- the number of parts of a book
 abbrev pub all_parts : ℕ
 all_parts = 2 ^ 32
 
--- the share has every part of its book, so no other share of it is out
+-- the share has every part of its book, so there is no other share of it
 abbrev pub IsWhole : Holding → Type 0
 IsWhole h = h.parts ≡ all_parts
 
@@ -32,6 +32,6 @@ IsWhole h = h.parts ≡ all_parts
 abbrev pub Agrees : Accepted → Holding → Type 0
 Agrees a h = (h.bytes ≡ a.bytes) × (h.calls ≡ a.calls)
 
--- what the book has beyond the share, which is not nothing
+-- what the book has beyond the share; it is not zero
 abbrev pub IsMissing : Accepted → Holding → NotWhole → Type 0
 IsMissing a h missing = (h.bytes + missing.bytes ≡ a.bytes) × (h.calls + missing.calls ≡ a.calls) × (0 < missing.bytes + missing.calls)

@@ -1,4 +1,4 @@
-//! Books, and what was accepted.
+//! Books: the totals of what was accepted.
 
 ghost use Rattle.std.specs.Prelude.{◌≡◌, ◌↔◌, IsSome, IfSome, ◌+◌, ◌≤◌, IfOk, IfErr, IsOk, OnOk, OnErr, Ok};
 ghost use Rattle.store_ledger.specs.Shares.{Agrees, BookHasRoom, IsMissing, IsWhole, accepted_after, all_parts, holding_after, sum_of};
@@ -12,14 +12,14 @@ use std::marker::Model;
 use std::sync::ledger;
 use std::sync::ledger::Blank;
 
-/// What was accepted: the bytes of all calls together, and how many calls there were.
+/// What was accepted: the total number of bytes, and the number of calls.
 #[derive(Clone, Copy, Debug, PartialEq, Eq, Hash)]
 pub struct Accepted {
     pub bytes: u64,
     pub calls: u64,
 }
 
-/// The bytes and the calls of all its shares together.
+/// The totals of the bytes and the calls of all its shares.
 #[derive(Drop)]
 pub struct Book<L: Ledgers> {
     accepted: Accepted,
@@ -58,14 +58,14 @@ impl<L: Ledgers> Book<L> {
         (book, share)
     }
 
-    /// The bytes of all accepted calls together.
+    /// The total number of bytes of all accepted calls.
     pub fn bytes(&self) -> u64
         ensures { result ≡ self.now.bytes }
     {
         self.accepted.bytes
     }
 
-    /// How many calls were accepted.
+    /// The number of accepted calls.
     pub fn calls(&self) -> u64
         ensures { result ≡ self.now.calls }
     {
@@ -88,7 +88,7 @@ impl<L: Ledgers> Book<L> {
         Ok(())
     }
 
-    /// The book's numbers where the share has the same, else what it lacks. Book and share stay as they are.
+    /// The book's numbers if the share has the same, otherwise what the share lacks. Book and share are unchanged.
     pub fn settle(&mut self, share: &mut Share<L>) -> Result<Accepted, NotWhole>
         ensures same { (self.new ≡ self.old) × (share.new ≡ share.old) }
         ensures ok { IfOk result (λ accepted. (accepted ≡ self.old) × Agrees self.old share.old) }
@@ -106,7 +106,7 @@ impl<L: Ledgers> Book<L> {
         })
     }
 
-    /// The book's numbers, each of which is at least the share's. Book and share stay as they are.
+    /// The book's numbers, each of which is at least the share's. Book and share are unchanged.
     pub fn accepted(&mut self, share: &mut Share<L>) -> Accepted
         ensures same { (self.new ≡ self.old) × (share.new ≡ share.old) }
         ensures numbers { result ≡ self.old }
@@ -118,7 +118,7 @@ impl<L: Ledgers> Book<L> {
         self.accepted
     }
 
-    /// Adds another share of this book to the first. What the two have recorded is in the book, so the sums fit.
+    /// Adds another share of this book to the first. What both have recorded is in the book, so the sums cannot overflow.
     pub fn join(&mut self, share: &mut Share<L>, other: Share<L>)
         ensures book { self.new ≡ self.old }
         ensures share { share.new ≡ sum_of share.old other }
@@ -137,7 +137,7 @@ impl<L: Ledgers> Book<L> {
 }
 
 impl Accepted {
-    /// The numbers after one more call with that many bytes, unless one of them would be above 2^64-1.
+    /// The numbers after one more call with `bytes` bytes, unless one of them would exceed 2^64-1.
     pub(crate) fn after(self, bytes: u64) -> Option<Accepted>
         ensures room { IsSome result ↔ BookHasRoom self bytes }
         ensures numbers { IfSome result (λ accepted. accepted ≡ accepted_after self bytes) }

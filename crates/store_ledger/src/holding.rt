@@ -1,4 +1,4 @@
-//! What contracts see of shares.
+//! The view of shares in contracts.
 
 ghost use Rattle.std.specs.Prelude.{◌≡◌, ◌+◌, ◌^◌, ◌<◌};
 ghost use Rattle.store_ledger.specs.Shares.{sum_of};
@@ -12,7 +12,7 @@ pub struct Holding {
 }
 
 impl Holding {
-    /// Parts with which nothing is recorded.
+    /// Parts with nothing recorded.
     pub(crate) fn new(parts: u64) -> Holding
         ensures { result ≡ record { parts = parts; bytes = 0; calls = 0 } }
     {
@@ -23,7 +23,7 @@ impl Holding {
         }
     }
 
-    /// What both have together.
+    /// The sum of both.
     pub(crate) fn plus(self, other: Holding) -> Holding
         requires parts { self.parts + other.parts < 2 ^ 64 }
         requires bytes { self.bytes + other.bytes < 2 ^ 64 }

@@ -1,13 +1,13 @@
 //! A book of what was accepted, and the shares that record in it.
 //!
-//! A `Book` has two numbers: the bytes that were accepted, and in how many calls. Whoever records has a `Share` of
-//! the book, and `Book::record` raises both by the same bytes and one call. So the book's numbers are the sums over
-//! its shares, whichever threads have these: the numbers of a share are never above the book's, and those of a whole
-//! share, which has all 2^32 parts, are the book's own. `Book::settle` compares a share with its book.
+//! A `Book` has two numbers: the bytes that were accepted, and the number of calls. Whoever records has a `Share` of the book, and
+//! `Book::record` adds the same bytes and one call to both. So the book's numbers are the sums over its shares, whichever threads have
+//! these: the numbers of a share never exceed the book's, and those of a whole share, which has all 2^32 parts, are the book's own.
+//! `Book::settle` compares a share with its book.
 //!
-//! The type parameter, `L: Ledgers`, names the two ledgers, one of bytes and one of calls, that a book and its shares belong
-//! to. So a share is of its book by its type. A program opens a book in a function that is generic over it, calls that
-//! function with `Brand`, and hands it two `Blank`s of `ALL_PARTS` parts.
+//! The type parameter, `L: Ledgers`, names the two ledgers, one of bytes and one of calls, that a book and its shares belong to. So a share
+//! belongs to its book by its type. A program opens a book in a function that is generic over it, calls that function with `Brand`, and
+//! passes two `Blank`s of `ALL_PARTS` parts.
 #![tactic(auto)]
 
 mod book;

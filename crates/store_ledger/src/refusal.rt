@@ -6,12 +6,12 @@ ghost use Rattle.store_ledger.specs.Refusals.{full_code, full_text, missing_code
 use std::error::Error;
 use std::fmt;
 
-/// L2: the book's bytes or its calls would be above 2^64-1.
+/// L2: the book's bytes or its calls would exceed 2^64-1.
 #[derive(Clone, Copy, Debug, PartialEq, Eq, Hash)]
 pub struct BookFull;
 
 impl BookFull {
-    /// The refusal's number, `L2`.
+    /// The code of the refusal, `L2`.
     pub fn code(self) -> &'static str
         ensures { result.now ≡ full_code }
     {
@@ -30,7 +30,7 @@ impl fmt::Display for BookFull {
 
 impl Error for BookFull {}
 
-/// L1: other shares of the book are out, and these bytes and calls were recorded with them.
+/// L1: there are other shares of the book, and these bytes and calls were recorded with them.
 #[derive(Clone, Copy, Debug, PartialEq, Eq, Hash)]
 pub struct NotWhole {
     pub bytes: u64,
@@ -38,7 +38,7 @@ pub struct NotWhole {
 }
 
 impl NotWhole {
-    /// The refusal's number, `L1`.
+    /// The code of the refusal, `L1`.
     pub fn code(self) -> &'static str
         ensures { result.now ≡ missing_code }
     {

@@ -9,11 +9,11 @@ use crate::ledgers::{Ledgers, OfBytes, OfCalls};
 use std::marker::Model;
 use std::sync::ledger;
 
-/// All parts of a book, and so how many a `Blank` for one has.
+/// The number of parts of a book, and so of a `Blank` for one.
 pub const ALL_PARTS: u64 = 1 << 32;
 
-/// Some parts of a book, with the bytes and the calls that were recorded with them. It may be dropped: its parts
-/// are then lost, and no share of its book is whole again.
+/// Some parts of a book, with the bytes and the calls that were recorded with them. It may be dropped: its parts are then lost, and no
+/// share of its book can become whole again.
 #[derive(Drop)]
 pub struct Share<L: Ledgers> {
     pub(crate) holding: Holding,
@@ -30,28 +30,28 @@ impl<L: Ledgers> Model for Share<L> {
 }
 
 impl<L: Ledgers> Share<L> {
-    /// How many of its book's parts the share has.
+    /// The number of its book's parts that the share has.
     pub fn parts(&self) -> u64
         ensures { result ≡ self.now.parts }
     {
         self.holding.parts
     }
 
-    /// The bytes that were recorded with the share.
+    /// The number of bytes recorded with the share.
     pub fn bytes(&self) -> u64
         ensures { result ≡ self.now.bytes }
     {
         self.holding.bytes
     }
 
-    /// How many calls were recorded with the share.
+    /// The number of calls recorded with the share.
     pub fn calls(&self) -> u64
         ensures { result ≡ self.now.calls }
     {
         self.holding.calls
     }
 
-    /// A new share of the same book, which takes over that many parts and has recorded nothing.
+    /// Moves `parts` parts to a new share of the same book, with nothing recorded.
     pub fn split(&mut self, parts: u64) -> Share<L>
         requires positive { 0 < parts }
         requires some_left { parts < self.old.parts }
@@ -71,8 +71,8 @@ impl<L: Ledgers> Share<L> {
         }
     }
 
-    /// Takes in another share of the same book. Away from the book nothing bounds the two sums, so the caller has to
-    /// know that they fit; `Book::join` needs no such condition.
+    /// Adds another share of the same book. Without the book nothing bounds the two sums, so the caller has to know that they fit;
+    /// `Book::join` needs no such condition.
     pub fn join(&mut self, other: Share<L>)
         requires bytes { self.old.bytes + other.bytes < 2 ^ 64 }
         requires calls { self.old.calls + other.calls < 2 ^ 64 }

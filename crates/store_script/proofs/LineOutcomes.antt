@@ -3,7 +3,7 @@ use Rattle.std.proofs.Common.{◌≡◌, ◌∙◌, ◌+◌, ◌-◌, ◌<◌, �
 use Rattle.std.specs.Prelude.{◌&&◌, ◌==◌, Bool, Option, IfOk, OnErr, unwrap_or, codes, false, nat_lt, slice_index, true}
 use Rattle.std.specs.Io.BufRead.{strip_last}
 use Rattle.std.proofs.lemmas.List.{length-take, take_all}
-use Rattle.b3_forest.specs.Parts.{PlannedPart, planned}
+use Rattle.b3_forest.specs.Parts.{ModelPrepared, planned}
 use Rattle.edge.specs.Fields.{cut_at, space}
 use Rattle.edge.proofs.FieldTexts.{cut_found}
 use Rattle.store_upload.specs.Uploads.{UploadPlan, part_refusal}
@@ -23,7 +23,7 @@ use Rattle.store_script.specs.Lines.{AnswersRead, IsPutLine, PutsRead}
 use Rattle.store_script.proofs.Lengths.{long_is_none}
 use Rattle.store_script.specs.Script.{Answered, IsTurnOfCommand, IsTurnOfMade, IsTurnOf, IsTurnOfPut, Turn, bad, fault_ending, reply_ending, skipped, took, unmade}
 use Rattle.store_script.specs.Texts.{answer_text, unmade_text, refused_text}
-use Rattle.store_script.specs.Answers.{told_ending, told_text}
+use Rattle.store_script.specs.Answers.{reported_ending, told_text}
 use Rattle.store_script.specs.declared.answer.Answer.{Answer}
 use Rattle.store_script.specs.declared.answer.Answer.TheVariants as answers
 use Rattle.store_script.specs.declared.ending.Ending.{Ending}
@@ -46,7 +46,7 @@ seen_ending : {R M : Type 0} (seen : R → M) (reply : Result R Refusal) → rep
 seen_ending seen (Ok reply) = refl
 seen_ending seen (Err refusal) = refl
 
-pub says : (shown : Shown) (reply : Result CodeReply Refusal) → Says (reply_seen (reply_of shown) reply) (told_text shown (answers.Replied reply)) (told_ending (answers.Replied reply))
+pub says : (shown : Shown) (reply : Result CodeReply Refusal) → Says (reply_seen (reply_of shown) reply) (told_text shown (answers.Replied reply)) (reported_ending (answers.Replied reply))
 says shown reply = (refl, seen_ending (reply_of shown) reply)
 
 -- ---- a part
@@ -67,7 +67,7 @@ no_plan old upload offset bytes refusal text ending is says = record {
   ending_is = says.1;
 }
 
-fault_is : (old : Shown) (upload : ℕ) (part : PlannedPart) (refused : Option PartFault) (fault : PartFault) → fault ≡ unwrap_or refused faults.NoMemory → IsTurnOfMade old upload part refused (unmade fault) old
+fault_is : (old : Shown) (upload : ℕ) (part : ModelPrepared) (refused : Option PartFault) (fault : PartFault) → fault ≡ unwrap_or refused faults.NoMemory → IsTurnOfMade old upload part refused (unmade fault) old
 fault_is old upload part (Some first) fault is = (ap unmade is, refl)
 fault_is old upload part None fault is = (is, refl)
 
@@ -82,13 +82,13 @@ no_part old upload offset made_for bytes fault text ending is refused says = rec
 }
 
 -- the step
-pub made : (old new : Shown) (upload offset : ℕ) (made_for : UploadPlan) (bytes : List ℕ) (part : PlannedPart) (reply : Result Reply Refusal) (text : List ℕ) (ending : Ending) → Ok made_for ≡ plan_in old.state upload → part_refusal made_for offset (length bytes) ≡ None
+pub made : (old new : Shown) (upload offset : ℕ) (made_for : UploadPlan) (bytes : List ℕ) (part : ModelPrepared) (reply : Result Reply Refusal) (text : List ℕ) (ending : Ending) → Ok made_for ≡ plan_in old.state upload → part_refusal made_for offset (length bytes) ≡ None
     → part ≡ planned made_for offset bytes → Step old (put upload part) reply new → Says reply text ending → Answered (PutTurn old upload offset bytes new) text ending
 made old new upload offset made_for bytes part reply text ending is fits part_is step says = record {
   turn = took (put upload (planned made_for offset bytes)) reply;
   is = by_plan old new upload offset bytes (took (put upload (planned made_for offset bytes)) reply) (Ok made_for) is
       (subst (λ (o : Option PartFault). IsTurnOfMade old upload (planned made_for offset bytes) o (took (put upload (planned made_for offset bytes)) reply) new) (sym fits)
-      (refl, subst (λ (p : PlannedPart). Step old (put upload p) reply new) part_is step));
+      (refl, subst (λ (p : ModelPrepared). Step old (put upload p) reply new) part_is step));
   text_is = says.0;
   ending_is = says.1;
 }
@@ -143,7 +143,7 @@ strip_shorter xs = go (nat_lt 0 (length xs) && slice_index xs (length xs - 1) ==
     go false = omega arith
 
 -- a longer line is no command
-pub long_line : (old : Shown) (count : ℕ) (kept : List ℕ) → 33554481 < count → AnswersRead old old count kept (told_text old answers.Bad) (told_ending answers.Bad)
+pub long_line : (old : Shown) (count : ℕ) (kept : List ℕ) → 33554481 < count → AnswersRead old old count kept (told_text old answers.Bad) (reported_ending answers.Bad)
 long_line old count kept long = record {
   answers = λ whole read.
       let line = strip_last 10 whole in
@@ -152,13 +152,13 @@ long_line old count kept long = record {
 }
 
 -- any other is kept whole
-pub short_line : {E : Type 0} (r : Result Answer E) (old new : Shown) (count : ℕ) (kept line : List ℕ) → count ≤ 33554481 → line ≡ strip_last 10 kept → IfOk r (λ a. Answered (LineTurn old line new) (told_text new a) (told_ending a))
-    → IfOk r (λ a. AnswersRead old new count kept (told_text new a) (told_ending a))
+pub short_line : {E : Type 0} (r : Result Answer E) (old new : Shown) (count : ℕ) (kept line : List ℕ) → count ≤ 33554481 → line ≡ strip_last 10 kept → IfOk r (λ a. Answered (LineTurn old line new) (told_text new a) (reported_ending a))
+    → IfOk r (λ a. AnswersRead old new count kept (told_text new a) (reported_ending a))
 short_line (Err e) old new count kept line short is h = tt
 short_line (Ok a) old new count kept line short is h = record {
   answers = λ whole read.
       let all : kept ≡ whole = read.1 ∙ take_all 33554481 whole (omega (arith, short, read.0)) in
-      subst (λ (l : List ℕ). Answered (LineTurn old l new) (told_text new a) (told_ending a)) (is ∙ ap (strip_last 10) all) h;
+      subst (λ (l : List ℕ). Answered (LineTurn old l new) (told_text new a) (reported_ending a)) (is ∙ ap (strip_last 10) all) h;
 }
 
 -- ---- want of memory

@@ -15,7 +15,7 @@ use Rattle.store_core.specs.declared.command.Question.TheVariants as questions
 use Rattle.edge.proofs.FieldTexts.{cut_again, cut_found, decimal_spaceless, number_again, two_again, two_found}
 use Rattle.edge.proofs.Steps.{bind_is, bind_some, chosen, none_some, some_is}
 use Rattle.edge.proofs.Numbers.{read_back}
-use Rattle.store_script.specs.Grammar.{ScriptCommand, abort_command, address_of_digits, asks, asks_of_kind, does, begin_command, begin_open_command, part_bytes_at, bytes_of_kind, colon, command_at, cut_line_at, decoded, digits_at, fetch_command, fix_command, forget_command, held_at, list_command, most_digits, most_pattern, open_tenant_command, pattern_at, pattern_of, puts, puts_at, seal_as_command, seal_command, set_limit_command, usage_command, word_command}
+use Rattle.store_script.specs.Grammar.{ScriptCommand, abort_command, address_of_digits, asks, asks_of_kind, does, begin_command, begin_open_command, part_bytes_at, bytes_of_kind, colon, command_at, cut_line_at, decoded, digits_at, fetch_command, fix_command, forget_command, held_at, list_command, max_digits, max_pattern, open_tenant_command, pattern_at, pattern_of, puts, puts_at, seal_as_command, seal_command, set_limit_command, usage_command, word_command}
 use Rattle.store_script.specs.Spelling.{SpellsQuestion, SpellsCommand, IsPart, IsSpelled}
 
 -- ---- fields
@@ -152,11 +152,11 @@ word_found word command h =
 
 -- ---- a part's bytes
 
-pattern_found : (offset : ℕ) (o : Option ℕ) (bytes : List ℕ) → pattern_at offset o ≡ Some bytes → (len : ℕ) × (o ≡ Some len) × (len ≤ most_pattern) × (bytes ≡ pattern_of offset len)
+pattern_found : (offset : ℕ) (o : Option ℕ) (bytes : List ℕ) → pattern_at offset o ≡ Some bytes → (len : ℕ) × (o ≡ Some len) × (len ≤ max_pattern) × (bytes ≡ pattern_of offset len)
 pattern_found offset None bytes h = absurd (none_some bytes h)
 pattern_found offset (Some len) bytes h =
-    elim (chosen (nat_le len most_pattern) (Some (pattern_of offset len)) None (Some bytes) h) [
-      | inl p ↦ (len, refl, leb-true len most_pattern p.0, sym (some_is _ _ p.1))
+    elim (chosen (nat_le len max_pattern) (Some (pattern_of offset len)) None (Some bytes) h) [
+      | inl p ↦ (len, refl, leb-true len max_pattern p.0, sym (some_is _ _ p.1))
       | inr p ↦ absurd (none_some bytes p.1)
     ]
 
@@ -166,8 +166,8 @@ IsPartBy offset kind digits bytes = IsPart offset (kind ++ colon ∷ digits) byt
 
 digits_found : (offset : ℕ) (digits bytes : List ℕ) → digits_at digits ≡ Some bytes → IsPartBy offset (codes "x") digits bytes
 digits_found offset digits bytes h =
-    elim (chosen (nat_le (length digits) most_digits) (decoded (decode_of digits)) None (Some bytes) h) [
-      | inl p ↦ inl (digits, refl, leb-true (length digits) most_digits p.0, decoded_found (decode_of digits) bytes p.1)
+    elim (chosen (nat_le (length digits) max_digits) (decoded (decode_of digits)) None (Some bytes) h) [
+      | inl p ↦ inl (digits, refl, leb-true (length digits) max_digits p.0, decoded_found (decode_of digits) bytes p.1)
       | inr p ↦ absurd (none_some bytes p.1)
     ]
 
@@ -229,11 +229,11 @@ found line command h = line_found line (cut_at space line) command refl h
 bytes_again : (offset : ℕ) (field bytes : List ℕ) → IsPart offset field bytes → part_bytes_at offset field ≡ Some bytes
 unfolding bytes_of_kind
 bytes_again offset field bytes (inl h) =
-    let test : nat_le (length h.0) most_digits ≡ true = le-leb (length h.0) most_digits h.2 in
+    let test : nat_le (length h.0) max_digits ≡ true = le-leb (length h.0) max_digits h.2 in
     ap (part_bytes_at offset) h.1 ∙ ap (λ (t : Bool). cond t (decoded (decode_of h.0)) None) test ∙ ap decoded h.3
 bytes_again offset field bytes (inr h) =
     let small : h.0 < 2 ^ 64 = omega (arith, h.2) in
-    let test : nat_le h.0 most_pattern ≡ true = le-leb h.0 most_pattern h.2 in
+    let test : nat_le h.0 max_pattern ≡ true = le-leb h.0 max_pattern h.2 in
     ap (part_bytes_at offset) h.1 ∙ ap (pattern_at offset) (number_again h.0 small) ∙ ap (λ (t : Bool). cond t (Some (pattern_of offset h.0)) None) test ∙ ap (λ (b : List ℕ). Some b) (sym h.3)
 
 puts_again : (upload offset : ℕ) (field bytes : List ℕ) → upload < 2 ^ 64 → offset < 2 ^ 64 → IsPart offset field bytes → puts_at (three_fields (decimal upload) (decimal offset) field) ≡ Some (puts upload offset bytes)

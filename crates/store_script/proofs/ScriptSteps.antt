@@ -1,17 +1,17 @@
 -- How far a script has come.
-use Rattle.std.proofs.Common.{◌≡◌, ◌∙◌, ◌<◌, ◌-◌, ◌^◌, ℕ, Bool, true, false, List, [], ◌∷◌, ◌++◌, Some, None, Ok, Err, Result, refl, ap, sym, subst, arith, length, cond, append_assoc, ◌⊎◌, inl, inr}
+use Rattle.std.proofs.Common.{◌≡◌, ◌∙◌, ◌<◌, ◌^◌, ℕ, Bool, true, false, List, [], ◌∷◌, ◌++◌, Some, None, Ok, Err, Result, refl, ap, sym, subst, arith, length, cond, append_assoc, ◌⊎◌, inl, inr}
 use Rattle.std.specs.Prelude.{◌≢◌, Option, ◌==◌, IfOk, IfSome, OnOk}
 use Rattle.std.specs.List.{flat_map}
 use Rattle.std.specs.Io.BufRead.{DropsThrough, drop_through, strip_last, take_through}
 use Rattle.std.specs.Io.KnownBytes.{Appends, IsAtEnd}
 use Rattle.std.proofs.lemmas.List.{append-nil}
 use Rattle.std.proofs.lemmas.List.Concat.{flat_map-append}
-use Rattle.b3_forest.specs.Parts.{PlannedPart, planned}
+use Rattle.b3_forest.specs.Parts.{ModelPrepared, planned}
 use Rattle.store_upload.specs.Uploads.{UploadPlan, part_refusal}
 use Rattle.store_upload.specs.declared.refusal.PartFault.{PartFault}
 use Rattle.store_books.specs.declared.refusal.Refusal.{Refusal}
 use Rattle.store_books.specs.declared.limits.Limits.{Limits}
-use Rattle.store_books.specs.Books.{empty_books, most_entries, most_tenants, most_workers}
+use Rattle.store_books.specs.Books.{empty_books, max_entries, max_tenants, max_workers}
 use Rattle.store_core.specs.Commands.{plan_in}
 use Rattle.edge.specs.Lines.{lines_of}
 use Rattle.edge.proofs.FirstLines.{lines_next, none_left, nothing_is}
@@ -74,13 +74,13 @@ came_takes old new call bad h = absurd h
 came_takes old new call (unmade fault) h = absurd h
 came_takes old new call (took asked reply) h = subst (λ (c : Call). Step old c reply new) (sym h.0) h.1
 
-came_puts : (old new : Shown) (upload : ℕ) (part : PlannedPart) (turn : Turn) → IsTurnOfPart old upload part turn new → Came old turn new
+came_puts : (old new : Shown) (upload : ℕ) (part : ModelPrepared) (turn : Turn) → IsTurnOfPart old upload part turn new → Came old turn new
 came_puts old new upload part skipped h = absurd h
 came_puts old new upload part bad h = absurd h
 came_puts old new upload part (unmade fault) h = h.1
 came_puts old new upload part (took asked reply) h = subst (λ (c : Call). Step old c reply new) (sym h.0) h.1
 
-came_makes : (old new : Shown) (upload : ℕ) (part : PlannedPart) (refused : Option PartFault) (turn : Turn) → IsTurnOfMade old upload part refused turn new → Came old turn new
+came_makes : (old new : Shown) (upload : ℕ) (part : ModelPrepared) (refused : Option PartFault) (turn : Turn) → IsTurnOfMade old upload part refused turn new → Came old turn new
 came_makes old new upload part (Some fault) turn h = subst (λ (t : Turn). Came old t new) (sym h.0) h.1
 came_makes old new upload part None turn h = came_puts old new upload part turn h
 
@@ -142,7 +142,7 @@ are_answered front turns store ending plays is = record {
   end = store;
   plays = plays;
   run = runs widest_start store front turns plays;
-  law = (runs_carry widest_start store (calls_of turns) (replies_of turns) (empty_carried most_tenants most_entries most_workers (omega arith) (omega arith)) (runs widest_start store front turns plays)).0;
+  law = (runs_carry widest_start store (calls_of turns) (replies_of turns) (empty_carried max_tenants max_entries max_workers (omega arith) (omega arith)) (runs widest_start store front turns plays)).0;
   text_is = refl;
   ending_is = is;
 }

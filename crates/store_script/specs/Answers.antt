@@ -1,4 +1,4 @@
--- What the code's own answers say.
+-- The meaning of the code's own answers.
 use Rattle.std.specs.Prelude.{ℕ, List, [], codes}
 use Rattle.store_core.specs.Commands.{reply_seen}
 use Rattle.store_core.specs.Model.{Shown}
@@ -10,16 +10,16 @@ use Rattle.store_script.specs.declared.answer.Answer.TheVariants as answers
 use Rattle.store_script.specs.declared.ending.Ending.{Ending}
 use Rattle.store_script.specs.declared.ending.Ending.TheVariants as endings
 
--- an answer's text, of a store that shows this
+-- the text of an answer, of a store with this view
 abbrev pub told_text : Shown → Answer → List ℕ
 told_text shown answers.Nothing = []
 told_text shown answers.Bad = codes "bad\n"
 told_text shown (answers.Unmade fault) = refused_text (unmade_text fault)
 told_text shown (answers.Replied reply) = answer_text (reply_seen (reply_of shown) reply)
 
--- how a run with it ends at best
-abbrev pub told_ending : Answer → Ending
-told_ending answers.Nothing = endings.Good
-told_ending answers.Bad = endings.Refused
-told_ending (answers.Unmade fault) = fault_ending fault
-told_ending (answers.Replied reply) = reply_ending reply
+-- how a run with this answer ends at best
+abbrev pub reported_ending : Answer → Ending
+reported_ending answers.Nothing = endings.Good
+reported_ending answers.Bad = endings.Refused
+reported_ending (answers.Unmade fault) = fault_ending fault
+reported_ending (answers.Replied reply) = reply_ending reply

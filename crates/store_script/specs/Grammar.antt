@@ -1,4 +1,4 @@
--- What a line of a script asks for.
+-- The requests of the lines of a script.
 use Rattle.std.specs.Prelude.{ℕ, zero, suc, ◌+◌, ◌%◌, List, [], ◌∷◌, Option, Some, None, Result, Ok, Err, if◌then◌else◌, nat_le, codes, length}
 use Rattle.std.specs.Str.{bytes_eq}
 use Rattle.hex.specs.Hex.{decode_of, decode_sized}
@@ -9,7 +9,7 @@ use Rattle.store_core.specs.declared.command.Command.TheVariants as commands
 use Rattle.store_core.specs.declared.command.Question.{Question}
 use Rattle.store_core.specs.declared.command.Question.TheVariants as questions
 
--- a command or a question of the store; or a part's upload, offset and bytes: before it is put, the upload's plan is asked for
+-- a command or a question of the store; or a part's upload, offset and bytes: before the part is put, the upload's plan is asked for
 pub data ScriptCommand : Type 0 where
   does : Command → ScriptCommand
   asks : Question → ScriptCommand
@@ -17,12 +17,12 @@ pub data ScriptCommand : Type 0 where
 
 -- ---- the fields of a command
 
--- the bytes that were read, if they were
+-- the bytes that were decoded, if they were
 abbrev pub decoded : Result (List ℕ) FromHexError → Option (List ℕ)
 decoded (Ok bytes) = Some bytes
 decoded (Err fault) = None
 
--- the address that is written so: in 64 digits, of either case
+-- the address with these digits: 64, of either case
 unfoldable pub address_of_digits : List ℕ → Option (List ℕ)
 address_of_digits digits = decoded (decode_sized digits 32)
 
@@ -41,27 +41,27 @@ unfoldable pub pattern_of : ℕ → ℕ → List ℕ
 pattern_of offset zero = []
 pattern_of offset (suc len) = offset % 251 ∷ pattern_of (offset + 1) len
 
--- the most bytes of a pattern
-abbrev pub most_pattern : ℕ
-most_pattern = 33554432
+-- the maximum number of bytes of a pattern
+abbrev pub max_pattern : ℕ
+max_pattern = 33554432
 
--- the most digits of a part's bytes: those of the greatest part, 2^24 bytes
-abbrev pub most_digits : ℕ
-most_digits = 33554432
+-- the maximum number of digits of a part: those of the largest part, 2^24 bytes
+abbrev pub max_digits : ℕ
+max_digits = 33554432
 
 -- the bytes of digits, unless there are too many
 abbrev pub digits_at : List ℕ → Option (List ℕ)
-digits_at digits = if nat_le (length digits) most_digits then decoded (decode_of digits) else None
+digits_at digits = if nat_le (length digits) max_digits then decoded (decode_of digits) else None
 
--- the pattern bytes from an offset on, as many as are asked for
+-- the pattern bytes from an offset on, with the requested length
 abbrev pub pattern_at : ℕ → Option ℕ → Option (List ℕ)
 pattern_at offset None = None
-pattern_at offset (Some len) = if nat_le len most_pattern then Some (pattern_of offset len) else None
+pattern_at offset (Some len) = if nat_le len max_pattern then Some (pattern_of offset len) else None
 
 abbrev pub colon : ℕ
 colon = 58
 
--- the bytes of a part's last field: `x:` and their digits, two for each and of either case, or `p:` and how many of the pattern
+-- the bytes of a part's last field: `x:` and their digits, two for each byte and of either case, or `p:` and the length of the pattern
 unfoldable pub bytes_of_kind : ℕ → List ℕ → List ℕ → Option (List ℕ)
 bytes_of_kind offset kind digits =
     if bytes_eq kind (codes "x") then digits_at digits
@@ -84,7 +84,7 @@ puts_at fields = do
 
 -- ---- a line
 
--- of fields behind each word
+-- the command for the fields after each word
 abbrev pub open_tenant_command : List ℕ → Option ScriptCommand
 open_tenant_command fields = do
   limit ← number_at fields
@@ -145,7 +145,7 @@ list_command fields = do
   tenant ← number_at fields
   Some (asks (questions.List tenant))
 
--- the command of a word and the fields behind it
+-- the command of a word and the fields after it
 unfoldable pub asks_of_kind : List ℕ → List ℕ → Option ScriptCommand
 asks_of_kind kind fields =
     if bytes_eq kind (codes "tenant") then open_tenant_command fields
@@ -162,15 +162,15 @@ asks_of_kind kind fields =
     else if bytes_eq kind (codes "list") then list_command fields
     else None
 
--- the command of a line that is one word
+-- the command of a line that consists of one word
 abbrev pub word_command : List ℕ → Option ScriptCommand
 word_command word = if bytes_eq word (codes "stat") then Some (asks questions.Totals) else if bytes_eq word (codes "journal") then Some (asks questions.Journal) else None
 
--- the command of a line that is cut behind its first word
+-- the command of a line that is split after its first word
 unfoldable pub cut_line_at : List ℕ → Option (List ℕ × List ℕ) → Option ScriptCommand
 cut_line_at line None = word_command line
 cut_line_at line (Some cut) = if bytes_eq cut.0 (codes "put") then puts_at cut.1 else asks_of_kind cut.0 cut.1
 
--- the command of a line without its line feed, unless the line is outside the grammar
+-- the command of a line without its newline, unless the line is outside the grammar
 abbrev pub command_at : List ℕ → Option ScriptCommand
 command_at line = cut_line_at line (cut_at space line)

@@ -2,7 +2,7 @@
 use Rattle.std.specs.Prelude.{◌≡◌, ◌≢◌, ◌⊎◌, ℕ, List, [], ◌∷◌, ◌++◌, Option, Some, None, Result, Ok, Err, length, codes}
 use Rattle.std.specs.Io.KnownBytes.{Appends, IsAtEnd}
 use Rattle.std.specs.List.{flat_map}
-use Rattle.b3_forest.specs.Parts.{PlannedPart, planned}
+use Rattle.b3_forest.specs.Parts.{ModelPrepared, planned}
 use Rattle.store_upload.specs.Uploads.{UploadPlan, part_refusal}
 use Rattle.store_upload.specs.declared.refusal.PartFault.{PartFault}
 use Rattle.store_upload.specs.declared.refusal.PartFault.TheVariants as faults
@@ -11,7 +11,7 @@ use Rattle.store_books.specs.declared.refusal.Refusal.TheVariants as refusals
 use Rattle.store_core.specs.Carried.{IsCarried}
 use Rattle.store_core.specs.Commands.{plan_in}
 use Rattle.edge.specs.Lines.{lines_of}
-use Rattle.store_books.specs.Books.{empty_books, most_entries, most_tenants, most_workers}
+use Rattle.store_books.specs.Books.{empty_books, max_entries, max_tenants, max_workers}
 use Rattle.store_core.specs.Model.{Shown}
 use Rattle.store_core.specs.declared.command.Question.TheVariants.{Plan}
 use Rattle.store_core.specs.Runs.{Call, Reply, Run, Step, ask, change, put}
@@ -24,8 +24,8 @@ use Rattle.edge.specs.declared.outcome.Verdict.TheVariants as verdicts
 
 -- ---- one line
 
--- What a line comes to: nothing for an empty line; a line that is no command; a part that can't be made; or else one step of
--- the store, with its reply.
+-- The result of a line: nothing for an empty line; a line that is not a command; a part that cannot be made; or one step of the store, with
+-- its reply.
 pub data Turn : Type 0 where
   skipped : Turn
   bad : Turn
@@ -39,7 +39,7 @@ turn_text bad = codes "bad\n"
 turn_text (unmade fault) = refused_text (unmade_text fault)
 turn_text (took call reply) = answer_text reply
 
--- how a run with this turn ends at best
+-- how a run with this refusal, fault, reply or turn ends at best
 abbrev pub refusal_ending : Refusal → Ending
 refusal_ending refusals.NoMemory = endings.OutOfMemory
 refusal_ending _ = endings.Refused
@@ -58,23 +58,23 @@ turn_ending bad = endings.Refused
 turn_ending (unmade fault) = fault_ending fault
 turn_ending (took call reply) = reply_ending reply
 
--- this step alone
+-- exactly this step
 abbrev pub IsTurnOfStep : Shown → Call → Turn → Shown → Type 0
 IsTurnOfStep old call (took asked reply) new = (asked ≡ call) × Step old call reply new
 IsTurnOfStep old call _ new = ⊥
 
--- a part that nothing refuses is put, unless memory is refused where it is made
-abbrev pub IsTurnOfPart : Shown → ℕ → PlannedPart → Turn → Shown → Type 0
+-- a part without a fault is put, unless an allocation fails when it is made
+abbrev pub IsTurnOfPart : Shown → ℕ → ModelPrepared → Turn → Shown → Type 0
 IsTurnOfPart old upload part (unmade fault) new = (fault ≡ faults.NoMemory) × (new ≡ old)
 IsTurnOfPart old upload part (took asked reply) new = (asked ≡ put upload part) × Step old (put upload part) reply new
 IsTurnOfPart old upload part _ new = ⊥
 
 -- a part that is refused is not put
-abbrev pub IsTurnOfMade : Shown → ℕ → PlannedPart → Option PartFault → Turn → Shown → Type 0
+abbrev pub IsTurnOfMade : Shown → ℕ → ModelPrepared → Option PartFault → Turn → Shown → Type 0
 IsTurnOfMade old upload part (Some fault) turn new = (turn ≡ unmade fault) × (new ≡ old)
 IsTurnOfMade old upload part None turn new = IsTurnOfPart old upload part turn new
 
--- first the upload's plan is asked for
+-- the upload's plan is asked for first
 abbrev pub IsTurnOfPut : Shown → ℕ → ℕ → List ℕ → Result UploadPlan Refusal → Turn → Shown → Type 0
 IsTurnOfPut old upload offset bytes (Err refusal) turn new = IsTurnOfStep old (ask (Plan upload)) turn new
 IsTurnOfPut old upload offset bytes (Ok made_for) turn new = IsTurnOfMade old upload (planned made_for offset bytes) (part_refusal made_for offset (length bytes)) turn new
@@ -85,12 +85,12 @@ IsTurnOfCommand old (Some (does command)) turn new = IsTurnOfStep old (change co
 IsTurnOfCommand old (Some (asks question)) turn new = IsTurnOfStep old (ask question) turn new
 IsTurnOfCommand old (Some (puts upload offset bytes)) turn new = IsTurnOfPut old upload offset bytes (plan_in old.state upload) turn new
 
--- what a line comes to in a store, and what it leaves
+-- the turn of a line in a store, and the resulting store
 abbrev pub IsTurnOf : Shown → List ℕ → Turn → Shown → Type 0
 IsTurnOf old [] turn new = (turn ≡ skipped) × (new ≡ old)
 IsTurnOf old (b ∷ line) turn new = IsTurnOfCommand old (command_at (b ∷ line)) turn new
 
--- a turn of which this holds, with its answer and its ending
+-- a turn with this property, with its answer and its ending
 pub record Answered (Is : Turn → Type 0) (text : List ℕ) (ending : Ending) : Type 0 where
   pub turn : Turn
   pub is : Is turn
@@ -124,7 +124,7 @@ worse endings.Refused endings.OutOfMemory = endings.OutOfMemory
 worse endings.Refused _ = endings.Refused
 worse endings.OutOfMemory other = endings.OutOfMemory
 
--- out of memory where some answer is `refused S14`, else refused where some answer is `refused` or `bad`
+-- out of memory if some answer is `refused S14`, otherwise refused if some answer is `refused` or `bad`
 abbrev pub ending_of : List Turn → Ending
 ending_of [] = endings.Good
 ending_of (turn ∷ turns) = worse (turn_ending turn) (ending_of turns)
@@ -136,10 +136,10 @@ verdict_ending verdicts.Refused = endings.Refused
 
 -- an empty store with the widest limits
 abbrev pub widest_start : Shown
-widest_start = record { state = empty_books most_tenants most_entries most_workers; journal = [] }
+widest_start = record { state = empty_books max_tenants max_entries max_workers; journal = [] }
 
--- Lines were answered in order, from the empty store: what they came to, and the text of their answers. The steps among them
--- are a run of the store, and the law of a store holds behind it.
+-- Lines were answered in order, from the empty store: their turns, and the text of their answers. The steps among them are a run of the
+-- store, and the invariant of a store holds after it.
 pub record AreAnswered (lines : List (List ℕ)) (output : List ℕ) (ending : Ending) : Type 0 where
   pub turns : List Turn
   pub end : Shown
@@ -159,14 +159,14 @@ pub record Ran (input : List ℕ) (old new : Option (List ℕ)) (ending : Ending
   pub script : IsScriptRun input output ending
   pub wrote : Appends old new output
 
--- a script and the output of a beginning of its lines, which were answered
+-- a script and the output of a prefix of its lines, which were answered
 pub record IsScriptBegun (input output : List ℕ) (ending : Ending) : Type 0 where
   pub front : List (List ℕ)
   pub back : List (List ℕ)
   pub lines : lines_of input ≡ front ++ back
   pub answered : AreAnswered front output ending
 
--- the writer grew by the answers to a beginning of the script's lines, none of which is `refused S14`
+-- the writer grew by the answers to a prefix of the script's lines, none of which is `refused S14`
 pub record RanSome (input : List ℕ) (old new : Option (List ℕ)) : Type 0 where
   pub output : List ℕ
   pub ending : Ending
@@ -174,9 +174,9 @@ pub record RanSome (input : List ℕ) (old new : Option (List ℕ)) : Type 0 whe
   pub has_memory : ending ≢ endings.OutOfMemory
   pub wrote : Appends old new output
 
--- What a run leaves that ends by want of memory. The writer grew by the script's output, with an answer `refused S14`, and the
--- reader is at its end; or it grew by the answers to a beginning of the lines, behind which a line is left, or which have a `refused S14`.
--- Or a write failed, and the answers to a beginning of the lines have a `refused S14`.
+-- The result of a run that ends out of memory. The writer grew by the script's output, with an answer `refused S14`, and the reader is at
+-- its end; or it grew by the answers to a prefix of the lines, and a line is left after these, or they have a `refused S14`. Or a write
+-- failed, and the answers to a prefix of the lines have a `refused S14`.
 pub data RanOut (input : List ℕ) (left old new : Option (List ℕ)) : Type 0 where
   ran_all : IsAtEnd left → Ran input old new endings.OutOfMemory → RanOut input left old new
   ran_some : (output : List ℕ) (ending : Ending) (script : IsScriptBegun input output ending) → (script.back ≢ []) ⊎ (ending ≡ endings.OutOfMemory) → Appends old new output → RanOut input left old new

@@ -1,4 +1,4 @@
--- How a command is spelled, and that a line is read exactly where it is spelled so.
+-- How a command is spelled, and that a line is read as a command if and only if it is spelled like that.
 use Rattle.std.specs.Prelude.{◌≡◌, ◌+◌, ◌%◌, ◌<◌, ◌≤◌, ◌^◌, ◌⊎◌, ℕ, List, ◌++◌, Some, None, Ok, codes, length, slice_index}
 use Rattle.std.specs.Fmt.{decimal}
 use Rattle.hex.specs.Hex.{decode_of, decode_sized}
@@ -7,8 +7,8 @@ use Rattle.store_core.specs.declared.command.Command.{Command}
 use Rattle.store_core.specs.declared.command.Command.TheVariants as commands
 use Rattle.store_core.specs.declared.command.Question.{Question}
 use Rattle.store_core.specs.declared.command.Question.TheVariants as questions
-use Rattle.store_script.specs.Lines.{most_line}
-use Rattle.store_script.specs.Grammar.{ScriptCommand, asks, command_at, does, most_digits, most_pattern, pattern_of, puts}
+use Rattle.store_script.specs.Lines.{max_line}
+use Rattle.store_script.specs.Grammar.{ScriptCommand, asks, command_at, does, max_digits, max_pattern, pattern_of, puts}
 
 -- a word, a number, and an address in 64 digits of either case
 abbrev pub IsNumberAndAddress : List ℕ → List ℕ → ℕ → List ℕ → Type 0
@@ -26,7 +26,7 @@ SpellsCommand line (commands.SealAs upload address) = IsNumberAndAddress line (c
 SpellsCommand line (commands.Abort upload) = (line ≡ codes "abort " ++ decimal upload) × (upload < 2 ^ 64)
 SpellsCommand line (commands.Forget tenant address) = IsNumberAndAddress line (codes "forget ") tenant address
 
--- the line spells the question; a script asks these alone
+-- the line spells the question; a script has only these questions
 abbrev pub SpellsQuestion : List ℕ → Question → Type 0
 SpellsQuestion line (questions.Fetch tenant address) = IsNumberAndAddress line (codes "fetch ") tenant address
 SpellsQuestion line (questions.Usage tenant) = (line ≡ codes "usage " ++ decimal tenant) × (tenant < 2 ^ 64)
@@ -35,34 +35,34 @@ SpellsQuestion line questions.Totals = line ≡ codes "stat"
 SpellsQuestion line questions.Journal = line ≡ codes "journal"
 SpellsQuestion line _ = ⊥
 
--- the field spells a part's bytes: by their digits, or as so many of the pattern from the offset on
+-- the field spells a part's bytes: by their digits, or by the length of the pattern starting at the offset
 abbrev pub IsDigits : List ℕ → List ℕ → Type 0
-IsDigits field bytes = (digits : List ℕ) × (field ≡ codes "x:" ++ digits) × (length digits ≤ most_digits) × (decode_of digits ≡ Ok bytes)
+IsDigits field bytes = (digits : List ℕ) × (field ≡ codes "x:" ++ digits) × (length digits ≤ max_digits) × (decode_of digits ≡ Ok bytes)
 
 abbrev pub IsPattern : ℕ → List ℕ → List ℕ → Type 0
-IsPattern offset field bytes = (len : ℕ) × (field ≡ codes "p:" ++ decimal len) × (len ≤ most_pattern) × (bytes ≡ pattern_of offset len)
+IsPattern offset field bytes = (len : ℕ) × (field ≡ codes "p:" ++ decimal len) × (len ≤ max_pattern) × (bytes ≡ pattern_of offset len)
 
 abbrev pub IsPart : ℕ → List ℕ → List ℕ → Type 0
 IsPart offset field bytes = IsDigits field bytes ⊎ IsPattern offset field bytes
 
--- the line spells what it asks for
+-- the line spells the request
 abbrev pub IsSpelled : List ℕ → ScriptCommand → Type 0
 IsSpelled line (does command) = SpellsCommand line command
 IsSpelled line (asks question) = SpellsQuestion line question
 IsSpelled line (puts upload offset bytes) = (field : List ℕ) × (line ≡ codes "put " ++ three_fields (decimal upload) (decimal offset) field) × (upload < 2 ^ 64) × (offset < 2 ^ 64) × IsPart offset field bytes
 
--- what is read is spelled so
+-- what is read is spelled like that
 abbrev pub ReadCommandIsSpelled : Type 0
 ReadCommandIsSpelled = (line : List ℕ) (command : ScriptCommand) → command_at line ≡ Some command → IsSpelled line command
 
--- what is spelled so is read
+-- what is spelled like that is read
 abbrev pub SpelledCommandIsRead : Type 0
 SpelledCommandIsRead = (line : List ℕ) (command : ScriptCommand) → IsSpelled line command → command_at line ≡ Some command
 
--- the pattern has as many bytes as are asked for, each of them its place in the upload mod 251
+-- the pattern has the requested length, and each byte is its position in the upload mod 251
 abbrev pub PatternIs : Type 0
 PatternIs = (offset len : ℕ) → (length (pattern_of offset len) ≡ len) × ((i : ℕ) → i < len → slice_index (pattern_of offset len) i ≡ (offset + i) % 251)
 
--- a longer line is no command
+-- a longer line is not a command
 abbrev pub LongIsNone : Type 0
-LongIsNone = (line : List ℕ) → most_line < length line → command_at line ≡ None
+LongIsNone = (line : List ℕ) → max_line < length line → command_at line ≡ None

@@ -9,7 +9,7 @@ use Rattle.store_journal.specs.declared.entry.Entry.{Entry}
 use Rattle.store_books.specs.declared.refusal.Refusal.{Refusal}
 use Rattle.store_books.specs.declared.refusal.Refusal.TheVariants as refusals
 use Rattle.store_books.specs.declared.totals.Totals.{Totals}
-use Rattle.store_books.specs.declared.books.OpenUpload.{OpenUpload}
+use Rattle.store_books.specs.declared.books.UploadStatus.{UploadStatus}
 use Rattle.store_books.specs.declared.books.Usage.{Usage}
 use Rattle.store_core.specs.Commands.{ModelSealed}
 use Rattle.store_books.specs.Refusals.{refusal_text}
@@ -19,13 +19,13 @@ use Rattle.store_journal.specs.Journal.{entry_lines}
 use Rattle.store_books.specs.Totals.{totals_text}
 use Rattle.store_core.specs.Runs.{Reply, begun_upload, done, now_held, now_sealed, opened_tenant, the_bytes, the_journal, the_length, the_list, the_plan, the_tenants, the_totals, the_uploads, the_usage}
 
--- ---- replies: each line with its line feed
+-- ---- replies: each line with its newline
 
--- a line of a word, its space behind it, and a number
+-- a line of a word, which includes its space, and a number
 abbrev pub numbered : List ℕ → ℕ → List ℕ
 numbered word number = word ++ (decimal number ++ codes "\n")
 
--- how many bytes an upload holds, and its least offset that is not held
+-- the number of bytes that an upload holds, and its lowest offset that is not held
 abbrev pub held_text : ℕ → Option ℕ → List ℕ
 held_text held None = codes "held " ++ (decimal held ++ codes " all\n")
 held_text held (Some offset) = codes "held " ++ (decimal held ++ (codes " missing " ++ (decimal offset ++ codes "\n")))
@@ -34,12 +34,12 @@ held_text held (Some offset) = codes "held " ++ (decimal held ++ (codes " missin
 abbrev pub sealed_text : ModelSealed → List ℕ
 sealed_text s = filing_word s.new ++ (codes " " ++ (encode_lower s.address ++ (codes " " ++ (decimal (length s.bytes) ++ codes "\n"))))
 
--- the digits of bytes, or one dash where there are none
+-- the digits of bytes, or a dash if there are none
 abbrev pub digits_text : List ℕ → List ℕ
 digits_text [] = codes "-"
 digits_text (b ∷ bytes) = encode_lower (b ∷ bytes)
 
--- how many bytes there are, and their digits
+-- the number of bytes, and their digits
 abbrev pub object_text : List ℕ → List ℕ
 object_text bytes = codes "object " ++ (decimal (length bytes) ++ (codes " " ++ (digits_text bytes ++ codes "\n")))
 
@@ -50,21 +50,21 @@ usage_text u = codes "used " ++ (decimal u.used ++ (codes " reserved " ++ (decim
 abbrev pub listed_line : List ℕ × ℕ → List ℕ
 listed_line object = encode_lower object.0 ++ (codes " " ++ (decimal object.1 ++ codes "\n"))
 
--- how many objects there are, and the line of each
+-- the number of objects, and the line of each
 abbrev pub list_text : List (List ℕ × ℕ) → List ℕ
 list_text objects = numbered (codes "list ") (length objects) ++ flat_map listed_line objects
 
--- an upload's end, or one dash where it isn't fixed
+-- an upload's end, or a dash if it is not fixed
 abbrev pub end_text : Option ℕ → List ℕ
 end_text None = codes "-"
 end_text (Some end) = decimal end
 
--- an open upload's number, its bound, its end and how many bytes it holds, in a line
-abbrev pub open_upload_line : OpenUpload → List ℕ
+-- an open upload's number, its bound, its end and the number of bytes that it holds, in a line
+abbrev pub open_upload_line : UploadStatus → List ℕ
 open_upload_line u = decimal u.upload ++ (codes " " ++ (decimal u.bound ++ (codes " " ++ (end_text u.end ++ (codes " " ++ (decimal u.held ++ codes "\n"))))))
 
--- how many open uploads there are, and the line of each
-abbrev pub uploads_text : List OpenUpload → List ℕ
+-- the number of open uploads, and the line of each
+abbrev pub uploads_text : List UploadStatus → List ℕ
 uploads_text uploads = numbered (codes "uploads ") (length uploads) ++ flat_map open_upload_line uploads
 
 -- a tenant's number, its use, its reservation and its limit, in a line
@@ -76,14 +76,14 @@ abbrev pub tenant_lines : ℕ → List Usage → List ℕ
 tenant_lines number [] = []
 tenant_lines number (u ∷ usages) = tenant_line number u ++ tenant_lines (number + 1) usages
 
--- how many tenants there are, and the line of each
+-- the number of tenants, and the line of each
 abbrev pub tenants_text : List Usage → List ℕ
 tenants_text usages = numbered (codes "tenants ") (length usages) ++ tenant_lines 0 usages
 
 abbrev pub totals_line : Totals → List ℕ
 totals_line t = totals_text t ++ codes "\n"
 
--- how many entries there are, and the line of each
+-- the number of entries, and the line of each
 abbrev pub entries_text : List Entry → List ℕ
 entries_text entries = numbered (codes "journal ") (length entries) ++ entry_lines entries
 
@@ -105,7 +105,7 @@ reply_text (the_journal entries) = entries_text entries
 
 -- ---- refusals
 
--- the number of what is wrong with a part; want of memory is told as the store tells it
+-- the code of a fault in a part; running out of memory has the store's code
 abbrev pub unmade_text : PartFault → List ℕ
 unmade_text faults.NoMemory = refusal_text refusals.NoMemory
 unmade_text faults.EmptyPart = part_fault_text faults.EmptyPart

@@ -1,4 +1,3 @@
--- What only proofs and functions within use.
-pub mod Commands
+-- Definitions that only proofs and private functions use.
 pub mod Digits
 pub mod Script

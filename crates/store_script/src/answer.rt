@@ -5,7 +5,7 @@ ghost use Rattle.std.specs.Io.KnownBytes.{Appends};
 ghost use Rattle.b3_forest.specs.Parts.{planned};
 ghost use Rattle.store_upload.specs.Uploads.{part_refusal};
 ghost use Rattle.store_core.specs.Commands.{plan_in, reply_seen};
-ghost use Rattle.store_script.specs.Answers.{told_ending, told_text};
+ghost use Rattle.store_script.specs.Answers.{reported_ending, told_text};
 ghost use Rattle.store_core.specs.Runs.{Step, put};
 ghost use Rattle.store_core.specs.Seen.{reply_of};
 ghost use Rattle.store_script.specs.Lines.{AnswersRead, IsPutLine, PutsRead};
@@ -23,10 +23,10 @@ use std::alloc::{AllocError, Global};
 use std::io::Write;
 use store_core::{Refusal, Reply, Store, UploadId};
 
-/// The most bytes of a command's line with its line feed.
-pub const MOST_LINE: usize = 33_554_481;
+/// The maximum length of a command's line in bytes, with its newline.
+pub const MAX_LINE: usize = 33_554_481;
 
-/// What is answered to a line: nothing to an empty one, `bad`, why a part can't be made, or the store's reply or refusal.
+/// The answer to a line: nothing for an empty line, `bad`, why a part cannot be made, or the store's reply or refusal.
 #[derive(Drop)]
 pub enum Answer {
     Nothing,
@@ -38,7 +38,7 @@ pub enum Answer {
 impl Answer {
     /// How a run with this answer ends at best.
     pub fn ending(&self) -> Ending
-        ensures { result ≡ told_ending self.now }
+        ensures { result ≡ reported_ending self.now }
     {
         match self {
             Answer::Nothing => Ending::Good,
@@ -48,7 +48,7 @@ impl Answer {
         }
     }
 
-    /// Writes the answer of a store. It takes no memory.
+    /// Writes the answer of a store. Allocates nothing.
     pub fn write<W: Write>(self, store: &Store, writer: &mut W) -> Result<(), Cause>
         ensures wrote { OnOk result (Appends (W.contents writer.old) (W.contents writer.new) (told_text store.now self)) }
         ensures cause { IfErr result (λ cause. cause ≡ Cause.CannotWrite) }
@@ -81,8 +81,8 @@ fn reply_ending(reply: &Result<Reply, Refusal>) -> Ending
     }
 }
 
-/// Answers a line that was read, of so many bytes with its line feed, of which no more are kept than a command's line may have.
-/// Where memory is refused for what the line has, the store stays as it was.
+/// Answers a line of `count` bytes, with its newline, of which at most as many are kept as a command's line can have. If an allocation
+/// fails for the contents of the line, the store is unchanged.
 pub fn answer_read(
     alloc: Global,
     store: &mut Store,
@@ -91,18 +91,18 @@ pub fn answer_read(
     work: &mut Work,
 ) -> Result<Answer, AllocError>
     requires { 0 < count }
-    ensures answered { IfOk result (λ answer. AnswersRead store.old store.new count line.now (told_text store.new answer) (told_ending answer)) }
+    ensures answered { IfOk result (λ answer. AnswersRead store.old store.new count line.now (told_text store.new answer) (reported_ending answer)) }
     ensures unchanged { OnErr result (store.new ≡ store.old) }
-    // Memory is refused only for the bytes of a part.
+    // An allocation can fail only for the bytes of a part.
     ensures memory { OnErr result (PutsRead count line.now) }
 {
-    if count > MOST_LINE {
+    if count > MAX_LINE {
         return Ok(Answer::Bad);
     }
     answer_line(alloc, store, without_end(line), work)
 }
 
-/// A line without its line feed, which the last line may lack.
+/// A line without its newline, which may be missing on the last line.
 pub fn without_end(line: &[u8]) -> &[u8]
     ensures { result.now ≡ strip_last 10 line.now }
 {
@@ -112,14 +112,14 @@ pub fn without_end(line: &[u8]) -> &[u8]
     }
 }
 
-// Answers a line without its line feed.
+// Answers a line without its newline.
 fn answer_line(
     alloc: Global,
     store: &mut Store,
     line: &[u8],
     work: &mut Work,
 ) -> Result<Answer, AllocError>
-    ensures answered { IfOk result (λ answer. Answered (λ turn. IsTurnOf store.old line.now turn store.new) (told_text store.new answer) (told_ending answer)) }
+    ensures answered { IfOk result (λ answer. Answered (λ turn. IsTurnOf store.old line.now turn store.new) (told_text store.new answer) (reported_ending answer)) }
     ensures unchanged { OnErr result (store.new ≡ store.old) }
     ensures memory { OnErr result (IsPutLine line.now) }
 {
@@ -149,7 +149,7 @@ pub fn put_part(
     bytes: Vec<u8>,
     work: &mut Work,
 ) -> Answer
-    ensures { Answered (λ turn. IsTurnOfPut store.old upload offset bytes.items (plan_in store.old.state upload) turn store.new) (told_text store.new result) (told_ending result) }
+    ensures { Answered (λ turn. IsTurnOfPut store.old upload offset bytes.items (plan_in store.old.state upload) turn store.new) (told_text store.new result) (reported_ending result) }
 {
     let plan = match store.plan(upload) {
         Ok(plan) => plan,
@@ -170,7 +170,7 @@ fn put(
 ) -> Result<Reply, Refusal>
     ensures { Step store.old (put upload part) (reply_seen (reply_of store.new) result) store.new }
 {
-    // For the proof alone: a part that was prepared fits its plan.
+    // For the proof alone: a prepared part fits its plan.
     let _fitting = part.fitting();
     let held = store
         .put(upload, part, work)

@@ -1,10 +1,10 @@
-//! What a line asks for.
+//! The requests of lines.
 
 use store_core::{Command, Question};
 
-/// What a line asks for: a command, a question, or to put the bytes of a part at an offset of the upload of this number.
+/// The request of a line: a command, a question, or a put of the bytes of a part at an offset of the upload with this number.
 #[derive(Debug, Drop)]
-pub(crate) enum ScriptCommand {
+pub enum ScriptCommand {
     Does(Command),
     Asks(Question),
     Puts {

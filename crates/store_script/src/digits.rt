@@ -8,11 +8,11 @@ use b3_forest::Segment;
 use edge::{Cause, write_bytes, write_encoded};
 use std::io::Write;
 
-// How many digits go out at a time.
+// The number of digits written at a time.
 const ROOM: usize = 1 << 14;
 
-/// Writes the digits of the segments' bytes, in order, and a line feed. They are made as they are written, so that no object is too
-/// large for its answer.
+/// Writes the digits of the segments' bytes, in order, and a newline. They are made as they are written, so an answer can hold an object of
+/// any size.
 pub(crate) fn write_digits<W: Write>(writer: &mut W, segments: &[Segment]) -> Result<(), Cause>
     ensures wrote { OnOk result (Appends (W.contents writer.old) (W.contents writer.new) (digits_of segments.now ++ codes "\n")) }
     ensures cause { IfErr result (λ cause. cause ≡ Cause.CannotWrite) }

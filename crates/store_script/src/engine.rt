@@ -3,13 +3,13 @@
 ghost use Rattle.std.specs.Prelude.{◌≡◌, ◌<◌, ◌⊎◌, IfErr, IfOk, IfSome, OnOk, Err, Ok, length};
 ghost use Rattle.std.specs.Io.BufRead.{DropsThrough, take_through};
 ghost use Rattle.std.specs.Io.KnownBytes.{Appends, IsAtEnd};
-ghost use Rattle.store_script.specs.Answers.{told_ending, told_text};
+ghost use Rattle.store_script.specs.Answers.{reported_ending, told_text};
 ghost use Rattle.store_script.specs.Lines.{IsReadLine};
 ghost use Rattle.store_script.specs.Script.{Ran, RanOut, RanSome, verdict_ending, widest_start, worse};
 ghost use Rattle.store_script.specs.inner.Script.{ended_as, first_cause};
 ghost use Rattle.store_script.specs.declared.ending.Ending.TheVariants as endings;
 
-use crate::answer::{Answer, MOST_LINE, answer_read};
+use crate::answer::{Answer, MAX_LINE, answer_read};
 use crate::ending::Ending;
 use b3_core::Work;
 use edge::{Cause, Verdict, flush};
@@ -17,33 +17,33 @@ use std::alloc::Global;
 use std::io::{BufRead, Write};
 use store_core::{Limits, Store};
 
-/// Runs a script on an empty store with the widest limits: reads it line by line, and writes the answer to each line when its
-/// line feed was read. The writer is flushed behind each answer. `Good` where no line was refused and each was a command.
+/// Runs a script on an empty store with the widest limits: reads it line by line, and writes the answer to each line when its newline was
+/// read. The writer is flushed after each answer. Returns `Good` if no line was refused and each was a command.
 ///
-/// It stops at the first read or write that fails, or where memory is refused for a line or a part's bytes; nothing more is
-/// written. Behind 2^64-1 lines it gives up reading, as std's readers do. A script in which some answer
-/// is `refused S14` is answered on, and ends by want of memory, also where a read or a write fails later: the first cause is
-/// told. What a failed read leaves of a line is not run. Compressions are counted in `work`.
+/// It stops at the first failed read or write, or if an allocation fails for a line or a part's bytes; then nothing more is written. After
+/// 2^64-1 lines it stops reading, as std's readers do. If some answer is `refused S14`, the following lines are still answered, but the run
+/// ends with `OutOfMemory`, even if a read or a write fails later: the first cause is returned. A partial line left by a failed read is not
+/// run. Compressions are counted in `work`.
 pub fn run<R: BufRead, W: Write>(
     alloc: Global,
     reader: &mut R,
     writer: &mut W,
     work: &mut Work,
 ) -> Result<Verdict, Cause>
-    // The writer grew by the script's output, and the verdict is that of its answers, none of which told want of memory.
+    // The writer grew by the script's output, and the verdict is that of its answers, none of which is `refused S14`.
     ensures written { IfOk result (λ verdict. IfSome (R.Read.remaining reader.old) (λ input. Ran input (W.contents writer.old) (W.contents writer.new) (verdict_ending verdict))) }
     ensures end { OnOk result (IfSome (R.Read.remaining reader.old) (λ _. IsAtEnd (R.Read.remaining reader.new))) }
-    // After a failed read it grew by the answers to a beginning of the lines, and none of these told want of memory.
+    // After a failed read it grew by the answers to a prefix of the lines, none of which is `refused S14`.
     ensures read { result ≡ Err Cause.CannotRead → IfSome (R.Read.remaining reader.old) (λ input. RanSome input (W.contents writer.old) (W.contents writer.new)) }
-    // After want of memory it grew by the script's output, in which it was told, or by the answers to a beginning of the lines;
-    // unless it was told there before a write failed.
+    // If out of memory, it grew by the script's output, with a `refused S14` in it, or by the answers to a prefix of the lines; unless a
+    // write failed after a `refused S14`.
     ensures memory { result ≡ Err Cause.OutOfMemory → IfSome (R.Read.remaining reader.old) (λ input. RanOut input (R.Read.remaining reader.new) (W.contents writer.old) (W.contents writer.new)) }
 {
     let mut store = Store::new(alloc, Limits::full());
     answer_lines(alloc, &mut store, reader, writer, work)
 }
 
-// Answers the lines of a script, from an empty store on.
+// Answers the lines of a script, starting with an empty store.
 fn answer_lines<R: BufRead, W: Write>(
     alloc: Global,
     store: &mut Store,
@@ -71,19 +71,19 @@ fn answer_lines<R: BufRead, W: Write>(
     Err(first_cause(ending, Cause::CannotRead))
 }
 
-// Reads the next line with its line feed, of which no more is kept than a command's line may have, and answers how many bytes it has: 0
-// at the end of the input. A failure is told by the first cause behind answers that end so.
+// Reads the next line with its newline, keeping at most as many bytes as a command's line can have, and returns its length: 0 at the end of
+// the input. A failure is reported as the first cause, given how the answers so far end.
 fn read_line<R: BufRead>(reader: &mut R, line: &mut Vec<u8>, ending: Ending) -> Result<usize, Cause>
     ensures read { IfOk result (λ count. IfSome (R.Read.remaining reader.old) (λ left. IsReadLine (take_through 10 left) count line.new.items)) }
     ensures rest { OnOk result (DropsThrough (R.Read.remaining reader.old) (R.Read.remaining reader.new) 10) }
-    // Memory was refused for a line's bytes, or an answer told so before.
+    // An allocation failed for a line's bytes, or an earlier answer was `refused S14`.
     ensures left { result ≡ Err Cause.OutOfMemory → IfSome (R.Read.remaining reader.old) (λ left. (0 < length left) ⊎ (ending ≡ endings.OutOfMemory)) }
     ensures cause { IfErr result (λ cause. ending ≡ endings.OutOfMemory → cause ≡ Cause.OutOfMemory) }
 {
-    edge::read_line(reader, line, MOST_LINE).map_err(|cause| first_cause(ending, cause))
+    edge::read_line(reader, line, MAX_LINE).map_err(|cause| first_cause(ending, cause))
 }
 
-// Writes an answer, and flushes. A failure is told by the first cause behind answers that end so, this one among them.
+// Writes an answer, and flushes. A failure is reported as the first cause, given how the answers end, this one included.
 fn tell<W: Write>(
     writer: &mut W,
     store: &Store,
@@ -98,7 +98,7 @@ fn tell<W: Write>(
     flush(writer).map_err(|_| cause)
 }
 
-// How a script ends that was answered to its end, by its answers.
+// The result of a script that was answered completely.
 fn ended_as(ending: Ending) -> Result<Verdict, Cause>
     ensures { result ≡ ended_as ending }
 {
@@ -109,7 +109,7 @@ fn ended_as(ending: Ending) -> Result<Verdict, Cause>
     }
 }
 
-// What stops a run whose answers so far end so.
+// The cause that stops a run, given how the answers so far end.
 fn first_cause(ending: Ending, cause: Cause) -> Cause
     ensures { result ≡ first_cause ending cause }
 {

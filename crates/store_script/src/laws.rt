@@ -2,7 +2,7 @@
 
 ghost use Rattle.store_script.specs.Spelling.{LongIsNone, PatternIs, ReadCommandIsSpelled, SpelledCommandIsRead};
 
-/// What holds of the definitions that the contract of `run` names. It does nothing.
+/// Facts about the definitions that the contract of `run` uses. The call does nothing.
 pub fn script_laws()
     ensures found { ReadCommandIsSpelled }
     ensures only { SpelledCommandIsRead }

@@ -2,5 +2,9 @@ mod Frames
 mod Ranges
 mod Lines
 mod Parts
-mod Served
+pub mod Steps
+mod Puts
+mod Tells
+mod Serves
 mod Under
+mod Alone

@@ -1,6 +1,10 @@
--- What reads of a line, and of so many bytes, take from the bytes that a reader has left.
-use Rattle.std.specs.Prelude.{ℕ}
+-- What reading a line, or a number of bytes, takes from the remaining bytes of a reader.
+use Rattle.std.specs.Prelude.{◌≡◌, ◌-◌, ◌<◌, ℕ, List, length, slice_index}
 
--- the most bytes of a line that asks for something that a script's lines don't, with its line feed
-abbrev pub most_request : ℕ
-most_request = 200
+-- the maximum length in bytes, with its newline, of a line with a request that a script does not have
+abbrev pub max_request : ℕ
+max_request = 200
+
+-- a newline ends the line
+abbrev pub IsEnded : List ℕ → Type 0
+IsEnded line = (0 < length line) × (slice_index line (length line - 1) ≡ 10)

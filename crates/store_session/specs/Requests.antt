@@ -1,11 +1,11 @@
--- What a line of a session asks for that a script's lines don't.
+-- The requests of a session's lines that a script does not have.
 use Rattle.std.specs.Prelude.{ℕ, List, Option, Some, None, if◌then◌else◌, codes, length, nat_lt}
 use Rattle.std.specs.Io.BufRead.{strip_last}
 use Rattle.std.specs.Str.{bytes_eq}
 use Rattle.edge.specs.Fields.{◌>>=◌, cut_at, number_at, space, three_numbers_at, two_numbers_at}
 use Rattle.store_script.specs.Grammar.{address_of_digits, held_at}
 use Rattle.store_core.specs.declared.command.Question.TheVariants.{Holds, Tenants, Uploads}
-use Rattle.store_session.specs.Reads.{most_request}
+use Rattle.store_session.specs.Reads.{max_request}
 use Rattle.store_session.specs.declared.request.Request.{Request}
 use Rattle.store_session.specs.declared.request.Request.TheVariants.{Asks, Entries, Fetch, Put}
 
@@ -40,12 +40,20 @@ uploads_at fields = do
   tenant ← number_at fields
   Some (Asks (Uploads tenant))
 
-abbrev pub entries_at : List ℕ → Option Request
-entries_at fields = do
+-- the number of an entry, or that and a maximum number of entries
+abbrev pub entries_of : List ℕ → Option (List ℕ × List ℕ) → Option Request
+entries_of fields None = do
   from ← number_at fields
-  Some (Entries from)
+  Some (Entries (record { from = from; count = None }))
+entries_of fields (Some cut) = do
+  from ← number_at cut.0
+  count ← number_at cut.1
+  Some (Entries (record { from = from; count = Some count }))
 
--- the request of a word and the fields behind it
+abbrev pub entries_at : List ℕ → Option Request
+entries_at fields = entries_of fields (cut_at space fields)
+
+-- the request of a word and the fields after it
 unfoldable pub request_of_kind : List ℕ → List ℕ → Option Request
 request_of_kind kind fields =
     if bytes_eq kind (codes "putb") then raw_put_at fields
@@ -55,15 +63,15 @@ request_of_kind kind fields =
     else if bytes_eq kind (codes "entries") then entries_at fields
     else None
 
--- the request of a line that is cut behind its first word
+-- the request of a line that is split after its first word
 abbrev pub cut_request_at : List ℕ → Option (List ℕ × List ℕ) → Option Request
 cut_request_at line None = if bytes_eq line (codes "tenants") then Some (Asks Tenants) else None
 cut_request_at line (Some cut) = request_of_kind cut.0 cut.1
 
--- the request of a line without its line feed
+-- the request of a line without its newline
 abbrev pub request_at : List ℕ → Option Request
 request_at line = cut_request_at line (cut_at space line)
 
--- the request of a line with its line feed, which the last line may lack; none in a line of a script
+-- the request of a line with its newline, which may be missing on the last line; none for a line of a script
 abbrev pub request_in : List ℕ → Option Request
-request_in whole = if nat_lt most_request (length whole) then None else request_at (strip_last 10 whole)
+request_in whole = if nat_lt max_request (length whole) then None else request_at (strip_last 10 whole)

@@ -1,5 +1,5 @@
--- What only proofs and functions within use.
+-- Definitions that only proofs and private functions use.
 pub mod Lines
 pub mod Reads
 pub mod Requests
-pub mod Session
+pub mod Telling

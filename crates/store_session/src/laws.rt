@@ -2,7 +2,7 @@
 
 ghost use Rattle.store_session.specs.Session.{FramesAlike};
 
-/// What holds of the definition that the contract of `serve` names. It does nothing.
+/// A fact about the definition that the contract of `serve` uses. The call does nothing.
 pub fn session_laws()
     ensures frames { FramesAlike }
 {}

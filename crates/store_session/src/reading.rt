@@ -1,30 +1,32 @@
-//! Reads of a line, and of so many bytes behind it.
+//! Reading a line, and the bytes after it.
 
 ghost use Rattle.std.specs.Prelude.{◌≡◌, ◌+◌, ◌-◌, ◌<◌, ◌≤◌, ◌++◌, ℕ, List, [], IfErr, IfOk, IfSome, OnOk, false, length, take, true, vec_capacity, vec_len};
 ghost use Rattle.std.specs.Io.BufRead.{DropsThrough, take_through};
 ghost use Rattle.edge.specs.inner.Reads.{TakesPart};
 ghost use Rattle.store_session.specs.inner.Lines.{KeepsPart};
-ghost use Rattle.store_session.specs.Reads.{most_request};
+ghost use Rattle.store_session.specs.Reads.{max_request};
 ghost use Rattle.store_session.specs.inner.Reads.{Copied, IsLineRead, Skipped, TakesSome};
 
 use edge::{Cause, len_through};
 use std::io::{BufRead, ErrorKind};
-use store_script::MOST_LINE;
+use store_script::MAX_LINE;
 
-/// How many bytes a line has, with its line feed, and whether those of them are kept that a command's line may have.
+/// The length of a line, with its newline; whether as many of its bytes are kept as a command's line can have; and whether a newline ends
+/// it.
 #[derive(Clone, Copy, Debug, PartialEq, Eq)]
 pub(crate) struct LineRead {
     pub count: usize,
     pub is_kept: bool,
+    pub is_ended: bool,
 }
 
-/// Reads the next line with its line feed, which the last one may lack: of no bytes at the end of the input. Where memory is refused
-/// for its bytes, they are read and lost.
+/// Reads the next line with its newline, which may be missing on the last line. At the end of the input the line is empty. If an allocation
+/// fails for its bytes, they are read and dropped.
 pub(crate) fn read_line<R: BufRead>(reader: &mut R, line: &mut Vec<u8>) -> Result<LineRead, Cause>
-    requires { most_request ≤ vec_capacity line.old }
+    requires { max_request ≤ vec_capacity line.old }
     ensures read { IfOk result (λ read. IfSome (R.Read.remaining reader.old) (λ input. IsLineRead (take_through 10 input) read line.new.items)) }
     ensures rest { OnOk result (DropsThrough (R.Read.remaining reader.old) (R.Read.remaining reader.new) 10) }
-    ensures room { most_request ≤ vec_capacity line.new }
+    ensures room { max_request ≤ vec_capacity line.new }
     ensures cause { IfErr result (λ cause. cause ≡ Cause.CannotRead) }
 {
     line.clear();
@@ -35,22 +37,26 @@ pub(crate) fn read_line<R: BufRead>(reader: &mut R, line: &mut Vec<u8>) -> Resul
         count = count.saturating_add(len);
         is_kept = is_held;
         if is_done {
-            return Ok(LineRead { count, is_kept });
+            return Ok(LineRead {
+                count,
+                is_kept,
+                is_ended: len > 0,
+            });
         }
     }
     Err(Cause::CannotRead)
 }
 
-// Takes what the reader holds of a line, and keeps it where the line was kept so far and there is memory.
+// Takes what the reader has buffered of a line, and keeps it if the line was kept so far and there is memory.
 fn line_part<R: BufRead>(
     reader: &mut R,
     line: &mut Vec<u8>,
     is_kept: bool,
 ) -> Result<(usize, bool, bool), Cause>
-    requires { most_request ≤ vec_capacity line.old }
+    requires { max_request ≤ vec_capacity line.old }
     ensures part { IfOk result (λ part. (bytes : List ℕ) × TakesPart (R.Read.remaining reader.old) (R.Read.remaining reader.new) part.0 part.1 bytes
         × KeepsPart is_kept part.2 line.old.items line.new.items bytes) }
-    ensures room { most_request ≤ vec_capacity line.new }
+    ensures room { max_request ≤ vec_capacity line.new }
     ensures cause { IfErr result (λ cause. cause ≡ Cause.CannotRead) }
 {
     let available = match reader.fill_buf() {
@@ -70,16 +76,16 @@ fn line_part<R: BufRead>(
     Ok((end, is_done, is_held))
 }
 
-// Adds bytes to a line that was kept so far, as many as a command's line may have. False where memory is refused.
+// Adds bytes to a line that was kept so far, up to the maximum length of a command's line. Returns false if an allocation fails.
 fn keep(line: &mut Vec<u8>, bytes: &[u8], is_kept: bool) -> bool
-    requires { most_request ≤ vec_capacity line.old }
+    requires { max_request ≤ vec_capacity line.old }
     ensures kept { KeepsPart is_kept result line.old.items line.new.items bytes.now }
-    ensures room { most_request ≤ vec_capacity line.new }
+    ensures room { max_request ≤ vec_capacity line.new }
 {
     if !is_kept {
         return false;
     }
-    let count = MOST_LINE.saturating_sub(line.len()).min(bytes.len());
+    let count = MAX_LINE.saturating_sub(line.len()).min(bytes.len());
     let is_short = line.capacity() - line.len() < count;
     if is_short && line.reserve(count).is_err() {
         return false;
@@ -90,7 +96,7 @@ fn keep(line: &mut Vec<u8>, bytes: &[u8], is_kept: bool) -> bool
     true
 }
 
-/// Reads so many bytes and drops them. False where the input ends before.
+/// Reads `len` bytes and drops them. Returns false if the input ends before.
 pub(crate) fn skip<R: BufRead>(reader: &mut R, len: u64) -> Result<bool, Cause>
     ensures skipped { IfOk result (λ is_whole. IfSome (R.Read.remaining reader.old) (λ input. Skipped is_whole len input (R.Read.remaining reader.new))) }
     ensures cause { IfErr result (λ cause. cause ≡ Cause.CannotRead) }
@@ -108,7 +114,7 @@ pub(crate) fn skip<R: BufRead>(reader: &mut R, len: u64) -> Result<bool, Cause>
     Err(Cause::CannotRead)
 }
 
-// Drops what the reader holds, at most so many bytes.
+// Drops what the reader has buffered, at most `most` bytes.
 fn skip_part<R: BufRead>(reader: &mut R, most: u64) -> Result<Option<u64>, Cause>
     ensures taken { IfOk result (λ count. (bytes : List ℕ) × TakesSome (R.Read.remaining reader.old) (R.Read.remaining reader.new) most count bytes) }
     ensures cause { IfErr result (λ cause. cause ≡ Cause.CannotRead) }
@@ -129,7 +135,7 @@ fn skip_part<R: BufRead>(reader: &mut R, most: u64) -> Result<Option<u64>, Cause
     if len == 0 { Ok(None) } else { Ok(Some(count)) }
 }
 
-/// Reads so many bytes into the room that there is for them. False where the input ends before.
+/// Reads `len` bytes into `bytes`, which has room for them. Returns false if the input ends before.
 pub(crate) fn copy<R: BufRead>(
     reader: &mut R,
     bytes: &mut Vec<u8>,
@@ -152,7 +158,7 @@ pub(crate) fn copy<R: BufRead>(
     Err(Cause::CannotRead)
 }
 
-// Moves what the reader holds, at most so many bytes.
+// Moves what the reader has buffered, at most `most` bytes.
 fn copy_part<R: BufRead>(
     reader: &mut R,
     bytes: &mut Vec<u8>,

@@ -1,33 +1,92 @@
-//! The bytes of a part.
+//! Putting parts.
 
-ghost use Rattle.std.specs.Prelude.{◌≡◌, IfErr, IfOk, IfSome};
+ghost use Rattle.std.specs.Prelude.{◌≡◌, IfErr, IfOk, IfSome, length};
+ghost use Rattle.b3_forest.specs.Parts.{planned};
+ghost use Rattle.store_core.specs.Commands.{reply_seen};
+ghost use Rattle.store_core.specs.Runs.{put};
+ghost use Rattle.store_script.specs.Answers.{told_text};
+ghost use Rattle.store_script.specs.Script.{widest_start};
 ghost use Rattle.store_session.specs.inner.Reads.{Dropped};
-ghost use Rattle.store_session.specs.inner.Session.{Receives};
+ghost use Rattle.store_upload.specs.Uploads.{part_refusal};
+ghost use Rattle.store_session.specs.Access.{Took, reply_alone};
+ghost use Rattle.store_session.specs.inner.Telling.{AnsweredOver, ReceivesOver};
+ghost use Rattle.store_session.specs.Turns.{IsLinkedMade, IsLinkedPut};
 
+use crate::access::Access;
 use crate::reading::{copy, skip};
 use b3_core::Work;
-use b3_forest::PartFault;
+use b3_forest::{PartFault, Plan, Prepared};
 use edge::Cause;
 use std::alloc::Global;
 use std::io::BufRead;
-use store_core::{Store, UploadId};
-use store_script::{Answer, put_part};
+use store_core::{Refusal, Reply, UploadId};
+use store_script::Answer;
 
-/// Takes the bytes of a part, puts it, and answers. They are dropped where it is refused, or memory is refused for them. None where
-/// they are cut off: then nothing is put.
-pub(crate) fn receive<R: BufRead>(
+/// Asks for the upload's plan, makes the part, and puts it.
+pub(crate) fn put_bytes<A: Access>(
     alloc: Global,
-    store: &mut Store,
+    access: &mut A,
+    upload: UploadId,
+    offset: u64,
+    bytes: Vec<u8>,
+    work: &mut Work,
+) -> Answer
+    ensures { AnsweredOver (A.stands access.old) (A.stands access.new) (λ before turn after. IsLinkedPut A.reach before upload offset bytes.items turn after) (told_text widest_start result) }
+{
+    match access.plan(upload) {
+        Ok(plan) => put_made(alloc, access, upload, &plan, offset, bytes, work),
+        Err(refusal) => Answer::Replied(Err(refusal)),
+    }
+}
+
+// Makes a part for a plan, and puts it.
+fn put_made<A: Access>(
+    alloc: Global,
+    access: &mut A,
+    upload: UploadId,
+    plan: &Plan,
+    offset: u64,
+    bytes: Vec<u8>,
+    work: &mut Work,
+) -> Answer
+    ensures { AnsweredOver (A.stands access.old) (A.stands access.new) (λ first turn after. IsLinkedMade A.reach first upload (planned plan.now offset bytes.items) (part_refusal plan.now offset (length bytes.items)) turn after) (told_text widest_start result) }
+{
+    match Prepared::make(alloc, plan, offset, bytes, work) {
+        Ok(part) => Answer::Replied(put(access, upload, part, work)),
+        Err(refused) => Answer::Unmade(refused.fault),
+    }
+}
+
+// Puts a part.
+fn put<A: Access>(
+    access: &mut A,
+    upload: UploadId,
+    part: Prepared,
+    work: &mut Work,
+) -> Result<Reply, Refusal>
+    ensures { Took A.reach (A.stands access.old) (A.stands access.new) (put upload part) (reply_seen reply_alone result) }
+{
+    match access.put(upload, part, work) {
+        Ok(held) => Ok(Reply::Held(held)),
+        Err(refused) => Err(refused.refusal),
+    }
+}
+
+/// Takes the bytes of a part, puts it, and answers. The bytes are dropped if the part is refused, or if an allocation fails for them.
+/// Returns `None`, and puts nothing, if they are truncated.
+pub(crate) fn receive<A: Access, R: BufRead>(
+    alloc: Global,
+    access: &mut A,
     reader: &mut R,
     upload: UploadId,
     offset: u64,
     len: u64,
     work: &mut Work,
 ) -> Result<Option<Answer>, Cause>
-    ensures received { IfOk result (λ answer. IfSome (R.Read.remaining reader.old) (λ behind. Receives answer store.old upload offset len behind store.new (R.Read.remaining reader.new))) }
+    ensures received { IfOk result (λ answer. IfSome (R.Read.remaining reader.old) (λ following. ReceivesOver A.reach (A.stands access.old) (A.stands access.new) answer upload offset len following (R.Read.remaining reader.new))) }
     ensures cause { IfErr result (λ cause. cause ≡ Cause.CannotRead) }
 {
-    let plan = match store.plan(upload) {
+    let plan = match access.plan(upload) {
         Ok(plan) => plan,
         Err(refusal) => return dropped(reader, len, Answer::Replied(Err(refusal))),
     };
@@ -40,12 +99,12 @@ pub(crate) fn receive<R: BufRead>(
     if !copy(reader, &mut bytes, len as usize)? {
         return Ok(None);
     }
-    Ok(Some(put_part(alloc, store, upload, offset, bytes, work)))
+    Ok(Some(put_made(alloc, access, upload, &plan, offset, bytes, work)))
 }
 
-// Drops so many bytes, and answers.
+// Drops `len` bytes, and answers.
 fn dropped<R: BufRead>(reader: &mut R, len: u64, answer: Answer) -> Result<Option<Answer>, Cause>
-    ensures dropped { IfOk result (λ given. IfSome (R.Read.remaining reader.old) (λ behind. Dropped given answer len behind (R.Read.remaining reader.new))) }
+    ensures dropped { IfOk result (λ given. IfSome (R.Read.remaining reader.old) (λ following. Dropped given answer len following (R.Read.remaining reader.new))) }
     ensures cause { IfErr result (λ cause. cause ≡ Cause.CannotRead) }
 {
     if skip(reader, len)? {

@@ -1,4 +1,4 @@
-//! Reading what a line asks for.
+//! Reading the request of a line.
 
 ghost use Rattle.std.specs.Prelude.{◌≡◌};
 ghost use Rattle.edge.specs.Fields.{cut_at};
@@ -11,14 +11,21 @@ use edge::{cut_at, number, three_numbers, two_numbers};
 use store_core::{Address, Question, TenantId};
 use store_script::{address, number_and_address, without_end};
 
-/// The most bytes of a line with a request of its own, with its line feed.
-pub(crate) const MOST_REQUEST: usize = 200;
+/// The maximum length in bytes, with its newline, of a line with a request that a script does not have.
+pub(crate) const MAX_REQUEST: usize = 200;
 
-/// So many bytes from one of them on.
+/// `len` bytes starting at `from`.
 #[derive(Clone, Copy, Debug, PartialEq, Eq)]
 pub(crate) struct Range {
     pub from: u64,
     pub len: u64,
+}
+
+/// Entries of the journal: those from number `from` on, the first being 0, and at most `count` of them if that is given.
+#[derive(Clone, Copy, Debug, PartialEq, Eq)]
+pub struct EntryRange {
+    pub from: u64,
+    pub count: Option<u64>,
 }
 
 /// The bytes of an object that a tenant holds, or those of a range.
@@ -29,27 +36,27 @@ pub(crate) struct Wanted {
     pub range: Option<Range>,
 }
 
-/// What a line asks for that a script's lines don't.
+/// The request of a line, if it is not one of a script.
 #[derive(Clone, Copy, Debug, PartialEq, Eq)]
 pub(crate) enum Request {
-    /// To put so many bytes, which stand behind the line.
+    /// Put the `len` bytes that follow the line.
     Put { upload: u64, offset: u64, len: u64 },
-    /// Bytes of an object.
+    /// Fetch bytes of an object.
     Fetch(Wanted),
-    /// A question of the store.
+    /// Answer a question of the store.
     Asks(Question),
-    /// The journal's entries from this number on.
-    Entries { from: u64 },
+    /// Write entries of the journal.
+    Entries(EntryRange),
 }
 
-/// What a line asks for that was read so; `None` for a line of a script.
+/// The request of a line that was read like this; `None` for a line of a script.
 pub(crate) fn request_of(line: &[u8], read: LineRead) -> Option<Request>
     ensures { AsksFor read line.now result }
 {
     if !read.is_kept {
         return None;
     }
-    if read.count > MOST_REQUEST {
+    if read.count > MAX_REQUEST {
         return None;
     }
     read_request(without_end(line))
@@ -149,6 +156,9 @@ fn uploads(fields: &[u8]) -> Option<Request>
 fn entries(fields: &[u8]) -> Option<Request>
     ensures { result ≡ entries_at fields.now }
 {
-    let from = number(fields)?;
-    Some(Request::Entries { from })
+    let (from, count) = match cut_at(fields, b' ') {
+        None => (number(fields)?, None),
+        Some((from, count)) => (number(from)?, Some(number(count)?)),
+    };
+    Some(Request::Entries(EntryRange { from, count }))
 }

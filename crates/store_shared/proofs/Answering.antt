@@ -6,14 +6,14 @@ use Rattle.store_ledger.specs.declared.holding.Holding.{Holding}
 use Rattle.store_shared.specs.Cuts.{IsBadCut}
 use Rattle.store_shared.specs.Gates.{MayStop}
 use Rattle.store_shared.specs.inner.Gates.{IsFaultOf}
-use Rattle.store_shared.specs.Uploading.{Cutting, cut_count}
+use Rattle.store_shared.specs.Uploading.{ModelCut, cut_count}
 use Rattle.store_shared.specs.inner.Uploading.{IsUploaded}
 use Rattle.store_shared.specs.Uploads.{IsAnswered}
 use Rattle.store_shared.specs.declared.fault.UploadFault.{UploadFault}
 use Rattle.store_shared.proofs.Noting.{count_is, with_cut}
-use Rattle.store_upload.specs.Uploads.{most_part_chunks}
+use Rattle.store_upload.specs.Uploads.{max_part_chunks}
 
-good_cut : (part_chunks workers most : ℕ) → (0 < part_chunks) × (part_chunks ≤ most_part_chunks) × (0 < workers) × (workers ≤ most) → IsBadCut part_chunks workers most → ⊥
+good_cut : (part_chunks workers most : ℕ) → (0 < part_chunks) × (part_chunks ≤ max_part_chunks) × (0 < workers) × (workers ≤ most) → IsBadCut part_chunks workers most → ⊥
 good_cut part_chunks workers most good bad =
     let some = good.0 in
     let few = good.1 in
@@ -31,8 +31,8 @@ good_cut part_chunks workers most good bad =
     ]
 
 -- an upload of a good cut
-pub answered : (may_stop : ℕ → Type 0) (may_fault : ℕ → ℕ → Type 0) (has_passed : ℕ → Type 0) (c : Cutting) (workers most : ℕ) (old new : Holding) (result : Result Sealed UploadFault)
-    → (0 < c.part_chunks) × (c.part_chunks ≤ most_part_chunks) × (0 < workers) × (workers ≤ most) → OnOk result ((k : ℕ) → k < cut_count c → has_passed k) → IsUploaded may_stop may_fault c old new result
+pub answered : (may_stop : ℕ → Type 0) (may_fault : ℕ → ℕ → Type 0) (has_passed : ℕ → Type 0) (c : ModelCut) (workers most : ℕ) (old new : Holding) (result : Result Sealed UploadFault)
+    → (0 < c.part_chunks) × (c.part_chunks ≤ max_part_chunks) × (0 < workers) × (workers ≤ most) → OnOk result ((k : ℕ) → k < cut_count c → has_passed k) → IsUploaded may_stop may_fault c old new result
     → IsAnswered may_stop may_fault has_passed c workers most old new result
 answered may_stop may_fault has_passed c workers most old new (Ok sealed) good passed is = record {
   parts = ap (λ h. h.parts) is.2;

@@ -5,7 +5,7 @@ use Rattle.std.specs.Option.{option_or}
 use Rattle.std.proofs.lemmas.Bool.{cases_eq, eq-eqb, ne_eqb}
 use Rattle.std.proofs.lemmas.List.Elements.{All-append, All-cons, All-filter, All-head, All-map, All-nil, All-tail, All-weaker}
 use Rattle.b3_core.specs.Modes.{hash_of}
-use Rattle.b3_forest.specs.Followed.{AllNoted, Followed}
+use Rattle.b3_forest.specs.Followed.{AllNoted, ModelFollow}
 use Rattle.b3_forest.specs.Parts.{Part}
 use Rattle.store_board.specs.Drawn.{times}
 use Rattle.store_board.specs.HandOverRule.{of_giver}
@@ -15,7 +15,7 @@ use Rattle.store_board.specs.declared.hand_over.taken.Taken.{Taken}
 use Rattle.store_ledger.specs.declared.holding.Holding.{Holding}
 use Rattle.store_shared.specs.Cuts.{part_at, parts_at}
 use Rattle.store_shared.specs.inner.Gates.{IsFaultOf}
-use Rattle.store_shared.specs.Uploading.{Cutting, cut_count}
+use Rattle.store_shared.specs.Uploading.{ModelCut, cut_count}
 use Rattle.store_shared.specs.inner.Uploading.{HasCollected, IsCollecting, parts_in}
 use Rattle.store_shared.specs.inner.Workers.{AllPassed, IsPassedPart, IsReportOf, fault_of_first}
 use Rattle.store_shared.specs.declared.fault.UploadFaultKind.{UploadFaultKind}
@@ -58,7 +58,7 @@ rest_is : {X : Type 0} (x y : X) (xs ys : List X) → x ∷ xs ≡ y ∷ ys → 
 rest_is x y xs ys same = ap (λ (l : List _). elim l [ [] ↦ xs | z ∷ zs ↦ zs ]) same
 
 -- a number whose part was taken has passed
-passed_at : (P : ℕ → Type 0) (c : Cutting) (k : ℕ) (ks : List ℕ) (taken : List Taken) → 0 < c.part_chunks → parts_in taken ≡ parts_at c.bytes c.part_chunks ks → All (IsPassedPart P c) taken → 0 < times k ks → P k
+passed_at : (P : ℕ → Type 0) (c : ModelCut) (k : ℕ) (ks : List ℕ) (taken : List Taken) → 0 < c.part_chunks → parts_in taken ≡ parts_at c.bytes c.part_chunks ks → All (IsPassedPart P c) taken → 0 < times k ks → P k
 passed_at P c k [] taken some same all there = absurd (omega (arith, there))
 passed_at P c k (x ∷ xs) [] some same all there = absurd (let no : ⊥ = cc in no)
 passed_at P c k (x ∷ xs) (t ∷ ts) some same all there = elim (cases_eq x k) [
@@ -77,7 +77,7 @@ given_passed P (p ∷ ps) all =
     All-append P (given_of p) (all_given ps) (All-head (λ q. All P (given_of q)) p ps all) (given_passed P ps (All-tail (λ q. All P (given_of q)) p ps all))
 
 -- where nothing failed and all was noted, all parts have passed
-pub collected_passed : (P : ℕ → Type 0) (c : Cutting) (start share : Holding) (f : Followed) (fault : Option UploadFaultKind) (passes : List GivePass) (result : Result (List ℕ) UploadFaultKind) → 0 < c.part_chunks
+pub collected_passed : (P : ℕ → Type 0) (c : ModelCut) (start share : Holding) (f : ModelFollow) (fault : Option UploadFaultKind) (passes : List GivePass) (result : Result (List ℕ) UploadFaultKind) → 0 < c.part_chunks
     → HasCollected c start f share fault (all_given passes) → All (AllPassed P c) passes → IfOk result (λ a. (fault ≡ None) × (a ≡ hash_of f.bytes) × AllNoted f) → OnOk result ((k : ℕ) → k < cut_count c → P k)
 collected_passed P c start share f fault passes (Err kind) some has all ok = tt
 collected_passed P c start share f fault passes (Ok a) some has all ok = λ k below.
@@ -113,13 +113,13 @@ fault_is F [] all = tt
 fault_is F (r ∷ rs) all = or_is F r.fault (fault_of_first rs) (All-head (λ r. IfSome r.fault F) r rs all) (fault_is F rs (All-tail (λ r. IfSome r.fault F) r rs all))
 
 -- the first fault is one of the upload
-pub reports_fault : (e : Exchange) (may_stop : ℕ → Type 0) (may_fault : ℕ → ℕ → Type 0) (P : ℕ → Type 0) (c : Cutting) (rs : List Report) → All (λ r. IsReportOf e may_stop may_fault P c r) rs
+pub reports_fault : (e : Exchange) (may_stop : ℕ → Type 0) (may_fault : ℕ → ℕ → Type 0) (P : ℕ → Type 0) (c : ModelCut) (rs : List Report) → All (λ r. IsReportOf e may_stop may_fault P c r) rs
     → IfSome (fault_of_first rs) (IsFaultOf may_stop may_fault (cut_count c))
 reports_fault e may_stop may_fault P c rs all =
     fault_is (IsFaultOf may_stop may_fault (cut_count c)) rs (All-weaker (λ r. IsReportOf e may_stop may_fault P c r) (λ r. IfSome r.fault (IsFaultOf may_stop may_fault (cut_count c))) (λ r x. x.0) rs all)
 
 -- all that the workers gave has passed
-pub reports_passed : (e : Exchange) (may_stop : ℕ → Type 0) (may_fault : ℕ → ℕ → Type 0) (P : ℕ → Type 0) (c : Cutting) (rs : List Report) → All (λ r. IsReportOf e may_stop may_fault P c r) rs
+pub reports_passed : (e : Exchange) (may_stop : ℕ → Type 0) (may_fault : ℕ → ℕ → Type 0) (P : ℕ → Type 0) (c : ModelCut) (rs : List Report) → All (λ r. IsReportOf e may_stop may_fault P c r) rs
     → All (AllPassed P c) (map (λ (r : Report). r.worker.pass) rs)
 reports_passed e may_stop may_fault P c rs all =
     All-map (AllPassed P c) (λ (r : Report). r.worker.pass) rs (All-weaker (λ r. IsReportOf e may_stop may_fault P c r) (λ r. AllPassed P c r.worker.pass) (λ r x. x.2) rs all)

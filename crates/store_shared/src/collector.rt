@@ -8,7 +8,7 @@ ghost use Rattle.store_board.specs.Passes.{IsAllTaken, IsGiverOf, IsTakerOf, IsW
 ghost use Rattle.store_ledger.specs.declared.holding.Holding.{Holding};
 ghost use Rattle.store_shared.specs.Cuts.{RoseBySome, holding_with};
 ghost use Rattle.store_shared.specs.Gates.{IsOwnFault};
-ghost use Rattle.store_shared.specs.inner.Uploading.{HasCollected, IsCollecting, NotesMore, RoseByBeginning, parts_in};
+ghost use Rattle.store_shared.specs.inner.Uploading.{HasCollected, IsCollecting, NotesMore, RoseByPrefix, parts_in};
 ghost use Rattle.store_shared.specs.declared.fault.UploadFaultKind.TheVariants.{StrangePart};
 
 use crate::backoff::Backoff;
@@ -28,11 +28,11 @@ use store_board::{HandOver, TakePass, Taken, Unasked, WholePass};
 use store_core::{Address, PutRefused, UploadId};
 use store_ledger::{Ledgers, Share};
 
-// The most parts that are put at one taking of the lock while workers work.
-const MOST_IN_HAND: usize = 16;
+// The maximum number of parts that are put while the lock is taken once, while workers run.
+const MAX_IN_HAND: usize = 16;
 
-// The store and its upload, the share that rises by what is put, what was noted of the upload's bytes, the collector's
-// own fault, and the compressions that it makes.
+// The store and its upload, the share in which parts are recorded, what was noted of the upload's bytes, the collector's own fault, and the
+// compressions that it makes.
 #[derive(Drop)]
 pub(crate) struct Collector<'a, L: Ledgers> {
     pub(crate) shared: &'a Shared<L>,
@@ -43,7 +43,7 @@ pub(crate) struct Collector<'a, L: Ledgers> {
     pub(crate) work: Work,
 }
 
-// Notes a part, which has to be one of the cut.
+// Notes a part, which must be one of the upload's parts.
 fn note(
     cut: &Cut<'_>,
     follow: &mut Follow<'_>,
@@ -65,7 +65,7 @@ fn note(
     }
 }
 
-// Notes parts one after another.
+// Notes parts, one after the other.
 fn note_all(
     cut: &Cut<'_>,
     follow: &mut Follow<'_>,
@@ -85,8 +85,8 @@ fn note_all(
     Ok(())
 }
 
-// Puts parts one after another, at one taking of the lock, until one is refused. That one is handed back, and those
-// behind it are freed after the lock is given back, as the guard is dropped before what stands above it.
+// Puts parts, one after the other, taking the lock once, until one is refused. The refused part is returned; those after it are freed after
+// the lock is released, because the guard is dropped before the variables declared above it.
 fn put_all<L: Ledgers, R: Wait>(
     rt: &R,
     shared: &Shared<L>,
@@ -96,7 +96,7 @@ fn put_all<L: Ledgers, R: Wait>(
     work: &mut Work,
 ) -> Result<(), PutRefused>
     ensures ok { OnOk result (share.new ≡ holding_with share.old (map (λ p. p.part) parts.items)) }
-    ensures err { OnErr result (RoseByBeginning (map (λ p. p.part) parts.items) share.old share.new) }
+    ensures err { OnErr result (RoseByPrefix (map (λ p. p.part) parts.items) share.old share.new) }
 {
     let mut rest = parts.into_iter();
     let mut locked = shared.lock(rt);
@@ -108,7 +108,7 @@ fn put_all<L: Ledgers, R: Wait>(
     Ok(())
 }
 
-// Takes parts until there is none, or as many as are put at once are in hand.
+// Takes parts until there are no more, or as many as are put at once.
 fn take_some<R: Wait>(
     rt: &R,
     alloc: Global,
@@ -121,7 +121,7 @@ fn take_some<R: Wait>(
     ensures fault { IfErr result IsOwnFault }
 {
     let mut parts = Vec::new(alloc);
-    for _ in 0..MOST_IN_HAND {
+    for _ in 0..MAX_IN_HAND {
         let Some(Taken { giver: _, part }) = hand_over.take(rt, pass) else {
             break;
         };
@@ -132,7 +132,7 @@ fn take_some<R: Wait>(
     Ok(parts)
 }
 
-// Takes all that is left.
+// Takes all remaining parts.
 fn take_all<R: Wait>(
     rt: &R,
     alloc: Global,
@@ -182,7 +182,7 @@ impl<'a, L: Ledgers> Collector<'a, L> {
         Ok(())
     }
 
-    // Takes what there is, notes and puts it; once something failed, drops it. Answers whether there was something.
+    // Takes the available parts, notes and puts them; after a failure it drops them. Returns whether there were any.
     fn collect_some<G: Gate, R: Wait>(
         &mut self,
         rt: &R,
@@ -218,7 +218,7 @@ impl<'a, L: Ledgers> Collector<'a, L> {
         true
     }
 
-    /// Collects until so many workers have ended. Once something failed, the workers are told to end.
+    /// Collects until `started` workers have ended. After a failure, it signals the workers to end.
     pub(crate) fn collect<G: Gate, R: Wait>(
         &mut self,
         rt: &R,
@@ -252,7 +252,7 @@ impl<'a, L: Ledgers> Collector<'a, L> {
         }
     }
 
-    /// Takes what is left once all workers have handed back their passes, notes and puts it. Once something failed, it is left.
+    /// After all workers have returned their passes, takes, notes and puts the remaining parts. After a failure, it leaves them.
     pub(crate) fn collect_rest<G: Gate, R: Wait>(
         &mut self,
         rt: &R,
@@ -281,7 +281,7 @@ impl<'a, L: Ledgers> Collector<'a, L> {
         }
     }
 
-    // Takes all that is left, notes and puts it.
+    // Takes all remaining parts, notes and puts them.
     fn collect_all<G: Gate, R: Wait>(
         &mut self,
         rt: &R,
@@ -307,7 +307,7 @@ impl<'a, L: Ledgers> Collector<'a, L> {
         }
     }
 
-    /// The address of all bytes, where nothing failed; else the collector's own fault, or that of a worker.
+    /// The address of all bytes, if nothing failed; otherwise the collector's own fault, or that of a worker.
     pub(crate) fn address(
         self,
         workers_fault: Option<UploadFaultKind>,

@@ -2,7 +2,7 @@
 
 ghost use Rattle.std.specs.Prelude.{◌≡◌, ◌+◌, ◌<◌, ◌≤◌, ◌^◌, [], All, IfNone, IfOk, IfSome, Some, length, map, vec_capacity, vec_len};
 ghost use Rattle.b3_forest.specs.Lent.{lent_bytes};
-ghost use Rattle.store_upload.specs.Uploads.{most_bytes, most_part_chunks};
+ghost use Rattle.store_upload.specs.Uploads.{max_bytes, max_part_chunks};
 ghost use Rattle.store_board.specs.Passes.{IsGiverOf, given_of};
 ghost use Rattle.store_board.specs.Seats.{IsSeatOf, parts_of};
 ghost use Rattle.store_shared.specs.Cuts.{part_count};
@@ -21,14 +21,14 @@ use std::sync::Wait;
 use std::thread::{PromisedHandle, Scope, Threads};
 use store_board::{BoardSeat, GivePass};
 
-// The threads that were started, room for what they report, and why not all were started.
+// The threads that were started, room for their reports, and why not all were started.
 pub(crate) struct Crew<'s, G: Gate> {
     pub(crate) handles: Vec<PromisedHandle<Report, ReportOf<'s, G>>>,
     pub(crate) reports: Vec<Report>,
     pub(crate) unstarted: Option<UploadFaultKind>,
 }
 
-/// A worker for each seat and pass, the first of them last.
+/// A worker for each seat and pass, in reverse order.
 pub(crate) fn workers_of<G: Gate, R: Runtime>(
     rt: &R,
     alloc: Global,
@@ -57,8 +57,8 @@ pub(crate) fn workers_of<G: Gate, R: Runtime>(
     Ok(workers)
 }
 
-/// Starts a thread for each worker, the last first, and makes room for their reports. Where one can't be started, the
-/// others are not, and the answer has a fault.
+/// Starts a thread for each worker, the last one first, and makes room for their reports. If one cannot be started, the remaining ones are
+/// not started, and the result has a fault.
 pub(crate) fn start_all<'s, E, G: Gate + Sync, R: Wait + Sync>(
     scope: &Scope<'s, E>,
     rt: &'s R,
@@ -94,7 +94,7 @@ pub(crate) fn start_all<'s, E, G: Gate + Sync, R: Wait + Sync>(
     }
 }
 
-// Starts a thread for a worker. It is handed what is lent as a slice or as stretches, and not as either.
+// Starts a thread for a worker. The borrowed bytes are passed as a slice or as stretches, and not as the enum of both.
 fn start_one<'s, E, G: Gate + Sync, R: Wait + Sync>(
     scope: &Scope<'s, E>,
     rt: &'s R,
@@ -118,7 +118,7 @@ fn start_one<'s, E, G: Gate + Sync, R: Wait + Sync>(
     }
 }
 
-// Starts a thread for a worker that takes parts of a slice.
+// Starts a thread for a worker on a slice.
 fn start_on_slice<'s, E, G: Gate + Sync, R: Wait + Sync>(
     scope: &Scope<'s, E>,
     rt: &'s R,
@@ -127,15 +127,15 @@ fn start_on_slice<'s, E, G: Gate + Sync, R: Wait + Sync>(
     bytes: &'s [u8],
     worker: Worker,
 ) -> Result<PromisedHandle<Report, ReportOf<'s, G>>, UploadFaultKind>
-    requires bytes { (lent_bytes promise.lent ≡ bytes.now) × (length bytes.now ≤ most_bytes) }
+    requires bytes { (lent_bytes promise.lent ≡ bytes.now) × (length bytes.now ≤ max_bytes) }
     requires parts { parts_of promise.exchange.now.board ≡ part_count (length bytes.now) promise.part_chunks }
-    requires part_chunks { (0 < promise.part_chunks) × (promise.part_chunks ≤ most_part_chunks) }
+    requires part_chunks { (0 < promise.part_chunks) × (promise.part_chunks ≤ max_part_chunks) }
     requires worker { IsWorkerOf promise.exchange.now worker × (given_of worker.pass ≡ []) }
     ensures { IfOk result (λ handle. handle.promise ≡ promise.entry) }
 {
     let (part_chunks, gate, exchange) = (promise.part_chunks, promise.gate, promise.exchange);
     let runs = move || -> Report
-        requires { IsWorkerOf exchange.now worker × (given_of worker.pass ≡ []) × (parts_of exchange.now.board ≡ part_count (length bytes.now) part_chunks) × (length bytes.now ≤ most_bytes) × (0 < part_chunks) × (part_chunks ≤ most_part_chunks) }
+        requires { IsWorkerOf exchange.now worker × (given_of worker.pass ≡ []) × (parts_of exchange.now.board ≡ part_count (length bytes.now) part_chunks) × (length bytes.now ≤ max_bytes) × (0 < part_chunks) × (part_chunks ≤ max_part_chunks) }
         ensures { IsReportOf exchange.entry.now (G.may_stop gate.entry.now) (G.may_fault gate.entry.now) (G.has_passed gate.entry.now) (record { bytes = bytes.entry.now; part_chunks = part_chunks }) result }
     {
         let lent = Lent::Slice(bytes);
@@ -147,7 +147,7 @@ fn start_on_slice<'s, E, G: Gate + Sync, R: Wait + Sync>(
     }
 }
 
-// Starts a thread for a worker that takes parts of stretches.
+// Starts a thread for a worker on stretches.
 fn start_on_stretches<'s, E, G: Gate + Sync, R: Wait + Sync>(
     scope: &Scope<'s, E>,
     rt: &'s R,
@@ -156,15 +156,15 @@ fn start_on_stretches<'s, E, G: Gate + Sync, R: Wait + Sync>(
     bytes: &'s Stretches,
     worker: Worker,
 ) -> Result<PromisedHandle<Report, ReportOf<'s, G>>, UploadFaultKind>
-    requires bytes { (lent_bytes promise.lent ≡ bytes.now.bytes) × (length bytes.now.bytes ≤ most_bytes) }
+    requires bytes { (lent_bytes promise.lent ≡ bytes.now.bytes) × (length bytes.now.bytes ≤ max_bytes) }
     requires parts { parts_of promise.exchange.now.board ≡ part_count (length bytes.now.bytes) promise.part_chunks }
-    requires part_chunks { (0 < promise.part_chunks) × (promise.part_chunks ≤ most_part_chunks) }
+    requires part_chunks { (0 < promise.part_chunks) × (promise.part_chunks ≤ max_part_chunks) }
     requires worker { IsWorkerOf promise.exchange.now worker × (given_of worker.pass ≡ []) }
     ensures { IfOk result (λ handle. handle.promise ≡ promise.entry) }
 {
     let (part_chunks, gate, exchange) = (promise.part_chunks, promise.gate, promise.exchange);
     let runs = move || -> Report
-        requires { IsWorkerOf exchange.now worker × (given_of worker.pass ≡ []) × (parts_of exchange.now.board ≡ part_count (length bytes.now.bytes) part_chunks) × (length bytes.now.bytes ≤ most_bytes) × (0 < part_chunks) × (part_chunks ≤ most_part_chunks) }
+        requires { IsWorkerOf exchange.now worker × (given_of worker.pass ≡ []) × (parts_of exchange.now.board ≡ part_count (length bytes.now.bytes) part_chunks) × (length bytes.now.bytes ≤ max_bytes) × (0 < part_chunks) × (part_chunks ≤ max_part_chunks) }
         ensures { IsReportOf exchange.entry.now (G.may_stop gate.entry.now) (G.may_fault gate.entry.now) (G.has_passed gate.entry.now) (record { bytes = bytes.entry.now.bytes; part_chunks = part_chunks }) result }
     {
         let lent = Lent::Stretches(bytes);
@@ -176,7 +176,7 @@ fn start_on_stretches<'s, E, G: Gate + Sync, R: Wait + Sync>(
     }
 }
 
-// A crew to which memory was refused for a thread more.
+// A crew that is incomplete because an allocation for another thread failed.
 fn broken_off<'s, G: Gate>(
     handles: Vec<PromisedHandle<Report, ReportOf<'s, G>>>,
     reports: Vec<Report>,
@@ -190,7 +190,7 @@ fn broken_off<'s, G: Gate>(
     }
 }
 
-// Joins one thread, and answers what its worker reports.
+// Joins a thread, and returns the report of its worker.
 fn join_one<'s, G: Gate, R: Threads>(
     rt: &R,
     job: &'s Job<'s, G>,
@@ -202,7 +202,7 @@ fn join_one<'s, G: Gate, R: Threads>(
     handle.join(rt)
 }
 
-/// Joins all threads, and answers what their workers report, in the workers' order.
+/// Joins all threads, and returns the reports of their workers, in the workers' order.
 pub(crate) fn join_all<'s, G: Gate, R: Threads>(
     rt: &R,
     job: &'s Job<'s, G>,

@@ -5,17 +5,17 @@ ghost use Rattle.store_shared.specs.Gates.{IsGateAnswer};
 
 use store_board::Draw;
 
-/// What a gate answers to end an upload.
+/// What a gate returns to end an upload.
 #[derive(Clone, Copy, Debug, PartialEq, Eq)]
 pub enum GateStop {
-    /// The upload is not wanted any more.
+    /// The upload is no longer wanted.
     Stop,
-    /// The gate failed, with a code of its own.
+    /// The gate failed, with its own code.
     Fault(u64),
 }
 
-/// What a worker asks after it has hashed a part, before it hands the part over. An implementation says by three
-/// ghost members for which parts it may answer Stop, for which parts each code, and what a yes means for a part.
+/// What a worker asks after it has hashed a part, before it hands the part over. Three ghost members of an implementation state for which
+/// parts it may return Stop, for which parts each code, and what it means that a part has passed.
 pub trait Gate {
     ghost may_stop: { Self → ℕ → Type 0 };
 
@@ -23,7 +23,7 @@ pub trait Gate {
 
     ghost has_passed: { Self → ℕ → Type 0 };
 
-    /// Whether the part of this number may pass.
+    /// Whether the part with this number may pass.
     fn passed(&self, part: Draw) -> Result<(), GateStop>
         ensures err { IfErr result (IsGateAnswer (may_stop self.now) (may_fault self.now) part.number) }
         ensures ok { OnOk result (has_passed self.now part.number) };

@@ -4,15 +4,15 @@ ghost use Rattle.std.specs.Prelude.{◌≡◌, ◌+◌, ◌<◌, ◌≤◌, ℕ,
 ghost use Rattle.std.specs.Arc.{arc_value};
 ghost use Rattle.b3_core.specs.Modes.{hash_of};
 ghost use Rattle.b3_forest.specs.Lent.{lent_bytes};
-ghost use Rattle.store_upload.specs.Uploads.{most_bytes, most_part_chunks};
+ghost use Rattle.store_upload.specs.Uploads.{max_bytes, max_part_chunks};
 ghost use Rattle.store_board.specs.Passes.{IsTakerOf, givers_of, taken_of};
 ghost use Rattle.store_shared.specs.Cuts.{IsBadCut};
 ghost use Rattle.store_shared.specs.Gates.{IsOwnFault};
-ghost use Rattle.store_shared.specs.Uploading.{Cutting, cut_count};
+ghost use Rattle.store_shared.specs.Uploading.{ModelCut, cut_count};
 ghost use Rattle.store_shared.specs.inner.Uploading.{AreNoted, IsCollected, IsUploaded};
 ghost use Rattle.store_shared.specs.Uploads.{IsAnswered};
 ghost use Rattle.store_shared.specs.inner.Workers.{AreWorkersOf, IsThreadOf};
-ghost use Rattle.store_books.specs.Books.{most_workers};
+ghost use Rattle.store_books.specs.Books.{max_workers};
 
 use crate::collector::Collector;
 use crate::crew::{Crew, first_fault, join_all, start_all, workers_of};
@@ -33,10 +33,10 @@ use std::thread::Threads;
 use store_board::{Board, HandOver, TakePass, Unasked};
 use store_core::{Address, Refusal, Sealed, TenantId, UploadId};
 use store_ledger::{Ledgers, Share};
-use store_upload::MOST_PART_CHUNKS;
+use store_upload::MAX_PART_CHUNKS;
 
-/// What an upload is asked for: bytes for a tenant, cut into parts of so many chunks of 1024 bytes, by so many workers, and
-/// the gate that they ask after each part.
+/// An upload: the tenant, the bytes, which are split into parts of `part_chunks` chunks of 1024 bytes, the number of workers, and the gate
+/// that they ask after each part.
 #[derive(Drop)]
 pub struct UploadRequest<'a, G: Gate> {
     pub tenant: TenantId,
@@ -47,18 +47,18 @@ pub struct UploadRequest<'a, G: Gate> {
 }
 
 impl<'a, G: Gate + Sync> UploadRequest<'a, G> {
-    /// Uploads the bytes for the tenant, and files them under their hash.
+    /// Uploads the bytes for the tenant, and files them at their hash.
     ///
-    /// Each of the workers runs in a thread of its own, and no more are started than there are parts: it draws the number of a
-    /// part, hashes it with a stretch of the bytes or a copy, asks the gate, and hands it over. The calling thread notes what is handed over and puts it,
-    /// several parts at one taking of the lock, with the caller's share. Where nothing fails, it seals the upload under the
-    /// address that it has computed itself; the gate has then passed each part.
+    /// Each worker runs on its own thread, and there are no more workers than parts. A worker draws the number of a part, hashes the part,
+    /// from a stretch of the bytes or a copy, asks the gate, and hands it over. The calling thread notes the parts that are handed over and
+    /// puts them with the caller's share, several parts each time it takes the lock. If nothing fails, it seals the upload at the address
+    /// that it has computed itself; then each part has passed the gate.
     ///
-    /// U2 comes first, and nothing was begun. U1 is a refusal of the store, U3 and U4 are a gate's answers, U5 is want of
-    /// memory outside the store's commands, and U6 a part that is not one of the cut. The collector's own fault is told
-    /// before those of the workers, and of these that of the worker with the least number. After a fault past the beginning
-    /// all workers are joined and the upload is aborted; `left` names it only where that was refused, and it is still open.
-    /// The share has risen by the parts that were accepted. It may wait, and keeps its promise if it returns.
+    /// U2 is checked first, before anything is begun. U1 is a refusal of the store, U3 and U4 are a gate's results, U5 is out of memory
+    /// outside the store's commands, and U6 a part that is not one of the upload's parts. The collector's own fault takes precedence over
+    /// those of the workers, and among these the fault of the worker with the lowest number. If an upload fails after it was begun, all
+    /// workers are joined and the upload is aborted; `left` is its number only if the abort was refused and it is still open. The share has
+    /// grown by the parts that were accepted. The call may wait, and keeps its promise if it returns.
     pub fn upload<L: Ledgers, R: Threads + Wait + Sync + Runtime>(
         &self,
         rt: &R,
@@ -75,19 +75,19 @@ impl<'a, G: Gate + Sync> UploadRequest<'a, G> {
         upload_parts(rt, alloc, shared, share, self)
     }
 
-    // Whether a part would have no chunk or too many, or there would be no worker or more than may be.
+    // Whether a part would have no chunk or too many, or there would be no worker or too many.
     fn has_bad_cut(&self, most: u64) -> bool
         ensures yes { result ≡ true → IsBadCut self.now.part_chunks self.now.workers most }
-        ensures no { result ≡ false → (0 < self.now.part_chunks) × (self.now.part_chunks ≤ most_part_chunks) × (0 < self.now.workers) × (self.now.workers ≤ most) }
+        ensures no { result ≡ false → (0 < self.now.part_chunks) × (self.now.part_chunks ≤ max_part_chunks) × (0 < self.now.workers) × (self.now.workers ≤ most) }
     {
-        if self.part_chunks == 0 || self.part_chunks > MOST_PART_CHUNKS {
+        if self.part_chunks == 0 || self.part_chunks > MAX_PART_CHUNKS {
             return true;
         }
         self.workers == 0 || self.workers > most
     }
 }
 
-/// Uploads bytes, as `UploadRequest::upload` does with these in its fields.
+/// Uploads bytes, as `UploadRequest::upload` does with these values in its fields.
 pub fn upload<L: Ledgers, G: Gate + Sync, R: Threads + Wait + Sync + Runtime>(
     rt: &R,
     alloc: Global,
@@ -111,7 +111,7 @@ pub fn upload<L: Ledgers, G: Gate + Sync, R: Threads + Wait + Sync + Runtime>(
     request.upload(rt, alloc, shared, share)
 }
 
-// Uploads what is asked for, of a good cut.
+// Uploads a request with valid numbers of chunks and workers.
 fn upload_parts<L: Ledgers, G: Gate + Sync, R: Threads + Wait + Sync + Runtime>(
     rt: &R,
     alloc: Global,
@@ -119,8 +119,8 @@ fn upload_parts<L: Ledgers, G: Gate + Sync, R: Threads + Wait + Sync + Runtime>(
     share: Share<L>,
     request: &UploadRequest<'_, G>,
 ) -> (Share<L>, Result<Sealed, UploadFault>)
-    requires part_chunks { (0 < request.now.part_chunks) × (request.now.part_chunks ≤ most_part_chunks) }
-    requires workers { request.now.workers ≤ most_workers }
+    requires part_chunks { (0 < request.now.part_chunks) × (request.now.part_chunks ≤ max_part_chunks) }
+    requires workers { request.now.workers ≤ max_workers }
     ensures passed { OnOk result.1 ((k : ℕ) → k < cut_count (record { bytes = lent_bytes request.now.bytes; part_chunks = request.now.part_chunks }) → G.has_passed request.now.gate.now k) }
     ensures uploaded { IsUploaded (G.may_stop request.now.gate.now) (G.may_fault request.now.gate.now) (record { bytes = lent_bytes request.now.bytes; part_chunks = request.now.part_chunks }) share result.0 result.1 }
 {
@@ -147,13 +147,13 @@ fn begin<L: Ledgers, R: Wait>(
     tenant: TenantId,
     len: u64,
 ) -> Result<UploadId, UploadFaultKind>
-    ensures bounded { OnOk result (len ≤ most_bytes) }
+    ensures bounded { OnOk result (len ≤ max_bytes) }
     ensures fault { IfErr result IsOwnFault }
 {
     match lent_begin(&mut *shared.lock(rt), tenant, len) {
         Ok(begun) => {
             let (upload, plan) = begun;
-            // For the proof alone: a plan says that its bound is at most 2^44.
+            // For the proof alone: the bound of a plan is at most 2^44.
             let _most = plan.bound();
             Ok(upload)
         }
@@ -161,7 +161,7 @@ fn begin<L: Ledgers, R: Wait>(
     }
 }
 
-// Seals a complete upload under its address. What it held is the caller's to free, without the lock.
+// Seals a complete upload at its address. The caller frees what it held, without the lock.
 fn seal<L: Ledgers, R: Wait + Runtime>(
     rt: &R,
     shared: &Shared<L>,
@@ -178,7 +178,7 @@ fn seal<L: Ledgers, R: Wait + Runtime>(
     }
 }
 
-// Tries to abort an upload, and names it where it is left open. What it held is freed after the lock is given back.
+// Tries to abort an upload, and returns its number if it is left open. What it held is freed after the lock is released.
 fn abort<L: Ledgers, R: Wait>(rt: &R, shared: &Shared<L>, upload: UploadId) -> Option<UploadId> {
     let aborted = lent_abort(&mut *shared.lock(rt), upload);
     match aborted {
@@ -187,14 +187,14 @@ fn abort<L: Ledgers, R: Wait>(rt: &R, shared: &Shared<L>, upload: UploadId) -> O
     }
 }
 
-// As many workers as there are parts, one where there are none, and no more than are wanted.
+// As many workers as there are parts, at least one, and at most `most`.
 fn workers_for(parts: u64, most: u64) -> u64
     ensures { result ≡ min most (max 1 parts) }
 {
     most.min(parts.max(1))
 }
 
-// Puts all parts of an upload that was begun, and answers its address.
+// Puts all parts of an upload that was begun, and returns its address.
 fn put_parts<L: Ledgers, G: Gate + Sync, R: Threads + Wait + Sync + Runtime>(
     rt: &R,
     alloc: Global,
@@ -203,9 +203,9 @@ fn put_parts<L: Ledgers, G: Gate + Sync, R: Threads + Wait + Sync + Runtime>(
     request: &UploadRequest<'_, G>,
     upload: UploadId,
 ) -> (Share<L>, Result<Address, UploadFaultKind>)
-    requires bytes { length (lent_bytes request.now.bytes) ≤ most_bytes }
-    requires part_chunks { (0 < request.now.part_chunks) × (request.now.part_chunks ≤ most_part_chunks) }
-    requires workers { request.now.workers ≤ most_workers }
+    requires bytes { length (lent_bytes request.now.bytes) ≤ max_bytes }
+    requires part_chunks { (0 < request.now.part_chunks) × (request.now.part_chunks ≤ max_part_chunks) }
+    requires workers { request.now.workers ≤ max_workers }
     ensures passed { OnOk result.1 ((k : ℕ) → k < cut_count (record { bytes = lent_bytes request.now.bytes; part_chunks = request.now.part_chunks }) → G.has_passed request.now.gate.now k) }
     ensures collected { IsCollected (G.may_stop request.now.gate.now) (G.may_fault request.now.gate.now) (record { bytes = lent_bytes request.now.bytes; part_chunks = request.now.part_chunks }) share result.0 result.1 }
 {
@@ -249,7 +249,7 @@ fn put_parts<L: Ledgers, G: Gate + Sync, R: Threads + Wait + Sync + Runtime>(
     work_together(rt, alloc, &job, workers, take_pass, collector)
 }
 
-// Runs all workers, and the collector beside them.
+// Runs all workers, and the collector alongside.
 fn work_together<L: Ledgers, G: Gate + Sync, R: Threads + Wait + Sync>(
     rt: &R,
     alloc: Global,
@@ -279,8 +279,7 @@ fn work_together<L: Ledgers, G: Gate + Sync, R: Threads + Wait + Sync>(
     )
 }
 
-// Collects while the workers work, joins them all and collects the rest, and answers the address of all bytes, or what
-// failed.
+// Collects while the workers run, joins them all and collects the remaining parts. Returns the address of all bytes, or what failed.
 fn gather<'s, L: Ledgers, G: Gate, R: Threads + Wait>(
     rt: &R,
     alloc: Global,

@@ -2,7 +2,7 @@
 
 ghost use Rattle.std.specs.Prelude.{◌≡◌, ◌∷◌, ◌++◌, ◌<◌, ◌≤◌, ◌^◌, [], IfErr, IfSome, false, length, true};
 ghost use Rattle.b3_forest.specs.Lent.{lent_bytes};
-ghost use Rattle.store_upload.specs.Uploads.{most_bytes, most_part_chunks};
+ghost use Rattle.store_upload.specs.Uploads.{max_bytes, max_part_chunks};
 ghost use Rattle.store_board.specs.Passes.{given_of, giver_of};
 ghost use Rattle.store_board.specs.Seats.{IsSeatOf, parts_of};
 ghost use Rattle.store_shared.specs.Cuts.{part_count};
@@ -30,15 +30,15 @@ pub(crate) struct Worker {
     pub(crate) work: Work,
 }
 
-// What a worker's thread hands back: its fault, if it had one, and the worker itself.
+// What a worker's thread returns: its fault, if it had one, and the worker itself.
 #[derive(Drop)]
 pub(crate) struct Report {
     pub(crate) fault: Option<UploadFaultKind>,
     pub(crate) worker: Worker,
 }
 
-// What a report is of: its fault is one that the gate may have caused for the cut, or want of memory, and all that the worker
-// gave is parts of the cut that have passed the gate.
+// The promise about a report: its fault is one that the gate may have caused, or out of memory, and everything that the worker gave is
+// parts of the upload that have passed the gate.
 #[derive(Drop)]
 pub(crate) struct ReportOf<'a, G: Gate> {
     pub(crate) lent: Lent<'a>,
@@ -51,7 +51,7 @@ impl<'a, G: Gate> Promise<Report> for ReportOf<'a, G> {
     ghost kept_by = { λ p report. IsReportOf p.exchange.now (G.may_stop p.gate.now) (G.may_fault p.gate.now) (G.has_passed p.gate.now) (record { bytes = lent_bytes p.lent; part_chunks = p.part_chunks }) report };
 }
 
-// The fault that a gate's answer for a part is.
+// The fault for a gate's result for a part.
 fn fault_at(part: u64, answer: GateStop) -> UploadFaultKind
     ensures { result ≡ fault_for part answer }
 {
@@ -61,7 +61,7 @@ fn fault_at(part: u64, answer: GateStop) -> UploadFaultKind
     }
 }
 
-// Whether no more parts are wanted: a worker has stopped the board, or the collector has given up.
+// Whether no more parts are wanted: a worker has stopped the board, or the collector has stopped collecting.
 fn is_over(exchange: &Exchange, seat: &mut BoardSeat) -> bool
     requires { IsSeatOf exchange.now.board seat.old }
     ensures { IsSeatOf exchange.now.board seat.new }
@@ -69,7 +69,7 @@ fn is_over(exchange: &Exchange, seat: &mut BoardSeat) -> bool
     exchange.board.stopped(seat) || exchange.progress.has_given_up()
 }
 
-// Hands a part over, or drops it once no more are wanted while the queue is full. Answers whether it was handed over.
+// Hands a part over, or drops it if the queue is full and no more parts are wanted. Returns whether it was handed over.
 fn hand_part<R: Wait>(rt: &R, exchange: &Exchange, worker: &mut Worker, part: Prepared) -> bool
     requires { IsWorkerOf exchange.now worker.old }
     ensures own { IsWorkerOf exchange.now worker.new }
@@ -91,7 +91,7 @@ fn hand_part<R: Wait>(rt: &R, exchange: &Exchange, worker: &mut Worker, part: Pr
     unreachable!()
 }
 
-// Makes parts and hands them over, until there are no more, none are wanted, or something fails.
+// Makes parts and hands them over, until there are no more, no more are wanted, or something fails.
 fn make_parts<G: Gate, R: Wait>(
     rt: &R,
     alloc: Global,
@@ -126,7 +126,7 @@ fn make_parts<G: Gate, R: Wait>(
     unreachable!()
 }
 
-/// What a worker's thread runs. A worker that fails stops the board. All that end are counted.
+/// Runs on a worker's thread. A worker that fails stops the board. Every worker that ends is counted.
 pub(crate) fn run<G: Gate, R: Wait>(
     rt: &R,
     alloc: Global,
@@ -139,14 +139,14 @@ pub(crate) fn run<G: Gate, R: Wait>(
     requires own { IsWorkerOf exchange.now worker }
     requires fresh { given_of worker.pass ≡ [] }
     requires parts { parts_of exchange.now.board ≡ part_count (length (lent_bytes lent)) part_chunks }
-    requires bytes { length (lent_bytes lent) ≤ most_bytes }
+    requires bytes { length (lent_bytes lent) ≤ max_bytes }
     requires positive { 0 < part_chunks }
-    requires bounded { part_chunks ≤ most_part_chunks }
+    requires bounded { part_chunks ≤ max_part_chunks }
     ensures fault { IfSome result.fault (IsFaultOf (G.may_stop gate.now) (G.may_fault gate.now) (part_count (length (lent_bytes lent.entry)) part_chunks)) }
     ensures own { IsWorkerOf exchange.now result.worker }
     ensures passed { AllPassed (G.has_passed gate.now) (record { bytes = lent_bytes lent.entry; part_chunks = part_chunks }) result.worker.pass }
 {
-    // A thread is handed bytes and numbers, and makes the cut of them again.
+    // A thread is passed the bytes and the number of chunks, and makes its own `Cut` of them.
     let cut = Cut::new(lent, part_chunks);
     let mut worker = worker;
     match make_parts(rt, alloc, &cut, gate, exchange, &mut worker) {

@@ -1,10 +1,10 @@
-//! What commands do where one growth of memory is refused. tests/growths runs each of these tests again and again, and refuses
-//! another growth of the process each time.
+//! Commands in which one allocation fails. tests/growths runs each of these tests many times, and lets another allocation of the process
+//! fail each time.
 //!
-//! The command answers as if nothing had been refused, or tells want of memory. Then all is as before it, a part comes back, and the
-//! same command succeeds; all lines behind it are answered as ever. Where the growth is refused while a part is made or the store is
-//! looked at, the whole is done again, which succeeds too, since no second growth is refused. So a call that always tells want of
-//! memory fails.
+//! The command succeeds as usual, or reports that it ran out of memory. Then everything is as before, a part is returned, and the same
+//! command succeeds; all lines after it are answered as usual. If the allocation fails while a part is made or the store is inspected,
+//! everything is repeated, which succeeds, as no second allocation fails. So a call that always reports running out of memory fails the
+//! test.
 
 use crate::helpers::holds;
 use std::test::Fail;

@@ -1,5 +1,5 @@
-//! Scripts of a store, for one tenant at a time. Behind each answer stand two counts of compressions: those of making a part, and those of
-//! the store. Where memory is refused to a command, all must be as before, and the same command is given again.
+//! Scripts of a store, for one tenant at a time. Each answer is followed by two counts of compressions: those of making a part, and those
+//! of the store. If an allocation fails in a command, everything must be as before, and the same command is given again.
 
 use b3_core::{Runtime, Work};
 use b3_forest::{PartFault, Plan, Prepared};
@@ -10,11 +10,11 @@ use std::process::Abort;
 use std::sync::Arc;
 use std::test::Fail;
 use store_core::{
-    Address, Held, Limits, Object, OpenUpload, PutRefused, ReadError, Refusal, ReplayError, Sealed,
-    Store, TenantId, UploadId, Usage, read_journal, replay, write_journal,
+    Address, Held, Limits, Object, PutRefused, ReadError, Refusal, ReplayError, Sealed, Store,
+    TenantId, UploadId, UploadStatus, Usage, read_journal, replay, write_journal,
 };
 
-// A store, the tenant of its commands, a part that came back for want of memory, the compressions of making parts, and the store's own.
+// A store, the tenant of its commands, a part that was returned when out of memory, the compressions of making parts, and the store's own.
 #[derive(Drop)]
 struct Scripted {
     alloc: Global,
@@ -70,7 +70,7 @@ impl Scripted {
         }
     }
 
-    // Commands that have nothing to tell, and questions.
+    // Commands without a result, and questions.
     fn told(&mut self, word: &str, first: u64, second: u64) -> Result<String, AllocError> {
         let (alloc, upload) = (self.alloc, UploadId::new(first));
         match word {
@@ -105,7 +105,7 @@ impl Scripted {
         }
     }
 
-    // The tenant of the commands that follow.
+    // Sets the tenant of the following commands.
     fn act_as(&mut self, number: u64) -> Result<String, AllocError> {
         self.tenant = TenantId::new(number);
         format!(in self.alloc; "ok")
@@ -126,7 +126,7 @@ impl Scripted {
         begun_text(self.alloc, self.store.begin_open(self.tenant, at_most))
     }
 
-    // Makes a part of the pattern by an upload's plan.
+    // Makes a part of the pattern for an upload's plan.
     fn make(
         &mut self,
         of: UploadId,
@@ -144,7 +144,7 @@ impl Scripted {
         }
     }
 
-    // Puts the part that came back last, where there is one.
+    // Puts the part that was returned last, if there is one.
     fn put(&mut self, upload: UploadId, numbers: &str) -> Result<String, AllocError> {
         let (offset, len) = two_numbers(cut(numbers).1);
         let part = match self.part.take() {
@@ -163,7 +163,7 @@ impl Scripted {
         }
     }
 
-    // A refusal, and which part came back with it, which is kept for want of memory.
+    // A refusal, and which part was returned with it; the part is kept if out of memory.
     fn back(&mut self, refused: PutRefused) -> Result<String, AllocError> {
         let PutRefused { refusal, part } = refused;
         let (offset, len) = (part.offset(), part.bytes().len());
@@ -173,7 +173,7 @@ impl Scripted {
         format!(in self.alloc; "{refusal} back {offset} {len}")
     }
 
-    // Puts a part of another upload's plan.
+    // Puts a part with another upload's plan.
     fn stray(&mut self, to: UploadId, of: UploadId) -> Result<String, AllocError> {
         let Some(part) = self.make(of, 0, 1024)? else {
             return format!(in self.alloc; "no part");
@@ -226,7 +226,8 @@ impl Scripted {
         }
     }
 
-    // How many bytes of an object were read from there on into room for so many, and what the room then holds; 255 where nothing came.
+    // Reads an object from `from` on into a buffer of `room` bytes. Returns the number of bytes read, and the buffer; bytes that were not
+    // read are 255.
     fn range(&self, from: u64, room: u64, digits: &str) -> Result<String, AllocError> {
         let Ok(bytes) = <[u8; 32]>::from_hex(digits) else {
             return format!(in self.alloc; "no address");
@@ -288,7 +289,7 @@ impl Scripted {
         }
     }
 
-    // The totals of what the journal leads to.
+    // The totals that replaying the journal results in.
     fn replay(&self) -> Result<String, AllocError> {
         match replay(self.alloc, self.store.journal()) {
             Ok(replayed) => format!(in self.alloc; "{}", replayed.totals()),
@@ -303,7 +304,7 @@ impl Scripted {
         format!(in self.alloc; "{totals} journal {entries}")
     }
 
-    // All that the store answers, and what its journal leads to.
+    // Everything that the store answers, and the result of replaying its journal.
     fn all(&self) -> Result<String, AllocError> {
         let mut text = self.state()?;
         text.push_str(self.usage()?.as_str())?;
@@ -324,7 +325,7 @@ fn objects_text(alloc: Global, objects: &[(Address, u64)]) -> Result<String, All
     Ok(text)
 }
 
-fn uploads_text(alloc: Global, uploads: &[OpenUpload]) -> Result<String, AllocError> {
+fn uploads_text(alloc: Global, uploads: &[UploadStatus]) -> Result<String, AllocError> {
     let mut text = String::new(alloc);
     for open in uploads {
         let line = format!(in alloc;
@@ -365,7 +366,7 @@ fn done_text(alloc: Global, answer: Result<(), Refusal>) -> Result<String, Alloc
     }
 }
 
-// The address, whether it is new, its length, and how many bytes and parts of the upload came back.
+// The address, whether it is new, its length, and the numbers of bytes and parts of the returned upload.
 fn sealed_text(alloc: Global, answer: Result<Sealed, Refusal>) -> Result<String, AllocError> {
     match answer {
         Ok(sealed) => {
@@ -377,7 +378,7 @@ fn sealed_text(alloc: Global, answer: Result<Sealed, Refusal>) -> Result<String,
     }
 }
 
-// The address and the length of an object that came back.
+// The address and the length of a returned object.
 fn forgotten_text(
     alloc: Global,
     answer: Result<Option<Arc<Object>>, Refusal>,
@@ -389,7 +390,7 @@ fn forgotten_text(
     }
 }
 
-// What is told of the script.
+// The answers to the script.
 fn told_of<R: AllocGlobal + Runtime>(rt: &R, script: &str) -> Result<String, AllocError> {
     let mut on = Scripted {
         alloc: rt.alloc(),
@@ -402,8 +403,8 @@ fn told_of<R: AllocGlobal + Runtime>(rt: &R, script: &str) -> Result<String, All
     told(rt.alloc(), &mut on, script)
 }
 
-/// The script's lines are answered as they say, at first by a store within the widest limits. Where the test's own memory is
-/// refused, all is done again.
+/// The answers to the script are those in the script, from a store that starts with the widest limits. If an allocation of the test itself
+/// fails, everything is repeated.
 pub(crate) fn holds<R: AllocGlobal + Runtime + Abort>(rt: &R, script: &str) -> Result<(), Fail> {
     let told = match told_of(rt, script) {
         Ok(told) => told,

@@ -1,4 +1,4 @@
-//! Names, entries, and the journal's text. What is outside the grammar stands in tests/cases/journal-lines.table.
+//! Names, entries, and the journal's text. What is outside the grammar is in tests/cases/journal-lines.table.
 
 use b3_tests::FailingWriter;
 use hex::FromHex;
@@ -9,10 +9,10 @@ use store_journal::{
     read_entry, read_journal, write_entry, write_journal,
 };
 
-// The hash of one byte 0.
+// The hash of one zero byte.
 const ZERO: &str = "2d3adedff11b61f14c886e35afa036736dcd87a74d27b5c1510225d0f592e213";
 
-// An entry of each kind, and a seal of either word, as a journal of version 2 has them.
+// An entry of each kind, and a seal with either word, as a journal of version 2 has them.
 const LINES: &str = "b3store-journal 2
 tenant 0 4096
 limit 3 18446744073709551615
@@ -51,7 +51,7 @@ fn fields(alloc: Global, entry: &Entry) -> Result<String, AllocError> {
     format!(in alloc; "{entry:?}\n")
 }
 
-// The lines of entries, of which each is read back.
+// The lines of entries, each of which is read back.
 fn lines_of(alloc: Global, entries: &[Entry]) -> Result<Vec<u8>, Fail> {
     let mut lines = Vec::new(alloc);
     for entry in entries {

@@ -1,5 +1,5 @@
-//! An object of two long parts, filed alone and fetched eight times. tests/memory counts the bytes that each test asks memory for:
-//! they differ by less than a part has, since objects are shared.
+//! An object of two long parts, filed once and fetched eight times. tests/memory counts the bytes that each test allocates: they differ by
+//! less than the length of a part, since objects are shared.
 
 use crate::helpers::holds;
 use std::test::Fail;

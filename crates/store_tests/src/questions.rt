@@ -1,4 +1,4 @@
-//! Questions of the store, and reads of ranges of an object. The digest is from outside, the bytes are `i mod 251`.
+//! Questions of the store, and reads of ranges of an object. The digest comes from outside, the bytes are `i mod 251`.
 
 use crate::helpers::holds;
 use std::test::Fail;

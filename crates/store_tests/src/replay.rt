@@ -1,11 +1,11 @@
-//! What a journal leaves. Journals that are not legal stand in tests/cases/journal-entries.table, sums in audit-totals.table.
+//! The result of a journal. Journals that are not legal are in tests/cases/journal-entries.table, sums in audit-totals.table.
 
 use std::alloc::{AllocError, Global};
 use std::test::Fail;
-use store_journal::{LeftObject, LeftUpload, Replayed, TenantId, read_journal, replay};
+use store_journal::{LeftObject, Replayed, ReplayedUpload, TenantId, read_journal, replay};
 
-// Has every kind of entry but a forget entry; leaves an upload of a closed plan, one without an end, and one whose end is below
-// its bound.
+// Has every kind of entry but a forget entry; leaves an upload with a closed plan, one without an end, and one whose end is below its
+// bound.
 const ENTRIES: &str = "b3store-journal 2
 tenant 0 50
 tenant 1 9000
@@ -43,13 +43,13 @@ fn object_text(alloc: Global, object: &LeftObject) -> Result<String, AllocError>
     format!(in alloc; "object {address} {len} of {holders:?}\n")
 }
 
-fn upload_text(alloc: Global, upload: u64, left: &LeftUpload) -> Result<String, AllocError> {
+fn upload_text(alloc: Global, upload: u64, left: &ReplayedUpload) -> Result<String, AllocError> {
     let (tenant, open) = (left.tenant(), left.upload());
     let (bound, end, parts) = (open.plan().bound(), open.end(), open.parts());
     format!(in alloc; "upload {upload} of {tenant} bound {bound} end {end:?} parts {parts:?}\n")
 }
 
-// All that is left.
+// Everything that is left.
 fn left_text(alloc: Global, replayed: &Replayed) -> Result<String, AllocError> {
     let mut text = String::new(alloc);
     for tenant in 0..replayed.tenants() {

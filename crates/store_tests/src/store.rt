@@ -1,5 +1,5 @@
-//! What the program's scripts can't show of the store's commands: compressions, narrow limits, and parts of another plan. All else
-//! stands in tests/cases/run-*.table. The digests are from outside.
+//! What the program's scripts cannot show about the store's commands: compressions, narrow limits, and parts with another plan. Everything
+//! else is in tests/cases/run-*.table. The digests come from outside.
 
 use crate::helpers::holds;
 use std::test::Fail;
@@ -46,7 +46,7 @@ state > objects 0 bytes 0 uploads 1 held 0 parts 0 journal 2 [0 0]
     )
 }
 
-// Together as many as one hash of the bytes: of 2049 that are 33 blocks and 3 chunks.
+// In total as many as one hash of the bytes: for 2049 bytes, 33 blocks and 3 chunks.
 #[test]
 fn compressions_of_few_parts(rt: HostRuntime) -> Result<(), Fail> {
     holds(
@@ -76,7 +76,7 @@ state > objects 3 bytes 3074 uploads 0 held 0 parts 0 journal 15 [0 0]
     )
 }
 
-// `make` makes 240, the store 31: together as many as one hash of the 16384 bytes.
+// `make` makes 240, the store 31: in total as many as one hash of the 16384 bytes.
 #[test]
 fn compressions_of_sixteen_chunks(rt: HostRuntime) -> Result<(), Fail> {
     holds(
@@ -116,7 +116,7 @@ seal 0 > 869b1292c8bed5bdb2e0075e0c50ccf8b24b33a0f81071c86206bd8fdb269579 true 1
     )
 }
 
-// A plan of another number, and one of the same number and of the other kind.
+// A plan of another length, and one of the same length and the other kind.
 #[test]
 fn parts_of_another_plan_come_back(rt: HostRuntime) -> Result<(), Fail> {
     holds(
@@ -134,7 +134,7 @@ state > objects 0 bytes 0 uploads 3 held 0 parts 0 journal 4 [0 0]
     )
 }
 
-// As many compressions as an upload takes whose length stands from the start, and none where it has no end.
+// As many compressions as for an upload of known length, and none if it has no end.
 #[test]
 fn compressions_of_open_uploads(rt: HostRuntime) -> Result<(), Fail> {
     holds(

@@ -10,8 +10,8 @@ use Rattle.std.proofs.lemmas.Bool.Decides.{nat_tests}
 use Rattle.store_upload.specs.declared.refusal.AddFault.TheVariants.{Overlap, PastLast}
 use Rattle.store_upload.specs.declared.refusal.FixFault.TheVariants as fix
 use Rattle.store_upload.specs.inner.Places.{AreApart}
-use Rattle.store_upload.specs.Uploads.{ArePartsOfSome, ArePlaced, Fits, IsUpload, MayTake, Upload, UploadPlan, closed_plan, end_of, end_with, ends_elsewhere, first_end, fix_refusal, fixed_at, held_bytes, is_ragged, last_end, length_of, most_bytes, overlap_at, past_last, place_refusal, reached, with_more}
-use Rattle.store_upload.proofs.Places.{IsWith, at, begins_behind, bytes_within, clear_parts, end-cons, ends_before, is_with, none_at, put-behind, put-front}
+use Rattle.store_upload.specs.Uploads.{ArePartsOfSome, ArePlaced, Fits, IsUpload, MayTake, Upload, UploadPlan, closed_plan, end_of, end_with, ends_elsewhere, first_end, fix_refusal, fixed_at, held_bytes, is_ragged, last_end, length_of, max_bytes, overlap_at, past_last, place_refusal, reached, with_more}
+use Rattle.store_upload.proofs.Places.{IsWith, at, begins_behind, bytes_within, clear_parts, end-cons, ends_before, is_with, none_at, put-following, put-front}
 
 -- ---- tests
 
@@ -83,9 +83,9 @@ module _ {P : Type 0} (len : P → ℕ) where
       let apart = clear_parts len offset (len part) p ps clear in
       elim (cases_lt offset p.0) [
         | inl front ↦ rw (put-front offset part p ps front) (first, fits, (ends_before len offset (len part) p front placed.1.some apart.0, placed.1, placed.2))
-        | inr behind ↦
-            let after = begins_behind len offset (len part) p behind fits.some apart.0 in
-            rw (put-behind offset part p ps (omega (arith, after, placed.1.some))) (placed.0, placed.1, placed_with n (end_of len p) offset part ps placed.2 after fits apart.1)
+        | inr following ↦
+            let after = begins_behind len offset (len part) p following fits.some apart.0 in
+            rw (put-following offset part p ps (omega (arith, after, placed.1.some))) (placed.0, placed.1, placed_with n (end_of len p) offset part ps placed.2 after fits apart.1)
       ]
 
   whole_with : (offset : ℕ) (part : P) (ps : List (ℕ × P)) → is_ragged (len part) ≡ false → AreWhole ps → AreWhole (insert_entry nat_cmp ps offset part)
@@ -103,7 +103,7 @@ module _ {P : Type 0} (len : P → ℕ) where
   abbrev pub upload_with : UploadPlan → Option ℕ → List (ℕ × P) → Upload P
   upload_with plan end ps = record { plan = plan; end = end; parts = ps }
 
-  pub nothing_held : (plan : UploadPlan) (ps : List (ℕ × P)) → plan.bound ≤ most_bytes → ps ≡ [] → IsUpload len (upload_with plan (first_end plan) ps)
+  pub nothing_held : (plan : UploadPlan) (ps : List (ℕ × P)) → plan.bound ≤ max_bytes → ps ≡ [] → IsUpload len (upload_with plan (first_end plan) ps)
   nothing_held plan ps most none = subst (λ qs. IsUpload len (upload_with plan (first_end plan) qs)) (sym none) (go plan.is_open refl)
     where
       go : (b : Bool) → plan.is_open ≡ b → IsUpload len (upload_with plan (first_end plan) [])

@@ -2,7 +2,7 @@
 use Rattle.std.proofs.Common.{◌≡◌, ◌+◌, ◌<◌, ◌≤◌, ℕ, List, [], ◌∷◌, Option, Some, None, arith, refl, subst, sym, inl, inr}
 use Rattle.std.specs.Prelude.{IfNone, IfSome}
 use Rattle.std.proofs.lemmas.Bool.{and_parts, cases_Bool, cases_eq, cases_lt, le-ltb, lt-ltb, ltb-true}
-use Rattle.store_upload.specs.Laws.{IsFirstMissing, IsFirstOverlap, IsHeldAt, TellsMissing, TellsOverlap}
+use Rattle.store_upload.specs.Laws.{IsFirstMissing, IsFirstOverlap, IsHeldAt, ReportsMissing, ReportsOverlap}
 use Rattle.store_upload.specs.Uploads.{ArePlaced, IsUpload, Upload, end_of, first_gap, first_missing, length_of, overlap_at, overlaps}
 use Rattle.store_upload.proofs.Complete.{gap_here, gap_stops}
 use Rattle.store_upload.proofs.Places.{clear-step, over-step, over_from}
@@ -47,12 +47,12 @@ module _ {P : Type 0} (len : P → ℕ) where
           ]);
           least = λ i after before. elim (cases_lt i (end_of len p)) [
             | inl inside ↦ inl (omega (arith, same, after), inside)
-            | inr behind ↦ inr (rest.least i behind (omega (arith, before, on)))
+            | inr following ↦ inr (rest.least i following (omega (arith, before, on)))
           ];
         }
   ]
 
-  pub least_missing : (u : Upload P) → IsUpload len u → TellsMissing len u
+  pub least_missing : (u : Upload P) → IsUpload len u → ReportsMissing len u
   least_missing u lawful =
       let gap = gap_offset (length_of u) 0 u.parts (omega arith) lawful.placed in
       elim (cases_lt (first_gap len 0 u.parts) (length_of u)) [
@@ -72,11 +72,11 @@ module _ {P : Type 0} (len : P → ℕ) where
 
   -- ---- the first overlap
 
-  record TellsFrom (offset n : ℕ) (ps : List (ℕ × P)) (o : Option ℕ) : Type 0 where
+  record ReportsFrom (offset n : ℕ) (ps : List (ℕ × P)) (o : Option ℕ) : Type 0 where
     some : IfSome o (IsFirstOverlap len offset n ps)
     none : IfNone o ((i : ℕ) → offset ≤ i → i < offset + n → IsHeldAt len ps i → ⊥)
 
-  overlap_from : (m a offset n : ℕ) (ps : List (ℕ × P)) → ArePlaced len m a ps → 0 < n → TellsFrom offset n ps (overlap_at len offset n ps)
+  overlap_from : (m a offset n : ℕ) (ps : List (ℕ × P)) → ArePlaced len m a ps → 0 < n → ReportsFrom offset n ps (overlap_at len offset n ps)
   unfolding overlap_at
   overlap_from m a offset n [] placed some = record { some = tt; none = λ i after before held. held }
   overlap_from m a offset n (p ∷ ps) placed some = elim (cases_Bool (overlaps len offset n p)) [
@@ -84,7 +84,7 @@ module _ {P : Type 0} (len : P → ℕ) where
         let tests = and_parts _ _ both in
         let begins : p.0 < offset + n = ltb-true p.0 (offset + n) tests.0 in
         let ends : offset < end_of len p = ltb-true offset (end_of len p) tests.1 in
-        subst (TellsFrom offset n (p ∷ ps)) (sym (over-step len offset n p ps both)) (record {
+        subst (ReportsFrom offset n (p ∷ ps)) (sym (over-step len offset n p ps both)) (record {
           some = record {
             after = omega arith;
             before = omega (arith, begins, some);
@@ -102,10 +102,10 @@ module _ {P : Type 0} (len : P → ℕ) where
           | inr later ↦ later
           | inl inside ↦ let both = over_from len offset n p (omega (arith, inside.0, before)) (omega (arith, inside.1, after)) in cc
         ] in
-        subst (TellsFrom offset n (p ∷ ps)) (sym (clear-step len offset n p ps apart)) (widen offset n p ps (overlap_at len offset n ps) out rest)
+        subst (ReportsFrom offset n (p ∷ ps)) (sym (clear-step len offset n p ps apart)) (widen offset n p ps (overlap_at len offset n ps) out rest)
   ]
     where
-      widen : (offset n : ℕ) (p : ℕ × P) (ps : List (ℕ × P)) (o : Option ℕ) → ((i : ℕ) → offset ≤ i → i < offset + n → IsHeldAt len (p ∷ ps) i → IsHeldAt len ps i) → TellsFrom offset n ps o → TellsFrom offset n (p ∷ ps) o
+      widen : (offset n : ℕ) (p : ℕ × P) (ps : List (ℕ × P)) (o : Option ℕ) → ((i : ℕ) → offset ≤ i → i < offset + n → IsHeldAt len (p ∷ ps) i → IsHeldAt len ps i) → ReportsFrom offset n ps o → ReportsFrom offset n (p ∷ ps) o
       widen offset n p ps None out rest = record { some = tt; none = λ i after before held. rest.none i after before (out i after before held) }
       widen offset n p ps (Some at) out rest = record {
         some = let s = rest.some in record {
@@ -117,7 +117,7 @@ module _ {P : Type 0} (len : P → ℕ) where
         none = tt;
       }
 
-  pub least_overlap : (u : Upload P) (offset n : ℕ) → IsUpload len u → 0 < n → TellsOverlap len offset n u.parts
+  pub least_overlap : (u : Upload P) (offset n : ℕ) → IsUpload len u → 0 < n → ReportsOverlap len offset n u.parts
   least_overlap u offset n lawful some =
       let told = overlap_from (length_of u) 0 offset n u.parts lawful.placed some in
       record { some = told.some; none = told.none }

@@ -46,8 +46,8 @@ module _ {P : Type 0} where
   pub put-front : (o : ℕ) (p : P) (e : ℕ × P) (es : List (ℕ × P)) → o < e.0 → insert_entry nat_cmp (e ∷ es) o p ≡ (o, p) ∷ e ∷ es
   put-front o p e es h = rw (lt-ltb o e.0 h) refl
 
-  pub put-behind : (o : ℕ) (p : P) (e : ℕ × P) (es : List (ℕ × P)) → e.0 < o → insert_entry nat_cmp (e ∷ es) o p ≡ e ∷ insert_entry nat_cmp es o p
-  put-behind o p e es h = rw (le-ltb o e.0 (omega arith), ne_eqb o e.0 (λ same. absurd (omega (arith, same, h)))) refl
+  pub put-following : (o : ℕ) (p : P) (e : ℕ × P) (es : List (ℕ × P)) → e.0 < o → insert_entry nat_cmp (e ∷ es) o p ≡ e ∷ insert_entry nat_cmp es o p
+  put-following o p e es h = rw (le-ltb o e.0 (omega arith), ne_eqb o e.0 (λ same. absurd (omega (arith, same, h)))) refl
 
 module _ {P : Type 0} (len : P → ℕ) where
   pub held-cons : (e : ℕ × P) (es : List (ℕ × P)) → held_bytes len (e ∷ es) ≡ len e.1 + held_bytes len es
@@ -134,9 +134,9 @@ module _ {P : Type 0} (len : P → ℕ) where
         sym (first_case (nat_le e.0 offset) (ltb offset (e.0 + len e.1)) (holds len offset es) (ltb offset (k + len p)) (le-leb e.0 offset (omega (arith, here, upto))) others (ap (ltb offset) end))
     | inr apart ↦
         let later = sym (later_is k e es apart) ∙ is in
-        let behind = begins_from (e.0 + len e.1) n k p es h.2 later in
+        let following = begins_from (e.0 + len e.1) n k p es h.2 later in
         let others = last_holds offset (e.0 + len e.1) n k p es h.2 later upto (λ q less there. last q less (has_value q e es there)) in
-        sym (later_case (nat_le e.0 offset) (ltb offset (e.0 + len e.1)) (holds len offset es) (ltb offset (k + len p)) (sym others) (λ t. let b = ltb-true offset (e.0 + len e.1) t in lt-ltb offset (k + len p) (omega (arith, b, behind))))
+        sym (later_case (nat_le e.0 offset) (ltb offset (e.0 + len e.1)) (holds len offset es) (ltb offset (k + len p)) (sym others) (λ t. let b = ltb-true offset (e.0 + len e.1) t in lt-ltb offset (k + len p) (omega (arith, b, following))))
   ]
     where
       none_from : (n : ℕ) (es : List (ℕ × P)) → (IsSome (at n es) → ⊥) → at n es ≡ None
@@ -205,9 +205,9 @@ module _ {P : Type 0} (len : P → ℕ) where
     | inl here ↦ over-step offset n e es (over_from offset n e (omega (arith, here, high)) (omega (arith, here, low, h.1))) ∙ some_eq (max offset e.0) k (omega (arith, here, low))
     | inr apart ↦
         let later = sym (later_is k e es apart) ∙ is in
-        let behind = begins_from (e.0 + len e.1) m k p es h.2 later in
+        let following = begins_from (e.0 + len e.1) m k p es h.2 later in
         let clear = clear_from offset n e (λ a b. elim (cases_lt offset e.0) [
-          | inl before ↦ let first = least e.0 (omega arith) a (is_there (first_is e.0 e es refl)) in omega (arith, first, behind, h.1)
+          | inl before ↦ let first = least e.0 (omega arith) a (is_there (first_is e.0 e es refl)) in omega (arith, first, following, h.1)
           | inr upto ↦ not_here offset e es none upto b
         ]) in
         clear-step offset n e es clear ∙ overlap_next offset (e.0 + len e.1) m n k p es h.2 (or_parts _ _ (sym (holds-cons offset e es) ∙ none)).1 later low high (λ q a b there. least q a b (has_value q e es there))
@@ -270,8 +270,8 @@ module _ {P : Type 0} (len : P → ℕ) where
     | inr apart ↦
         let later = sym (later_is k e es apart) ∙ is in
         let others = last_is (e.0 + len e.1) n k p es h.2 later (λ q there. most q (has_value q e es there)) in
-        let behind = begins_from (e.0 + len e.1) n k p es h.2 later in
-        omega (arith, others, behind)
+        let following = begins_from (e.0 + len e.1) n k p es h.2 later in
+        omega (arith, others, following)
   ]
     where
       alone : (fs : List (ℕ × P)) → AreApart len from n (e ∷ fs) → ((q : ℕ) → IsSome (at q fs) → q ≤ k) → k ≡ e.0 → len e.1 ≡ len p → last_end len (e ∷ fs) ≡ k + len p
@@ -287,8 +287,8 @@ module _ {P : Type 0} (len : P → ℕ) where
   ]
 
   pub begins_behind : (offset n : ℕ) (e : ℕ × P) → e.0 ≤ offset → 0 < n → overlaps len offset n e ≡ false → e.0 + len e.1 ≤ offset
-  begins_behind offset n e behind some clear = elim (cases_lt offset (e.0 + len e.1)) [
-    | inl over ↦ absurd (false≢true (sym clear ∙ over_from offset n e (omega (arith, behind, some)) over))
+  begins_behind offset n e following some clear = elim (cases_lt offset (e.0 + len e.1)) [
+    | inl over ↦ absurd (false≢true (sym clear ∙ over_from offset n e (omega (arith, following, some)) over))
     | inr apart ↦ apart
   ]
 
@@ -308,12 +308,12 @@ module _ {P : Type 0} (len : P → ℕ) where
         | inl front ↦
             let bytes = held-cons (offset, p) (e ∷ es) in
             rw (put-front offset p e es front) (record { bytes = omega (arith, bytes); ends = refl; apart = (first, some, (ends_before offset (len p) e front h.1 parts.0, h.1, h.2)); count = omega arith })
-        | inr behind ↦
-            let after = begins_behind offset (len p) e behind some parts.0 in
+        | inr following ↦
+            let after = begins_behind offset (len p) e following some parts.0 in
             let rest = is_with (e.0 + len e.1) n offset p es h.2 after some within parts.1 in
             let a = held-cons e es in
             let b = held-cons e (insert_entry nat_cmp es offset p) in
             let c = end-cons e es in
             let d = end-cons e (insert_entry nat_cmp es offset p) in
-            rw (put-behind offset p e es (omega (arith, after, h.1))) (record { bytes = omega (arith, a, b, rest.bytes); ends = omega (arith, c, d, rest.ends); apart = (h.0, h.1, rest.apart); count = omega (arith, rest.count) })
+            rw (put-following offset p e es (omega (arith, after, h.1))) (record { bytes = omega (arith, a, b, rest.bytes); ends = omega (arith, c, d, rest.ends); apart = (h.0, h.1, rest.apart); count = omega (arith, rest.count) })
       ]

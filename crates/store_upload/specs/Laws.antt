@@ -1,4 +1,4 @@
--- Laws of uploads: what is told to be missing, and what is told to be held.
+-- Laws of uploads: what is reported missing, and what is reported held.
 use Rattle.std.specs.Prelude.{◌+◌, ◌<◌, ◌≤◌, ◌⊎◌, ℕ, List, [], ◌∷◌, IfNone, IfSome}
 use Rattle.store_upload.specs.Uploads.{IsUpload, Upload, end_of, first_missing, length_of, overlap_at}
 
@@ -8,31 +8,31 @@ module _ {P : Type 0} (len : P → ℕ) where
   IsHeldAt [] i = ⊥
   IsHeldAt (p ∷ ps) i = ((p.0 ≤ i) × (i < end_of len p)) ⊎ IsHeldAt ps i
 
-  -- the least offset of an upload that is not held
+  -- the lowest offset of an upload that is not held
   pub record IsFirstMissing (u : Upload P) (m : ℕ) : Type 0 where
     pub below : m < length_of u
     pub missing : IsHeldAt u.parts m → ⊥
     pub least : (i : ℕ) → i < m → IsHeldAt u.parts i
 
-  pub record TellsMissing (u : Upload P) : Type 0 where
+  pub record ReportsMissing (u : Upload P) : Type 0 where
     pub some : IfSome (first_missing len u) (IsFirstMissing u)
     pub none : IfNone (first_missing len u) ((i : ℕ) → i < length_of u → IsHeldAt u.parts i)
 
-  -- what is told to be missing is the least offset that is not held, and where nothing is, all offsets are held
+  -- what is reported missing is the lowest offset that is not held; if nothing is, all offsets are held
   abbrev pub LeastMissing : Type 0
-  LeastMissing = (u : Upload P) → IsUpload len u → TellsMissing u
+  LeastMissing = (u : Upload P) → IsUpload len u → ReportsMissing u
 
-  -- the least of n offsets that parts hold
+  -- the lowest of n offsets that parts hold
   pub record IsFirstOverlap (offset n : ℕ) (ps : List (ℕ × P)) (at : ℕ) : Type 0 where
     pub after : offset ≤ at
     pub before : at < offset + n
     pub held : IsHeldAt ps at
     pub least : (i : ℕ) → offset ≤ i → i < at → IsHeldAt ps i → ⊥
 
-  pub record TellsOverlap (offset n : ℕ) (ps : List (ℕ × P)) : Type 0 where
+  pub record ReportsOverlap (offset n : ℕ) (ps : List (ℕ × P)) : Type 0 where
     pub some : IfSome (overlap_at len offset n ps) (IsFirstOverlap offset n ps)
     pub none : IfNone (overlap_at len offset n ps) ((i : ℕ) → offset ≤ i → i < offset + n → IsHeldAt ps i → ⊥)
 
-  -- what is told to be held is the least of the offsets that is, and where nothing is, none of them is held
+  -- what is reported held is the lowest of the offsets that is held; if nothing is, none of them is held
   abbrev pub LeastOverlap : Type 0
-  LeastOverlap = (u : Upload P) (offset n : ℕ) → IsUpload len u → 0 < n → TellsOverlap offset n u.parts
+  LeastOverlap = (u : Upload P) (offset n : ℕ) → IsUpload len u → 0 < n → ReportsOverlap offset n u.parts

@@ -1,4 +1,4 @@
--- What is shown of refusals: the number of each, and its text, the number with what it carries.
+-- The texts of refusals: the code of each, and its text, which is the code with its data.
 use Rattle.std.specs.Prelude.{ℕ, List, ◌++◌, codes}
 use Rattle.std.specs.Fmt.{decimal}
 use Rattle.store_upload.specs.declared.refusal.PartFault.{PartFault}

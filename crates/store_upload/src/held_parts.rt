@@ -1,71 +1,71 @@
-//! What an open upload holds its parts in.
+//! The parts of an open upload.
 
 ghost use Rattle.std.specs.Prelude.{◌≡◌, ◌+◌, ◌%◌, ◌<◌, ◌≤◌, ℕ, List, [], IfErr, OnErr, OnOk, length};
 ghost use Rattle.std.specs.BTreeMap.{insert_entry};
 ghost use Rattle.std.specs.Ordering.{nat_cmp};
-ghost use Rattle.store_upload.specs.Uploads.{ArePartsOfSome, MayTake, chunk_len, first_gap as first_gap_of, last_end as last_end_of, most_bytes, most_part_bytes, overlap_at};
+ghost use Rattle.store_upload.specs.Uploads.{ArePartsOfSome, MayTake, chunk_len, first_gap as first_gap_of, last_end as last_end_of, max_bytes, max_part_bytes, overlap_at};
 
 use crate::length::Length;
 use crate::parts;
 use std::alloc::Global;
 use std::collections::BTreeMap;
 
-/// Parts by offset, however they are kept.
+/// Parts by offset, however they are stored.
 pub trait HeldParts: Drop {
-    /// A part as it is kept.
+    /// A part as it is stored.
     type Part: Length;
-    /// A part as it is handed in.
+    /// A part as it is passed in.
     type Given: Drop;
-    /// What counts the work of a part more.
+    /// Counts the work of adding a part.
     type Work;
 
     // The parts, by offset.
     ghost parts: { Self → List (ℕ × Self.Part) };
 
-    // Where a part that is handed in begins, and what is kept of it.
+    // The offset of a part that is passed in, and what is stored of it.
     ghost start: { Self.Given → ℕ };
 
     ghost kept: { Self.Given → Self.Part };
 
-    // The work with a part more.
+    // The work after adding a part.
     ghost works: { List (ℕ × Self.Part) → ℕ → Self.Part → Self.Work → Self.Work };
 
-    /// No parts. It takes no memory.
+    /// No parts. Allocates nothing.
     fn new(alloc: Global) -> Self
         ensures { parts result ≡ [] };
 
-    /// Where a part begins.
+    /// The offset of a part.
     fn offset_of(part: &Self::Given) -> u64
         ensures { result ≡ start part.now };
 
-    /// How many bytes a part has.
+    /// The number of bytes of a part.
     fn len_of(part: &Self::Given) -> u64
         ensures { result ≡ Self.Part.len (kept part.now) };
 
-    /// The least of so many offsets that is held.
+    /// The lowest of the `len` offsets from `offset` on that is held.
     fn overlap(&self, offset: u64, len: u64) -> Option<u64>
         requires positive { 0 < len }
         requires aligned { offset % chunk_len ≡ 0 }
-        requires within { offset + len ≤ most_bytes }
-        requires short { len ≤ most_part_bytes }
+        requires within { offset + len ≤ max_bytes }
+        requires short { len ≤ max_part_bytes }
         requires placed { ArePartsOfSome Self.Part.len (parts self.now) }
         ensures { result ≡ overlap_at Self.Part.len offset len (parts self.now) };
 
-    /// The greatest end of a part.
+    /// The end of the last part; 0 if there is none.
     fn last_end(&self) -> u64
         requires { ArePartsOfSome Self.Part.len (parts self.now) }
         ensures { result ≡ last_end_of Self.Part.len (parts self.now) };
 
-    /// The least offset that is not held.
+    /// The lowest offset that is not held.
     fn first_gap(&self) -> u64
         requires { ArePartsOfSome Self.Part.len (parts self.now) }
         ensures { result ≡ first_gap_of Self.Part.len 0 (parts self.now) };
 
-    /// How many parts there are.
+    /// The number of parts.
     fn count(&self) -> u64
         ensures { result ≡ length (parts self.now) };
 
-    /// Adds a part. Where memory is refused, that is handed back, and nothing changes.
+    /// Adds a part. If an allocation fails, the part is returned, and nothing changes.
     fn add(&mut self, part: Self::Given, work: &mut Self::Work) -> Result<(), Self::Given>
         requires { MayTake Self.Part.len (parts self.old) (start part) (kept part) }
         ensures added { OnOk result (parts self.new ≡ insert_entry nat_cmp (parts self.old) (start part) (kept part)) }
@@ -75,7 +75,7 @@ pub trait HeldParts: Drop {
         ensures uncounted { OnErr result (work.new ≡ work.old) };
 }
 
-/// Parts in an ordered map, which count no work.
+/// Parts in an ordered map. They count no work.
 impl<P: Length> HeldParts for BTreeMap<u64, P> {
     type Part = P;
 

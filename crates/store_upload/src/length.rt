@@ -2,17 +2,17 @@
 
 ghost use Rattle.std.specs.Prelude.{◌≡◌, ℕ};
 
-/// What has a length in bytes.
+/// A type with a length in bytes.
 pub trait Length: Drop {
-    // How many bytes it has.
+    // The number of bytes.
     ghost len: { Self → ℕ };
 
-    /// How many bytes it has.
+    /// The number of bytes.
     fn length(&self) -> u64
         ensures { result ≡ len self.now };
 }
 
-/// A length alone.
+/// A plain length.
 impl Length for u64 {
     ghost len = { λ n. n };
 

@@ -1,12 +1,12 @@
-//! The rules of an upload: what plans it, where parts may lie, what is held and what is missing, and where it ends.
+//! The rules of an upload: its plan, where parts may be, what is held and what is missing, and where it ends.
 //!
-//! - A `Plan` is the length of an upload, or the most that it may have where its length is fixed later. `Plan::part_fault` tells whether
-//!   bytes fit it.
-//! - `Open` is an upload that is not closed yet: its plan, its end once that is fixed, and its parts. It knows of parts their offsets and
-//!   their lengths alone, and so it is one rule for a store, whose parts have bytes, and for the replay of a journal, whose parts have none.
-//! - `HeldParts` is what an `Open` holds its parts in, and `Length` what a part is. Lengths in an ordered map are one.
+//! - A `Plan` is the length of an upload, or its maximum length if the length is fixed later. `Plan::part_fault` says whether bytes fit it.
+//! - `Open` is an upload that is not closed yet: its plan, its end once that is fixed, and its parts. It knows only the offsets and the
+//!   lengths of parts. So the rules are the same for a store, whose parts have bytes, and for the replay of a journal, whose parts have
+//!   none.
+//! - `HeldParts` stores the parts of an `Open`, and `Length` is implemented by a part. An ordered map of lengths implements `HeldParts`.
 //!
-//! Contracts see an upload as a list of parts by offset (`specs/Uploads.antt`).
+//! In contracts an upload is a list of parts by offset (`specs/Uploads.antt`).
 #![tactic(auto)]
 
 mod held_parts;
@@ -21,5 +21,5 @@ pub use held_parts::HeldParts;
 pub use laws::upload_laws;
 pub use length::Length;
 pub use open::Open;
-pub use plan::{CHUNK_LEN, MOST_BYTES, MOST_PART_BYTES, MOST_PART_CHUNKS, Plan, TooLong};
+pub use plan::{CHUNK_LEN, MAX_BYTES, MAX_PART_BYTES, MAX_PART_CHUNKS, Plan, TooLong};
 pub use refusal::{AddFault, FinishFault, FixFault, PartFault};

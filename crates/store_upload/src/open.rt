@@ -4,7 +4,7 @@ ghost use Rattle.std.specs.Prelude.{◌≡◌, ◌+◌, ◌^◌, ◌<◌, ◌≤
 ghost use Rattle.std.specs.BTreeMap.{is_at};
 ghost use Rattle.std.specs.Map.{lookup};
 ghost use Rattle.std.specs.Ordering.{nat_cmp};
-ghost use Rattle.store_upload.specs.Uploads.{ArePlaced, Fits, IsUpload, end_with, finish_refusal, first_gap as first_gap_of, first_missing as first_missing_of, fix_refusal, fixed_at, held_bytes, length_of, most_bytes, new_upload, past_last, place_refusal, reached, with_more};
+ghost use Rattle.store_upload.specs.Uploads.{ArePlaced, Fits, IsUpload, end_with, finish_refusal, first_gap as first_gap_of, first_missing as first_missing_of, fix_refusal, fixed_at, held_bytes, length_of, max_bytes, new_upload, past_last, place_refusal, reached, with_more};
 
 use crate::held_parts::HeldParts;
 use crate::length::Length;
@@ -35,11 +35,11 @@ impl<H: HeldParts> Model for Open<H> {
 }
 
 impl<H: HeldParts> Open<H> {
-    /// An upload that holds nothing. It takes no memory.
+    /// An upload that holds nothing. Allocates nothing.
     pub fn new(alloc: Global, plan: Plan) -> Open<H>
         ensures { result ≡ new_upload plan }
     {
-        // For the proof alone: a plan says that its bound is at most 2^44.
+        // For the proof alone: the bound of a plan is at most 2^44.
         let _most = plan.bound();
         let end = plan.end();
         Open {
@@ -50,7 +50,7 @@ impl<H: HeldParts> Open<H> {
         }
     }
 
-    /// The plan of the upload, which never changes.
+    /// The plan of the upload. It never changes.
     pub fn plan(&self) -> Plan
         ensures value { result ≡ self.now.plan }
         ensures lawful { IsUpload H.Part.len self.now }
@@ -59,7 +59,7 @@ impl<H: HeldParts> Open<H> {
         *plan
     }
 
-    /// Where the upload ends, once that is fixed: from the start under a plan that is not open.
+    /// The end of the upload, once it is fixed; under a plan that is not open it is fixed from the start.
     pub fn end(&self) -> Option<u64>
         ensures { result ≡ self.now.end }
     {
@@ -67,7 +67,7 @@ impl<H: HeldParts> Open<H> {
         *end
     }
 
-    /// The upload's length: its end where that is fixed, else the plan's bound.
+    /// The upload's length: its end if that is fixed, otherwise the plan's bound.
     pub fn length(&self) -> u64
         ensures value { result ≡ length_of self.now }
         ensures within { result ≤ self.now.plan.bound }
@@ -75,7 +75,7 @@ impl<H: HeldParts> Open<H> {
         self.end.unwrap_or(self.plan.bound())
     }
 
-    /// How many bytes are held.
+    /// The number of bytes held.
     pub fn held(&self) -> u64
         ensures { result ≡ held_bytes H.Part.len self.now.parts }
     {
@@ -83,23 +83,23 @@ impl<H: HeldParts> Open<H> {
         *held
     }
 
-    /// How many parts are held.
+    /// The number of parts held.
     pub fn count(&self) -> u64
         ensures { result ≡ length self.now.parts }
     {
         self.parts.count()
     }
 
-    /// What holds the parts. They fit an upload of this length.
+    /// The parts, which fit an upload of this length.
     pub fn parts(&self) -> &H
         ensures parts { H.parts result.now ≡ self.now.parts }
-        ensures bounded { length_of self.now ≤ most_bytes }
+        ensures bounded { length_of self.now ≤ max_bytes }
         ensures placed { ArePlaced H.Part.len (length_of self.now) 0 (H.parts result.now) }
     {
         &self.parts
     }
 
-    /// What held the parts.
+    /// The parts.
     pub fn into_parts(self) -> H
         ensures { H.parts result ≡ self.parts }
     {
@@ -107,7 +107,7 @@ impl<H: HeldParts> Open<H> {
         parts
     }
 
-    /// The least offset of the upload that is not held; none where all are.
+    /// The lowest offset of the upload that is not held; `None` if all are.
     pub fn first_missing(&self) -> Option<u64>
         ensures { result ≡ first_missing_of H.Part.len self.now }
     {
@@ -115,8 +115,7 @@ impl<H: HeldParts> Open<H> {
         if gap < self.length() { Some(gap) } else { None }
     }
 
-    /// Why the upload is not complete: the first that applies of F13, its end is not fixed, and F10, with the least offset that is not
-    /// held.
+    /// Why the upload is not complete. The first matching one of: F13, its end is not fixed; F10, with the lowest offset that is not held.
     pub fn finish_fault(&self) -> Option<FinishFault>
         ensures { result ≡ finish_refusal H.Part.len self.now }
     {
@@ -129,7 +128,7 @@ impl<H: HeldParts> Open<H> {
         }
     }
 
-    // How far the upload reaches: to its end, or while there is none to the greatest end of a part.
+    // How far the upload extends: to its end, or if that is not fixed to the end of the last part.
     fn reached(&self) -> u64
         ensures { result ≡ reached H.Part.len self.now }
     {
@@ -139,7 +138,7 @@ impl<H: HeldParts> Open<H> {
         }
     }
 
-    // How far the upload reaches, where so many bytes would end past its end, or would end it where it doesn't end.
+    // How far the upload extends, if `len` bytes at `offset` would end past its end, or would end it at another place.
     fn past_last(&self, offset: u64, len: u64) -> Option<u64>
         requires { offset + len < 2 ^ 64 }
         ensures { result ≡ past_last H.Part.len self.now offset len }
@@ -155,8 +154,9 @@ impl<H: HeldParts> Open<H> {
         }
     }
 
-    /// Why the upload would not take so many bytes, which fit its plan: the first that applies of F8, some offset is held already, and
-    /// F12, they end past the upload's end, or their length is not a multiple of 1024 and they end before what the upload reaches.
+    /// Why the upload would not take `len` bytes at `offset`, which fit its plan. The first matching one of: F8, some offset is held
+    /// already; F12, they end past the upload's end, or their length is not a multiple of 1024 and they end before the upload's end (if
+    /// that is not fixed: before the end of the last part).
     pub fn place_fault(&self, offset: u64, len: u64) -> Option<AddFault>
         requires { Fits self.now.plan offset len }
         ensures fault { result ≡ place_refusal H.Part.len self.now offset len }
@@ -171,7 +171,7 @@ impl<H: HeldParts> Open<H> {
         }
     }
 
-    /// The upload's length once it has taken so many bytes, which it would take.
+    /// The upload's length once it has taken `len` bytes at `offset`, which it can take.
     pub fn length_with(&self, offset: u64, len: u64) -> u64
         requires fits { Fits self.now.plan offset len }
         requires free { place_refusal H.Part.len self.now offset len ≡ None }
@@ -180,8 +180,8 @@ impl<H: HeldParts> Open<H> {
         end_with(self.end, offset, len).unwrap_or(self.plan.bound())
     }
 
-    /// Takes a part that fits the plan. One whose length is not a multiple of 1024 fixes the upload's end at its own, where there was
-    /// none. Where memory is refused, the part is handed back, and nothing changes.
+    /// Adds a part that fits the plan. If the upload's end is not fixed, a part whose length is not a multiple of 1024 fixes it at the end
+    /// of the part. If an allocation fails, the part is returned, and nothing changes.
     pub fn put(&mut self, part: H::Given, work: &mut H::Work) -> Result<(), H::Given>
         requires fits { Fits self.old.plan (H.start part) (H.Part.len (H.kept part)) }
         requires free { place_refusal H.Part.len self.old (H.start part) (H.Part.len (H.kept part)) ≡ None }
@@ -202,8 +202,8 @@ impl<H: HeldParts> Open<H> {
         Ok(())
     }
 
-    /// Why the upload would not be ended there: the first that applies of F1, that is above the plan's bound, and F12, it has another
-    /// end, or holds a part that ends behind.
+    /// Why the upload's end would not be fixed at `len`. The first matching one of: F1, `len` exceeds the plan's bound; F12, the upload has
+    /// another end, or holds a part that ends after `len`.
     pub fn fix_fault(&self, len: u64) -> Option<FixFault>
         ensures { result ≡ fix_refusal H.Part.len self.now len }
     {
@@ -223,7 +223,7 @@ impl<H: HeldParts> Open<H> {
         }
     }
 
-    /// Fixes the upload's end there. The parts are not looked at.
+    /// Fixes the upload's end at `len`. The parts are not read.
     pub fn fix(&mut self, len: u64)
         requires { fix_refusal H.Part.len self.old len ≡ None }
         ensures { self.new ≡ fixed_at self.old len }
@@ -232,7 +232,7 @@ impl<H: HeldParts> Open<H> {
     }
 }
 
-// Where an upload ends with so many bytes more: its end is theirs, where there was none and their length is not a multiple of 1024.
+// The end of an upload that takes `len` more bytes at `offset`: theirs, if there was none and `len` is not a multiple of 1024.
 fn end_with(end: Option<u64>, offset: u64, len: u64) -> Option<u64>
     requires { offset + len < 2 ^ 64 }
     ensures { result ≡ end_with end offset len }

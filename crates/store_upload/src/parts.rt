@@ -7,7 +7,7 @@ ghost use Rattle.store_upload.specs.inner.Places.{AreApart, holds};
 use crate::length::Length;
 use std::collections::BTreeMap;
 
-/// The least of so many offsets that parts hold.
+/// The lowest of the `len` offsets from `offset` on that parts hold.
 pub(crate) fn overlap<P: Length>(parts: &BTreeMap<u64, P>, offset: u64, len: u64) -> Option<u64>
     requires positive { 0 < len }
     requires fits { offset + len < 2 ^ 64 }
@@ -23,7 +23,7 @@ pub(crate) fn overlap<P: Length>(parts: &BTreeMap<u64, P>, offset: u64, len: u64
     }
 }
 
-// Whether a part that begins there or before it holds the offset.
+// Whether a part that starts at or before the offset holds it.
 fn is_held<P: Length>(parts: &BTreeMap<u64, P>, offset: u64) -> bool
     requires { (n : ℕ) × (n < 2 ^ 64) × AreApart P.len 0 n parts.now.entries }
     ensures { result ≡ holds P.len offset parts.now.entries }
@@ -34,7 +34,7 @@ fn is_held<P: Length>(parts: &BTreeMap<u64, P>, offset: u64) -> bool
     }
 }
 
-/// The greatest end of parts: that of the last.
+/// The end of the last part; 0 if there is none.
 pub(crate) fn last_end<P: Length>(parts: &BTreeMap<u64, P>) -> u64
     requires { (n : ℕ) × (n < 2 ^ 64) × AreApart P.len 0 n parts.now.entries }
     ensures { result ≡ last_end_of P.len parts.now.entries }
@@ -45,7 +45,7 @@ pub(crate) fn last_end<P: Length>(parts: &BTreeMap<u64, P>) -> u64
     }
 }
 
-/// The least offset that parts do not hold.
+/// The lowest offset that parts do not hold.
 pub(crate) fn first_gap<P: Length>(parts: &BTreeMap<u64, P>) -> u64
     requires { (n : ℕ) × (n < 2 ^ 64) × AreApart P.len 0 n parts.now.entries }
     ensures { result ≡ first_gap_of P.len 0 parts.now.entries }

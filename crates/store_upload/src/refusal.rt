@@ -6,25 +6,25 @@ ghost use Rattle.store_upload.specs.Texts.{add_fault_code, add_fault_text, finis
 use std::error::Error;
 use std::fmt;
 
-/// Why bytes are no part of an upload, in the order in which that is checked.
+/// Why bytes are not a part of an upload, in the order of the checks.
 #[derive(Clone, Copy, PartialEq, Eq, Debug)]
 pub enum PartFault {
     /// F2: no bytes.
     EmptyPart,
     /// F3: the offset is not a multiple of 1024.
     OffAlign,
-    /// F4: offset plus length, as an exact sum, is above the plan's bound.
+    /// F4: the exact sum of offset and length exceeds the plan's bound.
     PastEnd,
-    /// F5: the length is not a multiple of 1024, and the part does not end with the upload; not under an open plan.
+    /// F5: the length is not a multiple of 1024, and the part does not end at the upload's end; not under an open plan.
     Ragged,
-    /// F6: above 2^24 bytes.
+    /// F6: more than 2^24 bytes.
     PartTooLong,
-    /// F9: memory was refused.
+    /// F9: out of memory.
     NoMemory,
 }
 
 impl PartFault {
-    /// The refusal's number.
+    /// The code of the refusal.
     pub fn code(self) -> &'static str
         ensures { result.now ≡ part_fault_text self }
     {
@@ -39,7 +39,7 @@ impl PartFault {
     }
 }
 
-/// The refusal's number.
+/// The code of the refusal.
 impl fmt::Display for PartFault {
     ghost output = { λ fault. Some (part_fault_text fault) };
 
@@ -50,22 +50,22 @@ impl fmt::Display for PartFault {
 
 impl Error for PartFault {}
 
-/// Why an upload does not take a part, in the order in which that is checked.
+/// Why an upload does not take a part, in the order of the checks.
 #[derive(Clone, Copy, PartialEq, Eq, Debug)]
 pub enum AddFault {
     /// F7: the part was made for another plan.
     WrongPlan,
-    /// F8: the least offset of the part that is held already.
+    /// F8: the lowest offset of the part that is held already.
     Overlap { at: u64 },
-    /// F12: the part ends past the upload's end, or its length is not a multiple of 1024 and it ends before what the
-    /// upload reaches. `end` is the upload's end, or while there is none the greatest end of a part that it holds.
+    /// F12: the part ends past the upload's end, or its length is not a multiple of 1024 and it ends before `end`. `end` is the upload's
+    /// end or, if that is not fixed, the end of the last part that it holds.
     PastLast { end: u64 },
-    /// F9: memory was refused.
+    /// F9: out of memory.
     NoMemory,
 }
 
 impl AddFault {
-    /// The refusal's number.
+    /// The code of the refusal.
     pub fn code(self) -> &'static str
         ensures { result.now ≡ add_fault_code self }
     {
@@ -78,7 +78,7 @@ impl AddFault {
     }
 }
 
-/// The refusal's number with what it carries.
+/// The code of the refusal, with its data.
 impl fmt::Display for AddFault {
     ghost output = { λ fault. Some (add_fault_text fault) };
 
@@ -94,17 +94,17 @@ impl fmt::Display for AddFault {
 
 impl Error for AddFault {}
 
-/// Why the end of an upload is not fixed, in the order in which that is checked.
+/// Why the end of an upload is not fixed, in the order of the checks.
 #[derive(Clone, Copy, PartialEq, Eq, Debug)]
 pub enum FixFault {
-    /// F1: above the plan's bound.
+    /// F1: the length exceeds the plan's bound.
     TooLong,
-    /// F12: the upload has another end, or holds a part that ends behind this one. `end` is how far it reaches.
+    /// F12: the upload has another end, or holds a part that ends after this one. `end` is how far it extends.
     PastLast { end: u64 },
 }
 
 impl FixFault {
-    /// The refusal's number.
+    /// The code of the refusal.
     pub fn code(self) -> &'static str
         ensures { result.now ≡ fix_fault_code self }
     {
@@ -115,7 +115,7 @@ impl FixFault {
     }
 }
 
-/// The refusal's number with what it carries.
+/// The code of the refusal, with its data.
 impl fmt::Display for FixFault {
     ghost output = { λ fault. Some (fix_fault_text fault) };
 
@@ -129,17 +129,17 @@ impl fmt::Display for FixFault {
 
 impl Error for FixFault {}
 
-/// Why an upload is not complete, in the order in which that is checked.
+/// Why an upload is not complete, in the order of the checks.
 #[derive(Clone, Copy, PartialEq, Eq, Debug)]
 pub enum FinishFault {
     /// F13: the upload's end is not fixed.
     NotFixed,
-    /// F10: the least offset of the upload that is not held.
+    /// F10: the lowest offset of the upload that is not held.
     Incomplete { missing: u64 },
 }
 
 impl FinishFault {
-    /// The refusal's number.
+    /// The code of the refusal.
     pub fn code(self) -> &'static str
         ensures { result.now ≡ finish_fault_code self }
     {
@@ -150,7 +150,7 @@ impl FinishFault {
     }
 }
 
-/// The refusal's number with what it carries.
+/// The code of the refusal, with its data.
 impl fmt::Display for FinishFault {
     ghost output = { λ fault. Some (finish_fault_text fault) };
 

@@ -1,4 +1,4 @@
-//! Boards, drawn from by one thread and by several.
+//! Boards, with numbers drawn by one thread and by several.
 
 ghost use Rattle.std.specs.Prelude.{◌≡◌, All, vec_len};
 ghost use Rattle.store_board.specs.Seats.{IsSeatOf};
@@ -36,7 +36,7 @@ fn drawn_in_turn(board: &Board, first: &mut BoardSeat, second: &mut BoardSeat) -
     ]
 }
 
-// Whether one seat sees a stop before the other makes it and behind that, and what it draws then.
+// Whether one seat sees a stop before and after the other makes it, and what it draws then.
 fn seen_and_drawn(
     board: &Board,
     stops: &mut BoardSeat,
@@ -53,7 +53,7 @@ fn seen_and_drawn(
     (before, after, claimed(board, looks))
 }
 
-// Both seats draw until they are done, and once more; the second is done before the first is. Done seats see a stop, too.
+// Both seats draw until they are done, and once more; the second is done before the first. Done seats see a stop, too.
 #[test]
 fn seats_draw_in_turn(rt: HostRuntime) -> Result<(), Fail> {
     let (board, mut seats) = Board::new(rt.alloc(), 3, 2)?;
@@ -91,7 +91,7 @@ fn an_empty_board_is_spent(rt: HostRuntime) -> Result<(), Fail> {
     Ok(())
 }
 
-// How many seats a board of these counts has, or why there is none.
+// The number of seats of a board with these counts, or why there is none.
 fn seats_of(rt: &impl AllocGlobal, parts: u64, seats: u64) -> Result<usize, BoardRefusal> {
     match Board::new(rt.alloc(), parts, seats) {
         Ok((_, all)) => Ok(all.len()),
@@ -111,7 +111,7 @@ fn counts_are_limited(rt: HostRuntime) {
     assert_eq!(rt; seats_of(&rt, 1, 0), Err(BoardRefusal::BadSeats));
 }
 
-// Draws until nothing is left, and counts each number that it drew.
+// Draws until nothing is left, and counts each number that was drawn.
 fn draw_all(board: &Board, counts: &[AtomicU64], seat: &mut BoardSeat)
     requires { IsSeatOf board.now seat.old }
     ensures { IsSeatOf board.now seat.new }

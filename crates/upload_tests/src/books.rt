@@ -26,7 +26,7 @@ fn share_and_book<L: Ledgers, R: Abort>(rt: &R, bytes: Blank, calls: Blank)
     share.join(other);
     let accepted = Accepted { bytes: 5, calls: 1 };
     assert_eq!(rt; book.settle(&mut share), Ok(accepted));
-    // Far more than fits, and one byte more.
+    // Far too many bytes, and one byte too many.
     let far = book.record(&mut share, u64::MAX);
     let near = book.record(&mut share, u64::MAX - 4);
     assert_eq!(rt; (far, near), (Err(BookFull), Err(BookFull)));

@@ -10,8 +10,7 @@ use std::sync::Wait;
 use std::test::Fail;
 use std::thread::Threads;
 
-// An upload of three parts by so many workers fails with one of these faults, and is aborted. The parts that were put, in their
-// order, are one of these.
+// An upload of three parts by `workers` workers fails with one of these faults, and is aborted. The parts were put in one of these orders.
 fn aborts<R: Threads + Wait + Sync + AllocGlobal + Runtime + Abort>(
     rt: &R,
     rule: Rule,
@@ -32,8 +31,8 @@ fn aborts<R: Threads + Wait + Sync + AllocGlobal + Runtime + Abort>(
     Ok(())
 }
 
-// Numbers are drawn in order, and a part that is drawn and passes is handed over, since the queue has room for all three. So part 2
-// is put only where part 1 is; with two workers both are made by the one that has not failed.
+// Numbers are drawn in order, and a part that is drawn and passes is handed over, since the queue has room for all three. So part 2 is put
+// only if part 1 is; with two workers both are made by the one that has not failed.
 #[test]
 fn a_stop_at_the_first_part_ends_an_upload(rt: HostRuntime) -> Result<(), Fail> {
     aborts(&rt, Rule::Stop(0), 1, "U3", "")?;
@@ -41,7 +40,7 @@ fn a_stop_at_the_first_part_ends_an_upload(rt: HostRuntime) -> Result<(), Fail> 
     aborts(&rt, Rule::Stop(0), 16, "U3", "|1|12|21")
 }
 
-// Part 0 is drawn before part 1 is. With two workers it is handed over before part 2 is drawn.
+// Part 0 is drawn before part 1. With two workers it is handed over before part 2 is drawn.
 #[test]
 fn a_fault_at_the_second_part_ends_an_upload(rt: HostRuntime) -> Result<(), Fail> {
     let fault = "U4 part 1 code 9";
@@ -50,7 +49,7 @@ fn a_fault_at_the_second_part_ends_an_upload(rt: HostRuntime) -> Result<(), Fail
     aborts(&rt, Rule::Fail(1), 16, fault, "0|02|20")
 }
 
-// All others are drawn before the last is.
+// All others are drawn before the last one.
 #[test]
 fn a_stop_at_the_last_part_ends_an_upload(rt: HostRuntime) -> Result<(), Fail> {
     aborts(&rt, Rule::Stop(2), 1, "U3", "01")?;
@@ -58,7 +57,7 @@ fn a_stop_at_the_last_part_ends_an_upload(rt: HostRuntime) -> Result<(), Fail> {
     aborts(&rt, Rule::Stop(2), 16, "U3", "01|10")
 }
 
-// Each worker makes one part at most. The fault of the first worker that made one is told, whichever that was.
+// Each worker makes at most one part. The fault of the first worker that made one is reported, whichever that was.
 #[test]
 fn faults_at_all_parts_end_an_upload(rt: HostRuntime) -> Result<(), Fail> {
     let two = "U4 part 0 code 0|U4 part 1 code 1";
@@ -68,7 +67,7 @@ fn faults_at_all_parts_end_an_upload(rt: HostRuntime) -> Result<(), Fail> {
     aborts(&rt, Rule::FailAll, 16, three, "")
 }
 
-// An upload leaves a text that begins so.
+// An upload results in a text that begins like this.
 fn leaves<R: Threads + Wait + Sync + AllocGlobal + Runtime + Abort>(
     rt: &R,
     rule: Rule,
@@ -80,12 +79,12 @@ fn leaves<R: Threads + Wait + Sync + AllocGlobal + Runtime + Abort>(
     Ok(())
 }
 
-// What an upload of three parts leaves whose journal is full once it was begun.
+// The result of an upload of three parts if the journal is full once the upload is begun.
 const NOTHING_PUT: &str =
     "U1 S13 left 1 0 0, accepted 1 1, objects 0 bytes 0 uploads 2 held 1 parts 1, entries 4: tenant 0 6147 / begin 0 0 2049 / put 0 2048 1 / begin 1 0 2049";
 
-// With room for four entries nothing is put. Then a gate fails at the second part too, but what the store refuses to the collector
-// is told first. With room for 22, more parts than the hand-over has room for are dropped, and the workers end.
+// With room for four entries nothing is put. Then a gate fails at the second part too, but the store's refusal to the collector is reported
+// first. With room for 22, more parts than the hand-over has room for are dropped, and the workers end.
 #[test]
 fn a_full_journal_leaves_the_upload(rt: HostRuntime) -> Result<(), Fail> {
     let cut = three_parts(1);
@@ -114,13 +113,13 @@ fn a_full_journal_leaves_the_upload(rt: HostRuntime) -> Result<(), Fail> {
     Ok(())
 }
 
-// All parts are put, and the journal has no room for the seal, nor for the abort.
+// All parts are put, and the journal has no room for the seal or the abort.
 #[test]
 fn a_seal_is_refused(rt: HostRuntime) -> Result<(), Fail> {
     let cut = Cut {
         has_neighbour: false,
         entries: 5,
-        most_workers: 1,
+        max_workers: 1,
         ..three_parts(1)
     };
     leaves(
@@ -131,17 +130,17 @@ fn a_seal_is_refused(rt: HostRuntime) -> Result<(), Fail> {
     )
 }
 
-// What a bad cut leaves.
+// The result of a bad cut.
 const NOTHING_BEGUN: &str =
     "U2 0 0, accepted 1 1, objects 0 bytes 0 uploads 1 held 1 parts 1, entries 3: tenant 0 6147 / begin 0 0 2049 / put 0 2048 1";
 
-// A quota without room; and parts of no chunk and of one too many, no worker, and one more than are allowed.
+// A quota without room; parts of no chunks and of one too many; no worker, and one more than allowed.
 #[test]
 fn what_is_refused_first_begins_nothing(rt: HostRuntime) -> Result<(), Fail> {
-    for most_workers in [1u64, 2, 16] {
+    for max_workers in [1u64, 2, 16] {
         let cut = Cut {
-            most_workers,
-            ..three_parts(most_workers)
+            max_workers,
+            ..three_parts(max_workers)
         };
         leaves(
             &rt,
@@ -149,7 +148,7 @@ fn what_is_refused_first_begins_nothing(rt: HostRuntime) -> Result<(), Fail> {
             Cut { limit: 4097, ..cut },
             "U1 S6 free 2048 0 0, accepted 1 1, objects 0 bytes 0 uploads 1 held 1 parts 1, entries 3: tenant 0 4097 / begin 0 0 2049 / put 0 2048 1",
         )?;
-        let too_many = most_workers.saturating_add(1);
+        let too_many = max_workers.saturating_add(1);
         for part_chunks in [0, 16385] {
             leaves(&rt, Rule::Pass, Cut { part_chunks, ..cut }, NOTHING_BEGUN)?;
         }
@@ -160,11 +159,11 @@ fn what_is_refused_first_begins_nothing(rt: HostRuntime) -> Result<(), Fail> {
     Ok(())
 }
 
-// So many parts that workers who don't look at a stop ask the gate more often than the bound.
+// Enough parts that workers which ignored a stop would ask the gate more often than the bound.
 fn many_parts() -> Cut {
     Cut {
         limit: 4196353,
-        most_workers: 2,
+        max_workers: 2,
         len: 4194304,
         ..three_parts(2)
     }
@@ -181,7 +180,7 @@ fn a_stop_is_seen(rt: HostRuntime) -> Result<(), Fail> {
     Ok(())
 }
 
-// Either of the first two parts comes first.
+// Either of the first two parts may come first.
 #[test]
 fn workers_end_where_the_collector_gives_up(rt: HostRuntime) -> Result<(), Fail> {
     let cut = Cut {

@@ -5,16 +5,16 @@ use std::sync::atomic::{AtomicBool, AtomicU64, Ordering};
 use std::thread;
 use store_shared::{Draw, Gate, GateStop};
 
-/// How often one who waits for another thread looks before it gives up.
+/// How often a thread that waits for another checks before it gives up waiting.
 pub(crate) const TURNS: u64 = 1 << 24;
 
-// In how many turns no part was asked for where none will be.
+// After this many turns without a request for a part, no more requests are expected.
 const STILL_TURNS: u64 = 2000;
 
-/// The most parts of an upload here.
-pub(crate) const MOST_PARTS: u64 = 4096;
+/// The maximum number of parts of an upload in these tests.
+pub(crate) const MAX_PARTS: u64 = 4096;
 
-/// So many counts of zero.
+/// `count` counters, all zero.
 pub(crate) fn zeros(alloc: Global, count: u64) -> Result<Vec<AtomicU64>, AllocError> {
     let mut counts = Vec::new(alloc);
     for _ in 0..count {
@@ -23,7 +23,7 @@ pub(crate) fn zeros(alloc: Global, count: u64) -> Result<Vec<AtomicU64>, AllocEr
     Ok(counts)
 }
 
-/// How often a gate was asked, in all and for each part, and whether it lets those pass that it holds.
+/// How often a gate was asked, in total and for each part, and whether it lets the parts pass that it holds.
 #[derive(Drop)]
 pub(crate) struct Signal {
     asked: AtomicU64,
@@ -35,7 +35,7 @@ impl Signal {
     pub(crate) fn new(alloc: Global) -> Result<Signal, AllocError> {
         Ok(Signal {
             asked: AtomicU64::new(0),
-            parts: zeros(alloc, MOST_PARTS)?,
+            parts: zeros(alloc, MAX_PARTS)?,
             released: AtomicBool::new(false),
         })
     }
@@ -59,10 +59,10 @@ impl Signal {
                 return false;
             }
         }
-        self.asked() == MOST_PARTS
+        self.asked() == MAX_PARTS
     }
 
-    /// Waits until the gate was asked so often, for at most so many turns.
+    /// Waits until the gate was asked `times` times, for at most `TURNS` turns.
     pub(crate) fn has_asked(&self, times: u64) -> bool {
         for _ in 0..TURNS {
             if self.asked() >= times {
@@ -77,7 +77,7 @@ impl Signal {
         self.released.store(true, Ordering::SeqCst);
     }
 
-    /// Waits until the parts that are held may pass, for so many turns.
+    /// Waits until the held parts may pass, for at most `TURNS` turns.
     pub(crate) fn is_released(&self) -> bool {
         for _ in 0..TURNS {
             if self.released.load(Ordering::SeqCst) {
@@ -88,7 +88,7 @@ impl Signal {
         false
     }
 
-    // Waits until no part is asked for any more, as when the queue is full.
+    // Waits until no more parts are asked for, for example because the queue is full.
     fn wait_until_still(&self) {
         let mut seen = 0u64;
         let mut turns = 0u64;
@@ -113,23 +113,23 @@ impl Signal {
 pub(crate) enum Rule {
     /// Passes all parts.
     Pass,
-    /// Answers Stop at one part.
+    /// Returns Stop for one part.
     Stop(u64),
     /// Fails at one part, with the code 9.
     Fail(u64),
     /// Fails at all parts, with the part's number as code.
     FailAll,
-    /// Holds all parts until so many were asked for.
+    /// Holds all parts until this number of parts was asked for.
     HoldUntil(u64),
-    /// Holds the parts from one number on.
+    /// Holds the parts from this number on.
     HoldFrom(u64),
-    /// Holds part 0. Stops at part 1, once no part is asked for any more, and lets part 0 pass.
+    /// Holds part 0. Stops at part 1, once no more parts are asked for, and lets part 0 pass.
     StopWhenStill,
-    /// Takes some time at each part, and answers Stop at one.
+    /// Takes some time for each part, and returns Stop for one.
     Slow(u64),
 }
 
-/// A gate that does as a rule says.
+/// A gate that follows a rule.
 #[derive(Drop)]
 pub(crate) struct Checkpoint<'a> {
     pub(crate) rule: Rule,
@@ -137,7 +137,7 @@ pub(crate) struct Checkpoint<'a> {
 }
 
 impl Checkpoint<'_> {
-    // Holds a part until it may pass, or else fails with the code 1.
+    // Holds a part until it may pass; otherwise fails with the code 1.
     fn held(&self) -> Option<GateStop> {
         if self.signal.is_released() {
             return None;
@@ -145,7 +145,7 @@ impl Checkpoint<'_> {
         Some(GateStop::Fault(1))
     }
 
-    // What is answered for a part that does not pass.
+    // The result for a part that does not pass.
     fn found(&self, part: u64) -> Option<GateStop> {
         match self.rule {
             Rule::Pass => None,

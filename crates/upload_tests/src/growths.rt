@@ -1,9 +1,9 @@
-//! What an upload does where one growth of memory is refused. tests/growths runs each of these tests again and again, and
-//! refuses another growth of the process each time.
+//! Uploads in which one allocation fails. tests/growths runs each of these tests many times, and lets another allocation of the process
+//! fail each time.
 //!
-//! The upload is sealed, or tells want of memory and is gone. Then the share settles, the journal leads to what the store holds,
-//! and the same upload is sealed. Where the growth is refused while the store is prepared or looked at, the whole is done
-//! again, which succeeds too, since no second growth is refused.
+//! The upload is sealed, or reports that it ran out of memory and leaves nothing. Then the share settles, replaying the journal results in
+//! what the store holds, and the same upload is sealed. If the allocation fails while the store is prepared or inspected, everything is
+//! repeated, which succeeds, as no second allocation fails.
 
 ghost use Rattle.std.specs.Prelude.{◌≡◌, ◌^◌};
 
@@ -18,16 +18,17 @@ use std::sync::ledger::Blank;
 use std::test::Fail;
 use std::thread::Threads;
 use store_core::{Limits, Refusal, Store, TenantId, replay};
+use store_history::UnnamedHistory;
 use store_ledger::{Ledgers, Share};
 use store_shared::{ALL_PARTS, PassAll, Shared, UploadFault, UploadFaultKind, lent_open_tenant};
 
-// Whether an upload has told want of memory and left nothing.
-fn is_want_of_memory(fault: UploadFault) -> bool {
+// Whether an upload reported that it ran out of memory and left nothing.
+fn is_out_of_memory(fault: UploadFault) -> bool {
     let no_room = UploadFaultKind::Refused(Refusal::NoMemory);
     (fault.kind == UploadFaultKind::NoMemory || fault.kind == no_room) && fault.left.is_none()
 }
 
-// Whether a store has so many objects and no upload, and its journal leads to that.
+// Whether a store has `objects` objects and no upload, and its journal results in that.
 fn has_objects(alloc: Global, store: &Store, objects: u64) -> Result<bool, AllocError> {
     let totals = store.totals();
     let Ok(replayed) = replay(alloc, store.journal()) else {
@@ -37,7 +38,7 @@ fn has_objects(alloc: Global, store: &Store, objects: u64) -> Result<bool, Alloc
     Ok(is_empty && totals.objects == objects && replayed.totals() == totals)
 }
 
-// Opens a tenant, and once more where that is refused memory.
+// Opens a tenant, and tries again if an allocation fails.
 fn open_in_the_end<L: Ledgers, R: Wait>(rt: &R, shared: &Shared<L>) {
     let mut locked = shared.lock(rt);
     if lent_open_tenant(&mut *locked, 4098).is_err() {
@@ -45,7 +46,7 @@ fn open_in_the_end<L: Ledgers, R: Wait>(rt: &R, shared: &Shared<L>) {
     }
 }
 
-// Uploads once more, after an upload that has told want of memory. Whether that one is gone and this one is sealed.
+// Uploads again, after an upload that ran out of memory. Returns whether the first one has left nothing and this one is sealed.
 fn uploaded_again<L: Ledgers, R: Threads + Wait + Sync + AllocGlobal + Runtime>(
     rt: &R,
     shared: &Shared<L>,
@@ -60,14 +61,14 @@ fn uploaded_again<L: Ledgers, R: Threads + Wait + Sync + AllocGlobal + Runtime>(
     let tenant = TenantId::new(0);
     let (share, again) = upload_row(rt, alloc, shared, share, &PassAll, tenant, row, 1, workers);
     let is_risen = share.bytes() == put.saturating_add(2049);
-    let is_well = is_want_of_memory(fault) && is_risen && again.is_ok();
+    let is_well = is_out_of_memory(fault) && is_risen && again.is_ok();
     match is_gone {
         Ok(is_gone) => (share, Ok(is_gone && is_well)),
         Err(AllocError) => (share, Err(AllocError)),
     }
 }
 
-// Whether all went well, unless it can't be told for want of memory.
+// Checks that everything succeeded, unless the check itself ran out of memory.
 fn ended<R: Abort>(
     rt: &R,
     is_sealed: Result<bool, AllocError>,
@@ -83,15 +84,17 @@ fn sealed_in_the_end<L: Ledgers, R: Threads + Wait + Sync + AllocGlobal + Runtim
     rt: &R,
     bytes: Blank,
     calls: Blank,
+    history: UnnamedHistory,
     workers: u64,
 ) -> Result<(), AllocError>
     requires bytes { (bytes.name ≡ L.bytes_name) × (bytes.parts ≡ L.bytes_parts) × (bytes.parts ≡ 2 ^ 32) }
     requires calls { (calls.name ≡ L.calls_name) × (calls.parts ≡ L.calls_parts) × (calls.parts ≡ 2 ^ 32) }
+    requires history { history ≡ L.history }
 {
     let alloc = rt.alloc();
     let input = pattern(alloc, 0, 2049)?;
     let row = input.as_slice();
-    let (shared, share) = Shared::<L>::new(alloc, Limits::full(), bytes, calls);
+    let (shared, share) = Shared::<L>::new(alloc, Limits::full(), bytes, calls, history);
     open_in_the_end(rt, &shared);
     let tenant = TenantId::new(0);
     let (share, answer) = upload_row(rt, alloc, &shared, share, &PassAll, tenant, row, 1, workers);
@@ -106,13 +109,14 @@ fn sealed_in_the_end<L: Ledgers, R: Threads + Wait + Sync + AllocGlobal + Runtim
     ended(rt, is_sealed, is_settled, is_filed)
 }
 
-// Whatever growth is refused, the upload is sealed in the end.
+// Whichever allocation fails, the upload is sealed in the end.
 fn is_sealed<R: Threads + Wait + Sync + AllocGlobal + Runtime + Abort>(
     rt: &R,
     workers: u64,
 ) -> Result<(), AllocError> {
     let (bytes, calls) = (Blank::new(ALL_PARTS), Blank::new(ALL_PARTS));
-    sealed_in_the_end::<Brand, R>(rt, bytes, calls, workers)
+    let history = UnnamedHistory::new(rt.alloc())?;
+    sealed_in_the_end::<Brand, R>(rt, bytes, calls, history, workers)
 }
 
 #[test]

@@ -15,7 +15,7 @@ use std::thread;
 use std::thread::Threads;
 use store_board::{GivePass, HandOver, HandOverRefusal, TakePass, Unasked};
 
-// The part of one chunk with that number.
+// The part of one chunk with the number `number`.
 fn part(alloc: Global, number: u64, work: &mut Work) -> Option<Prepared> {
     let plan = Plan::new(1_048_576).ok()?;
     part_at(alloc, &plan, number.wrapping_mul(1024), 1024, work)
@@ -30,7 +30,7 @@ fn taken<R: Wait>(rt: &R, hand_over: &HandOver<Unasked>, pass: &mut TakePass) ->
     Some((taken.giver, taken.part.offset()))
 }
 
-// Gives the part of one chunk with that number, and tells the offset of the part that came back, if there was no room.
+// Gives the part of one chunk with the number `number`, and returns the offset of the part that was returned, if there was no room.
 fn given<R: Wait + AllocGlobal + Runtime>(
     rt: &R,
     hand_over: &HandOver<Unasked>,
@@ -49,7 +49,7 @@ fn given<R: Wait + AllocGlobal + Runtime>(
     }
 }
 
-// Gives the part of that number, where there is such a giver, and compares the answer with that of a list with so much room.
+// Gives the part `number`, if there is such a giver, and compares the result with that of a list with the same capacity.
 fn give_beside<R: Wait + AllocGlobal + Runtime + Abort>(
     rt: &R,
     hand_over: &HandOver<Unasked>,
@@ -76,7 +76,7 @@ fn give_beside<R: Wait + AllocGlobal + Runtime + Abort>(
     Ok(())
 }
 
-// Gives and takes at random, a thread alone, beside a list with so much room.
+// Gives and takes at random, on one thread, compared with a list with the same capacity.
 fn give_and_take<R: Wait + AllocGlobal + Runtime + Abort>(
     rt: &R,
     hand_over: &HandOver<Unasked>,
@@ -114,7 +114,7 @@ fn give_and_take<R: Wait + AllocGlobal + Runtime + Abort>(
     Ok(())
 }
 
-// The last of the givers' passes, where there are more than so many.
+// The last of the givers' passes, if there are more than `count`.
 fn pass_above(
     hand_over: &HandOver<Unasked>,
     passes: &mut Vec<GivePass>,
@@ -132,7 +132,7 @@ fn pass_above(
 
 const STEPS: u64 = 500;
 
-// A hand-over of so much room and so many givers, beside a list.
+// A hand-over with this capacity and number of givers, compared with a list.
 fn moves_as_a_list<R: Wait + AllocGlobal + Runtime + Abort>(
     rt: &R,
     capacity: usize,
@@ -170,7 +170,7 @@ fn one_thread_gives_and_takes_as_with_a_list(rt: HostRuntime) -> Result<(), Fail
     Ok(())
 }
 
-// Gives four parts, the second and the last by another giver, where there is room for two. The last stays in the queue.
+// Gives four parts, the second and the last by another giver, with room for two. The last stays in the queue.
 fn give_four<R: Wait + AllocGlobal + Runtime + Abort>(
     rt: &R,
     hand_over: &HandOver<Unasked>,
@@ -215,7 +215,7 @@ fn parts_come_in_the_order_in_which_they_were_given(rt: HostRuntime) -> Result<(
     Ok(())
 }
 
-// Why there is no hand-over of these counts.
+// Why there is no hand-over with these counts.
 fn refused(rt: &impl AllocGlobal, capacity: usize, givers: u64) -> Option<HandOverRefusal> {
     HandOver::<Unasked>::new(rt.alloc(), capacity, givers).err()
 }
@@ -247,7 +247,7 @@ fn part_under<R: Wait>(rt: &R, alloc: Global, number: u64, work: &Mutex<Work>) -
     part(alloc, number, &mut work)
 }
 
-// Gives a hundred parts in the order of their offsets, and tells that this giver has ended.
+// Gives a hundred parts in the order of their offsets, and records that this giver has ended.
 fn give_hundred<R: Wait>(
     rt: &R,
     alloc: Global,
@@ -290,7 +290,7 @@ fn give_from_threads<R: Threads + Wait + Sync>(
     givers
 }
 
-// Takes until all givers have ended and nothing is left. How many parts came as the next of their giver.
+// Takes until all givers have ended and nothing is left. Returns how many parts came in their giver's order.
 fn take_all<R: Wait>(
     rt: &R,
     hand_over: &HandOver<Unasked>,
@@ -317,7 +317,7 @@ fn take_all<R: Wait>(
     (taker, in_order)
 }
 
-// 1 where a part is the next of its giver, which then waits for the one behind it, and 0 where it is not.
+// Returns 1 if a part is the next of its giver, otherwise 0. Advances that giver's count.
 fn one_if_next(next: &mut [u64; 4], giver: u64, offset: u64) -> u64 {
     let Some(number) = next.get_mut(giver as usize) else {
         return 0;

@@ -5,7 +5,7 @@ use b3_forest::{Plan, Prepared};
 use b3_tests::pattern;
 use std::alloc::Global;
 
-/// The part of so many bytes of the pattern at an offset, if the plan takes it.
+/// The part of `len` bytes of the pattern at `offset`, if the plan accepts it.
 pub(crate) fn part_at(
     alloc: Global,
     plan: &Plan,

@@ -1,4 +1,4 @@
-//! What an upload leaves, as text.
+//! The result of an upload, as text.
 
 use std::alloc::{AllocError, Global};
 use std::test::Fail;
@@ -14,7 +14,7 @@ fn fault_text(alloc: Global, fault: &UploadFault) -> Result<String, AllocError> 
     }
 }
 
-/// What an upload was told that tells whether its bytes were new, and by how much its share rose.
+/// The result of an upload that returns whether its bytes were new, and by how much its share rose.
 pub(crate) fn told_text(
     alloc: Global,
     answer: Result<bool, UploadFault>,
@@ -28,7 +28,7 @@ pub(crate) fn told_text(
     format!(in alloc; "{} {} {}", told.as_str(), put.bytes, put.calls)
 }
 
-// How many entries there are, and their lines in order.
+// The number of entries, and their lines in order.
 fn journal_text(alloc: Global, entries: &[Entry]) -> Result<String, AllocError> {
     let mut text = format!(in alloc; "entries {}", entries.len())?;
     let mut mark = ": ";
@@ -48,7 +48,7 @@ fn store_text(alloc: Global, accepted: Accepted, store: &Store) -> Result<String
     format!(in alloc; "accepted {bytes} {calls}, {totals}, {}", journal.as_str())
 }
 
-/// What the whole share of a store settles at, what the store holds, and its journal.
+/// What a store's whole share settles at, what the store holds, and its journal.
 pub(crate) fn left_text<L: Ledgers>(
     alloc: Global,
     locked: &mut Locked<L>,
@@ -58,7 +58,7 @@ pub(crate) fn left_text<L: Ledgers>(
     Ok(store_text(alloc, accepted, locked.store())?)
 }
 
-// Offset and length of a part of the pattern of 2049 bytes, cut into parts of one chunk.
+// Offset and length of a part of the pattern of 2049 bytes, split into parts of one chunk.
 fn part_at(digit: u8) -> (u64, u64) {
     match digit {
         b'0' => (0, 1024),
@@ -67,8 +67,8 @@ fn part_at(digit: u8) -> (u64, u64) {
     }
 }
 
-/// What an upload of the pattern of 2049 bytes in three parts leaves, and its neighbour, that failed and was aborted, after these
-/// parts were put in this order. Each is named by its digit.
+/// The result of an upload of the pattern of 2049 bytes in three parts, with its neighbour, that failed and was aborted after these parts
+/// were put in this order. Each part is named by its digit.
 pub(crate) fn aborted_after(alloc: Global, fault: &str, parts: &str) -> Result<String, AllocError> {
     let mut bytes = 0u64;
     let mut puts = String::new(alloc);

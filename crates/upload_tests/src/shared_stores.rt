@@ -14,6 +14,7 @@ use std::test::Fail;
 use std::thread;
 use std::thread::Threads;
 use store_core::{Address, Limits, Object, Refusal, Store, TenantId, Totals, UploadId, Usage};
+use store_history::UnnamedHistory;
 use store_ledger::{Accepted, Ledgers, NotWhole, Share};
 use store_shared::{
     ALL_PARTS, Shared, lent_abort, lent_begin, lent_begin_open, lent_fix, lent_forget,
@@ -60,23 +61,25 @@ fn begin_two_chunks<L: Ledgers, R: Wait>(rt: &R, shared: &Shared<L>) -> Result<(
     Ok(())
 }
 
-// Two threads put a half each, with a share each, the one at `first` in the first thread. The share of each is not whole, and both
-// together settle.
+// Two threads put one half each, with one share each; the half at `first` is put by the first thread. Neither share is whole; both together
+// settle.
 fn two_halves<L: Ledgers + Send + Sync, R: Threads + Wait + Sync + AllocGlobal + Runtime + Abort>(
     rt: &R,
     bytes: Blank,
     calls: Blank,
+    history: UnnamedHistory,
     first: u64,
 ) -> Result<(), Fail>
     requires bytes { (bytes.name ≡ L.bytes_name) × (bytes.parts ≡ L.bytes_parts) × (bytes.parts ≡ 2 ^ 32) }
     requires calls { (calls.name ≡ L.calls_name) × (calls.parts ≡ L.calls_parts) × (calls.parts ≡ 2 ^ 32) }
+    requires history { history ≡ L.history }
     requires first { first ≤ 1024 }
 {
     let one = half(rt, first)?;
     let two = half(rt, 1024 - first)?;
     let work_one = Work::new(rt);
     let work_two = Work::new(rt);
-    let (shared, mut share) = Shared::<L>::new(rt.alloc(), Limits::full(), bytes, calls);
+    let (shared, mut share) = Shared::<L>::new(rt.alloc(), Limits::full(), bytes, calls, history);
     let other = share.split(1);
     let _begun = begin_two_chunks(rt, &shared);
     let both = &shared;
@@ -117,7 +120,7 @@ fn is_pattern(object: &Object) -> bool {
     count == 2048
 }
 
-// Whether an object came back, with the bytes of the pattern of 2048.
+// Whether an object was returned, with the bytes of the pattern of 2048.
 fn is_back(gone: Option<Arc<Object>>) -> bool {
     match gone {
         Some(object) => is_pattern(&object),
@@ -149,14 +152,14 @@ fn is_filed(store: &Store, tenant: TenantId) -> bool {
     is_pattern(&object) && is_listed && listed.len() == 1
 }
 
-// What two halves count.
+// The accepted bytes and calls of two halves.
 const BOTH: Accepted = Accepted {
     bytes: 2048,
     calls: 2,
 };
 
-// Of an upload that has both halves: asks for it and seals it, asks for the object and the tenant, whose limit is then changed,
-// and forgets the object. Each time the lock is taken anew.
+// For an upload that has both halves: asks for it and seals it, asks for the object and the tenant, whose limit is then changed, and
+// forgets the object. The lock is taken anew for each of these.
 fn sealed_and_forgotten<L: Ledgers, R: Wait + Runtime + Abort>(
     rt: &R,
     shared: &Shared<L>,
@@ -204,12 +207,13 @@ const NOTHING: Totals = Totals {
 fn two_threads_put_a_half_each(rt: HostRuntime) -> Result<(), Fail> {
     for first in [0, 1024] {
         let (bytes, calls) = (Blank::new(ALL_PARTS), Blank::new(ALL_PARTS));
-        two_halves::<Brand, _>(&rt, bytes, calls, first)?;
+        let history = UnnamedHistory::new(rt.alloc())?;
+        two_halves::<Brand, _>(&rt, bytes, calls, history, first)?;
     }
     Ok(())
 }
 
-// Puts one of two parts, and gives the upload up. Each time the lock is taken anew.
+// Puts one of two parts, and aborts the upload. The lock is taken anew for each of these.
 fn give_up<L: Ledgers, R: Wait + Abort>(
     rt: &R,
     shared: &Shared<L>,
@@ -231,8 +235,8 @@ fn give_up<L: Ledgers, R: Wait + Abort>(
     assert_eq!(rt; shared.lock(rt).store().totals(), NOTHING);
 }
 
-// Begins upload 1, whose length is fixed later, puts both its parts, fixes its length, which alone is reserved then, and seals it.
-// Each time the lock is taken anew.
+// Begins upload 1, whose length is fixed later, puts both its parts, fixes its length, after which only that is reserved, and seals it. The
+// lock is taken anew for each of these.
 fn fix_and_seal<L: Ledgers, R: Wait + Abort>(
     rt: &R,
     shared: &Shared<L>,
@@ -256,21 +260,23 @@ fn fix_and_seal<L: Ledgers, R: Wait + Abort>(
     assert!(rt; sealed.is_ok_and(|sealed| sealed.released.parts() == 2));
 }
 
-// A part that was put and given up counts as accepted.
+// A part that was put to an aborted upload counts as accepted.
 fn one_after_another<L: Ledgers, R: Wait + AllocGlobal + Runtime + Abort>(
     rt: &R,
     bytes: Blank,
     calls: Blank,
+    history: UnnamedHistory,
 ) -> Result<(), Fail>
     requires bytes { (bytes.name ≡ L.bytes_name) × (bytes.parts ≡ L.bytes_parts) × (bytes.parts ≡ 2 ^ 32) }
     requires calls { (calls.name ≡ L.calls_name) × (calls.parts ≡ L.calls_parts) × (calls.parts ≡ 2 ^ 32) }
+    requires history { history ≡ L.history }
 {
     let alone = half(rt, 1024)?;
     let plan = Plan::open(4096).ok().ok_or("no plan")?;
     let second = chunk(rt, &plan, 1024)?;
     let first = chunk(rt, &plan, 0)?;
     let mut work = Work::new(rt);
-    let (shared, mut share) = Shared::<L>::new(rt.alloc(), Limits::full(), bytes, calls);
+    let (shared, mut share) = Shared::<L>::new(rt.alloc(), Limits::full(), bytes, calls, history);
     give_up(rt, &shared, &mut share, alone, &mut work);
     fix_and_seal(rt, &shared, &mut share, second, first, &mut work);
     let all = Accepted {
@@ -286,5 +292,6 @@ fn one_after_another<L: Ledgers, R: Wait + AllocGlobal + Runtime + Abort>(
 #[test]
 fn one_upload_is_aborted_and_the_next_is_fixed(rt: HostRuntime) -> Result<(), Fail> {
     let (bytes, calls) = (Blank::new(ALL_PARTS), Blank::new(ALL_PARTS));
-    one_after_another::<Brand, _>(&rt, bytes, calls)
+    let history = UnnamedHistory::new(rt.alloc())?;
+    one_after_another::<Brand, _>(&rt, bytes, calls, history)
 }

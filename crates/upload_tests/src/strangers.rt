@@ -30,7 +30,7 @@ pub(crate) enum Deed {
     Put,
     /// Puts it and seals upload 1.
     Seal,
-    /// Files the same bytes meanwhile, by an upload of its own.
+    /// Meanwhile files the same bytes by its own upload.
     File,
     /// Files them, and forgets them.
     FileAndForget,
@@ -40,7 +40,7 @@ pub(crate) enum Deed {
     KeepLockFull,
 }
 
-/// What became of the deed. Of an upload it is told whether its bytes were new.
+/// The result of the deed. For an upload, whether its bytes were new.
 #[derive(Clone, Copy)]
 pub(crate) enum Outcome {
     Refused,
@@ -74,13 +74,13 @@ fn seal_one<L: Ledgers, R: Wait + Runtime>(rt: &R, shared: &Shared<L>, upload: U
     sealed.is_ok()
 }
 
-// Forgets an object for tenant 0, where it is handed back.
+// Forgets an object for tenant 0. Returns whether the object was returned.
 fn forget_one<L: Ledgers, R: Wait>(rt: &R, shared: &Shared<L>, address: Address) -> bool {
     let forgotten = lent_forget(&mut *shared.lock(rt), TenantId::new(0), address);
     forgotten.is_ok_and(|gone| gone.is_some())
 }
 
-/// Begins upload 0, of 2049 bytes, and puts its last.
+/// Begins upload 0, of 2049 bytes, and puts its last byte.
 pub(crate) fn begin_neighbour<L: Ledgers, R: Wait + Runtime>(
     rt: &R,
     alloc: Global,
@@ -113,8 +113,8 @@ fn keeps_lock<L: Ledgers, R: Wait>(rt: &R, shared: &Shared<L>, signal: &Signal) 
     is_released
 }
 
-// Keeps the lock until all workers wait for room: the queue is full, and so are their hands and the collector's. Then keeps it
-// longer than the workers' waits become longer.
+// Keeps the lock until all workers wait for room: the queue is full, and each worker and the collector hold a part. Then keeps it for
+// longer than the workers' longest wait.
 fn keeps_lock_full<L: Ledgers, R: Wait>(
     rt: &R,
     shared: &Shared<L>,
@@ -128,7 +128,7 @@ fn keeps_lock_full<L: Ledgers, R: Wait>(
     are_full
 }
 
-// Waits until the open uploads hold so many bytes, for at most so many turns.
+// Waits until the open uploads hold `bytes` bytes, for at most `TURNS` turns.
 fn holds<L: Ledgers, R: Wait>(rt: &R, shared: &Shared<L>, bytes: u64) -> bool {
     for _ in 0..TURNS {
         if shared.lock(rt).store().totals().held_bytes == bytes {
@@ -139,7 +139,7 @@ fn holds<L: Ledgers, R: Wait>(rt: &R, shared: &Shared<L>, bytes: u64) -> bool {
     false
 }
 
-// Does it, and then lets the gate pass all parts. What is put or filed comes behind the parts that the gate does not hold.
+// Does the deed, and then lets the gate pass all parts. What is put or filed comes after the parts that the gate does not hold.
 fn is_done<L: Ledgers, R: Wait + Runtime>(
     rt: &R,
     alloc: Global,
@@ -171,7 +171,7 @@ fn is_done<L: Ledgers, R: Wait + Runtime>(
     }
 }
 
-/// Does it beside an upload of these bytes. What is no upload is done once the gate was asked.
+/// Does the deed during an upload of these bytes. A deed that is not an upload is done once the gate was asked.
 pub(crate) fn meanwhile<L: Ledgers, R: Threads + Wait + Sync + Runtime>(
     rt: &R,
     alloc: Global,
@@ -207,7 +207,7 @@ pub(crate) fn meanwhile<L: Ledgers, R: Threads + Wait + Sync + Runtime>(
     }
 }
 
-// A deed, and what the upload is told and leaves with it: before its journal, and behind its first two parts.
+// A deed, and the result of the upload with it: before its journal, and after its first two parts.
 #[derive(Clone, Copy)]
 struct Beside {
     deed: Deed,
@@ -238,7 +238,7 @@ const BESIDE: &[Beside] = &[
     },
 ];
 
-// What is left by an upload that is held at its last part while the stranger acts, the other two parts put in this order.
+// The result of an upload that is held at its last part while the stranger acts, with the other two parts put in this order.
 fn leaves<R: Threads + Wait + Sync + AllocGlobal + Runtime + Abort>(
     rt: &R,
     beside: Beside,
@@ -292,8 +292,8 @@ fn an_upload_that_was_aborted_is_refused(rt: HostRuntime) -> Result<(), Fail> {
     Ok(())
 }
 
-// Whether a part that passed was dropped, by an upload of 128 parts that is stopped at part 1. While the lock is kept, the workers
-// fill the queue and wait for room. Then the one at part 1 stops, and part 0 is let pass.
+// Whether a part that passed was dropped, in an upload of 128 parts that is stopped at part 1. While the lock is kept, the workers fill the
+// queue and wait for room. Then the one at part 1 stops, and part 0 may pass.
 fn is_dropped<R: Threads + Wait + Sync + AllocGlobal + Runtime + Abort>(
     rt: &R,
     workers: u64,
@@ -313,8 +313,8 @@ fn is_dropped<R: Threads + Wait + Sync + AllocGlobal + Runtime + Abort>(
     Ok(!left.starts_with(all.as_str()))
 }
 
-// How many parts are put depends on the schedule. On a busy machine the gate stops before the queue is full, and all parts that
-// passed are put; one round of many where it is full is enough.
+// The number of parts put depends on the schedule. On a busy machine the gate stops before the queue is full, and all parts that passed are
+// put; one round of many in which it is full is enough.
 #[test]
 fn a_stop_ends_workers_that_wait_for_room(rt: HostRuntime) -> Result<(), Fail> {
     for workers in [3, 16] {
@@ -330,8 +330,8 @@ fn a_stop_ends_workers_that_wait_for_room(rt: HostRuntime) -> Result<(), Fail> {
     Ok(())
 }
 
-// Tenant 1 uploads, and so does tenant 0 or 1. The parts of both may be put in any order. One object is left, so that both were
-// sealed, the second as known.
+// Tenant 1 uploads, and so does tenant 0 or 1. The parts of both may be put in any order. One object is left, so both were sealed, the
+// second as known.
 #[test]
 fn the_same_bytes_are_uploaded_twice(rt: HostRuntime) -> Result<(), Fail> {
     let rest =

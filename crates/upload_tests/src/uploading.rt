@@ -1,4 +1,4 @@
-//! An upload, what another thread does meanwhile, and what both leave, as text.
+//! An upload, what another thread does meanwhile, and the result of both, as text.
 
 ghost use Rattle.std.specs.Prelude.{◌≡◌, ◌^◌};
 
@@ -15,38 +15,39 @@ use std::test::Fail;
 use std::thread;
 use std::thread::Threads;
 use store_core::{Limits, TenantId};
+use store_history::UnnamedHistory;
 use store_ledger::{Accepted, Ledgers, Share};
 use store_shared::{ALL_PARTS, Gate, Locked, Shared, UploadFault, lent_open_tenant, upload};
 
-/// A store of so many tenants, each with this limit, and with limits of its own; and an upload for the last of them of so many
-/// bytes of the pattern. Where it has a neighbour, that is upload 0, which holds a part when it is begun.
+/// A store with limits and `tenants` tenants, each with the limit `limit`; and an upload for the last of them of `len` bytes of the
+/// pattern. If it has a neighbour, that is upload 0, which holds a part when the upload is begun.
 #[derive(Clone, Copy)]
 pub(crate) struct Cut {
     pub(crate) has_neighbour: bool,
     pub(crate) tenants: u64,
     pub(crate) limit: u64,
     pub(crate) entries: u64,
-    pub(crate) most_workers: u64,
+    pub(crate) max_workers: u64,
     pub(crate) len: u64,
     pub(crate) part_chunks: u64,
     pub(crate) workers: u64,
 }
 
-/// Three parts of one chunk, the last ragged, and a neighbour. There is room for one more of that length.
+/// Three parts of one chunk, the last one ragged, and a neighbour. There is room for one more upload of that length.
 pub(crate) fn three_parts(workers: u64) -> Cut {
     Cut {
         has_neighbour: true,
         tenants: 1,
         limit: 6147,
         entries: 1 << 32,
-        most_workers: 16,
+        max_workers: 16,
         len: 2049,
         part_chunks: 1,
         workers,
     }
 }
 
-/// Uploads bytes, and tells whether they were new.
+/// Uploads bytes, and returns whether they were new.
 pub(crate) fn upload_row<L: Ledgers, G: Gate + Sync, R: Threads + Wait + Sync + Runtime>(
     rt: &R,
     alloc: Global,
@@ -75,14 +76,14 @@ pub(crate) fn upload_row<L: Ledgers, G: Gate + Sync, R: Threads + Wait + Sync + 
     }
 }
 
-// Opens so many tenants. Where one isn't opened, the upload for it is refused by S1.
+// Opens the tenants. If one is not opened, the upload for it is refused with S1.
 fn open_tenants<L: Ledgers, R: Wait>(rt: &R, shared: &Shared<L>, cut: Cut) {
     for _ in 0..cut.tenants {
         let _opened = lent_open_tenant(&mut *shared.lock(rt), cut.limit);
     }
 }
 
-// What a share has taken in.
+// What was recorded with a share.
 fn accepted_by<L: Ledgers>(share: &Share<L>) -> Accepted {
     Accepted {
         bytes: share.bytes(),
@@ -90,7 +91,7 @@ fn accepted_by<L: Ledgers>(share: &Share<L>) -> Accepted {
     }
 }
 
-// What an upload was told, and what it and the stranger left in a store whose whole share settles.
+// The result of an upload, and what it and the stranger left in a store whose whole share settles.
 fn beside_text<L: Ledgers>(
     alloc: Global,
     answer: Result<bool, UploadFault>,
@@ -110,7 +111,7 @@ fn beside_text<L: Ledgers>(
     Ok(format!(in alloc; "{}, {beside}{}", told.as_str(), left.as_str())?)
 }
 
-/// An upload with a share of one part, and what the stranger does, who has all others.
+/// An upload with a share of one part, and the deed of the stranger, who has all other parts.
 pub(crate) fn uploaded<
     L: Ledgers + Send + Sync,
     G: Gate + Sync,
@@ -119,6 +120,7 @@ pub(crate) fn uploaded<
     rt: &R,
     bytes: Blank,
     calls: Blank,
+    history: UnnamedHistory,
     gate: &G,
     signal: &Signal,
     deed: Deed,
@@ -126,12 +128,13 @@ pub(crate) fn uploaded<
 ) -> Result<String, Fail>
     requires bytes { (bytes.name ≡ L.bytes_name) × (bytes.parts ≡ L.bytes_parts) × (bytes.parts ≡ 2 ^ 32) }
     requires calls { (calls.name ≡ L.calls_name) × (calls.parts ≡ L.calls_parts) × (calls.parts ≡ 2 ^ 32) }
+    requires history { history ≡ L.history }
 {
     let alloc = rt.alloc();
-    let limits = Limits::new(cut.tenants, cut.entries, cut.most_workers);
+    let limits = Limits::new(cut.tenants, cut.entries, cut.max_workers);
     let limits = limits.ok().ok_or("no limits")?;
     let input = pattern(alloc, 0, cut.len)?;
-    let (shared, mut other) = Shared::<L>::new(alloc, limits, bytes, calls);
+    let (shared, mut other) = Shared::<L>::new(alloc, limits, bytes, calls, history);
     let one = other.split(1);
     open_tenants(rt, &shared, cut);
     if cut.has_neighbour {
@@ -166,7 +169,7 @@ pub(crate) fn uploaded<
     beside_text(alloc, answer, put, outcome, &mut locked, &mut share)
 }
 
-/// What an upload under a gate that does as the rule says was told, and what it and the stranger leave.
+/// The result of an upload under a gate with this rule, and what it and the stranger leave.
 pub(crate) fn left_by<R: Threads + Wait + Sync + AllocGlobal + Runtime>(
     rt: &R,
     rule: Rule,
@@ -176,5 +179,6 @@ pub(crate) fn left_by<R: Threads + Wait + Sync + AllocGlobal + Runtime>(
 ) -> Result<String, Fail> {
     let (bytes, calls) = (Blank::new(ALL_PARTS), Blank::new(ALL_PARTS));
     let gate = Checkpoint { rule, signal };
-    uploaded::<Brand, _, R>(rt, bytes, calls, &gate, signal, deed, cut)
+    let history = UnnamedHistory::new(rt.alloc())?;
+    uploaded::<Brand, _, R>(rt, bytes, calls, history, &gate, signal, deed, cut)
 }

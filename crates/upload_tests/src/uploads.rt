@@ -9,7 +9,7 @@ use std::sync::Wait;
 use std::test::Fail;
 use std::thread::Threads;
 
-// An upload for tenant 1 in parts of one chunk, beside which a stranger may do something, leaves a text that begins and ends so.
+// An upload for tenant 1 in parts of one chunk, during which a stranger may act, results in a text that begins and ends like this.
 fn leaves<R: Threads + Wait + Sync + AllocGlobal + Runtime + Abort>(
     rt: &R,
     rule: Rule,
@@ -65,7 +65,7 @@ fn any_number_of_workers_uploads(rt: HostRuntime) -> Result<(), Fail> {
     Ok(())
 }
 
-// All parts wait until as many were asked for as there are workers, so that all have to be at work at one time.
+// All parts wait until as many were asked for as there are workers, so all workers have to run at the same time.
 #[test]
 fn all_workers_overlap(rt: HostRuntime) -> Result<(), Fail> {
     for workers in [2, 16] {
@@ -83,8 +83,7 @@ fn all_workers_overlap(rt: HostRuntime) -> Result<(), Fail> {
     Ok(())
 }
 
-// While a stranger keeps the lock the workers make parts until the queue is full, and wait. Each part is asked for once, and
-// all are put.
+// While a stranger keeps the lock the workers make parts until the queue is full, and wait. Each part is asked for once, and all are put.
 #[test]
 fn a_full_queue_loses_no_part(rt: HostRuntime) -> Result<(), Fail> {
     for workers in [1, 2, 16] {

@@ -1,4 +1,4 @@
--- What functions within say beside specs/Reports.
+-- Definitions for private functions, in addition to specs/Reports.
 use Rattle.std.specs.Prelude.{◌≡◌, ◌≤◌, ℕ, List, Option, Result}
 use Rattle.b3_check.specs.declared.fault.Fault.{Fault}
 use Rattle.b3_check.specs.declared.line.Line.{Line}
@@ -20,9 +20,9 @@ pub record AreAtMost (n : ℕ) (counts : Counts) : Type 0 where
   pub unreadable : counts.unreadable ≤ n
   pub faults : counts.faults ≤ n
 
--- ---- one line of them
+-- ---- one line
 
--- a line was asked for: its verdict is with_verdict, and what is shown of it was written
+-- a line was handled: its verdict is with_verdict, and what is shown of it was written
 pub record IsLineAsked {S : Type 0} (gives : S → List ℕ → Answer → S → Type 0) (shown : Shown) (old : S) (number : ℕ) (line : Result Line Fault) (new : S) (before after : Counts) (written grown : Option (List ℕ)) : Type 0 where
   pub verdict : Verdict
   pub asked : IsVerdictBy gives old number line verdict new

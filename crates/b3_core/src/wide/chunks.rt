@@ -1,4 +1,4 @@
-//! Chunks side by side, a lane for each: their words, and their numbers.
+//! Chunks side by side, one lane each: their words and their numbers.
 
 ghost use Rattle.std.specs.Prelude.{◌≡◌, ℕ, ◌+◌, ◌*◌, ◌/◌, ◌%◌, ◌^◌, ◌<◌, ◌≤◌, ◌++◌, length, slice_index};
 ghost use Rattle.std.proofs.Common.{rules};
@@ -11,9 +11,9 @@ use crate::wide::mixing::ByteTurns;
 use crate::words::word;
 use std::simd::{u32x4, u32x8};
 
-/// Vectors with a lane for each of some chunks, which stand equally far from each other.
+/// Vectors with a lane for each of several equally spaced chunks.
 pub(crate) trait Chunks: ByteTurns {
-    // Four words in a row of each lane's chunk. From one lane's chunk to the next lane's there are so many.
+    // Four consecutive words of each lane's chunk. The chunks of neighbouring lanes are `step` chunks apart.
     fn words_at(bytes: &[u8], at: usize, step: usize) -> (Self, Self, Self, Self)
         requires { at + 16 + chunk_len * (step * Self.LANES) ≤ length bytes.now + chunk_len * step }
         ensures first { (j : ℕ) → j < Self.LANES → Self.word result.0 j ≡ word_at bytes.now (chunk_len * (step * j) + at) }
@@ -95,7 +95,7 @@ impl Chunks for u32x8 {
     }
 }
 
-// The lanes of two vectors, one behind the other.
+// The lanes of `front` followed by those of `back`.
 #[inline(always)]
 fn joined(front: u32x4, back: u32x4) -> u32x8
     ensures front { (j : ℕ) → j < 4 → slice_index result j ≡ slice_index front j }
@@ -104,7 +104,7 @@ fn joined(front: u32x4, back: u32x4) -> u32x8
     front.shuffle(back, [0, 1, 2, 3, 4, 5, 6, 7])
 }
 
-// Four words in a row.
+// Four consecutive words.
 #[inline(always)]
 fn row(bytes: &[u8], at: usize) -> u32x4
     requires { at + 16 ≤ length bytes.now }
@@ -118,7 +118,7 @@ fn row(bytes: &[u8], at: usize) -> u32x4
     ])
 }
 
-/// Four words in a row, and behind them the four that stand so many bytes further on.
+/// Four consecutive words at `at`, then the four that are `further` bytes after them.
 #[inline(always)]
 pub(crate) fn two_rows(bytes: &[u8], at: usize, further: usize) -> u32x8
     requires { at + further + 16 ≤ length bytes.now }
@@ -128,7 +128,7 @@ pub(crate) fn two_rows(bytes: &[u8], at: usize, further: usize) -> u32x8
     joined(row(bytes, at), row(bytes, at + further))
 }
 
-// Four vectors as the lanes of four others.
+// The transpose of a 4×4 matrix of words.
 #[inline(always)]
 fn transposed(a: u32x4, b: u32x4, c: u32x4, d: u32x4) -> (u32x4, u32x4, u32x4, u32x4)
     ensures first { result.0 ≡ across 0 a b c d }
@@ -147,7 +147,7 @@ fn transposed(a: u32x4, b: u32x4, c: u32x4, d: u32x4) -> (u32x4, u32x4, u32x4, u
     (first, second, third, fourth)
 }
 
-// The same in each half by itself.
+// The same for each half separately.
 #[inline(always)]
 fn transposed_halves(a: u32x8, b: u32x8, c: u32x8, d: u32x8) -> (u32x8, u32x8, u32x8, u32x8)
     ensures first { result.0 ≡ across 0 a b c d ++ across 4 a b c d }

@@ -15,8 +15,8 @@ use crate::work::Work;
 use std::simd::u32x8;
 
 impl Top {
-    /// The nodes of eight whole chunks, the first with the given number: node i is `of_chunk` of chunk i with
-    /// `number + i`. It makes their 120 compressions in one pass, eight side by side.
+    /// The nodes of eight whole chunks, the first with the number `number`: node i is `of_chunk` of chunk i with the number `number + i`.
+    /// Makes their 120 compressions eight at a time.
     pub fn of_eight(mode: &Mode, bytes: &[u8; 8192], number: u64, work: &mut Work) -> [Top; 8]
         requires { number ≤ 2 ^ 64 - 8 }
         ensures nodes { result ≡ eight_chunks bytes.now number mode.now }

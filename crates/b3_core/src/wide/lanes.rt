@@ -1,10 +1,10 @@
-//! Compressions side by side, one lane each, by vectors of any number of lanes.
+//! Compressions side by side, one lane each, in vectors of any number of lanes.
 
 ghost use Rattle.std.specs.Prelude.{◌≡◌, ℕ, ◌+◌, ◌*◌, ◌/◌, ◌%◌, ◌^◌, ◌<◌, ◌≤◌, ◌++◌, List, length, take, slice_index};
 ghost use Rattle.b3_core.specs.Compression.{columns, diagonals, round, permute, start_state, compress_of, output_words};
 ghost use Rattle.b3_core.specs.Lanes.{chunk_bytes, chunk_at};
 ghost use Rattle.b3_core.specs.inner.Lanes.{lane};
-ghost use Rattle.b3_core.specs.Tree.{Inputs, chaining_value_of, parent_top, block, block_words_of, chain, chunk_len, block_size};
+ghost use Rattle.b3_core.specs.Tree.{ModelTop, chaining_value_of, parent_top, block, block_words_of, chain, chunk_len, block_size};
 ghost use Rattle.b3_core.specs.Work.{counted};
 
 use crate::compression::{CHUNK_END, IV, PARENT, start_flag};
@@ -100,8 +100,8 @@ fn start_states<V: Words>(h: [V; 8], t_low: V, t_high: V, d: u32) -> [V; 16]
     ]
 }
 
-// The chaining value after a whole block, from that before it, in each lane: one compression for each. It takes the step of the
-// chunks, which it doesn't use, so that there is one for each caller, into which it goes with no copy of the block.
+// Advances the chaining value of each lane by one whole block: one compression for each lane. The parameter `STEP` is unused; it makes one
+// instance for each caller, so that the function is inlined without copying the block.
 fn compress<V: ByteTurns, const STEP: usize>(
     h: &mut [V; 8],
     m0: [V; 16],
@@ -168,7 +168,7 @@ fn blocks_at<V: Chunks, const STEP: usize>(bytes: &[u8], k: usize) -> [V; 16]
     ]
 }
 
-// The key words, in each lane.
+// The key words in every lane.
 fn keys<V: Words>(key: [u32; 8]) -> [V; 8]
     ensures { (j : ℕ) → j < V.LANES → lane V.word j result ≡ key }
 {
@@ -183,7 +183,7 @@ fn keys<V: Words>(key: [u32; 8]) -> [V; 8]
     [k0, k1, k2, k3, k4, k5, k6, k7]
 }
 
-// The chaining value of each lane's chunk after block `k`, from that before it.
+// Advances the chaining value of each lane's chunk by block `k`.
 fn compress_block<V: Chunks, const STEP: usize>(
     h: &mut [V; 8],
     bytes: &[u8],
@@ -203,8 +203,8 @@ fn compress_block<V: Chunks, const STEP: usize>(
     compress::<V, STEP>(h, m, t_low, t_high, d, work);
 }
 
-/// The chaining value of each lane's chunk after all of its blocks but the last. The first lane has the first chunk, of the
-/// given number, and from one lane's chunk to the next lane's there are `STEP`.
+/// The chaining value of each lane's chunk after all of its blocks but the last. The first lane has the first chunk, with the number
+/// `number`; the chunks of neighbouring lanes are `STEP` chunks apart.
 pub(crate) fn chains<V: Chunks, const STEP: usize>(
     mode: &Mode,
     bytes: &[u8],
@@ -219,7 +219,7 @@ pub(crate) fn chains<V: Chunks, const STEP: usize>(
     let t_low = V::low_words(number, STEP as u64);
     let t_high = V::high_words(number, STEP as u64);
     let mut h = keys(mode.key());
-    // Its proof names the loop by the label.
+    // The proof refers to the loop by this label.
     'blocks: for k in 0..15 {
         let d = mode.flag() + start_flag(k);
         compress_block::<V, STEP>(&mut h, bytes, k, t_low, t_high, d, work);
@@ -227,7 +227,7 @@ pub(crate) fn chains<V: Chunks, const STEP: usize>(
     h
 }
 
-/// The chaining value of each lane's chunk, with the chunks and numbers as `chains` has them.
+/// The chaining value of each lane's chunk. The lanes have the chunks and numbers that `chains` describes.
 pub(crate) fn chunk_values<V: Chunks, const STEP: usize>(
     mode: &Mode,
     bytes: &[u8],
@@ -250,7 +250,7 @@ pub(crate) fn chunk_values<V: Chunks, const STEP: usize>(
 // The chaining values of eight parents, from their blocks.
 #[inline(always)]
 fn block_parents(mode: &Mode, block: [u32x8; 16], work: &mut Work) -> [u32x8; 8]
-    ensures values { (j : ℕ) (a b : Inputs) → j < 8 → lane slice_index j block ≡ chaining_value_of a ++ chaining_value_of b
+    ensures values { (j : ℕ) (a b : ModelTop) → j < 8 → lane slice_index j block ≡ chaining_value_of a ++ chaining_value_of b
         → lane slice_index j result ≡ chaining_value_of (parent_top a b mode.now) }
     ensures count { work.new ≡ counted work.old 8 }
 {
@@ -260,30 +260,31 @@ fn block_parents(mode: &Mode, block: [u32x8; 16], work: &mut Work) -> [u32x8; 8]
     values
 }
 
-/// The chaining values of the parents of sixteen nodes: four of the first eight lanes, then four of the other eight.
+/// The chaining values of the parents of sixteen nodes: first the four parents of the eight nodes in `left`, then those in `right`.
 pub(crate) fn parent_values(
     mode: &Mode,
     left: [u32x8; 8],
     right: [u32x8; 8],
     work: &mut Work,
 ) -> [u32x8; 8]
-    ensures front { (j : ℕ) (a b : Inputs) → j < 4 → lane slice_index (2 * j) left ≡ chaining_value_of a → lane slice_index (2 * j + 1) left ≡ chaining_value_of b
+    ensures front { (j : ℕ) (a b : ModelTop) → j < 4 → lane slice_index (2 * j) left ≡ chaining_value_of a → lane slice_index (2 * j + 1) left ≡ chaining_value_of b
         → lane slice_index j result ≡ chaining_value_of (parent_top a b mode.now) }
-    ensures back { (j : ℕ) (a b : Inputs) → j < 4 → lane slice_index (2 * j) right ≡ chaining_value_of a → lane slice_index (2 * j + 1) right ≡ chaining_value_of b
+    ensures back { (j : ℕ) (a b : ModelTop) → j < 4 → lane slice_index (2 * j) right ≡ chaining_value_of a → lane slice_index (2 * j + 1) right ≡ chaining_value_of b
         → lane slice_index (j + 4) result ≡ chaining_value_of (parent_top a b mode.now) }
     ensures count { work.new ≡ counted work.old 8 }
 {
     block_parents(mode, pairs(left, right), work)
 }
 
-/// The chaining values of the parents of sixteen nodes: of a lane of the first eight, and the same lane of the other eight.
+/// The chaining values of the parents of sixteen nodes: each parent has a lane of the first eight and the same lane of the other eight as
+/// children.
 pub(crate) fn lane_parents(
     mode: &Mode,
     left: [u32x8; 8],
     right: [u32x8; 8],
     work: &mut Work,
 ) -> [u32x8; 8]
-    ensures values { (j : ℕ) (a b : Inputs) → j < 8 → lane slice_index j left ≡ chaining_value_of a → lane slice_index j right ≡ chaining_value_of b
+    ensures values { (j : ℕ) (a b : ModelTop) → j < 8 → lane slice_index j left ≡ chaining_value_of a → lane slice_index j right ≡ chaining_value_of b
         → lane slice_index j result ≡ chaining_value_of (parent_top a b mode.now) }
     ensures count { work.new ≡ counted work.old 8 }
 {
@@ -304,7 +305,7 @@ fn stacked(left: [u32x8; 8], right: [u32x8; 8]) -> [u32x8; 16]
     ]
 }
 
-// The lanes of even numbers, and those of odd numbers, of sixteen.
+// The even-numbered and the odd-numbered lanes of sixteen.
 #[inline(always)]
 fn parted(left: u32x8, right: u32x8) -> (u32x8, u32x8)
     ensures front { (j : ℕ) → j < 4 → (slice_index result.0 j ≡ slice_index left (2 * j)) × (slice_index result.1 j ≡ slice_index left (2 * j + 1)) }
@@ -334,7 +335,7 @@ fn pairs(left: [u32x8; 8], right: [u32x8; 8]) -> [u32x8; 16]
     ]
 }
 
-/// The words of one lane.
+/// The words of lane `i`.
 #[inline(always)]
 #[rattlefmt::skip]
 pub(crate) fn lane_words<V: Words>(h: &[V; 8], i: usize) -> [u32; 8]

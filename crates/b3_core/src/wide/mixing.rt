@@ -1,6 +1,5 @@
-//! G in each lane, for compressions side by side. A turn by whole bytes is one step, a move of the bytes; the exclusive or before
-//! it is one of bytes too, since LLVM makes two moves of one where it is of words. Rows have a `g` of their own, with more steps
-//! in a shorter chain.
+//! G in each lane, for compressions side by side. A rotation by whole bytes is a single byte shuffle. The exclusive or before it also works
+//! on bytes, because LLVM emits two shuffles for one on words. `rows` uses another `g`, with more steps in a shorter dependency chain.
 
 ghost use Rattle.std.specs.Prelude.{◌≡◌, ℕ, ◌<◌};
 ghost use Rattle.b3_core.specs.Compression.{xor_turn, g};
@@ -8,13 +7,13 @@ ghost use Rattle.b3_core.specs.Compression.{xor_turn, g};
 use crate::vectors::{Words, xor_turn};
 use std::simd::{u32x4, u32x8};
 
-/// Vectors of words with the turns of G by 16 and by 8 bits.
+/// Vectors of words with G's rotations by 16 and by 8 bits.
 pub(crate) trait ByteTurns: Words {
-    // The exclusive or, turned right by 16 bits.
+    // The exclusive or, rotated right by 16 bits.
     fn xor_turn_16(self, other: Self) -> Self
         ensures { (j : ℕ) → j < Self.LANES → Self.word result j ≡ xor_turn (Self.word self j) (Self.word other j) 16 };
 
-    // The exclusive or, turned right by 8 bits.
+    // The exclusive or, rotated right by 8 bits.
     fn xor_turn_8(self, other: Self) -> Self
         ensures { (j : ℕ) → j < Self.LANES → Self.word result j ≡ xor_turn (Self.word self j) (Self.word other j) 8 };
 }
@@ -61,8 +60,8 @@ impl ByteTurns for u32x8 {
     }
 }
 
-// G (section 2.2) on two quadruples of words of the state, with two message words for each, step by step in turn: so the
-// processor has two chains of steps at hand, neither of which waits for the other.
+// G (section 2.2) on two quadruples of words of the state, with two message words for each. The steps alternate, so that the processor has
+// two independent dependency chains.
 #[inline(always)]
 pub(crate) fn g_two<V: ByteTurns>(
     p: (V, V, V, V),

@@ -1,9 +1,9 @@
-//! Two compressions side by side, each a half of the rows: of two chunks, and of two parents.
+//! Two compressions side by side, each in one half of the rows: of two chunks, and of two parents.
 
 ghost use Rattle.std.specs.Prelude.{◌≡◌, ℕ, ◌+◌, ◌*◌, ◌/◌, ◌%◌, ◌^◌, ◌<◌, ◌≤◌, ◌++◌, length, slice_index};
 ghost use Rattle.b3_core.specs.Lanes.{chunk_bytes, chunk_at};
 ghost use Rattle.b3_core.specs.inner.Rows.{IsRowOf, rows_message, rows_value};
-ghost use Rattle.b3_core.specs.Tree.{Inputs, block, block_size, block_words_of, chaining_value_of, chunk_len, parent_top};
+ghost use Rattle.b3_core.specs.Tree.{ModelTop, block, block_size, block_words_of, chaining_value_of, chunk_len, parent_top};
 ghost use Rattle.b3_core.specs.Work.{counted};
 
 use crate::compression::{CHUNK_END, CHUNK_LEN, PARENT, compress_rows, high, low, start_flag};
@@ -23,7 +23,7 @@ fn keys(key: [u32; 8]) -> (u32x8, u32x8)
     (front, back)
 }
 
-// The last rows of two chunks' states: the first chunk has the given number.
+// The last rows of two chunks' states. The first chunk has the number `number`.
 #[inline(always)]
 #[rattlefmt::skip]
 fn last_rows(number: u64, flags: u32) -> u32x8
@@ -66,7 +66,7 @@ fn values_of(h: (u32x8, u32x8)) -> ([u32; 8], [u32; 8])
     )
 }
 
-/// The chaining values of two whole chunks, the first with the given number.
+/// The chaining values of two whole chunks, the first with the number `number`.
 pub(crate) fn pair_values(
     mode: &Mode,
     bytes: &[u8],
@@ -80,7 +80,7 @@ pub(crate) fn pair_values(
     ensures count { work.new ≡ counted work.old 32 }
 {
     let mut h = keys(mode.key());
-    // Its proof names the loop by the label.
+    // The proof refers to the loop by this label.
     'blocks: for k in 0..15 {
         let m = blocks_at(bytes, k);
         let last = last_rows(number, mode.flag() + start_flag(k));
@@ -92,7 +92,7 @@ pub(crate) fn pair_values(
     values_of(values)
 }
 
-// The blocks of two parents, of these children each.
+// The blocks of two parents: of the children `a` and `b`, and of `c` and `d`.
 #[inline(always)]
 #[rattlefmt::skip]
 fn parent_blocks(a: [u32; 8], b: [u32; 8], c: [u32; 8], d: [u32; 8]) -> (u32x8, u32x8, u32x8, u32x8)
@@ -115,8 +115,8 @@ pub(crate) fn pair_parents(
     d: [u32; 8],
     work: &mut Work,
 ) -> ([u32; 8], [u32; 8])
-    ensures first { (l r : Inputs) → a ≡ chaining_value_of l → b ≡ chaining_value_of r → result.0 ≡ chaining_value_of (parent_top l r mode.now) }
-    ensures second { (l r : Inputs) → c ≡ chaining_value_of l → d ≡ chaining_value_of r → result.1 ≡ chaining_value_of (parent_top l r mode.now) }
+    ensures first { (l r : ModelTop) → a ≡ chaining_value_of l → b ≡ chaining_value_of r → result.0 ≡ chaining_value_of (parent_top l r mode.now) }
+    ensures second { (l r : ModelTop) → c ≡ chaining_value_of l → d ≡ chaining_value_of r → result.1 ≡ chaining_value_of (parent_top l r mode.now) }
     ensures count { work.new ≡ counted work.old 2 }
 {
     let last = u32x8::of_row(u32x4::from_array([0, 0, 64, mode.flag() + PARENT]));

@@ -1,9 +1,9 @@
--- What one look at a reader takes of a line.
+-- What one call of a reader takes of a line.
 use Rattle.std.specs.Prelude.{◌≡◌, ◌≢◌, ℕ, Bool, true, List, Option, All, OnSome, length}
 use Rattle.std.specs.Io.{IsEmptyOrEndsWith, StopsAt}
 use Rattle.std.specs.Io.KnownBytes.{Consumes, IsAtEnd}
 
--- a part of a line was taken, of so many bytes; done with its line feed, or at the end of the input
+-- a piece of a line was taken, of `count` bytes; it is done after its newline, or at the end of the input
 pub record TakesPart (old new : Option (List ℕ)) (count : ℕ) (is_done : Bool) (bytes : List ℕ) : Type 0 where
   pub count_is : length bytes ≡ count
   pub consumes : Consumes old new bytes

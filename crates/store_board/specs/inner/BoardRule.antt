@@ -1,10 +1,10 @@
--- What functions within say beside specs/BoardRule.
+-- Definitions for private functions, in addition to specs/BoardRule.
 use Rattle.std.specs.Prelude.{◌≡◌, ℕ, ◌+◌, [], ◌++◌, nat_eq, nat_lt, MatchBool}
 use Rattle.atomic_table.specs.Table.{Me}
 use Rattle.store_board.specs.declared.board.view.SeatView.{SeatView}
 use Rattle.store_board.specs.BoardRule.{drawing_view, done_view, stopping_view, seeing_view}
 
--- what two views have together
+-- the sum of two views
 abbrev pub sum_view : SeatView → SeatView → SeatView
 sum_view v w = record v {
   rights = v.rights + w.rights;
@@ -14,7 +14,7 @@ sum_view v w = record v {
   seen_marks = v.seen_marks + w.seen_marks;
 }
 
--- the number found was drawn where it is one of the board's, else the seat is done
+-- the number was drawn if it is one of the board's, otherwise the seat is done
 abbrev pub Claimed : Me (Unit {0}) SeatView → ℕ → Me (Unit {0}) SeatView → Type 0
 Claimed v n w = (w.1 ≡ []) × MatchBool (nat_lt n v.0.parts) (w.0 ≡ drawing_view v.0 n) (w.0 ≡ done_view v.0)
 

@@ -1,4 +1,4 @@
--- What functions within say beside specs/HandOverRule.
+-- Definitions for private functions, in addition to specs/HandOverRule.
 use Rattle.std.specs.Prelude.{◌≡◌, ℕ, ◌+◌, List, ◌++◌, length}
 use Rattle.store_board.specs.declared.hand_over.taken.Taken.{Taken}
 use Rattle.store_board.specs.declared.hand_over.view.PassView.{PassView}

@@ -1,8 +1,8 @@
-//! Numbers that were drawn.
+//! Drawn numbers.
 
 ghost use Rattle.std.specs.Prelude.{◌≡◌};
 
-/// A number that a seat drew. It is neither copied nor made elsewhere, so what takes it by value is given it once.
+/// A number that a seat drew. It cannot be copied or made elsewhere, so a function that takes it by value gets it once.
 #[derive(Drop)]
 pub struct Draw {
     pub(crate) number: u64,

@@ -1,4 +1,4 @@
-//! What a refusal owes, by a rule that never holds.
+//! What a refusal implies, shown with a rule that never holds.
 
 ghost use Rattle.store_board.specs.Passes.{WasFull, WasEmpty};
 
@@ -14,7 +14,7 @@ impl Witness for Never {
     ghost seen = { λ items views. ⊥ };
 }
 
-/// Under a rule that never holds no refusal is true, though a caller may keep it.
+/// Under a rule that never holds no refusal is possible, even if a caller could keep the rule.
 pub fn never_refuses(hand_over: &HandOver<Never>, giver: &GivePass, taker: &TakePass)
     ensures giver { WasFull ⟦<Never as Witness>⟧.seen hand_over.now giver.now → ⊥ }
     ensures taker { WasEmpty ⟦<Never as Witness>⟧.seen taker.now → ⊥ }

@@ -1,7 +1,7 @@
-//! What a caller keeps of a hand-over, beside its own rule.
+//! A caller's own rule for a hand-over.
 
-/// A rule of the caller's own over what the queue holds and what each pass has done. The caller owes at each call that
-/// the call's step keeps it, and a refusal tells that it held of a full queue, or of an empty one.
+/// A caller's own rule about the queue's items and what each pass has done. At each call the caller has to show that the call's step keeps
+/// it, and a refusal says that it held for a full queue, or for an empty one.
 pub trait Witness {
     ghost use Rattle.std.specs.Prelude.{List};
     ghost use Rattle.store_board.specs.declared.hand_over.taken.Taken.{Taken};
@@ -10,7 +10,7 @@ pub trait Witness {
     ghost seen: { List Taken → List PassView → Type 0 };
 }
 
-/// The rule that asks nothing.
+/// The rule that requires nothing.
 pub struct Unasked;
 
 impl Witness for Unasked {

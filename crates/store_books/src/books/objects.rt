@@ -15,7 +15,7 @@ use std::alloc::AllocError;
 use store_upload::{FinishFault, HeldParts, Open};
 
 impl<H: HeldParts, O: Content, I: AddressIndex> Books<H, O, I> {
-    /// Why the upload would not be sealed, before its content is looked at. S7, S16, S10.
+    /// Why the upload would not be sealed, before its content is read: S7, S16, S10.
     pub fn ready_refusal(&self, number: u64) -> Option<Refusal>
         ensures { result ≡ ready_refusal H.Part.len self.now number }
     {
@@ -28,7 +28,7 @@ impl<H: HeldParts, O: Content, I: AddressIndex> Books<H, O, I> {
         }
     }
 
-    /// Why a complete upload, whose content has this address, would not be filed. S7, S6, S13.
+    /// Why a complete upload, whose content has this address, would not be filed: S7, S6, S13.
     pub fn file_refusal(&self, number: u64, address: Address) -> Option<Refusal>
         ensures { result ≡ file_refusal O.size O.address self.now number address }
     {
@@ -48,7 +48,7 @@ impl<H: HeldParts, O: Content, I: AddressIndex> Books<H, O, I> {
         self.full_refusal()
     }
 
-    /// The object of the address.
+    /// The object at the address.
     pub fn object(&self, address: Address) -> Option<&O>
         ensures found { IfSome result (λ content. (o : Filed O) × (object_at O.address self.now address ≡ Some o) × (content.now ≡ o.content)) }
         ensures none { IfNone result (object_at O.address self.now address ≡ None) }
@@ -56,7 +56,7 @@ impl<H: HeldParts, O: Content, I: AddressIndex> Books<H, O, I> {
         self.catalog.content(address)
     }
 
-    /// Files a complete upload's content, which is new, last, and hands out the upload.
+    /// Files the content of a complete upload, a new object, as the last one. Returns the upload.
     pub fn seal_new(&mut self, number: u64, content: O) -> Result<Open<H>, AllocError>
         requires ready { ready_refusal H.Part.len self.old number ≡ None }
         requires free { file_refusal O.size O.address self.old number (O.address content) ≡ None }
@@ -86,7 +86,7 @@ impl<H: HeldParts, O: Content, I: AddressIndex> Books<H, O, I> {
         Ok(upload)
     }
 
-    /// Adds a complete upload's tenant to the holders of the object of its content's address, and hands out the upload.
+    /// Adds the tenant of a complete upload to the holders of the object at its content's address. Returns the upload.
     pub fn seal_known(&mut self, number: u64, address: Address) -> Result<Open<H>, AllocError>
         requires ready { ready_refusal H.Part.len self.old number ≡ None }
         requires free { file_refusal O.size O.address self.old number address ≡ None }
@@ -122,7 +122,7 @@ impl<H: HeldParts, O: Content, I: AddressIndex> Books<H, O, I> {
         Ok(upload)
     }
 
-    /// Why a question on the object would not be answered to the tenant. S1, S12.
+    /// Why a question of the tenant about the object would be refused: S1, S12.
     pub fn holding_refusal(&self, tenant: u64, address: Address) -> Option<Refusal>
         ensures { result ≡ holding_refusal O.address self.now tenant address }
     {
@@ -135,7 +135,7 @@ impl<H: HeldParts, O: Content, I: AddressIndex> Books<H, O, I> {
         }
     }
 
-    /// Why the tenant would not be taken from the holders of the object. S1, S12, S13.
+    /// Why the tenant would not be removed from the holders of the object: S1, S12, S13.
     pub fn forget_refusal(&self, tenant: u64, address: Address) -> Option<Refusal>
         ensures { result ≡ forget_refusal O.address self.now tenant address }
     {
@@ -145,7 +145,7 @@ impl<H: HeldParts, O: Content, I: AddressIndex> Books<H, O, I> {
         }
     }
 
-    /// Takes the tenant from the holders of the object, and hands out the object where it has no other.
+    /// Removes the tenant from the holders of the object. Returns the object if it has no other holder.
     pub fn forget(&mut self, tenant: u64, address: Address) -> Option<O>
         requires { forget_refusal O.address self.old tenant address ≡ None }
         ensures left { self.new ≡ with_forgotten O.address self.old tenant address }
@@ -167,7 +167,7 @@ impl<H: HeldParts, O: Content, I: AddressIndex> Books<H, O, I> {
     }
 }
 
-// What an upload lacks, in a store.
+// The store's refusal for an incomplete upload.
 fn finish_refused(fault: FinishFault) -> Refusal
     ensures { result ≡ finish_refused_of fault }
 {

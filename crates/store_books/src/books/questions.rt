@@ -2,12 +2,12 @@
 
 ghost use Rattle.std.specs.Prelude.{◌≡◌, IfOk, slice_get};
 ghost use Rattle.std.specs.Map.{values_of};
-ghost use Rattle.store_books.specs.Books.{Begun};
+ghost use Rattle.store_books.specs.Books.{ModelOwnedUpload};
 ghost use Rattle.store_books.specs.Questions.{listed, open_upload_of, open_uploads, usage_in, usages_of};
 
 use crate::address::Address;
-use crate::begun::BegunUpload;
-use crate::books::{Books, OpenUpload, Usage};
+use crate::begun::OwnedUpload;
+use crate::books::{Books, UploadStatus, Usage};
 use crate::content::Content;
 use crate::filed::FiledObject;
 use crate::index::AddressIndex;
@@ -18,7 +18,7 @@ use std::collections::btree_map::{Iter, Values};
 use store_upload::HeldParts;
 
 impl<H: HeldParts, O: Content, I: AddressIndex> Books<H, O, I> {
-    /// A tenant's use, reservation and limit. S1.
+    /// A tenant's use, reservation and limit. Refusal: S1.
     pub fn usage(&self, tenant: u64) -> Result<Usage, Refusal>
         ensures { result ≡ usage_in O.size self.now tenant }
     {
@@ -33,7 +33,7 @@ impl<H: HeldParts, O: Content, I: AddressIndex> Books<H, O, I> {
         })
     }
 
-    /// A tenant's limit in bytes; none where there is no such tenant.
+    /// A tenant's limit in bytes; `None` if there is no such tenant.
     pub fn limit(&self, tenant: u64) -> Option<u64>
         ensures { result ≡ slice_get self.now.limits tenant }
     {
@@ -48,21 +48,21 @@ impl<H: HeldParts, O: Content, I: AddressIndex> Books<H, O, I> {
     }
 
     /// The open uploads with their numbers, by number.
-    pub fn uploads(&self) -> Iter<'_, u64, BegunUpload<H>>
+    pub fn uploads(&self) -> Iter<'_, u64, OwnedUpload<H>>
         ensures { result ≡ self.now.uploads }
     {
         self.uploads.iter()
     }
 
-    /// Addresses and lengths of the objects that a tenant holds, in filing order.
+    /// The addresses and lengths of the objects that a tenant holds, in filing order.
     pub fn list(&self, alloc: Global, tenant: u64) -> Result<Vec<(Address, u64)>, AllocError>
         ensures { IfOk result (λ list. list.items ≡ listed O.size O.address tenant self.now.objects) }
     {
         self.catalog.list(alloc, tenant)
     }
 
-    /// The open uploads of a tenant, by number. Time: linear in all open uploads.
-    pub fn list_uploads(&self, alloc: Global, tenant: u64) -> Result<Vec<OpenUpload>, AllocError>
+    /// The open uploads of a tenant, by number. The time is linear in the number of all open uploads.
+    pub fn list_uploads(&self, alloc: Global, tenant: u64) -> Result<Vec<UploadStatus>, AllocError>
         ensures { IfOk result (λ list. list.items ≡ open_uploads H.Part.len tenant self.now.uploads) }
     {
         let mut list = Vec::new(alloc);
@@ -89,12 +89,12 @@ impl<H: HeldParts, O: Content, I: AddressIndex> Books<H, O, I> {
     }
 }
 
-// What is told of the open upload of a number.
-fn open_upload<H: HeldParts>(number: u64, begun: &BegunUpload<H>) -> OpenUpload
+// What is reported about the open upload `number`.
+fn open_upload<H: HeldParts>(number: u64, begun: &OwnedUpload<H>) -> UploadStatus
     ensures { result ≡ open_upload_of H.Part.len (number, begun.now) }
 {
     let upload = begun.upload();
-    OpenUpload {
+    UploadStatus {
         upload: UploadId::new(number),
         bound: upload.plan().bound(),
         end: upload.end(),

@@ -1,28 +1,28 @@
 //! Commands on open uploads.
 
 ghost use Rattle.std.specs.Prelude.{◌≡◌, IfErr, IfNone, IfSome, None, OnErr, OnOk, Some};
-ghost use Rattle.store_books.specs.Books.{Begun, upload_at};
+ghost use Rattle.store_books.specs.Books.{ModelOwnedUpload, upload_at};
 ghost use Rattle.store_books.specs.Commands.{abort_refusal, add_refused as add_refused_of, begin_refusal, end_refusal, fix_refused as fix_refused_of, put_refusal, with_begun, with_fixed, with_put, without_upload};
 ghost use Rattle.store_upload.specs.Uploads.{Fits};
 
-use crate::begun::{self, BegunUpload};
+use crate::begun::{self, OwnedUpload};
 use crate::books::Books;
 use crate::content::Content;
 use crate::index::AddressIndex;
 use crate::refusal::Refusal;
 use crate::tenant::{Change, change_sums};
 use std::alloc::AllocError;
-use store_upload::{AddFault, FixFault, HeldParts, Length, MOST_BYTES, Open, Plan};
+use store_upload::{AddFault, FixFault, HeldParts, Length, MAX_BYTES, Open, Plan};
 
 impl<H: HeldParts, O: Content, I: AddressIndex> Books<H, O, I> {
-    /// Why an upload of that bound would not be begun. S1, S5, S6, S13.
+    /// Why an upload with that bound would not be begun: S1, S5, S6, S13.
     pub fn begin_refusal(&self, tenant: u64, bound: u64) -> Option<Refusal>
         ensures { result ≡ begin_refusal O.size self.now tenant bound }
     {
         if tenant >= self.tenants.len() as u64 {
             return Some(Refusal::NoTenant);
         }
-        if bound > MOST_BYTES {
+        if bound > MAX_BYTES {
             return Some(Refusal::TooLong);
         }
         let found = self.tenants[tenant as usize];
@@ -33,14 +33,14 @@ impl<H: HeldParts, O: Content, I: AddressIndex> Books<H, O, I> {
         self.full_refusal()
     }
 
-    /// Begins an upload of that plan, under the next number: its bound is reserved.
+    /// Begins an upload with that plan. It gets the next number, and its bound is reserved.
     pub fn begin(&mut self, tenant: u64, plan: Plan) -> Result<(), AllocError>
         requires { begin_refusal O.size self.old tenant plan.bound ≡ None }
         ensures begun { OnOk result (self.new ≡ with_begun self.old tenant plan) }
         ensures unchanged { OnErr result (self.new ≡ self.old) }
     {
         let bound = plan.bound();
-        let begun = BegunUpload::new(tenant, Open::new(self.alloc, plan));
+        let begun = OwnedUpload::new(tenant, Open::new(self.alloc, plan));
         begun::begin(&mut self.uploads, self.begun, begun)?;
         let used = Change { less: 0, more: 0 };
         let reserved = Change {
@@ -53,9 +53,9 @@ impl<H: HeldParts, O: Content, I: AddressIndex> Books<H, O, I> {
         Ok(())
     }
 
-    /// Why so many bytes, which fit the upload's plan, would not be put. S7, S9, S15, S13.
+    /// Why `len` bytes at `offset`, which fit the upload's plan, would not be put: S7, S9, S15, S13.
     pub fn put_refusal(&self, number: u64, offset: u64, len: u64) -> Option<Refusal>
-        requires { (u : Begun H.Part) → upload_at self.now number ≡ Some u → Fits u.upload.plan offset len }
+        requires { (u : ModelOwnedUpload H.Part) → upload_at self.now number ≡ Some u → Fits u.upload.plan offset len }
         ensures { result ≡ put_refusal H.Part.len self.now number offset len }
     {
         let Some(begun) = self.uploads.get(&number) else {
@@ -67,9 +67,9 @@ impl<H: HeldParts, O: Content, I: AddressIndex> Books<H, O, I> {
         }
     }
 
-    /// Puts a part, which fits the upload's plan. Where memory is refused, it is handed back.
+    /// Puts a part that fits the upload's plan. If an allocation fails, the part is returned.
     pub fn put(&mut self, number: u64, part: H::Given, work: &mut H::Work) -> Result<(), H::Given>
-        requires fits { (u : Begun H.Part) → upload_at self.old number ≡ Some u → Fits u.upload.plan (H.start part) (H.Part.len (H.kept part)) }
+        requires fits { (u : ModelOwnedUpload H.Part) → upload_at self.old number ≡ Some u → Fits u.upload.plan (H.start part) (H.Part.len (H.kept part)) }
         requires free { put_refusal H.Part.len self.old number (H.start part) (H.Part.len (H.kept part)) ≡ None }
         ensures put { OnOk result (self.new ≡ with_put H.Part.len self.old number (H.start part) (H.kept part)) }
         ensures count { OnOk result (IfSome (upload_at self.old number) (λ u. work.new ≡ H.works u.upload.parts (H.start part) (H.kept part) work.old)) }
@@ -96,7 +96,7 @@ impl<H: HeldParts, O: Content, I: AddressIndex> Books<H, O, I> {
         Ok(())
     }
 
-    /// Why the upload's end would not be fixed there. S7, S5, S15, S13.
+    /// Why the upload's end would not be fixed at `len`: S7, S5, S15, S13.
     pub fn fix_refusal(&self, number: u64, len: u64) -> Option<Refusal>
         ensures { result ≡ end_refusal H.Part.len self.now number len }
     {
@@ -109,7 +109,7 @@ impl<H: HeldParts, O: Content, I: AddressIndex> Books<H, O, I> {
         }
     }
 
-    /// Fixes the upload's end: its tenant then reserves no more than that.
+    /// Fixes the upload's end at `len`. Its tenant then reserves no more than that.
     pub fn fix(&mut self, number: u64, len: u64)
         requires { end_refusal H.Part.len self.old number len ≡ None }
         ensures { self.new ≡ with_fixed self.old number len }
@@ -129,7 +129,7 @@ impl<H: HeldParts, O: Content, I: AddressIndex> Books<H, O, I> {
         self.accepted += 1;
     }
 
-    /// Why the upload would not be given up. S7, S13.
+    /// Why the upload would not be aborted: S7, S13.
     pub fn abort_refusal(&self, number: u64) -> Option<Refusal>
         ensures { result ≡ abort_refusal self.now number }
     {
@@ -139,7 +139,7 @@ impl<H: HeldParts, O: Content, I: AddressIndex> Books<H, O, I> {
         }
     }
 
-    /// Gives an upload up, and hands it out.
+    /// Aborts an upload, and returns it.
     pub fn abort(&mut self, number: u64) -> Open<H>
         requires { abort_refusal self.old number ≡ None }
         ensures gone { self.new ≡ without_upload self.old number }
@@ -163,7 +163,7 @@ impl<H: HeldParts, O: Content, I: AddressIndex> Books<H, O, I> {
     }
 }
 
-// What speaks against a part, in a store.
+// The store's refusal for a part that is not added.
 fn add_refused(fault: AddFault) -> Refusal
     ensures { result ≡ add_refused_of fault }
 {
@@ -175,7 +175,7 @@ fn add_refused(fault: AddFault) -> Refusal
     }
 }
 
-// What speaks against an end, in a store.
+// The store's refusal for an end that is not fixed.
 fn fix_refused(fault: FixFault) -> Refusal
     ensures { result ≡ fix_refused_of fault }
 {

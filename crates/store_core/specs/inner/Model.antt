@@ -1,11 +1,11 @@
--- What functions within say beside specs/Model.
+-- Definitions for private functions, in addition to specs/Model.
 use Rattle.std.specs.Prelude.{ℕ, List}
 use Rattle.b3_forest.specs.Uploads.{content_of}
-use Rattle.store_books.specs.Books.{Begun}
+use Rattle.store_books.specs.Books.{ModelOwnedUpload}
 
--- an open upload of bytes, and an object of bytes, with their tenants
+-- an open upload of bytes and an object of bytes, with their tenants
 abbrev pub ModelUpload : Type 0
-ModelUpload = Begun (List ℕ)
+ModelUpload = ModelOwnedUpload (List ℕ)
 
 -- an upload's parts, joined by offset
 abbrev pub content : ModelUpload → List ℕ

@@ -1,4 +1,4 @@
--- What functions within say beside specs/Uploads.
+-- Definitions for private functions, in addition to specs/Uploads.
 use Rattle.std.specs.Prelude.{◌≡◌, ℕ, Bool, List, Some, Ok, length}
 use Rattle.b3_core.specs.Modes.{hash_of}
 use Rattle.store_books.specs.Bare.{Bare}
@@ -8,13 +8,13 @@ use Rattle.store_journal.specs.Replay.{accepted_of, replay_of}
 use Rattle.store_ledger.specs.declared.holding.Holding.{Holding}
 use Rattle.store_engines.specs.Uploads.{uploaded_text, HasObject}
 
--- an object of so many bytes is filed under the address
+-- an object of n bytes is filed at the address
 abbrev pub IsFiled : ModelStore → List ℕ → ℕ → Type 0
 IsFiled s address n = (o : ModelObject) × (object_at hash_of s address ≡ Some o) × (length o.content ≡ n)
 
--- What is written of a store whose upload was filed: its journal is legal and leaves an object under the address, and what it accepted is
+-- What is written for a store with a filed upload: its journal is legal and results in an object at the address, and what it accepted is
 -- what the share says.
-pub record IsTold (journal : Bool) (address : List ℕ) (share : Holding) (shown : Shown) (text : List ℕ) : Type 0 where
+pub record IsUploadReport (journal : Bool) (address : List ℕ) (share : Holding) (shown : Shown) (text : List ℕ) : Type 0 where
   pub left : Bare
   pub legal : replay_of shown.journal ≡ Ok left
   pub filed : HasObject left address share.bytes

@@ -1,4 +1,4 @@
--- What functions within say beside specs/Script.
+-- Definitions for private functions, in addition to specs/Script.
 use Rattle.std.specs.Prelude.{Result, Ok, Err}
 use Rattle.store_script.specs.declared.ending.Ending.{Ending}
 use Rattle.store_script.specs.declared.ending.Ending.TheVariants as endings
@@ -9,12 +9,12 @@ use Rattle.edge.specs.declared.outcome.Verdict.TheVariants as verdicts
 
 -- ---- a script
 
--- what stops a run whose answers so far end so: want of memory where one of them told it, else what came now
+-- the cause that stops a run, given how the answers so far end: out of memory if one of them was, otherwise the cause that occurs now
 abbrev pub first_cause : Ending → Cause → Cause
 first_cause endings.OutOfMemory cause = causes.OutOfMemory
 first_cause _ cause = cause
 
--- how a script ends that was answered to its end, by its answers
+-- the result of a script that was answered completely, given how its answers end
 abbrev pub ended_as : Ending → Result Verdict Cause
 ended_as endings.Good = Ok verdicts.Good
 ended_as endings.Refused = Ok verdicts.Refused

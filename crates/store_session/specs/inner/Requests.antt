@@ -1,4 +1,4 @@
--- What functions within say beside specs/Requests.
+-- Definitions for private functions, in addition to specs/Requests.
 use Rattle.std.specs.Prelude.{◌≡◌, ℕ, List, Option}
 use Rattle.store_session.specs.inner.Reads.{IsLineRead}
 use Rattle.store_session.specs.declared.reading.LineRead.{LineRead}

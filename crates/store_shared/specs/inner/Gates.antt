@@ -1,4 +1,4 @@
--- What functions within say beside specs/Gates.
+-- Definitions for private functions, in addition to specs/Gates.
 use Rattle.std.specs.Prelude.{ℕ, ◌<◌}
 use Rattle.store_shared.specs.declared.gate.GateStop.{GateStop}
 use Rattle.store_shared.specs.declared.gate.GateStop.TheVariants.{Stop, Fault}
@@ -6,7 +6,7 @@ use Rattle.store_shared.specs.declared.fault.UploadFaultKind.{UploadFaultKind}
 use Rattle.store_shared.specs.declared.fault.UploadFaultKind.TheVariants.{BadCut, GateFault, NoMemory, Refused, Stopped, StrangePart}
 use Rattle.store_shared.specs.Gates.{MayStop}
 
--- a fault of an upload of n parts, past its beginning
+-- a fault of an upload of n parts, after it was begun
 abbrev pub IsFaultOf : (ℕ → Type 0) → (ℕ → ℕ → Type 0) → ℕ → UploadFaultKind → Type 0
 IsFaultOf may_stop may_fault n BadCut = ⊥
 IsFaultOf may_stop may_fault n Stopped = MayStop may_stop n
@@ -15,7 +15,7 @@ IsFaultOf may_stop may_fault n (Refused refusal) = Unit {0}
 IsFaultOf may_stop may_fault n NoMemory = Unit {0}
 IsFaultOf may_stop may_fault n StrangePart = Unit {0}
 
--- the fault that a gate's answer for a part is
+-- the fault for a gate's result for a part
 abbrev pub fault_for : ℕ → GateStop → UploadFaultKind
 fault_for part Stop = Stopped
 fault_for part (Fault code) = GateFault part code

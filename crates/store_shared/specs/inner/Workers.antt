@@ -9,14 +9,14 @@ use Rattle.store_board.specs.declared.hand_over.give_pass.GivePass.{GivePass}
 use Rattle.store_board.specs.declared.hand_over.taken.Taken.{Taken}
 use Rattle.store_shared.specs.Cuts.{part_at}
 use Rattle.store_shared.specs.inner.Gates.{IsFaultOf}
-use Rattle.store_shared.specs.Uploading.{Cutting, cut_count}
+use Rattle.store_shared.specs.Uploading.{ModelCut, cut_count}
 use Rattle.store_shared.specs.declared.fault.UploadFaultKind.{UploadFaultKind}
 use Rattle.store_shared.specs.declared.job.Exchange.{Exchange}
 use Rattle.store_shared.specs.declared.worker.Report.{Report}
 use Rattle.store_shared.specs.declared.worker.ReportOf.{ReportOf}
 use Rattle.store_shared.specs.declared.worker.Worker.{Worker}
 
--- a worker's seat is of the exchange's board, and its pass of the hand-over
+-- a worker's seat belongs to the exchange's board, and its pass to the hand-over
 abbrev pub IsWorkerOf : Exchange → Worker → Type 0
 IsWorkerOf exchange worker = IsSeatOf exchange.board worker.seat × IsGiverOf exchange.hand_over worker.pass
 
@@ -24,23 +24,23 @@ IsWorkerOf exchange worker = IsSeatOf exchange.board worker.seat × IsGiverOf ex
 abbrev pub AreWorkersOf : Exchange → List Worker → Type 0
 AreWorkersOf exchange workers = All (λ worker. IsWorkerOf exchange worker × (given_of worker.pass ≡ [])) workers
 
--- what was handed over is a part of the cut whose number has passed
-pub record IsPassedPart (has_passed : ℕ → Type 0) (c : Cutting) (t : Taken) : Type 0 where
+-- what was handed over is the part with a number that has passed
+pub record IsPassedPart (has_passed : ℕ → Type 0) (c : ModelCut) (t : Taken) : Type 0 where
   pub number : ℕ
   pub part : t.part.part ≡ part_at c.bytes c.part_chunks number
   pub passed : has_passed number
 
--- all that was given is such parts
-abbrev pub AllPassed : (ℕ → Type 0) → Cutting → GivePass → Type 0
+-- everything that was given is such a part
+abbrev pub AllPassed : (ℕ → Type 0) → ModelCut → GivePass → Type 0
 AllPassed has_passed c pass = All (IsPassedPart has_passed c) (given_of pass)
 
--- a report on an upload of a cut: a fault that the gate may have caused, or want of memory, or none; and all that the worker gave has passed
-abbrev pub IsReportOf : Exchange → (ℕ → Type 0) → (ℕ → ℕ → Type 0) → (ℕ → Type 0) → Cutting → Report → Type 0
+-- a report: a fault that the gate may have caused, or out of memory, or none; and everything that the worker gave has passed
+abbrev pub IsReportOf : Exchange → (ℕ → Type 0) → (ℕ → ℕ → Type 0) → (ℕ → Type 0) → ModelCut → Report → Type 0
 IsReportOf exchange may_stop may_fault has_passed c report =
     IfSome report.fault (IsFaultOf may_stop may_fault (cut_count c)) × IsWorkerOf exchange report.worker × AllPassed has_passed c report.worker.pass
 
--- the thread's promise is of this cut, gate and exchange
-abbrev pub IsThreadOf : {G : Type 0} → Cutting → G → Exchange → PromisedHandle Report (ReportOf G) → Type 0
+-- the thread's promise is about these parts, this gate and this exchange
+abbrev pub IsThreadOf : {G : Type 0} → ModelCut → G → Exchange → PromisedHandle Report (ReportOf G) → Type 0
 IsThreadOf c gate exchange h = (lent_bytes h.promise.lent ≡ c.bytes) × (h.promise.part_chunks ≡ c.part_chunks) × (h.promise.gate.now ≡ gate) × (h.promise.exchange.now ≡ exchange)
 
 -- the fault of the first worker that had one

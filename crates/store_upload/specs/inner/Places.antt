@@ -1,8 +1,8 @@
--- What the functions within say of parts in an ordered map.
+-- Definitions for private functions about parts in an ordered map.
 use Rattle.std.specs.Prelude.{◌<◌, ◌≤◌, ◌&&◌, ◌||◌, ℕ, Bool, false, List, [], ◌∷◌, nat_le, nat_lt}
 use Rattle.store_upload.specs.Uploads.{end_of}
 
--- parts of at least one byte, in order from an offset on, none of which overlaps another, within n bytes
+-- parts of at least one byte, in order from an offset on, disjoint, within n bytes
 abbrev pub AreApart : {P : Type 0} → (P → ℕ) → ℕ → ℕ → List (ℕ × P) → Type 0
 AreApart len from n [] = from ≤ n
 AreApart len from n (p ∷ ps) = (from ≤ p.0) × (0 < len p.1) × AreApart len (end_of len p) n ps

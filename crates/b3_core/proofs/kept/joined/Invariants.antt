@@ -5,7 +5,7 @@ use Rattle.b3_core.proofs.kept.joined.Given as goal
 
 abbrev pub invariant-loop-left : goal.invariant-loop-left
 invariant-loop-left l =
-    (joined l.mode (reverse l.rest) l.top ≡ joined l.mode (reverse l.subtrees) l.fn.behind)
+    (joined l.mode (reverse l.rest) l.top ≡ joined l.mode (reverse l.subtrees) l.fn.following)
     × (counted l.work (2 * length l.rest) ≡ counted l.fn.work (2 * length l.subtrees))
 
 abbrev pub decreases-loop-left : goal.decreases-loop-left

@@ -4,7 +4,7 @@ use Rattle.std.proofs.lemmas.Option.{slice_get_within}
 use Rattle.b3_core.specs.Hashers.{AreAbove}
 use Rattle.b3_core.specs.inner.Hashers.{IsNext}
 use Rattle.b3_core.specs.Kept.{nodes_of}
-use Rattle.b3_core.specs.Tree.{Inputs}
+use Rattle.b3_core.specs.Tree.{ModelTop}
 use Rattle.b3_core.proofs.Hashings.{above_next, has_room, merge_step, none_above, put_last}
 use Rattle.b3_core.proofs.kept.push.Goals as goal
 use Rattle.b3_core.proofs.kept.push.Goals.{in-Some+then-last-next, in_default}
@@ -16,7 +16,7 @@ higher c =
     omega (arith, from, c.saturating_add-level.ensures)
 
 -- the last of those before it
-abbrev last : goal.After-pop → ℕ × Inputs
+abbrev last : goal.After-pop → ℕ × ModelTop
 last c = (c.last-in-Some.inside.level, c.last-in-Some.inside.top)
 
 at : (c : goal.After-pop) → slice_get (nodes_of c.loop-last.subtrees) (length (nodes_of c.loop-last.subtrees) - 1) ≡ Some (last c)
@@ -26,7 +26,7 @@ pub loop-last-preserved : goal.loop-last-preserved
 loop-last-preserved c = record {
   keeps = λ x is few.
       let inv = c.loop-last.invariant.keeps x is few in
-      let next : ℕ × Inputs = (c.next.inside.level, c.next.inside.top) in
+      let next : ℕ × ModelTop = (c.next.inside.level, c.next.inside.top) in
       let now = rw (← c.next.view_is) at inv in
       merge_step c.args.mode.now (reverse (nodes_of c.loop-last.subtrees)) (reverse (nodes_of c.pop.new.self)) (last c) next x c.saturating_add-level.result c.parent-top.result _ _ _ _
       (c.pop.ensures.rest (last c) (at c)) c.if-last-next.false c.saturating_add-level.ensures c.parent-top.ensures.node c.parent-top.ensures.count few now.0 now.1;

@@ -1,14 +1,14 @@
 use Rattle.std.proofs.Common.{◌≡◌, ℕ, List, ◌-◌, ◌*◌, ◌^◌, min, length, take, drop, arith, ap, ap₂, sym, ◌∙◌}
 use Rattle.std.proofs.lemmas.List.{take_min, length-drop, length-take-le}
 use Rattle.b3_core.specs.Modes.{hash_mode}
-use Rattle.b3_core.specs.Tree.{Inputs, Keying, tree_top}
+use Rattle.b3_core.specs.Tree.{ModelTop, ModelMode, tree_top}
 use Rattle.b3_forest.proofs.Ranges.{content_within}
 use Rattle.b3_forest.specs.declared.piece.Piece.{Piece}
 use Rattle.b3_forest.proofs.cutting.piece_of.Goals as goal
 
 -- one number and one mode, one top
-same_top : (x : List ℕ) (c d : ℕ) (p q : Keying) → c ≡ d → p ≡ q → tree_top x c p ≡ tree_top x d q
-same_top x c d p q number mode = ap₂ (λ (i : ℕ) (m : Keying). tree_top x i m) number mode
+same_top : (x : List ℕ) (c d : ℕ) (p q : ModelMode) → c ≡ d → p ≡ q → tree_top x c p ≡ tree_top x d q
+same_top x c d p q number mode = ap₂ (λ (i : ℕ) (m : ModelMode). tree_top x i m) number mode
 
 pub returns-clause-piece : goal.returns-clause-piece
 returns-clause-piece c =
@@ -25,7 +25,7 @@ returns-clause-piece c =
     let top = c.of_subtree-top.ensures.node
     ∙ same_top _ _ c.args.first _ hash_mode (omega arith) c.hash.ensures
     ∙ ap (λ (x : List ℕ). tree_top x c.args.first hash_mode) (bytes ∙ sym content) in
-    let Made : Inputs → Piece = λ t. record { first = c.args.first; level = c.args.level; top = t } in
+    let Made : ModelTop → Piece = λ t. record { first = c.args.first; level = c.args.level; top = t } in
     ap Made top
 
 pub of_subtree-top-requires : goal.of_subtree-top-requires

@@ -1,5 +1,5 @@
 use Rattle.std.proofs.Common.{◌≡◌, ◌*◌, ◌-◌, ℕ, List, arith, ap, ap₂, sym, ◌∙◌}
-use Rattle.b3_core.specs.Tree.{Keying, tree_top}
+use Rattle.b3_core.specs.Tree.{ModelMode, tree_top}
 use Rattle.b3_core.specs.Work.{counted}
 use Rattle.b3_forest.specs.Parts.{chunk_in}
 use Rattle.b3_forest.proofs.Canonical.{forest_count}
@@ -20,7 +20,7 @@ returns-in-Some-clause-count c n ps all =
 pub returns-in-None-clause-top : goal.returns-in-None-clause-top
 returns-in-None-clause-top c n ps all =
     let empty = finish_empty n ps c.args.subtrees.now.entries c.tree_laws.ensures.join all c.in-None.ensures.top in
-    c.of_input.ensures.node ∙ ap₂ (λ (b : List ℕ) (m : Keying). tree_top b 0 m) (sym empty) c.hash.ensures
+    c.of_input.ensures.node ∙ ap₂ (λ (b : List ℕ) (m : ModelMode). tree_top b 0 m) (sym empty) c.hash.ensures
 
 pub returns-in-None-clause-len : goal.returns-in-None-clause-len
 returns-in-None-clause-len c n ps all = finish_length n ps c.args.subtrees.now.entries all

@@ -1,6 +1,6 @@
 use Rattle.std.proofs.Common.{ℕ, arith, ap, sym, ◌∙◌, subst}
 use Rattle.std.proofs.lemmas.Nat.{pow_pos}
-use Rattle.b3_core.specs.Tree.{Inputs}
+use Rattle.b3_core.specs.Tree.{ModelTop}
 use Rattle.b3_forest.specs.inner.Subtrees.{IsPair}
 use Rattle.b3_forest.specs.declared.piece.Subtree.{Subtree}
 use Rattle.b3_forest.proofs.Merging.{some_same}
@@ -47,7 +47,7 @@ returns-clause-pair c =
     let subtree = c.in-Some.subtree.now in
     let other = c.in-Some-get.other.now in
     let half = other_place x es c.args.first subtree c.width.result place pieces here c.width.ensures c.other_half-place.ensures in
-    let Made = λ (p : ℕ × ℕ × Inputs × Inputs). IsPair es c.args.first (record { left = p.0; right = p.1; level = subtree.level; left_top = p.2; right_top = p.3 }) in
+    let Made = λ (p : ℕ × ℕ × ModelTop × ModelTop). IsPair es c.args.first (record { left = p.0; right = p.1; level = subtree.level; left_top = p.2; right_top = p.3 }) in
     elim c.if-first-place.branch [
       | then-first-place w ↦ subst Made (sym w.left-is) (pair_of x es c.args.first place subtree other pieces here there c.if-other-subtree.false half w.if-first-place.true)
       | else-first-place w ↦ subst Made (sym w.left-is) (pair_to x es c.args.first place subtree other pieces here there c.if-other-subtree.false half (λ before. omega (arith, before, w.if-first-place.false)))

@@ -1,6 +1,6 @@
 use Rattle.std.proofs.Common.{◌≡◌, ◌*◌, ◌-◌, Some, None, length, ap, sym, ◌∙◌}
 use Rattle.std.proofs.lemmas.Map.Entries.{length-values_of}
-use Rattle.b3_core.specs.Tree.{Inputs, parent_top}
+use Rattle.b3_core.specs.Tree.{ModelTop, parent_top}
 use Rattle.b3_core.specs.Work.{counted}
 use Rattle.b3_forest.specs.inner.Subtrees.{top_before}
 use Rattle.b3_forest.proofs.Tops.{first_count, more_count, none_count, top_push}
@@ -25,7 +25,7 @@ loop-subtree-preserved c =
     let steps = c.in-Some.ensures.steps in
     let subtree = c.parent.ensures.node ∙ ap (parent_top c.in-Some.subtree.now.top c.in-Some-top.right) c.hash.ensures in
     record {
-      top = ap (λ (t : Inputs). top_before c.next.new.self.iter (Some t)) subtree ∙ sym (top_push c.next.new.self.iter c.in-Some.subtree.now (Some c.in-Some-top.right)) ∙ ap (λ ns. top_before ns (Some c.in-Some-top.right)) (sym steps)
+      top = ap (λ (t : ModelTop). top_before c.next.new.self.iter (Some t)) subtree ∙ sym (top_push c.next.new.self.iter c.in-Some.subtree.now (Some c.in-Some-top.right)) ∙ ap (λ ns. top_before ns (Some c.in-Some-top.right)) (sym steps)
           ∙ ap (top_before c.loop-subtree.subtree-iterator.iter) (sym c.in-Some-top.is) ∙ c.loop-subtree.invariant.top;
       work = more_count c.loop-subtree.work c.parent.new.work _ c.loop-subtree.subtree-iterator.iter c.next.new.self.iter c.in-Some.subtree.now c.in-Some-top.right c.loop-subtree.top c.in-Some-top.is steps c.parent.ensures.count c.loop-subtree.invariant.work;
     }

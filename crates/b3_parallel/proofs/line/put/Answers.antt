@@ -1,12 +1,12 @@
 use Rattle.std.proofs.Common.{◌≡◌, ◌*◌, ◌+◌, ◌/◌, ◌^◌, ◌<◌, ◌≤◌, ◌++◌, ◌∷◌, ◌∙◌, List, [], length, arith, ap, ap₂, subst, sym, rules, ℕ}
-use Rattle.b3_core.specs.Tree.{Inputs, Keying, tree_top}
+use Rattle.b3_core.specs.Tree.{ModelTop, ModelMode, tree_top}
 use Rattle.b3_parallel.specs.inner.Blocks.{IsHashed}
 use Rattle.b3_parallel.specs.inner.Lines.{Carries, Thread}
 use Rattle.b3_parallel.proofs.Carrying.{thread_carries}
 use Rattle.b3_parallel.proofs.line.put.Goals as goal
 
 -- a block at the end of all bytes
-at_end : (top : Inputs) (mine x : List ℕ) (number own : ℕ) (mode p : Keying) → IsHashed mode mine number top own → mode ≡ p → length x ≡ 1024 * number → IsHashed p mine (length x / 1024) top own
+at_end : (top : ModelTop) (mine x : List ℕ) (number own : ℕ) (mode p : ModelMode) → IsHashed mode mine number top own → mode ≡ p → length x ≡ 1024 * number → IsHashed p mine (length x / 1024) top own
 at_end top mine x number own mode p (node, made) same size =
     let count : number ≡ length x / 1024 = omega (arith, size) in
     (node ∙ ap₂ (λ n q. tree_top mine n q) count same, made)

@@ -1,9 +1,9 @@
 use Rattle.std.proofs.Common.{◌≡◌, ℕ, ◌+◌, ◌++◌, ◌∷◌, ◌∙◌, List, ap, arith, drop, length, refl, rules, subst, sym}
 use Rattle.std.proofs.lemmas.List.{nil_from_length}
 use Rattle.std.specs.Vec.Iter.{into_iter_items, into_iter_len}
-use Rattle.b3_core.specs.Hashers.{HasRoomFor, Hashing, Holds, CountsRest, kept_work}
+use Rattle.b3_core.specs.Hashers.{HasRoomFor, ModelHasher, Holds, CountsRest, kept_work}
 use Rattle.b3_core.specs.Work.{NeverFalls}
-use Rattle.b3_parallel.specs.inner.Parts.{StandBehind, stretch_at}
+use Rattle.b3_parallel.specs.inner.Parts.{AreAfter, stretch_at}
 use Rattle.b3_parallel.specs.declared.parts.Part.{Part}
 use Rattle.b3_parallel.proofs.Standing.{all_parts, before_first, before_part, next_of, next_part, none_left, none_made, part_is_behind, part_made}
 use Rattle.b3_parallel.proofs.parts.append_all.Goals as goal
@@ -21,13 +21,13 @@ loop-part-init c = (
 pub loop-part-preserved : goal.loop-part-preserved
 loop-part-preserved c = go c.loop-part.invariant
   where
-    old : Hashing
+    old : ModelHasher
     old = c.args.hasher.now
 
-    h : Hashing
+    h : ModelHasher
     h = c.loop-part.hasher
 
-    new : Hashing
+    new : ModelHasher
     new = c.append.new.self
 
     k : ℕ
@@ -37,9 +37,9 @@ loop-part-preserved c = go c.loop-part.invariant
     parts = c.args.parts.items
 
     go : (h.mode ≡ old.mode) × NeverFalls c.args.work.now c.loop-part.work × (into_iter_len c.loop-part.rest ≡ length (into_iter_items c.loop-part.rest)) × (i : ℕ) × (drop i parts ≡ into_iter_items c.loop-part.rest)
-        × ((x bytes : List ℕ) → StandBehind old k parts x bytes → Holds h (x ++ before_part bytes k i) × HasRoomFor k h × CountsRest (kept_work old.subtrees) (kept_work h.subtrees) c.args.work.now c.loop-part.work)
+        × ((x bytes : List ℕ) → AreAfter old k parts x bytes → Holds h (x ++ before_part bytes k i) × HasRoomFor k h × CountsRest (kept_work old.subtrees) (kept_work h.subtrees) c.args.work.now c.loop-part.work)
         → (new.mode ≡ old.mode) × NeverFalls c.args.work.now c.append.new.work × (into_iter_len c.next.new.self ≡ length (into_iter_items c.next.new.self)) × (i : ℕ) × (drop i parts ≡ into_iter_items c.next.new.self)
-        × ((x bytes : List ℕ) → StandBehind old k parts x bytes → Holds new (x ++ before_part bytes k i) × HasRoomFor k new × CountsRest (kept_work old.subtrees) (kept_work new.subtrees) c.args.work.now c.append.new.work)
+        × ((x bytes : List ℕ) → AreAfter old k parts x bytes → Holds new (x ++ before_part bytes k i) × HasRoomFor k new × CountsRest (kept_work old.subtrees) (kept_work new.subtrees) c.args.work.now c.append.new.work)
     go (mode, rises, size, i, left, stands) =
         let part = c.in-Some.part in
         let less : into_iter_len c.next.new.self + 1 ≡ into_iter_len c.loop-part.rest = search (rules, c.in-Some.ensures.len) in
@@ -64,7 +64,7 @@ pub returns-clause-bytes : goal.returns-clause-bytes
 returns-clause-bytes c x bytes are = go c.loop-part.invariant
   where
     go : (c.loop-part.hasher.mode ≡ c.args.hasher.now.mode) × NeverFalls c.args.work.now c.loop-part.work × (into_iter_len c.loop-part.rest ≡ length (into_iter_items c.loop-part.rest)) × (i : ℕ) × (drop i c.args.parts.items ≡ into_iter_items c.loop-part.rest)
-        × ((x bytes : List ℕ) → StandBehind c.args.hasher.now c.args.level c.args.parts.items x bytes
+        × ((x bytes : List ℕ) → AreAfter c.args.hasher.now c.args.level c.args.parts.items x bytes
         → Holds c.loop-part.hasher (x ++ before_part bytes c.args.level i) × HasRoomFor c.args.level c.loop-part.hasher × CountsRest (kept_work c.args.hasher.now.subtrees) (kept_work c.loop-part.hasher.subtrees) c.args.work.now c.loop-part.work)
         → Holds c.loop-part.hasher (x ++ bytes)
     go (mode, rises, size, i, left, stands) =

@@ -1,8 +1,8 @@
 use Rattle.std.proofs.Common.{◌≡◌, ℕ, ◌+◌, ◌*◌, ◌^◌, ◌<◌, ◌++◌, List, length, arith, rules, ap, sym, ◌∙◌, subst, append_assoc, length-append}
 use Rattle.b3_core.specs.Hashers.{Holds}
-use Rattle.b3_core.specs.Tree.{Keying}
+use Rattle.b3_core.specs.Tree.{ModelMode}
 use Rattle.b3_core.proofs.Hashings.{makes_then}
-use Rattle.b3_parallel.specs.inner.Parts.{AreHashedParts, StandBehind}
+use Rattle.b3_parallel.specs.inner.Parts.{AreHashedParts, AreAfter}
 use Rattle.b3_parallel.proofs.Standing.{whole_front}
 use Rattle.b3_parallel.proofs.updating.update_in_parts.Goals as goal
 
@@ -13,10 +13,10 @@ parts_of-requires-clause-whole g c κs within =
 
 -- the parts stand behind what the hasher was given
 stand : (g : _) (c : goal.After-update g) (x : List ℕ) → Holds c.args.hasher.now x → length x + length c.args.bytes.now < 2 ^ 64
-    → StandBehind c.args.hasher.now c.args.level c.in-Ok.parts.items x c.split_at.result.0.now
+    → AreAfter c.args.hasher.now c.args.level c.in-Ok.parts.items x c.split_at.result.0.now
 stand g c x held few =
     let made : AreHashedParts c.mode-mode.result c.split_at.result.0.now c.args.level c.number-number.result c.in-Ok.parts.items = search (rules, c.parts_of.ensures, c.in-Ok) in
-    let moded = subst (λ (p : Keying). AreHashedParts p c.split_at.result.0.now c.args.level c.number-number.result c.in-Ok.parts.items) c.mode-mode.ensures made in
+    let moded = subst (λ (p : ModelMode). AreHashedParts p c.split_at.result.0.now c.args.level c.number-number.result c.in-Ok.parts.items) c.mode-mode.ensures made in
     let numbered = subst (λ (n : ℕ). AreHashedParts c.args.hasher.now.mode c.split_at.result.0.now c.args.level n c.in-Ok.parts.items) c.number-number.ensures.value moded in
     (held, c.requires.fits, omega (arith, few, c.split_at.ensures.front_len), numbered)
 

@@ -30,13 +30,13 @@ pub returns-in_err-write_piece-clause-failed : goal.returns-in_err-write_piece-c
 returns-in_err-write_piece-clause-failed g c =
     let (done, wrote, is) = c.loop-rest.invariant in
     let front = c.split_at.result.0.now in
-    let behind = c.split_at.result.1.now in
+    let following = c.split_at.result.1.now in
     let rest = c.loop-rest.rest.now in
     let front_is : front ≡ take c.min.result rest = search rules in
-    let back_is : behind ≡ drop c.min.result rest = search rules in
-    let whole : rest ≡ front ++ behind = rw (front_is, back_is) (sym (take-append-drop c.min.result rest)) in
-    let text : encode_lower done ++ (encode_lower front ++ encode_lower behind) ≡ encode_lower c.args.bytes.now =
-    ap (λ w. encode_lower done ++ w) (sym (digits_append lower_digits front behind)) ∙ sym (digits_append lower_digits done (front ++ behind)) ∙ ap encode_lower (ap (λ w. done ++ w) (sym whole) ∙ sym is) in
+    let back_is : following ≡ drop c.min.result rest = search rules in
+    let whole : rest ≡ front ++ following = rw (front_is, back_is) (sym (take-append-drop c.min.result rest)) in
+    let text : encode_lower done ++ (encode_lower front ++ encode_lower following) ≡ encode_lower c.args.bytes.now =
+    ap (λ w. encode_lower done ++ w) (sym (digits_append lower_digits front following)) ∙ sym (digits_append lower_digits done (front ++ following)) ∙ ap encode_lower (ap (λ w. done ++ w) (sym whole) ∙ sym is) in
     let p = err_from_is_err_and c.from_residual.result c.from_residual.ensures.1 in
     rw (p.1) (subst (IsCutOff (g.W.Write.contents c.args.writer.now) (g.W.Write.contents c.write_piece.new.writer)) text
-    (cut_between (g.W.Write.contents c.args.writer.now) (g.W.Write.contents c.loop-rest.writer) (g.W.Write.contents c.write_piece.new.writer) (encode_lower done) (encode_lower front) (encode_lower behind) wrote c.in_err-write_piece.ensures.failed))
+    (cut_between (g.W.Write.contents c.args.writer.now) (g.W.Write.contents c.loop-rest.writer) (g.W.Write.contents c.write_piece.new.writer) (encode_lower done) (encode_lower front) (encode_lower following) wrote c.in_err-write_piece.ensures.failed))

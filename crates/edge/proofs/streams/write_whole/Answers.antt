@@ -15,8 +15,8 @@ loop-preserved g c =
     let rest = c.loop.rest.now in
     elim c.match-write.branch [
       | in-Ok w ↦
-          let behind = drop w.in-Ok.count rest in
-          let short : length behind ≤ length rest - w.in-Ok.count = omega (arith, length-drop w.in-Ok.count rest) in
-          rw (w.rest-is, take_all (length rest - w.in-Ok.count) behind short) (AllBut-some old mid new c.args.bytes.now rest w.in-Ok.count c.loop.invariant w.in-Ok.ensures.bytes)
+          let following = drop w.in-Ok.count rest in
+          let short : length following ≤ length rest - w.in-Ok.count = omega (arith, length-drop w.in-Ok.count rest) in
+          rw (w.rest-is, take_all (length rest - w.in-Ok.count) following short) (AllBut-some old mid new c.args.bytes.now rest w.in-Ok.count c.loop.invariant w.in-Ok.ensures.bytes)
       | in-Err w ↦ rw (w.rest-is) (AllBut-kept old mid new c.args.bytes.now rest c.loop.invariant w.in-Err.ensures.bytes)
     ]

@@ -6,4 +6,5 @@ ghosts-back_up_counted g a = record {
   bytes_parts = a.of_bytes.parts;
   calls_name = a.of_calls.name;
   calls_parts = a.of_calls.parts;
+  history = a.history;
 }

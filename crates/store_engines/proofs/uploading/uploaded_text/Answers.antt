@@ -9,7 +9,7 @@ use Rattle.store_engines.proofs.uploading.uploaded_text.Goals as goal
 
 pub returns : goal.returns
 returns g c =
-    let shown = c.args.locked in
+    let shown = c.args.locked.store in
     let share = c.args.share in
     let store : c.store.result.now ≡ shown = search rules in
     let carried = subst IsCarried store c.journal.ensures.carried in

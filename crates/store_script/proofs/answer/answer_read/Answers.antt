@@ -3,8 +3,8 @@ use Rattle.std.specs.Io.BufRead.{strip_last}
 use Rattle.store_script.proofs.LineOutcomes.{long_line, short_line, short_put}
 use Rattle.store_script.proofs.answer.answer_read.Goals as goal
 
-pub returns-then-count-gt-MOST_LINE-clause-answered : goal.returns-then-count-gt-MOST_LINE-clause-answered
-returns-then-count-gt-MOST_LINE-clause-answered c = long_line c.args.store.now c.args.count c.args.line.now (omega arith)
+pub returns-then-count-gt-MAX_LINE-clause-answered : goal.returns-then-count-gt-MAX_LINE-clause-answered
+returns-then-count-gt-MAX_LINE-clause-answered c = long_line c.args.store.now c.args.count c.args.line.now (omega arith)
 
 pub returns-clause-answered : goal.returns-clause-answered
 returns-clause-answered c =

@@ -1,4 +1,4 @@
-use Rattle.std.proofs.Common.{rules, arith, ◌≡◌, ◌≢◌, ◌-◌, ◌∙◌, ◌++◌, All, [], length-take-le, ap, eq-eqb, eqb-true, get_or, get_or-take, refl, subst, sym, take, true≢false}
+use Rattle.std.proofs.Common.{rules, arith, ◌≢◌, ◌-◌, ◌∙◌, All, [], length-take-le, ap, eq-eqb, eqb-true, get_or, get_or-take, refl, subst, sym, take, true≢false}
 use Rattle.std.specs.Io.BufRead.{FillKeeps}
 use Rattle.std.proofs.BufReadLemmas.{Consumes_shown, zero_unless_positive}
 use Rattle.std.proofs.KnownBytes.{Consumes-kept, Consumes-nil}

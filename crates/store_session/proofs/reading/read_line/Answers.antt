@@ -5,9 +5,10 @@ use Rattle.std.specs.Io.BufRead.{take_through}
 use Rattle.std.proofs.KnownBytes.{Consumes-trans}
 use Rattle.std.proofs.BufReadLemmas.{Consumes_through}
 use Rattle.edge.proofs.LineParts.{if_some_weaken}
-use Rattle.store_session.specs.Reads.{most_request}
+use Rattle.store_session.specs.Reads.{max_request}
 use Rattle.store_session.specs.inner.Reads.{IsLineRead}
-use Rattle.store_session.proofs.Lines.{is_read, kept_on}
+use Rattle.std.specs.Prelude.{nat_lt}
+use Rattle.store_session.proofs.Lines.{ended_by, is_read, kept_on, unended_by}
 use Rattle.store_session.proofs.reading.read_line.Goals as goal
 
 pub returns-then-is_done-clause-read : goal.returns-then-is_done-clause-read
@@ -18,8 +19,9 @@ returns-then-is_done-clause-read g c =
     let total = c.saturating_add-count.result in
     let counted : total ≡ u64_saturate (length (done ++ part)) = omega (arith, length-append done part, c.saturating_add-count.ensures, took.count_is) in
     let now = kept_on c.loop.is_kept c.in_ok-len.is_held c.loop.line.items c.line_part.new.line.items done part kept held in
-    if_some_weaken (g.R.Read.remaining c.args.reader.now) (λ input. done ++ part ≡ take_through 10 input) (λ input. IsLineRead (take_through 10 input) (record { count = total; is_kept = c.in_ok-len.is_held }) c.line_part.new.line.items)
-    (λ input e. is_read (done ++ part) (take_through 10 input) total c.in_ok-len.is_held c.line_part.new.line.items e counted now) all.0
+    let more = nat_lt 0 c.in_ok-len.len in
+    if_some_weaken (g.R.Read.remaining c.args.reader.now) (λ input. done ++ part ≡ take_through 10 input) (λ input. IsLineRead (take_through 10 input) (record { count = total; is_kept = c.in_ok-len.is_held; is_ended = more }) c.line_part.new.line.items)
+    (λ input e. is_read (done ++ part) (take_through 10 input) total c.in_ok-len.is_held more c.line_part.new.line.items e counted now (ended_by done part c.in_ok-len.len took.count_is (took.ends c.if-is_done.true)) (unended_by done part c.in_ok-len.len took.count_is free)) all.0
 
 pub returns-then-is_done-clause-rest : goal.returns-then-is_done-clause-rest
 returns-then-is_done-clause-rest g c =
@@ -32,7 +34,7 @@ pub loop-preserved : goal.loop-preserved
 loop-preserved g c =
     let (done, count, free, read, kept, room) = c.loop.invariant in
     let (part, took, held) = c.in_ok-len.ensures.part in
-    let roomy : most_request ≤ vec_capacity c.line_part.new.line = search rules in (
+    let roomy : max_request ≤ vec_capacity c.line_part.new.line = search rules in (
       done ++ part,
       omega (arith, length-append done part, c.saturating_add-count.ensures, took.count_is),
       All-append (λ x. x ≢ 10) done part free (took.goes_on (λ e. true≢false (sym e ∙ c.if-is_done.false))),

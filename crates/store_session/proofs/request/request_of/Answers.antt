@@ -1,4 +1,4 @@
-use Rattle.std.proofs.Common.{rules, arith, ◌≡◌, ◌≤◌, ◌<◌, false}
+use Rattle.std.proofs.Common.{rules, arith, ◌≡◌, ◌<◌, false}
 use Rattle.store_session.proofs.Lines.{asks_none, asks_this}
 use Rattle.store_session.proofs.request.request_of.Goals as goal
 
@@ -7,8 +7,8 @@ returns-then-not-read c =
     let lost : c.args.read.is_kept ≡ false = search rules in
     asks_none c.args.read c.args.line.now (λ whole h. h.long lost)
 
-pub returns-then-read-gt-MOST_REQUEST : goal.returns-then-read-gt-MOST_REQUEST
-returns-then-read-gt-MOST_REQUEST c =
+pub returns-then-read-gt-MAX_REQUEST : goal.returns-then-read-gt-MAX_REQUEST
+returns-then-read-gt-MAX_REQUEST c =
     let more : 200 < c.args.read.count = omega arith in
     asks_none c.args.read c.args.line.now (λ whole h. omega (arith, h.count_is, more))
 

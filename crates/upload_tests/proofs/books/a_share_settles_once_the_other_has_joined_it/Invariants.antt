@@ -1,3 +1,4 @@
+use Rattle.store_ledger.specs.Names.{no_table}
 use Rattle.upload_tests.proofs.books.a_share_settles_once_the_other_has_joined_it.Given as goal
 
 abbrev pub ghosts-share_and_book : goal.ghosts-share_and_book
@@ -6,4 +7,5 @@ ghosts-share_and_book g a = record {
   bytes_parts = a.bytes.parts;
   calls_name = a.calls.name;
   calls_parts = a.calls.parts;
+  history = no_table;
 }

@@ -6,4 +6,5 @@ ghosts-sealed_in_the_end g a = record {
   bytes_parts = a.bytes.parts;
   calls_name = a.calls.name;
   calls_parts = a.calls.parts;
+  history = a.history;
 }

@@ -6,4 +6,5 @@ ghosts-uploaded g a = record {
   bytes_parts = a.bytes.parts;
   calls_name = a.calls.name;
   calls_parts = a.calls.parts;
+  history = a.history;
 }

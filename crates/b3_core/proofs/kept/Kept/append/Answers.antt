@@ -1,19 +1,19 @@
 use Rattle.std.proofs.Common.{◌*◌, ◌+◌, ◌^◌, ◌<◌, ℕ, ◌++◌, List, length, arith, ap, refl, ◌∙◌, length-append}
-use Rattle.b3_core.specs.Hashers.{Hashing, IsBehind}
+use Rattle.b3_core.specs.Hashers.{ModelHasher, IsAfter}
 use Rattle.b3_core.specs.inner.Hashers.{IsNext}
 use Rattle.b3_core.specs.Kept.{kept_of, tail_of}
-use Rattle.b3_core.specs.Tree.{Inputs}
+use Rattle.b3_core.specs.Tree.{ModelTop}
 use Rattle.b3_core.proofs.Hashings.{holds_next, next_of}
 use Rattle.b3_core.proofs.kept.Kept.append.Goals as goal
 
 -- the hasher before the call, and the next subtree
-abbrev old : goal.After-put → Hashing
+abbrev old : goal.After-put → ModelHasher
 old c = kept_of c.args.mode.now c.args.self.now
 
-abbrev next : goal.After-put → ℕ × Inputs
+abbrev next : goal.After-put → ℕ × ModelTop
 next c = (c.args.level, c.args.top.now)
 
-is_next : (c : goal.After-put) (x mine : List ℕ) → IsBehind (old c) c.args.level c.args.top.now x mine → IsNext (old c).mode (old c).subtrees (next c) (x ++ mine)
+is_next : (c : goal.After-put) (x mine : List ℕ) → IsAfter (old c) c.args.level c.args.top.now x mine → IsNext (old c).mode (old c).subtrees (next c) (x ++ mine)
 is_next c x mine (held, (none, from), len, node, few) = next_of (old c) (next c) x mine none held from len node
 
 short : (x mine : List ℕ) → length x + length mine < 2 ^ 64 → length (x ++ mine) < 2 ^ 64

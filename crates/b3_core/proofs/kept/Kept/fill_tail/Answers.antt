@@ -1,15 +1,15 @@
 use Rattle.std.proofs.Common.{◌≡◌, ◌^◌, ◌/◌, ◌<◌, ℕ, ◌∷◌, ◌++◌, List, [], length, arith, refl, ap, sym, ◌∙◌, rules, length-append}
-use Rattle.b3_core.specs.Hashers.{Hashing, CountsRest, kept_work}
+use Rattle.b3_core.specs.Hashers.{ModelHasher, CountsRest, kept_work}
 use Rattle.b3_core.specs.Kept.{kept_of, tail_of}
 use Rattle.b3_core.specs.Tree.{chunk_top}
 use Rattle.b3_core.proofs.Hashings.{holds_filled, makes_then, next_filled}
 use Rattle.b3_core.proofs.kept.Kept.fill_tail.Goals as goal
 
 -- the hasher before the call, and behind it
-abbrev old : goal.After-put → Hashing
+abbrev old : goal.After-put → ModelHasher
 old c = kept_of c.args.mode.now c.args.self.now
 
-abbrev new : goal.After-put → Hashing
+abbrev new : goal.After-put → ModelHasher
 new c = kept_of c.args.mode.now c.put.new.self
 
 -- the bytes that fill up the chunk

@@ -1,14 +1,14 @@
 use Rattle.std.proofs.Common.{◌≡◌, ◌*◌, ◌-◌, ◌+◌, ◌/◌, ◌<◌, ◌⊎◌, ℕ, ◌∷◌, ◌++◌, List, [], length, reverse, arith, ap, ◌∙◌, rules, inl, inr}
 use Rattle.std.proofs.lemmas.List.{append-nil, length-reverse, nil_from_length, reverse-append}
 use Rattle.b3_core.specs.Kept.{nodes_of, tail_of}
-use Rattle.b3_core.specs.Tree.{Inputs, chunk_top}
+use Rattle.b3_core.specs.Tree.{ModelTop, chunk_top}
 use Rattle.b3_core.specs.Work.{block_count}
 use Rattle.b3_core.proofs.Hashings.{tail_joined, tail_work, whole_joined, whole_work}
 use Rattle.b3_core.proofs.kept.Kept.top.Goals as goal
 use Rattle.b3_core.proofs.kept.Kept.top.Goals.{in_default-via-in-Some+else-is_empty, in_default-via-in_default}
 
 -- the last subtree, before which stand the others
-abbrev last : goal.After-joined → ℕ × Inputs
+abbrev last : goal.After-joined → ℕ × ModelTop
 last c = (c.last.inside.level, c.last.inside.top)
 
 taken : (c : goal.After-joined) → (reverse (nodes_of c.args.self.now.subtrees)) ≡ last c ∷ reverse c.in-Some.before.now

@@ -1,9 +1,9 @@
 use Rattle.std.proofs.Common.{◌≡◌, ◌*◌, ◌-◌, ◌+◌, ◌/◌, ◌^◌, ◌<◌, ℕ, ◌∷◌, ◌++◌, List, [], length, arith, refl, ap, sym, ◌∙◌, rules, subst, append_assoc, length-append, reverse, inl, inr}
 use Rattle.std.proofs.lemmas.Bool.{cases_lt}
-use Rattle.b3_core.specs.Hashers.{Hashing, Holds, kept_work}
+use Rattle.b3_core.specs.Hashers.{ModelHasher, Holds, kept_work}
 use Rattle.b3_core.specs.inner.Hashers.{IsLeft}
 use Rattle.b3_core.specs.Kept.{kept_of, nodes_of, tail_of}
-use Rattle.b3_core.specs.Tree.{Inputs, tree_top}
+use Rattle.b3_core.specs.Tree.{ModelTop, tree_top}
 use Rattle.b3_core.specs.Work.{counted, hash_work}
 use Rattle.b3_core.proofs.Hashings.{holds_next, makes_more, makes_then, next_of, small}
 use Rattle.b3_core.proofs.kept.Kept.update.Goals as goal
@@ -25,13 +25,13 @@ its_length : (c : goal.After-put) → length (mine c) ≡ 1024 * 2 ^ c.next_leve
 its_length c = omega (arith, c.split_at.ensures.front_len, c.next_level-level.ensures.fits, c.loop-rest.invariant.short)
 
 -- the hasher before the call, before the subtree and behind it
-abbrev old : goal.After-put → Hashing
+abbrev old : goal.After-put → ModelHasher
 old c = kept_of c.args.mode.now c.args.self.now
 
-abbrev so_far : goal.After-put → Hashing
+abbrev so_far : goal.After-put → ModelHasher
 so_far c = kept_of c.args.mode.now c.loop-rest.self
 
-abbrev new : goal.After-put → Hashing
+abbrev new : goal.After-put → ModelHasher
 new c = kept_of c.args.mode.now c.put.new.self
 
 after : (c : goal.After-put) (x : List ℕ) → length x + length c.args.bytes.now < 2 ^ 64
@@ -39,7 +39,7 @@ after : (c : goal.After-put) (x : List ℕ) → length x + length c.args.bytes.n
     → IsLeft (old c) x c.args.bytes.now c.args.work.now (new c) c.split_at.result.1.now c.put.new.work
 after c x less (front, cut, held, empty, makes) =
     let h = so_far c in
-    let next : ℕ × Inputs = (c.next_level-level.result, c.wide_top-top.result) in
+    let next : ℕ × ModelTop = (c.next_level-level.result, c.wide_top-top.result) in
     let none = empty (omega (arith, c.loop-rest-test.true)) in
     let len = its_length c in
     let parts : c.loop-rest.rest.now ≡ mine c ++ c.split_at.result.1.now = search (rules, c.split_at.ensures) in

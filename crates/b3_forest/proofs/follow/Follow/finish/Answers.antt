@@ -4,7 +4,7 @@ use Rattle.b3_core.specs.Tree.{tree_top}
 use Rattle.b3_core.specs.Work.{counted}
 use Rattle.b3_forest.specs.Lent.{lent_bytes}
 use Rattle.b3_forest.specs.Subtrees.{Keeps}
-use Rattle.b3_forest.specs.Followed.{AllNoted, Followed, IsFirstUnnoted, pieces_noted}
+use Rattle.b3_forest.specs.Followed.{AllNoted, ModelFollow, IsFirstUnnoted, pieces_noted}
 use Rattle.b3_forest.specs.inner.Subtrees.{AreWhole}
 use Rattle.b3_forest.proofs.Following.{content_is, noted_count, told_all, told_missing}
 use Rattle.b3_forest.proofs.follow.Follow.finish.Goals as goal
@@ -13,14 +13,14 @@ pub returns-then-missing-len-clause-missing : goal.returns-then-missing-len-clau
 returns-then-missing-len-clause-missing c =
     let w = c.self.invariant in
     let gap = c.least_missing-missing.ensures.least w.parts (subst (λ n. Keeps n w.parts c.self.inside.subtrees.entries) (sym c.len-len.ensures) w.keeps) in
-    subst (λ (f : Followed). IsFirstUnnoted f c.least_missing-missing.result) c.self.view_is
+    subst (λ (f : ModelFollow). IsFirstUnnoted f c.least_missing-missing.result) c.self.view_is
     (told_missing (lent_bytes c.self.inside.lent) w.parts c.self.inside.subtrees.entries c.least_missing-missing.result c.upload_laws.ensures.missing w.keeps gap (omega (arith, c.if-missing-len.true, c.len-len.ensures)))
 
 pub returns-clause-complete : goal.returns-clause-complete
 returns-clause-complete c =
     let w = c.self.invariant in
     let gap = c.least_missing-missing.ensures.least w.parts (subst (λ n. Keeps n w.parts c.self.inside.subtrees.entries) (sym c.len-len.ensures) w.keeps) in
-    subst (λ (f : Followed). AllNoted f) c.self.view_is
+    subst (λ (f : ModelFollow). AllNoted f) c.self.view_is
     (told_all (lent_bytes c.self.inside.lent) w.parts c.self.inside.subtrees.entries c.upload_laws.ensures.missing w.keeps (omega (arith, gap, c.if-missing-len.false, c.len-len.ensures)))
 
 pub top-requires : goal.top-requires
@@ -38,7 +38,7 @@ returns-clause-top c =
     let gap = c.least_missing-missing.ensures.least w.parts (subst (λ n. Keeps n w.parts c.self.inside.subtrees.entries) (sym c.len-len.ensures) w.keeps) in
     let within = c.least_missing-missing.ensures.within in
     let all : AreWhole (length b) w.parts es = record { keeps = w.keeps; all = omega (arith, gap, within, c.if-missing-len.false, c.len-len.ensures) } in
-    subst (λ (f : Followed). c.top.result ≡ tree_top f.bytes 0 hash_mode) c.self.view_is
+    subst (λ (f : ModelFollow). c.top.result ≡ tree_top f.bytes 0 hash_mode) c.self.view_is
     (c.top.ensures.top (length b) w.parts all ∙ ap (λ (x : List ℕ). tree_top x 0 hash_mode) (content_is b es w (omega (arith, gap, c.if-missing-len.false, c.len-len.ensures))))
 
 pub returns-clause-count : goal.returns-clause-count
@@ -49,5 +49,5 @@ returns-clause-count c =
     let gap = c.least_missing-missing.ensures.least w.parts (subst (λ n. Keeps n w.parts c.self.inside.subtrees.entries) (sym c.len-len.ensures) w.keeps) in
     let within = c.least_missing-missing.ensures.within in
     let all : AreWhole (length b) w.parts es = record { keeps = w.keeps; all = omega (arith, gap, within, c.if-missing-len.false, c.len-len.ensures) } in
-    subst (λ (f : Followed). c.top.new.work ≡ counted c.args.work.now (2 * (pieces_noted f - 1))) c.self.view_is
+    subst (λ (f : ModelFollow). c.top.new.work ≡ counted c.args.work.now (2 * (pieces_noted f - 1))) c.self.view_is
     (c.top.ensures.count (length b) w.parts all ∙ ap (λ i. counted c.args.work.now (2 * (i - 1))) (noted_count b w.parts es w.keeps))

@@ -3,7 +3,7 @@ use Rattle.std.specs.Prelude.{◌≢◌}
 use Rattle.store_upload.specs.Uploads.{closed_plan}
 use Rattle.store_upload.specs.Uploads as upload
 use Rattle.b3_forest.specs.Lent.{lent_bytes}
-use Rattle.b3_forest.specs.Followed.{Followed, IsFirstNoted, IsNotedWith, MayNote, NothingNoted, bytes_at, followed, noting_merges}
+use Rattle.b3_forest.specs.Followed.{ModelFollow, IsFirstNoted, IsNotedWith, MayNote, NothingNoted, bytes_at, followed, noting_merges}
 use Rattle.b3_forest.specs.Uploads.{with_part}
 use Rattle.b3_forest.proofs.Following.{merges_noted, noted_with, parts_with, room_of, told_apart, told_overlap}
 use Rattle.b3_forest.proofs.follow.Follow.note.Goals as goal
@@ -16,7 +16,7 @@ returns-in-Some-clause-fault c =
     let p = c.args.part.now in
     let plan = sym c.plan.ensures ∙ c.if-not-is_of.ensures.yes refl ∙ ap closed_plan c.len.ensures in
     let told = c.in-Some.ensures (length b) w.parts w.keeps ∙ ap₂ (λ (i n : ℕ). upload.overlap_at length i n w.parts) c.offset.ensures (ap length c.fitting.ensures.bytes) in
-    subst (λ (f : Followed). (p.plan ≡ closed_plan (length f.bytes)) × IsFirstNoted f p.part c.in-Some.at) c.self.view_is
+    subst (λ (f : ModelFollow). (p.plan ≡ closed_plan (length f.bytes)) × IsFirstNoted f p.part c.in-Some.at) c.self.view_is
     (plan, told_overlap b w.parts es p.part c.in-Some.at c.upload_laws.ensures.overlap w.keeps c.fitting.ensures.fits.some (sym told))
 
 pub returns-then-not-has_bytes-clause-fault : goal.returns-then-not-has_bytes-clause-fault
@@ -27,7 +27,7 @@ returns-then-not-has_bytes-clause-fault c =
     let p = c.args.part.now in
     let plan = sym c.plan.ensures ∙ c.if-not-is_of.ensures.yes refl ∙ ap closed_plan c.len.ensures in
     let told = c.in_default.ensures (length b) w.parts w.keeps ∙ ap₂ (λ (i n : ℕ). upload.overlap_at length i n w.parts) c.offset.ensures (ap length c.fitting.ensures.bytes) in
-    subst (λ (f : Followed). (p.plan ≡ closed_plan (length f.bytes)) × NothingNoted f p.part × (p.part.bytes ≢ bytes_at f.bytes p.part)) c.self.view_is
+    subst (λ (f : ModelFollow). (p.plan ≡ closed_plan (length f.bytes)) × NothingNoted f p.part × (p.part.bytes ≢ bytes_at f.bytes p.part)) c.self.view_is
     (plan, told_apart b w.parts es p.part c.upload_laws.ensures.overlap w.keeps c.fitting.ensures.fits.some (sym told), c.if-not-has_bytes.ensures.no refl)
 
 pub returns-in_default-add-clause-fault : goal.returns-in_default-add-clause-fault
@@ -38,7 +38,7 @@ returns-in_default-add-clause-fault c =
     let p = c.args.part.now in
     let plan = sym c.plan.ensures ∙ c.if-not-is_of.ensures.yes refl ∙ ap closed_plan c.len.ensures in
     let told = c.in_default.ensures (length b) w.parts w.keeps ∙ ap₂ (λ (i n : ℕ). upload.overlap_at length i n w.parts) c.offset.ensures (ap length c.fitting.ensures.bytes) in
-    subst (λ (f : Followed). MayNote f p) c.self.view_is
+    subst (λ (f : ModelFollow). MayNote f p) c.self.view_is
     (record { plan = plan; apart = told_apart b w.parts es p.part c.upload_laws.ensures.overlap w.keeps c.fitting.ensures.fits.some (sym told); same = c.if-not-has_bytes.ensures.yes refl })
 
 pub add-requires : goal.add-requires
@@ -70,7 +70,7 @@ returns-clause-noted c =
     let told = c.in_default.ensures (length b) w.parts w.keeps ∙ ap₂ (λ (i n : ℕ). upload.overlap_at length i n w.parts) c.offset.ensures (ap length c.fitting.ensures.bytes) in
     let room = room_of b es w p plan c.fitting.ensures.fits told in
     let kept = c.in-Ok.ensures.kept (length b) w.parts room in
-    subst (λ (f : Followed). IsNotedWith f (followed b c.add.new.subtrees.entries) p.part) c.self.view_is (noted_with b w.parts es c.add.new.subtrees.entries p.part room kept)
+    subst (λ (f : ModelFollow). IsNotedWith f (followed b c.add.new.subtrees.entries) p.part) c.self.view_is (noted_with b w.parts es c.add.new.subtrees.entries p.part room kept)
 
 pub returns-clause-allowed : goal.returns-clause-allowed
 returns-clause-allowed c =
@@ -80,7 +80,7 @@ returns-clause-allowed c =
     let p = c.args.part.now in
     let plan = sym c.plan.ensures ∙ c.if-not-is_of.ensures.yes refl ∙ ap closed_plan c.len.ensures in
     let told = c.in_default.ensures (length b) w.parts w.keeps ∙ ap₂ (λ (i n : ℕ). upload.overlap_at length i n w.parts) c.offset.ensures (ap length c.fitting.ensures.bytes) in
-    subst (λ (f : Followed). MayNote f p) c.self.view_is
+    subst (λ (f : ModelFollow). MayNote f p) c.self.view_is
     (record { plan = plan; apart = told_apart b w.parts es p.part c.upload_laws.ensures.overlap w.keeps c.fitting.ensures.fits.some (sym told); same = c.if-not-has_bytes.ensures.yes refl })
 
 pub returns-clause-merges : goal.returns-clause-merges
@@ -95,4 +95,4 @@ returns-clause-merges c =
     let kept = c.in-Ok.ensures.kept (length b) w.parts room in
     let merges : c.in-Ok.merges ≡ noting_merges (followed b es) (followed b c.add.new.subtrees.entries) p.part =
     c.in-Ok.ensures.merges (length b) w.parts room ∙ merges_noted b w.parts es c.add.new.subtrees.entries p.part w.keeps kept in
-    subst (λ (f : Followed). c.in-Ok.merges ≡ noting_merges f (followed b c.add.new.subtrees.entries) p.part) c.self.view_is merges
+    subst (λ (f : ModelFollow). c.in-Ok.merges ≡ noting_merges f (followed b c.add.new.subtrees.entries) p.part) c.self.view_is merges

@@ -12,11 +12,11 @@ returns-then-ne-clause-no c = λ _ stands.
     let run = c.run-run.result.now in
     let m = c.min-len.result in
     let front = c.split_at.result.0.now in
-    let behind = c.split_at.result.1.now in
-    let whole : c.loop-rest.rest.now ≡ front ++ behind = search rules in
+    let following = c.split_at.result.1.now in
+    let whole : c.loop-rest.rest.now ≡ front ++ following = search rules in
     let short : m ≤ length run = search rules in
     let len : length front ≡ m = search rules in
-    let here = (stands_in_two b at front behind).0 (subst (StandsAt b at) whole (c.loop-rest.invariant.same.0 stands)) in
+    let here = (stands_in_two b at front following).0 (subst (StandsAt b at) whole (c.loop-rest.invariant.same.0 stands)) in
     let there = stands_front b at run m c.run-run.ensures.same short in
     let same : front ≡ take m run = same_place b at front (take m run) here.0 there (len ∙ sym (length-take-le m run short)) in
     search rules
@@ -28,18 +28,18 @@ loop-rest-preserved c =
     let run = c.run-run.result.now in
     let m = c.min-len.result in
     let front = c.split_at.result.0.now in
-    let behind = c.split_at.result.1.now in
-    let whole : c.loop-rest.rest.now ≡ front ++ behind = search rules in
+    let following = c.split_at.result.1.now in
+    let whole : c.loop-rest.rest.now ≡ front ++ following = search rules in
     let short : m ≤ length run = search rules in
     let len : length front ≡ m = search rules in
     let same : take m run ≡ front = search rules in
     let there = subst (StandsAt b at) same (stands_front b at run m c.run-run.ensures.same short) in
-    let two = stands_in_two b at front behind in
+    let two = stands_in_two b at front following in
     let place = ap (λ i. at + i) len in
     record {
       within = search rules;
       same = (
-        (λ stands. subst (λ i. StandsAt b i behind) place (two.0 (subst (StandsAt b at) whole (c.loop-rest.invariant.same.0 stands))).1),
-        (λ later. c.loop-rest.invariant.same.1 (subst (StandsAt b at) (sym whole) (two.1 (there, subst (λ i. StandsAt b i behind) (sym place) later)))),
+        (λ stands. subst (λ i. StandsAt b i following) place (two.0 (subst (StandsAt b at) whole (c.loop-rest.invariant.same.0 stands))).1),
+        (λ later. c.loop-rest.invariant.same.1 (subst (StandsAt b at) (sym whole) (two.1 (there, subst (λ i. StandsAt b i following) (sym place) later)))),
       );
     }

@@ -12,8 +12,8 @@ loop-rest-preserved c =
     let old = c.loop-rest in
     let new = c.if-len-stretch_len in
     let front = c.split_at.result.0.now in
-    let behind = c.split_at.result.1.now in
-    let whole : front ++ behind ≡ old.rest.now = search rules in
+    let following = c.split_at.result.1.now in
+    let whole : front ++ following ≡ old.rest.now = search rules in
     let added : c.extend_from_slice.new.self.items ≡ new.last.items ++ front = search rules in
     let short : vec_len c.extend_from_slice.new.self ≤ c.self.inside.stretch_len = search rules in
     elim c.if-len-stretch_len.branch [
@@ -28,7 +28,7 @@ loop-rest-preserved c =
           record {
             full = subst (AreFull c.self.inside.stretch_len) (sym pushed) (All-push (λ s. length (stretch_bytes s) ≡ c.self.inside.stretch_len) old.full.items w.in-Ok.stretch old.invariant.full len);
             short = short;
-            bytes = ap (λ l. (flat_map stretch_bytes new.full.items ++ l) ++ behind) added ∙ more_behind (flat_map stretch_bytes new.full.items) new.last.items front behind
+            bytes = ap (λ l. (flat_map stretch_bytes new.full.items ++ l) ++ following) added ∙ more_behind (flat_map stretch_bytes new.full.items) new.last.items front following
                 ∙ ap₂ (λ x y. x ++ y) kept whole ∙ old.invariant.bytes;
           }
       | else-len-stretch_len w ↦
@@ -37,7 +37,7 @@ loop-rest-preserved c =
           record {
             full = subst (AreFull c.self.inside.stretch_len) (sym full) old.invariant.full;
             short = short;
-            bytes = ap (λ l. (flat_map stretch_bytes new.full.items ++ l) ++ behind) added ∙ more_behind (flat_map stretch_bytes new.full.items) new.last.items front behind
+            bytes = ap (λ l. (flat_map stretch_bytes new.full.items ++ l) ++ following) added ∙ more_behind (flat_map stretch_bytes new.full.items) new.last.items front following
                 ∙ ap₂ (λ x y. x ++ y) (ap₂ (λ xs l. flat_map stretch_bytes xs ++ l) full last) whole ∙ old.invariant.bytes;
           }
     ]

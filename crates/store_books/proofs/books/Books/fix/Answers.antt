@@ -1,6 +1,6 @@
 use Rattle.std.proofs.Common.{◌≡◌, ◌∙◌, ◌+◌, ℕ, arith, ap, refl, subst, sym}
 use Rattle.store_books.specs.declared.tenant.Change.{Change}
-use Rattle.store_books.specs.Books.{Begun, Books}
+use Rattle.store_books.specs.Books.{ModelOwnedUpload, Books}
 use Rattle.store_books.specs.Commands.{end_refusal, with_upload}
 use Rattle.store_books.specs.Kept.{books_of}
 use Rattle.store_books.specs.inner.Kept.{HasRoom, changed_sums}
@@ -18,7 +18,7 @@ change_sums-requires g c =
     let b : Books g.row.H-Part.Denot g.row.O.Denot = books_of old.limits old.tenants.items old.begun old.uploads.entries old.catalog.objects old.accepted in
     let u = c.in-Some.begun.now in
     let found = sym c.in-Some.ensures.value in
-    let w : Begun g.row.H-Part.Denot = record u { upload = fixed_at u.upload c.args.len } in
+    let w : ModelOwnedUpload g.row.H-Part.Denot = record u { upload = fixed_at u.upload c.args.len } in
     let free = ap (λ (x : Books g.row.H-Part.Denot g.row.O.Denot). end_refusal len x c.args.number c.args.len) c.self.view_is ∙ c.requires in
     let fixed = ends len size address b c.args.number c.args.len u found c.self.invariant.sound (rw found at free) in
     let by : Change = record { less = length_of u.upload; more = c.args.len } in
@@ -36,7 +36,7 @@ invariant_of-self g c =
     let b : Books g.row.H-Part.Denot g.row.O.Denot = books_of old.limits old.tenants.items old.begun old.uploads.entries old.catalog.objects old.accepted in
     let u = c.in-Some.begun.now in
     let found = sym c.in-Some.ensures.value in
-    let w : Begun g.row.H-Part.Denot = record u { upload = fixed_at u.upload c.args.len } in
+    let w : ModelOwnedUpload g.row.H-Part.Denot = record u { upload = fixed_at u.upload c.args.len } in
     let free = ap (λ (x : Books g.row.H-Part.Denot g.row.O.Denot). end_refusal len x c.args.number c.args.len) c.self.view_is ∙ c.requires in
     let fixed = ends len size address b c.args.number c.args.len u found c.self.invariant.sound (rw found at free) in
     let by : Change = record { less = length_of u.upload; more = c.args.len } in

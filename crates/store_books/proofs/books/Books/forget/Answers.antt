@@ -3,7 +3,7 @@ use Rattle.std.specs.Prelude.{nat_le}
 use Rattle.std.proofs.lemmas.Bool.{leb-false}
 use Rattle.store_books.specs.declared.refusal.Refusal.TheVariants.{NoTenant}
 use Rattle.store_books.specs.Books.{Books, is_absent, is_held_by}
-use Rattle.store_books.specs.inner.Catalog.{Catalogued}
+use Rattle.store_books.specs.inner.Catalog.{ModelCatalog}
 use Rattle.store_books.specs.Commands.{forget_refusal, full_refusal, holding_refusal, with_left}
 use Rattle.store_books.specs.Kept.{books_of}
 use Rattle.store_books.specs.inner.Kept.{HasRoom, changed_sums}
@@ -74,9 +74,9 @@ invariant_of-self g c =
     let next = with_left address b t at (Some o) in
     let bytes : c.gone.result ≡ where_so (nat_le (length o.holders) 1) (size o.content) = c.gone.ensures ∙ ap₂ (λ (x : Bool) (y : ℕ). where_so x y) k.is_alone k.size in
     let new = c.drop_holder-gone.ensures.left o known in
-    let filings = ap (λ (x : Catalogued g.row.O.Denot). x.filings) new in
+    let filings = ap (λ (x : ModelCatalog g.row.O.Denot). x.filings) new in
     let kept = kept_after len size address t (falls (size o.content)) none b next old.tenants.items old.catalog.filings old.object_bytes old.held old.parts c.drop_holder-gone.new.self.filings (old.object_bytes - c.gone.result) old.held old.parts
     left.moves refl c.self.invariant (omega (arith, filings)) (omega (arith, bytes, left.bytes, c.self.invariant.object_bytes_is)) c.self.invariant.held_is c.self.invariant.parts_is in
     let now = c.change_sums.ensures.sums ∙ ap (λ (n : ℕ). changed_sums old.tenants.items t (falls n) none) k.size in
-    let objects = ap (λ (x : Catalogued g.row.O.Denot). x.objects) new in
+    let objects = ap (λ (x : ModelCatalog g.row.O.Denot). x.objects) new in
     kept_as len size address old.limits t (falls (size o.content)) none old.begun (old.accepted + 1) c.drop_holder-gone.new.self.filings (old.object_bytes - c.gone.result) old.held old.parts old.tenants.items _ _ _ next.objects _ now refl objects kept

@@ -1,6 +1,6 @@
 use Rattle.std.proofs.Common.{◌≡◌, ◌∙◌, ◌+◌, ℕ, arith, ap, refl, subst, sym}
 use Rattle.store_books.specs.declared.tenant.Change.{Change}
-use Rattle.store_books.specs.Books.{Begun, Books, upload_at}
+use Rattle.store_books.specs.Books.{ModelOwnedUpload, Books, upload_at}
 use Rattle.store_books.specs.Commands.{put_refusal, with_upload}
 use Rattle.store_books.specs.Kept.{books_of}
 use Rattle.store_books.specs.inner.Kept.{HasRoom, changed_sums}
@@ -20,7 +20,7 @@ change_sums-requires g c =
     let found = sym c.in-Some.ensures.value in
     let offset = g.H.HeldParts.start c.args.part in
     let part = g.H.HeldParts.kept c.args.part in
-    let w : Begun g.row.H-Part.Denot = record u { upload = with_more len u.upload offset part } in
+    let w : ModelOwnedUpload g.row.H-Part.Denot = record u { upload = with_more len u.upload offset part } in
     let fits = c.requires.fits u (ap (λ (x : Books g.row.H-Part.Denot g.row.O.Denot). upload_at x c.args.number) (sym c.self.view_is) ∙ found) in
     let free = ap (λ (x : Books g.row.H-Part.Denot g.row.O.Denot). put_refusal len x c.args.number offset (len part)) c.self.view_is ∙ c.requires.free in
     let put = puts len size address b c.args.number offset part u found c.self.invariant.sound fits (rw found at free) in
@@ -42,7 +42,7 @@ invariant_of-self-2 g c =
     let found = sym c.in-Some.ensures.value in
     let offset = g.H.HeldParts.start c.args.part in
     let part = g.H.HeldParts.kept c.args.part in
-    let w : Begun g.row.H-Part.Denot = record u { upload = with_more len u.upload offset part } in
+    let w : ModelOwnedUpload g.row.H-Part.Denot = record u { upload = with_more len u.upload offset part } in
     let fits = c.requires.fits u (ap (λ (x : Books g.row.H-Part.Denot g.row.O.Denot). upload_at x c.args.number) (sym c.self.view_is) ∙ found) in
     let free = ap (λ (x : Books g.row.H-Part.Denot g.row.O.Denot). put_refusal len x c.args.number offset (len part)) c.self.view_is ∙ c.requires.free in
     let put = puts len size address b c.args.number offset part u found c.self.invariant.sound fits (rw found at free) in

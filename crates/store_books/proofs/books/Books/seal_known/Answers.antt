@@ -1,7 +1,7 @@
 use Rattle.std.proofs.Common.{◌≡◌, ◌∙◌, ◌+◌, ◌-◌, ℕ, Some, arith, Bool, ap, ap₂, length, refl, subst, sym}
 use Rattle.std.specs.Prelude.{not}
-use Rattle.store_books.specs.Books.{Begun, Books, is_held_by}
-use Rattle.store_books.specs.inner.Catalog.{Catalogued}
+use Rattle.store_books.specs.Books.{ModelOwnedUpload, Books, is_held_by}
+use Rattle.store_books.specs.inner.Catalog.{ModelCatalog}
 use Rattle.store_books.specs.Commands.{file_refusal, full_refusal, is_over, with_holder, with_holders, with_known}
 use Rattle.store_books.specs.Kept.{books_of}
 use Rattle.store_books.specs.inner.Kept.{HasRoom, changed_sums}
@@ -33,7 +33,7 @@ change_sums-requires g c =
     let next = with_known address b c.args.number at (Some u) (Some o) in
     let more_is : c.more_used.result ≡ more = c.more_used.ensures ∙ ap₂ (λ (x : Bool) (y : ℕ). where_so (not x) y) (k.is_holder ∙ ap (λ (t : ℕ). is_held_by t o) c.tenant-tenant.ensures) k.size in
     let same : c.in-Some-remove.begun ≡ u = some_is c.in-Some-remove.begun u (c.in-Some-remove.ensures.value ∙ found) in
-    let gone : c.into_upload-upload.result ≡ u.upload = c.into_upload-upload.ensures ∙ ap (λ (x : Begun g.row.H-Part.Denot). x.upload) same in
+    let gone : c.into_upload-upload.result ≡ u.upload = c.into_upload-upload.ensures ∙ ap (λ (x : ModelOwnedUpload g.row.H-Part.Denot). x.upload) same in
     let before : c.length.result ≡ n = c.length.ensures.value ∙ ap (λ (x : Upload g.row.H-Part.Denot). length_of x) gone in
     let has = room_for len size address u.tenant (rises more) (falls n) b next old.tenants.items old.catalog.filings old.object_bytes old.held old.parts joined.moves refl c.self.invariant in
     subst (λ (t : ℕ). HasRoom old.tenants.items t (rises c.more_used.result) (falls c.length.result)) (sym c.tenant-tenant.ensures)
@@ -61,7 +61,7 @@ overflow_sub-self-2 g c =
     let next = with_known address b c.args.number at (Some u) (Some o) in
     let more_is : c.more_used.result ≡ more = c.more_used.ensures ∙ ap₂ (λ (x : Bool) (y : ℕ). where_so (not x) y) (k.is_holder ∙ ap (λ (t : ℕ). is_held_by t o) c.tenant-tenant.ensures) k.size in
     let same : c.in-Some-remove.begun ≡ u = some_is c.in-Some-remove.begun u (c.in-Some-remove.ensures.value ∙ found) in
-    let gone : c.into_upload-upload.result ≡ u.upload = c.into_upload-upload.ensures ∙ ap (λ (x : Begun g.row.H-Part.Denot). x.upload) same in
+    let gone : c.into_upload-upload.result ≡ u.upload = c.into_upload-upload.ensures ∙ ap (λ (x : ModelOwnedUpload g.row.H-Part.Denot). x.upload) same in
     let many : c.count.result ≡ length u.upload.parts = c.count.ensures ∙ ap (λ (x : Upload g.row.H-Part.Denot). length x.parts) gone in
     omega (arith, many, joined.parts, c.self.invariant.parts_is)
 
@@ -86,14 +86,14 @@ invariant_of-self-2 g c =
     let next = with_known address b c.args.number at (Some u) (Some o) in
     let more_is : c.more_used.result ≡ more = c.more_used.ensures ∙ ap₂ (λ (x : Bool) (y : ℕ). where_so (not x) y) (k.is_holder ∙ ap (λ (t : ℕ). is_held_by t o) c.tenant-tenant.ensures) k.size in
     let same : c.in-Some-remove.begun ≡ u = some_is c.in-Some-remove.begun u (c.in-Some-remove.ensures.value ∙ found) in
-    let gone : c.into_upload-upload.result ≡ u.upload = c.into_upload-upload.ensures ∙ ap (λ (x : Begun g.row.H-Part.Denot). x.upload) same in
+    let gone : c.into_upload-upload.result ≡ u.upload = c.into_upload-upload.ensures ∙ ap (λ (x : ModelOwnedUpload g.row.H-Part.Denot). x.upload) same in
     let before : c.length.result ≡ n = c.length.ensures.value ∙ ap (λ (x : Upload g.row.H-Part.Denot). length_of x) gone in
     let bytes : c.held.result ≡ held_bytes len u.upload.parts = c.held.ensures ∙ ap (λ (x : Upload g.row.H-Part.Denot). held_bytes len x.parts) gone in
     let many : c.count.result ≡ length u.upload.parts = c.count.ensures ∙ ap (λ (x : Upload g.row.H-Part.Denot). length x.parts) gone in
     let new = c.in_ok-add_holder.ensures.objects o known in
-    let filings = ap (λ (x : Catalogued g.row.O.Denot). x.filings) new in
+    let filings = ap (λ (x : ModelCatalog g.row.O.Denot). x.filings) new in
     let kept = kept_after len size address u.tenant (rises more) (falls n) b next old.tenants.items old.catalog.filings old.object_bytes old.held old.parts c.add_holder.new.self.filings old.object_bytes (old.held - c.held.result) (old.parts - c.count.result)
     joined.moves refl c.self.invariant (omega (arith, filings)) (omega (arith, joined.bytes, c.self.invariant.object_bytes_is)) (omega (arith, bytes, joined.held, c.self.invariant.held_is)) (omega (arith, many, joined.parts, c.self.invariant.parts_is)) in
     let now = c.change_sums.ensures.sums ∙ ap (λ (t : ℕ). changed_sums old.tenants.items t (rises c.more_used.result) (falls c.length.result)) c.tenant-tenant.ensures ∙ ap (λ (x : ℕ). changed_sums old.tenants.items u.tenant (rises x) (falls c.length.result)) more_is ∙ ap (λ (x : ℕ). changed_sums old.tenants.items u.tenant (rises more) (falls x)) before in
-    let objects = ap (λ (x : Catalogued g.row.O.Denot). x.objects) new ∙ ap (λ (t : ℕ). with_holders address old.catalog.objects at o (with_holder t o.holders)) c.tenant-tenant.ensures in
+    let objects = ap (λ (x : ModelCatalog g.row.O.Denot). x.objects) new ∙ ap (λ (t : ℕ). with_holders address old.catalog.objects at o (with_holder t o.holders)) c.tenant-tenant.ensures in
     kept_as len size address old.limits u.tenant (rises more) (falls n) old.begun (old.accepted + 1) c.add_holder.new.self.filings old.object_bytes (old.held - c.held.result) (old.parts - c.count.result) old.tenants.items _ _ _ next.objects _ now c.remove.ensures.entries objects kept

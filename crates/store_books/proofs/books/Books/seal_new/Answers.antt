@@ -1,6 +1,6 @@
 use Rattle.std.proofs.Common.{◌≡◌, ◌∙◌, ◌+◌, ◌-◌, ◌++◌, ◌∷◌, [], ℕ, Some, arith, ap, length, refl, subst, sym}
-use Rattle.store_books.specs.Books.{Begun, Books, object_at, upload_at}
-use Rattle.store_books.specs.inner.Catalog.{Catalogued}
+use Rattle.store_books.specs.Books.{ModelOwnedUpload, Books, object_at, upload_at}
+use Rattle.store_books.specs.inner.Catalog.{ModelCatalog}
 use Rattle.store_books.specs.Commands.{file_refusal, finish_refused, ready_refusal, with_new}
 use Rattle.store_books.specs.Kept.{books_of}
 use Rattle.store_books.specs.inner.Kept.{HasRoom, changed_sums}
@@ -54,7 +54,7 @@ overflow_sub-self-2 g c =
     let next = with_new b c.args.number content (Some u) in
     let before : c.length-len.result ≡ n = c.length-len.ensures.value ∙ ap (λ (x : Upload g.row.H-Part.Denot). length_of x) c.upload.ensures in
     let same : c.in-Some-remove.begun ≡ u = some_is c.in-Some-remove.begun u (c.in-Some-remove.ensures.value ∙ found) in
-    let gone : c.into_upload-upload.result ≡ u.upload = c.into_upload-upload.ensures ∙ ap (λ (x : Begun g.row.H-Part.Denot). x.upload) same in
+    let gone : c.into_upload-upload.result ≡ u.upload = c.into_upload-upload.ensures ∙ ap (λ (x : ModelOwnedUpload g.row.H-Part.Denot). x.upload) same in
     let many : c.count.result ≡ length u.upload.parts = c.count.ensures ∙ ap (λ (x : Upload g.row.H-Part.Denot). length x.parts) gone in
     omega (arith, many, filed.parts, c.self.invariant.parts_is)
 
@@ -78,13 +78,13 @@ invariant_of-self-2 g c =
     let next = with_new b c.args.number content (Some u) in
     let before : c.length-len.result ≡ n = c.length-len.ensures.value ∙ ap (λ (x : Upload g.row.H-Part.Denot). length_of x) c.upload.ensures in
     let same : c.in-Some-remove.begun ≡ u = some_is c.in-Some-remove.begun u (c.in-Some-remove.ensures.value ∙ found) in
-    let gone : c.into_upload-upload.result ≡ u.upload = c.into_upload-upload.ensures ∙ ap (λ (x : Begun g.row.H-Part.Denot). x.upload) same in
+    let gone : c.into_upload-upload.result ≡ u.upload = c.into_upload-upload.ensures ∙ ap (λ (x : ModelOwnedUpload g.row.H-Part.Denot). x.upload) same in
     let bytes : c.held.result ≡ held_bytes len u.upload.parts = c.held.ensures ∙ ap (λ (x : Upload g.row.H-Part.Denot). held_bytes len x.parts) gone in
     let many : c.count.result ≡ length u.upload.parts = c.count.ensures ∙ ap (λ (x : Upload g.row.H-Part.Denot). length x.parts) gone in
     let new = c.in_ok-file_last.ensures.filed in
-    let filings = ap (λ (x : Catalogued g.row.O.Denot). x.filings) new in
+    let filings = ap (λ (x : ModelCatalog g.row.O.Denot). x.filings) new in
     let kept = kept_after len size address u.tenant (rises n) (falls n) b next old.tenants.items old.catalog.filings old.object_bytes old.held old.parts c.file_last.new.self.filings (old.object_bytes + c.length-len.result) (old.held - c.held.result) (old.parts - c.count.result)
     filed.moves refl c.self.invariant (omega (arith, filings)) (omega (arith, filed.bytes, before, c.self.invariant.object_bytes_is)) (omega (arith, bytes, filed.held, c.self.invariant.held_is)) (omega (arith, many, filed.parts, c.self.invariant.parts_is)) in
     let now = c.change_sums.ensures.sums ∙ ap (λ (t : ℕ). changed_sums old.tenants.items t (rises c.length-len.result) (falls c.length-len.result)) c.tenant-tenant.ensures ∙ ap (λ (k : ℕ). changed_sums old.tenants.items u.tenant (rises k) (falls k)) before in
-    let objects = ap (λ (x : Catalogued g.row.O.Denot). x.objects) new ∙ ap (λ (t : ℕ). old.catalog.objects ++ record { content = content; holders = t ∷ [] } ∷ []) c.tenant-tenant.ensures in
+    let objects = ap (λ (x : ModelCatalog g.row.O.Denot). x.objects) new ∙ ap (λ (t : ℕ). old.catalog.objects ++ record { content = content; holders = t ∷ [] } ∷ []) c.tenant-tenant.ensures in
     kept_as len size address old.limits u.tenant (rises n) (falls n) old.begun (old.accepted + 1) c.file_last.new.self.filings (old.object_bytes + c.length-len.result) (old.held - c.held.result) (old.parts - c.count.result) old.tenants.items _ _ _ next.objects _ now c.remove.ensures.entries objects kept

@@ -1,7 +1,7 @@
 use Rattle.std.proofs.Common.{◌≡◌, ◌∙◌, List, ℕ, Some, ap, sym}
 use Rattle.std.specs.Option.{option_map}
 use Rattle.store_books.specs.Books.{Filed, object_among}
-use Rattle.store_books.specs.inner.Catalog.{Catalogued}
+use Rattle.store_books.specs.inner.Catalog.{ModelCatalog}
 use Rattle.store_books.specs.Commands.{with_holders, without_holder}
 use Rattle.store_upload.proofs.Places.{some_is}
 use Rattle.store_books.proofs.Catalogs.{catalog_after, catalog_less, catalogued_after, catalogued_less, is_numbered, numbered, placed_at}
@@ -25,7 +25,7 @@ invariant_of-self g c =
     let n = c.remove-then-is_alone.new.self in
     let number = sym c.in-Some.ensures in
     let there = c.self.invariant.0.filed.there a k number in
-    let shown = sym (ap (λ (x : Catalogued g.row.O.Denot). object_among address x.objects a) c.self.view_is) ∙ numbered address all.filings all.filed p c.self.invariant.0 a k number ∙ ap (λ f. option_map (λ o. o.1) f) there.1 in
+    let shown = sym (ap (λ (x : ModelCatalog g.row.O.Denot). object_among address x.objects a) c.self.view_is) ∙ numbered address all.filings all.filed p c.self.invariant.0 a k number ∙ ap (λ f. option_map (λ o. o.1) f) there.1 in
     let held = c.requires.held there.0 shown in (
       catalogued_less address all.filings all.filed n p (g.I.AddressIndex.number_of c.remove.new.self) a k number c.remove-then-is_alone.ensures.entries c.remove-then-is_alone.ensures.ordered c.remove-then-is_alone.ensures.updates.0 c.remove.ensures c.self.invariant.0,
       holdings_less all.filed n all.held c.remove-was.new.self c.args.tenant k a c.remove-was.ensures.ordered c.self.invariant.1 there.0 there.1 (sym held.1 ∙ c.if-is_alone.true) held.0 c.remove-was.ensures.updates.0 c.remove-then-is_alone.ensures.updates.0,

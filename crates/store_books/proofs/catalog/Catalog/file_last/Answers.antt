@@ -3,7 +3,7 @@ use Rattle.std.specs.BTreeMap.{get as object_in, insert_entry, is_at}
 use Rattle.std.specs.Ordering.{nat_cmp}
 use Rattle.std.specs.Str.{bytes_eq}
 use Rattle.store_books.specs.Books.{Filed, object_among}
-use Rattle.store_books.specs.inner.Catalog.{Catalogued, is_holding}
+use Rattle.store_books.specs.inner.Catalog.{ModelCatalog, is_holding}
 use Rattle.store_books.proofs.Catalogs.{catalog_more, catalogued_more, catalogued_still, is_unnumbered, undone_number}
 use Rattle.store_books.proofs.Holdings.{holdings_more, holdings_still, is_fresh, same_pairs, undone}
 use Rattle.store_books.proofs.catalog.Catalog.file_last.Given.{Over}
@@ -68,7 +68,7 @@ invariant_of-self-2 g c =
     let r = g.I.AddressIndex.number_of c.insert.new.self in
     let is_catalog = c.self.invariant.0 in
     let numbers = subst (λ (x : List ℕ). (b : List ℕ) → r b ≡ cond (bytes_eq x b) (Some all.filings) (p b)) c.address-address.ensures c.in_ok-insert.ensures.inserted in (
-      catalogued_more address all.filings all.filed n p r a (filed_now g c) (ap (λ (x : Catalogued g.row.O.Denot). object_among address x.objects a) c.self.view_is ∙ c.requires.absent) refl (entries g c)
+      catalogued_more address all.filings all.filed n p r a (filed_now g c) (ap (λ (x : ModelCatalog g.row.O.Denot). object_among address x.objects a) c.self.view_is ∙ c.requires.absent) refl (entries g c)
           c.insert-3.ensures.ordered (updates g c) numbers is_catalog,
       holdings_more all.filed n all.held c.insert-2.new.self c.args.tenant all.filings a c.insert-2.ensures.ordered c.self.invariant.1 c.args.content (is_fresh all.filed all.filings is_catalog.filed.before) c.in-Ok.ensures.updates.0 (updates g c),
     )

@@ -1,0 +1,284 @@
+//! Clients of one store. Each client writes its number to the door, a named pipe, and has two named pipes of its own: the server reads its
+//! lines from one and writes the answers to the other. Standard input and output are a session too; the program exits when that ends.
+
+ghost use Rattle.std.specs.Prelude.{◌≡◌};
+ghost use Rattle.store_ledger.specs.Shares.{all_parts};
+
+use crate::standard::{AT_A_TIME, LastingFailure, standard_streams};
+use crate::telling::{misused, status, unopened};
+use b3_core::Work;
+use edge::{Cause, Verdict, number, read_line};
+use std::alloc::{AllocError, Global};
+use std::fs::{File, OpenOptions};
+use std::io::{BufReader, BufWriter, ErrorKind};
+use std::marker::Brand;
+use std::os::unix::fs::FileTypeExt;
+use std::sync::ledger::Blank;
+use std::sync::{Arc, Mutex, Wait};
+use std::thread::Threads;
+use std::{fs, io, thread};
+use store_command_line::DoorOptions;
+use store_core::Limits;
+use store_history::{Front, UnnamedHistory};
+use store_lease::Lease;
+use store_ledger::{ALL_PARTS, Ledgers, Share};
+use store_session::{Access, serve_over};
+use store_shared::Shared;
+
+// The maximum length in bytes of a line with a number: 20 digits and a newline.
+const MAX_NUMBER_LINE: usize = 21;
+
+// The named pipe for new clients, and room for a line of it.
+#[derive(Drop)]
+struct Door {
+    numbers: BufReader<File>,
+    line: Vec<u8>,
+}
+
+impl Door {
+    // Opens the door for reading and writing, so that it is not at its end after a client has closed it.
+    fn open(rt: &HostRuntime, path: &str) -> io::Result<Door> {
+        let file = OpenOptions::new().read(true).write(true).open(rt, path)?;
+        Ok(Door {
+            numbers: BufReader::new(rt.alloc(), file)?,
+            line: Vec::with_capacity(rt.alloc(), MAX_NUMBER_LINE)?,
+        })
+    }
+
+    // Waits for the next line, and returns its number, or `None` if it is not a number.
+    fn next_number(&mut self) -> Result<Option<u64>, Cause> {
+        let count = read_line(&mut self.numbers, &mut self.line, MAX_NUMBER_LINE)?;
+        if count == 0 {
+            return Err(Cause::CannotRead);
+        }
+        if count > MAX_NUMBER_LINE {
+            return Ok(None);
+        }
+        match self.line.as_slice().strip_suffix(b"\n") {
+            Some(digits) => Ok(number(digits)),
+            None => Ok(None),
+        }
+    }
+}
+
+// What the threads of a server share.
+#[derive(Drop)]
+struct Server<L: Ledgers> {
+    store: Shared<L>,
+    path: String,
+    door: Mutex<Door>,
+}
+
+// Opens a named pipe for reading without waiting for a writer. If there is no writer any more, its input is at its end.
+fn open_input(rt: &HostRuntime, path: &str) -> io::Result<File> {
+    let _writer = OpenOptions::new().read(true).write(true).open(rt, path)?;
+    File::open(rt, path)
+}
+
+// Opens a named pipe for writing without waiting for a reader. If there is no reader any more, writes fail.
+fn open_output(rt: &HostRuntime, path: &str) -> io::Result<File> {
+    let _reader = OpenOptions::new().read(true).write(true).open(rt, path)?;
+    OpenOptions::new().write(true).open(rt, path)
+}
+
+// Serves a client until its input ends, or an answer cannot be written. An error means that the session could not begin.
+fn serve_files<A: Access>(
+    rt: &HostRuntime,
+    access: &mut A,
+    input: File,
+    output: File,
+) -> io::Result<()> {
+    let mut lines = BufReader::with_capacity(rt.alloc(), AT_A_TIME, input)?;
+    let mut answers = BufWriter::new(rt.alloc(), LastingFailure::new(output))?;
+    let mut work = Work::new(rt);
+    match serve_over(rt.alloc(), access, &mut lines, &mut answers, &mut work) {
+        Err(Cause::OutOfMemory) => Err(ErrorKind::OutOfMemory.into()),
+        _ => Ok(()),
+    }
+}
+
+// The path of one of the two pipes of a client.
+fn pipe_path(alloc: Global, path: &str, number: u64, end: &str) -> Result<String, AllocError> {
+    format!(in alloc; "{path}.{number}.{end}")
+}
+
+// Serves the client whose pipes have these paths. A failure is reported with the path.
+fn serve_pipes<A: Access>(
+    rt: &HostRuntime,
+    access: &mut A,
+    input_path: &str,
+    output_path: &str,
+) -> io::Result<()> {
+    let input = match open_input(rt, input_path) {
+        Ok(input) => input,
+        Err(error) => {
+            let _status = unopened(rt, input_path, &error);
+            return Ok(());
+        }
+    };
+    match open_output(rt, output_path) {
+        Ok(output) => serve_files(rt, access, input, output),
+        Err(error) => {
+            let _status = unopened(rt, output_path, &error);
+            Ok(())
+        }
+    }
+}
+
+// Serves the client of this number.
+fn serve_client<A: Access>(
+    rt: &HostRuntime,
+    access: &mut A,
+    path: &str,
+    number: u64,
+) -> io::Result<()> {
+    let input_path = pipe_path(rt.alloc(), path, number, "in")?;
+    let output_path = pipe_path(rt.alloc(), path, number, "out")?;
+    serve_pipes(rt, access, input_path.as_str(), output_path.as_str())
+}
+
+// Serves the client whose number was read at the door. Failures are reported. Returns false if the door cannot be read.
+fn serve_next<A: Access>(
+    rt: &HostRuntime,
+    access: &mut A,
+    path: &str,
+    next: Result<Option<u64>, Cause>,
+) -> bool {
+    match next {
+        Ok(Some(number)) => {
+            if serve_client(rt, access, path, number).is_err() {
+                let _ = eprintln!(rt; "b3store: {path}: out of memory for client {number}");
+            }
+            true
+        }
+        Ok(None) => {
+            let _ = eprintln!(rt; "b3store: {path}: a line is not a client's number");
+            true
+        }
+        Err(cause) => {
+            let _ = eprintln!(rt; "b3store: {path}: {cause}");
+            false
+        }
+    }
+}
+
+// Serves clients, one after the other, for as long as the door can be read.
+fn serve_clients<L: Ledgers, T: Wait>(
+    rt: HostRuntime,
+    threads: &T,
+    server: &Server<L>,
+    share: Share<L>,
+    front: Front<L>,
+) {
+    let path = server.path.as_str();
+    let mut access = Lease::new(threads, &server.store, share, front);
+    for _ in threads.forever() {
+        let next = server.door.lock(threads).next_number();
+        if !serve_next(&rt, &mut access, path, next) {
+            return;
+        }
+    }
+}
+
+// Starts a thread that serves clients. It is not joined: it ends with the program.
+fn start<L: Ledgers + Send + Sync + 'static, T: Threads + Wait + Copy + Send + 'static>(
+    rt: HostRuntime,
+    threads: T,
+    server: Arc<Server<L>>,
+    share: Share<L>,
+    front: Front<L>,
+) -> Result<(), AllocError> {
+    let job = move || serve_clients(rt, &threads, &*server, share, front);
+    let _detached = thread::spawn(&threads, job)?;
+    Ok(())
+}
+
+// Starts a thread for each of `sessions` clients at a time.
+fn start_all<L: Ledgers + Send + Sync + 'static, T: Threads + Wait + Copy + Send + 'static>(
+    rt: HostRuntime,
+    threads: T,
+    server: &Arc<Server<L>>,
+    share: &mut Share<L>,
+    sessions: u32,
+) -> Result<(), AllocError> {
+    for _ in 0..sessions {
+        // A share has more parts than there are sessions.
+        if share.parts() < 2 {
+            break;
+        }
+        let own = share.split(1);
+        let front = server.store.lock(&threads).front();
+        start(rt, threads, Arc::try_clone(server)?, own, front)?;
+    }
+    Ok(())
+}
+
+// Serves the clients of a door, and those of standard input and output, until the latter end.
+fn serve_all<L: Ledgers + Send + Sync + 'static, T: Threads + Wait + Copy + Send + 'static>(
+    rt: HostRuntime,
+    threads: T,
+    door: Door,
+    options: &DoorOptions<'_>,
+    bytes: Blank,
+    calls: Blank,
+    history: UnnamedHistory,
+) -> Result<Verdict, Cause>
+    requires bytes { (bytes.name ≡ L.bytes_name) × (bytes.parts ≡ L.bytes_parts) × (bytes.parts ≡ all_parts) }
+    requires calls { (calls.name ≡ L.calls_name) × (calls.parts ≡ L.calls_parts) × (calls.parts ≡ all_parts) }
+    requires history { history ≡ L.history }
+{
+    let alloc: Global = rt.alloc();
+    let (store, mut share) = Shared::<L>::new(alloc, Limits::full(), bytes, calls, history);
+    let server = Server {
+        store,
+        path: String::from_str(alloc, options.path)?,
+        door: Mutex::new(door),
+    };
+    let Ok(server) = Arc::new(alloc, server) else {
+        return Err(Cause::OutOfMemory);
+    };
+    start_all(rt, threads, &server, &mut share, options.sessions)?;
+    let front = server.store.lock(&threads).front();
+    let mut access = Lease::new(&threads, &server.store, share, front);
+    let (mut lines, mut answers) = standard_streams(&rt)?;
+    let mut work = Work::new(&rt);
+    serve_over(alloc, &mut access, &mut lines, &mut answers, &mut work)
+}
+
+// The same, for a store whose ledgers and history are named here.
+fn serve_named<T: Threads + Wait + Copy + Send + 'static>(
+    rt: HostRuntime,
+    threads: T,
+    door: Door,
+    options: &DoorOptions<'_>,
+) -> Result<Verdict, Cause> {
+    let (bytes, calls) = (Blank::new(ALL_PARTS), Blank::new(ALL_PARTS));
+    let history = UnnamedHistory::new(rt.alloc())?;
+    serve_all::<Brand, _>(rt, threads, door, options, bytes, calls, history)
+}
+
+// Whether a path is that of a named pipe, according to the system.
+fn is_pipe(rt: &HostRuntime, path: &str) -> bool {
+    match fs::metadata(rt, path) {
+        Ok(found) => found.file_type().is_fifo(),
+        Err(_) => true,
+    }
+}
+
+/// Serves many clients, and returns the exit status.
+pub(crate) fn serve_status<T: Threads + Wait + Copy + Send + 'static>(
+    rt: &HostRuntime,
+    threads: &T,
+    options: &DoorOptions<'_>,
+) -> u8 {
+    if !is_pipe(rt, options.path) {
+        return misused(
+            rt,
+            "--at takes a named pipe, which mkfifo makes; see b3store serve --help",
+        );
+    }
+    match Door::open(rt, options.path) {
+        Ok(door) => status(rt, serve_named(*rt, *threads, door, options)),
+        Err(error) => unopened(rt, options.path, &error),
+    }
+}

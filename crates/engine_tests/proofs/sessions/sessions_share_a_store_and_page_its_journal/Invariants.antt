@@ -1,0 +1,10 @@
+use Rattle.engine_tests.proofs.sessions.sessions_share_a_store_and_page_its_journal.Given as goal
+
+abbrev pub ghosts-serve_side_by_side : goal.ghosts-serve_side_by_side
+ghosts-serve_side_by_side g a = record {
+  bytes_name = a.bytes.name;
+  bytes_parts = a.bytes.parts;
+  calls_name = a.calls.name;
+  calls_parts = a.calls.parts;
+  history = a.history;
+}

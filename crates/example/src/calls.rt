@@ -1,0 +1,43 @@
+//! The first calls of each crate, as the crates' own pages show them.
+
+use anyhow::Result;
+use b3_core::{Hasher, Mode, Runtime, Work};
+use b3_forest::Prepared;
+use b3_parallel::hash_all;
+use std::alloc::Global;
+use std::io::Read;
+use std::thread::Threads;
+use store_core::{Limits, Store};
+
+// Hashes bytes that come in two pieces.
+pub fn digest_of_pieces(rt: &impl Runtime, first: &[u8], second: &[u8]) -> [u8; 32] {
+    let mut work = Work::new(rt);
+    let mut hasher = Hasher::new(&Mode::hash());
+    hasher.update(first, &mut work);
+    hasher.update(second, &mut work);
+    hasher.digest(&mut work)
+}
+
+// Hashes what a reader has left, by a thread for each processor.
+pub fn digest_of_reader<T: Threads + Runtime, R: Read>(
+    rt: &T,
+    alloc: Global,
+    reader: &mut R,
+) -> Result<[u8; 32]> {
+    let mut work = Work::new(rt);
+    let top = hash_all(rt, alloc, &Mode::hash(), reader, None, &mut work)?;
+    Ok(top.root32(&mut work))
+}
+
+// Stores bytes, and returns the length of the object.
+pub fn stored_len(rt: &impl Runtime, alloc: Global, bytes: Vec<u8>) -> Result<u64> {
+    let mut work = Work::new(rt);
+    let mut store = Store::new(alloc, Limits::full());
+    let tenant = store.open_tenant(1 << 30)?;
+    let (upload, plan) = store.begin(tenant, bytes.len() as u64)?;
+    let part = Prepared::make(alloc, &plan, 0, bytes, &mut work)?;
+    let _held = store.put(upload, part, &mut work)?;
+    let sealed = store.seal(upload, &mut work)?;
+    let object = store.fetch(tenant, sealed.address)?;
+    Ok(object.len())
+}

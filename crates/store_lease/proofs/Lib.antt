@@ -1,0 +1,6 @@
+mod Holding
+mod Lookups
+mod Opening
+mod Replayed
+mod Sealing
+mod Steps

@@ -1,0 +1,45 @@
+-- Look-ups in lists of entries of which one is removed, or has another value.
+use Rattle.std.proofs.Common.{◌≡◌, ◌∙◌, ℕ, Bool, true, false, List, [], ◌∷◌, ◌++◌, Option, Some, None, cond, refl, ap, sym}
+use Rattle.std.specs.Map.{lookup, remove_entry, set_value}
+
+module _ {K X : Type 0} where
+  removed_by : (b : Bool) (p : K → Bool) (e : K × X) (es less : List (K × X)) → (b ≡ true → p e.0 ≡ false) → lookup p less ≡ lookup p es → lookup p (cond b es (e ∷ less)) ≡ lookup p (e ∷ es)
+  removed_by true p e es less apart same = sym (ap (λ (c : Bool). cond c (Some e.1) (lookup p es)) (apart refl))
+  removed_by false p e es less apart same = ap (λ (f : Option X). cond (p e.0) (Some e.1) f) same
+
+  -- another key is removed
+  pub removed_apart : (p q : K → Bool) → ((k : K) → q k ≡ true → p k ≡ false) → (es : List (K × X)) → lookup p (remove_entry q es) ≡ lookup p es
+  removed_apart p q apart [] = refl
+  removed_apart p q apart (e ∷ es) = removed_by (q e.0) p e es (remove_entry q es) (apart e.0) (removed_apart p q apart es)
+
+  set_by : (b : Bool) (p : K → Bool) (e : K × X) (w : X) (es less : List (K × X)) → (b ≡ true → p e.0 ≡ false) → lookup p less ≡ lookup p es → lookup p (cond b ((e.0, w) ∷ es) (e ∷ less)) ≡ lookup p (e ∷ es)
+  set_by true p e w es less apart same = ap (λ (c : Bool). cond c (Some w) (lookup p es)) (apart refl) ∙ sym (ap (λ (c : Bool). cond c (Some e.1) (lookup p es)) (apart refl))
+  set_by false p e w es less apart same = ap (λ (f : Option X). cond (p e.0) (Some e.1) f) same
+
+  -- another key's value is set
+  pub set_apart : (p q : K → Bool) (w : X) → ((k : K) → q k ≡ true → p k ≡ false) → (es : List (K × X)) → lookup p (set_value q es w) ≡ lookup p es
+  set_apart p q w apart [] = refl
+  set_apart p q w apart (e ∷ es) = set_by (q e.0) p e w es (set_value q es w) (apart e.0) (set_apart p q w apart es)
+
+  here_by : (b : Bool) (q : K → Bool) (e : K × X) (v w : X) (es less : List (K × X)) → q e.0 ≡ b → cond b (Some e.1) (lookup q es) ≡ Some v → (lookup q es ≡ Some v → lookup q less ≡ Some w)
+      → lookup q (cond b ((e.0, w) ∷ es) (e ∷ less)) ≡ Some w
+  here_by true q e v w es less is found rest = ap (λ (c : Bool). cond c (Some w) (lookup q es)) is
+  here_by false q e v w es less is found rest = ap (λ (c : Bool). cond c (Some e.1) (lookup q less)) is ∙ rest found
+
+  -- the value that is set is found
+  pub set_here : (q : K → Bool) (es : List (K × X)) (v w : X) → lookup q es ≡ Some v → lookup q (set_value q es w) ≡ Some w
+  set_here q [] v w found = absurd (cc)
+  set_here q (e ∷ es) v w found = here_by (q e.0) q e v w es (set_value q es w) refl found (λ there. set_here q es v w there)
+
+pub front_by : {X : Type 0} (b : Bool) (x v : X) (found later : Option X) → cond b (Some x) found ≡ Some v → (found ≡ Some v → later ≡ Some v) → cond b (Some x) later ≡ Some v
+front_by true x v found later is rest = is
+front_by false x v found later is rest = rest is
+
+pub last_by : {X : Type 0} (b : Bool) (x v : X) (found later : Option X) → cond b (Some x) found ≡ None → (found ≡ None → later ≡ Some v) → cond b (Some x) later ≡ Some v
+last_by true x v found later is rest = absurd (cc)
+last_by false x v found later is rest = rest is
+
+-- what is found is found when more entries follow
+pub lookup_front : {K X : Type 0} (p : K → Bool) (es more : List (K × X)) (v : X) → lookup p es ≡ Some v → lookup p (es ++ more) ≡ Some v
+lookup_front p [] more v found = absurd (cc)
+lookup_front p (e ∷ es) more v found = front_by (p e.0) e.1 v (lookup p es) (lookup p (es ++ more)) found (λ there. lookup_front p es more v there)

@@ -1,0 +1,3 @@
+-- Definitions that only proofs and private functions use.
+pub mod Stepped
+pub mod Under

@@ -1,0 +1,120 @@
+-- Parts that are put in two moments.
+use Rattle.std.proofs.Common.{◌≡◌, ◌∙◌, ℕ, Bool, true, false, List, Ok, Err, Some, None, Option, Result, ap, append-nil, length, length-take-le, refl, subst, sym, take}
+use Rattle.std.specs.Prelude.{IfOk, IfSome, unwrap_or}
+use Rattle.b3_forest.specs.Parts.{ModelPrepared, planned}
+use Rattle.store_books.specs.declared.refusal.Refusal.{Refusal}
+use Rattle.store_core.specs.Runs.{Reply, ask, put, the_plan, told}
+use Rattle.store_core.specs.declared.command.Question.TheVariants as questions
+use Rattle.store_script.specs.Answers.{told_text}
+use Rattle.store_script.specs.Script.{took, unmade, widest_start}
+use Rattle.store_script.specs.Texts.{answer_text, refused_text, unmade_text}
+use Rattle.store_script.specs.declared.answer.Answer.{Answer}
+use Rattle.store_session.specs.inner.Reads.{Copied, Dropped}
+use Rattle.store_upload.specs.Uploads.{UploadPlan, part_refusal}
+use Rattle.store_upload.specs.declared.refusal.PartFault.{PartFault}
+use Rattle.store_upload.specs.declared.refusal.PartFault.TheVariants as faults
+use Rattle.store_session.specs.Access.{advance, at, SessionState, Reach, Took, TookPlan}
+use Rattle.store_session.proofs.Steps.{plus_none}
+use Rattle.store_session.specs.inner.Telling.{Leaves, AnsweredOver, ReceivesOver}
+use Rattle.store_session.specs.Turns.{IsLinkedMade, IsLinkedPlan, IsLinkedPut}
+
+-- what a part that was made for a plan comes to
+abbrev pub MadeOver : Reach → (SessionState → Type 0) → (SessionState → Type 0) → ℕ → ℕ → UploadPlan → List ℕ → List ℕ → Type 0
+MadeOver reach was is upload offset plan bytes text = AnsweredOver was is (λ first turn after. IsLinkedMade reach first upload (planned plan offset bytes) (part_refusal plan offset (length bytes)) turn after) text
+
+abbrev pub PutOver : Reach → (SessionState → Type 0) → (SessionState → Type 0) → ℕ → ℕ → List ℕ → List ℕ → Type 0
+PutOver reach was is upload offset bytes text = AnsweredOver was is (λ before turn after. IsLinkedPut reach before upload offset bytes turn after) text
+
+pub made : (reach : Reach) (was is : SessionState → Type 0) (upload offset : ℕ) (plan : UploadPlan) (bytes : List ℕ) (part : ModelPrepared) (reply : Result Reply Refusal) → part_refusal plan offset (length bytes) ≡ None → part ≡ planned plan offset bytes
+    → Took reach was is (put upload part) reply → MadeOver reach was is upload offset plan bytes (answer_text reply)
+made reach was is upload offset plan bytes part reply fits part_is took_it =
+    let call = put upload (planned plan offset bytes) in
+    let t = subst (λ (p : ModelPrepared). Took reach was is (put upload p) reply) part_is took_it in
+    record {
+      turn = took call reply;
+      goes = λ before stood. (
+        advance before t.found call reply t.left,
+        (
+          t.stands before stood,
+          subst (λ (o : Option PartFault). IsLinkedMade reach before upload (planned plan offset bytes) o (took call reply) (advance before t.found call reply t.left)) (sym fits)
+              (t.found, (t.linked before stood, ((refl, t.step), (refl, refl, refl)))),
+        ),
+      );
+      text_is = refl;
+    }
+
+fault_is : (reach : Reach) (old : SessionState) (upload : ℕ) (part : ModelPrepared) (refused : Option PartFault) (fault : PartFault) → fault ≡ unwrap_or refused faults.NoMemory → IsLinkedMade reach old upload part refused (unmade fault) old
+fault_is reach old upload part (Some first) fault is = (ap unmade is, refl)
+fault_is reach old upload part None fault is = (is, refl)
+
+pub no_part : (reach : Reach) (was : SessionState → Type 0) (upload offset : ℕ) (plan : UploadPlan) (bytes : List ℕ) (fault : PartFault) → fault ≡ unwrap_or (part_refusal plan offset (length bytes)) faults.NoMemory
+    → MadeOver reach was was upload offset plan bytes (refused_text (unmade_text fault))
+no_part reach was upload offset plan bytes fault is = record {
+  turn = unmade fault;
+  goes = λ before stood. (before, (stood, fault_is reach before upload (planned plan offset bytes) (part_refusal plan offset (length bytes)) fault is));
+  text_is = refl;
+}
+
+pub planned_put : (reach : Reach) (was mid is : SessionState → Type 0) (upload offset : ℕ) (plan : UploadPlan) (bytes text : List ℕ) → TookPlan reach was mid upload (Ok plan) → MadeOver reach mid is upload offset plan bytes text → PutOver reach was is upload offset bytes text
+planned_put reach was mid is upload offset plan bytes text p a = record {
+  turn = a.turn;
+  goes = λ before stood.
+      let g = a.goes (at before p.found) (p.stands before stood) in
+      (g.0, (g.1.0, (p.found, (p.linked before stood, subst (λ (r : Result UploadPlan Refusal). IsLinkedPlan reach (at before p.found) upload offset bytes r a.turn g.0) p.plan_is g.1.1))));
+  text_is = a.text_is;
+}
+
+pub no_plan : (reach : Reach) (was is : SessionState → Type 0) (upload offset : ℕ) (bytes : List ℕ) (refusal : Refusal) → TookPlan reach was is upload (Err refusal) → PutOver reach was is upload offset bytes (answer_text (Err refusal))
+no_plan reach was is upload offset bytes refusal p = record {
+  turn = took (ask (questions.Plan upload)) (Err refusal);
+  goes = λ before stood. (
+    at before p.found,
+    (
+      p.stands before stood,
+      (
+        p.found,
+        (
+          p.linked before stood,
+          subst (λ (r : Result UploadPlan Refusal). IsLinkedPlan reach (at before p.found) upload offset bytes r (took (ask (questions.Plan upload)) (Err refusal)) (at before p.found)) p.plan_is
+              ((refl, (ap (told the_plan) p.plan_is, refl)), (plus_none before.bytes, plus_none before.calls, sym (append-nil before.own))),
+        ),
+      ),
+    ),
+  );
+  text_is = refl;
+}
+
+pub leaves : (reach : Reach) (was is : SessionState → Type 0) (upload : ℕ) (plan : Result UploadPlan Refusal) → TookPlan reach was is upload plan → Leaves was is
+leaves reach was is upload plan p = record { leaves = λ before stood. (p.found, p.stands before stood) }
+
+-- ---- the bytes behind a line
+
+-- they are dropped behind an answer that does not look at them
+pub dropped : {E : Type 0} (r : Result (Option Answer) E) (now left : Option (List ℕ)) (reach : Reach) (was is : SessionState → Type 0) (upload offset len : ℕ) (answer : Answer)
+    → ((bytes : List ℕ) → length bytes ≡ len → PutOver reach was is upload offset bytes (told_text widest_start answer)) → Leaves was is → IfOk r (λ given. IfSome now (λ following. Dropped given answer len following left))
+    → IfOk r (λ given. IfSome now (λ following. ReceivesOver reach was is given upload offset len following left))
+dropped (Err e) now left reach was is upload offset len answer f l h = tt
+dropped (Ok given) None left reach was is upload offset len answer f l h = tt
+dropped (Ok None) (Some following) left reach was is upload offset len answer f l h = (h, l)
+dropped (Ok (Some given)) (Some following) left reach was is upload offset len answer f l h =
+    (h.1, h.2, subst (λ (a : Answer). PutOver reach was is upload offset (take len following) (told_text widest_start a)) (sym h.0) (f (take len following) (length-take-le len following h.1)))
+
+pub whole : (now left : Option (List ℕ)) (reach : Reach) (was is : SessionState → Type 0) (upload offset len : ℕ) (bytes : List ℕ) (answer : Answer) (is_whole : Bool) → is_whole ≡ true → IfSome now (λ following. Copied is_whole len following bytes left)
+    → PutOver reach was is upload offset bytes (told_text widest_start answer) → IfSome now (λ following. ReceivesOver reach was is (Some answer) upload offset len following left)
+whole None left reach was is upload offset len bytes answer is_whole all h p = tt
+whole (Some following) left reach was is upload offset len bytes answer true all h p = (h.0, h.2, subst (λ (bs : List ℕ). PutOver reach was is upload offset bs (told_text widest_start answer)) h.1 p)
+whole (Some following) left reach was is upload offset len bytes answer false all h p = absurd (cc)
+
+-- ---- faults
+
+pub fault_told : (made_for : UploadPlan) (offset len n : ℕ) (fault : PartFault) → Some fault ≡ part_refusal made_for offset len → n ≡ len → fault ≡ unwrap_or (part_refusal made_for offset n) faults.NoMemory
+fault_told made_for offset len n fault is same = ap (λ (o : Option PartFault). unwrap_or o faults.NoMemory) (is ∙ ap (part_refusal made_for offset) (sym same))
+
+pub no_fault : (made_for : UploadPlan) (offset len n : ℕ) → None ≡ part_refusal made_for offset len → n ≡ len → faults.NoMemory ≡ unwrap_or (part_refusal made_for offset n) faults.NoMemory
+no_fault made_for offset len n is same = ap (λ (o : Option PartFault). unwrap_or o faults.NoMemory) (is ∙ ap (part_refusal made_for offset) (sym same))
+
+pub cut_off : (now left : Option (List ℕ)) (reach : Reach) (was is : SessionState → Type 0) (upload offset len : ℕ) (bytes : List ℕ) (is_whole : Bool) → is_whole ≡ false → IfSome now (λ following. Copied is_whole len following bytes left) → Leaves was is
+    → IfSome now (λ following. ReceivesOver reach was is None upload offset len following left)
+cut_off None left reach was is upload offset len bytes is_whole cut h l = tt
+cut_off (Some following) left reach was is upload offset len bytes true cut h l = absurd (cc)
+cut_off (Some following) left reach was is upload offset len bytes false cut h l = (h, l)

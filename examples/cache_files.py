@@ -1,0 +1,337 @@
+"""What a cache has on disk: contents one behind another in segments, and a log of the keys, written behind as they come (cache_server.py).
+
+A writer appends what is new to the last segment, syncs it, then appends lines to the log, and syncs that, at least twice a second. So a whole line of the
+log speaks of contents that are there; a start reads up to the last whole line and drops what is behind. A line is the CRC-32 of its text, and the text:
+
+    object ADDRESS SEGMENT OFFSET LENGTH     where an object's bytes are
+    key USER ADDRESS KEY                     the key leads there
+    drop USER KEY                            the key leads nowhere
+
+Where contents that no key leads to take more of a segment than the others, the writer moves those to the last segment, some at a time, and removes the
+segment. Where the log has many lines that later ones undo, it writes the log anew.
+"""
+import collections
+import contextlib
+import fcntl
+import os
+import re
+import threading
+import time
+import zlib
+
+from b3store import Ended, Refused
+
+LOG = "log"
+OLD_KEYS = "keys"
+"""The file of the keys in a folder of an older server."""
+TEXT = re.compile("object [0-9a-f]{64} [^ ]+ [0-9]{1,19} [0-9]{1,19}|key [^ ]+ [0-9a-f]{64} .*|drop [^ ]+ .*", re.DOTALL)
+SEGMENT = 1 << 26
+"""No content is appended to a segment of so many bytes."""
+SMALL_SEGMENT = 1 << 20
+"""Nor to one of so many, of which most is dead."""
+MOVED_AT_ONCE = 1 << 24
+"""So many bytes are moved between two syncs."""
+MAX_WAITING = 1 << 26
+"""Where so many bytes wait to be written, stores wait too: a disk that takes as many a second is never more than a second behind."""
+SECONDS_BETWEEN_SYNCS = 0.4
+COPIED = 1 << 20
+IDLE_LINES = 1000
+"""So many lines the log may have beside those that hold, and as many as hold."""
+
+Place = collections.namedtuple("Place", "segment offset length")
+
+
+class InUse(Exception):
+    """Another server works in a folder."""
+
+
+def line_of(text):
+    """A line of the log."""
+    inside = text.encode("latin-1")
+    return b"%08x %s\n" % (zlib.crc32(inside), inside)
+
+
+def whole_lines(content):
+    """The texts of the lines up to the first that isn't whole, and how many bytes these lines have."""
+    texts, end = [], 0
+    for line in content.split(b"\n")[:-1]:
+        given, _, inside = line.partition(b" ")
+        text = inside.decode("latin-1")
+        if given != b"%08x" % zlib.crc32(inside) or not TEXT.fullmatch(text):
+            break
+        texts.append(text)
+        end += len(line) + 1
+    return texts, end
+
+
+class Files:
+    """A folder's segments and its log, and their writer."""
+
+    def __init__(self, path):
+        self.path = path
+        os.makedirs(path, exist_ok=True)
+        self.folder = os.open(path, os.O_RDONLY | os.O_DIRECTORY)
+        try:
+            fcntl.flock(self.folder, fcntl.LOCK_EX | fcntl.LOCK_NB)
+        except BlockingIOError:
+            raise InUse(f"{path} is in use by another server") from None
+        self.keys, self.places, self.refs = {}, {}, collections.Counter()
+        """The keys of the log by user and key, the objects' places, and how many keys lead to an object."""
+        self.live, self.sizes = collections.Counter(), collections.Counter()
+        """The bytes of each segment that keys lead to, and all."""
+        self.waiting, self.bytes, self.changed = [], 0, threading.Condition()
+        self.fault, self.has_ended, self.lines = None, False, 0
+        self.log = self.last = self.writer = self.name = None
+
+    def at(self, name):
+        return os.path.join(self.path, name)
+
+    # ---- what is there
+
+    def read(self):
+        """Reads the log, and drops what is behind its last whole line. Gives how many bytes that were."""
+        if os.path.exists(self.at(OLD_KEYS)) and not os.path.exists(self.at(LOG)):
+            self.begin_log()
+        with open(self.at(LOG), "ab+") as log:
+            log.seek(0)
+            content = log.read()
+            texts, end = whole_lines(content)
+            log.truncate(end)
+        for text in texts:
+            self.take(text)
+        self.lines = len(texts)
+        for name in list(self.sizes):
+            self.sizes[name] = os.path.getsize(self.at(name)) if os.path.exists(self.at(name)) else 0
+        for name in os.listdir(self.path):
+            if name.startswith("segment.") and name not in self.sizes:
+                os.remove(self.at(name))
+        return len(content) - end
+
+    def begin_log(self):
+        """Writes the log of a folder of an older server, with a file for each object and one of all keys."""
+        with open(self.at(OLD_KEYS), encoding="latin-1", newline="\n") as lines:
+            rows = [line.rstrip("\n").split(" ", 2) for line in lines]
+        names = {address: os.path.join("objects", address) for _, address, _ in rows}
+        there = {address: name for address, name in names.items() if os.path.exists(self.at(name))}
+        texts = [f"object {address} {name} 0 {os.path.getsize(self.at(name))}" for address, name in there.items()]
+        self.replace_log([*texts, *(f"key {user} {address} {key}" for user, address, key in rows)])
+        os.remove(self.at(OLD_KEYS))
+
+    def take(self, text):
+        """Notes what a line says."""
+        kind, words = text.split(" ", 1)
+        if kind == "object":
+            address, segment, offset, length = words.split(" ")
+            self.note_place(address, Place(segment, int(offset), int(length)))
+        elif kind == "key":
+            user, address, key = words.split(" ", 2)
+            self.note_key(user, key, address)
+        else:
+            user, key = words.split(" ", 1)
+            self.note_key(user, key, None)
+
+    def note_place(self, address, place):
+        old = self.places.get(address)
+        if self.refs[address]:
+            self.live[place.segment] += place.length
+            if old is not None:
+                self.live[old.segment] -= old.length
+        self.places[address] = place
+        self.sizes[place.segment] = max(self.sizes[place.segment], place.offset + place.length)
+
+    def note_key(self, user, key, address):
+        old = self.keys.pop((user, key), None)
+        if address is not None:
+            self.keys[user, key] = address
+            self.note_use(address, 1)
+        if old is not None:
+            self.note_use(old, -1)
+
+    def note_use(self, address, by):
+        before = self.refs[address]
+        self.refs[address] += by
+        place = self.places.get(address)
+        if place is not None and (before == 0) != (self.refs[address] == 0):
+            self.live[place.segment] += by * place.length
+        if self.refs[address] == 0:
+            del self.refs[address]
+
+    def place(self, address):
+        if address not in self.places:
+            raise FileNotFoundError("its object is not there")
+        return self.places[address]
+
+    def content(self, address):
+        """The bytes of an object, a piece at a time."""
+        place = self.place(address)
+        with open(self.at(place.segment), "rb") as file:
+            file.seek(place.offset)
+            for start in range(0, place.length, COPIED):
+                piece = file.read(min(COPIED, place.length - start))
+                if len(piece) < min(COPIED, place.length - start):
+                    raise OSError("its object is cut off")
+                yield piece
+
+    def put_aside(self, address):
+        """Copies what isn't the object of its address into a folder of its own, and has it no longer."""
+        os.makedirs(self.at("aside"), exist_ok=True)
+        with open(self.at(os.path.join("aside", address)), "wb") as file:
+            file.writelines(self.content(address))
+        self.lose(address)
+
+    def lose(self, address):
+        """Has an object's bytes no longer: when they are stored once more, they are written once more."""
+        place = self.places.pop(address, None)
+        if place is not None and self.refs[address]:
+            self.live[place.segment] -= place.length
+
+    # ---- what comes
+
+    def start(self, store):
+        """Starts the writer, which gets contents from the store."""
+        self.log = open(self.at(LOG), "ab")
+        self.open_segment()
+        self.writer = threading.Thread(target=self.write_on, args=(store,), daemon=True)
+        self.writer.start()
+
+    def note(self, user, key, entry):
+        """A key leads to an object of the user's, or nowhere. This is called in the order in which keys change."""
+        with self.changed:
+            self.waiting.append((user, key, entry))
+            self.bytes += entry.length if entry is not None else 0
+            self.changed.notify_all()
+
+    def wait(self):
+        """Waits while too much isn't written yet."""
+        with self.changed:
+            self.changed.wait_for(lambda: self.bytes <= MAX_WAITING or self.fault is not None)
+
+    def end(self):
+        """Writes what has come, and ends."""
+        with self.changed:
+            self.has_ended = True
+            self.changed.notify_all()
+        self.writer.join()
+        if self.fault is not None:
+            raise self.fault
+
+    # ---- the writer
+
+    def write_on(self, store):
+        try:
+            due = 0
+            while not self.write_batch(store, due):
+                due = time.monotonic() + SECONDS_BETWEEN_SYNCS
+        except (OSError, ValueError) as fault:
+            with self.changed:
+                self.fault = OSError(f"{self.path} can't be written: {fault}")
+                self.changed.notify_all()
+
+    def write_batch(self, store, due):
+        """Writes what has come until a time, and gives whether that was the end."""
+        with self.changed:
+            self.changed.wait_for(lambda: self.waiting or self.has_ended or self.emptiest() is not None)
+            self.changed.wait_for(lambda: self.has_ended or self.bytes > MAX_WAITING, max(0, due - time.monotonic()))
+            has_ended, batch, self.waiting = self.has_ended, self.waiting, []
+            written = self.bytes
+        self.write(store, batch, moves=not has_ended)
+        with self.changed:
+            self.bytes -= written
+            self.changed.notify_all()
+        return has_ended
+
+    def write(self, store, batch, moves):
+        """Writes what has come, and moves some of what is there."""
+        texts = [text for user, key, entry in batch for text in self.texts_of(store, user, key, entry)]
+        emptied = self.emptiest() if moves else None
+        texts += self.move(emptied) if emptied else []
+        self.last.flush()
+        os.fdatasync(self.last.fileno())
+        self.log.write(b"".join(map(line_of, texts)))
+        self.log.flush()
+        os.fdatasync(self.log.fileno())
+        self.lines += len(texts)
+        if emptied and not self.live_objects(emptied):
+            self.remove(emptied)
+        size = self.sizes[self.name]
+        if size >= SEGMENT or size >= SMALL_SEGMENT and 2 * self.live[self.name] <= size:
+            self.open_segment()
+        if moves and self.lines > 2 * (len(self.keys) + len(self.refs)) + IDLE_LINES:
+            self.write_log()
+
+    def texts_of(self, store, user, key, entry):
+        """The lines of a key that has changed. Where its content is gone from the store and isn't on disk, a later change has undone this one."""
+        texts = []
+        if entry is not None and entry.address not in self.places:
+            try:
+                texts.append(self.append(entry.address, store.ranges(user.tenant, entry.address)))
+            except (Refused, Ended):
+                entry = None
+        if entry is None:
+            self.note_key(user.name, key, None)
+            return [*texts, f"drop {user.name} {key}"]
+        self.note_key(user.name, key, entry.address)
+        return [*texts, f"key {user.name} {entry.address} {key}"]
+
+    def append(self, address, pieces):
+        """Appends an object's bytes to the last segment, and gives its line."""
+        offset = self.last.tell()
+        try:
+            for piece in pieces:
+                self.last.write(piece)
+        except (Refused, Ended):
+            self.last.seek(offset)
+            self.last.truncate()
+            raise
+        place = Place(self.name, offset, self.last.tell() - offset)
+        self.note_place(address, place)
+        return f"object {address} {place.segment} {place.offset} {place.length}"
+
+    def emptiest(self):
+        """A segment of which most is dead, other than the last one."""
+        return next((name for name, size in self.sizes.items() if name != self.name and 2 * self.live[name] <= size), None)
+
+    def live_objects(self, segment):
+        return [address for address, place in self.places.items() if place.segment == segment and self.refs[address]]
+
+    def move(self, segment):
+        """Moves some live objects of a segment to the last one, and gives their lines."""
+        texts, moved = [], 0
+        for address in self.live_objects(segment):
+            if moved < MOVED_AT_ONCE:
+                moved += self.places[address].length
+                texts.append(self.append(address, self.content(address)))
+        return texts
+
+    def remove(self, segment):
+        """Removes a segment without live objects."""
+        for address in [address for address, place in self.places.items() if place.segment == segment]:
+            del self.places[address]
+        del self.sizes[segment], self.live[segment]
+        with contextlib.suppress(FileNotFoundError):
+            os.remove(self.at(segment))
+
+    def open_segment(self):
+        """Begins a new last segment."""
+        if self.last is not None:
+            self.last.close()
+        self.name = f"segment.{time.time_ns()}"
+        self.last = open(self.at(self.name), "xb")
+        os.fsync(self.folder)
+
+    def write_log(self):
+        """Writes the log anew, with what holds."""
+        self.places = {address: place for address, place in self.places.items() if self.refs[address]}
+        texts = [f"object {address} {' '.join(map(str, place))}" for address, place in self.places.items()]
+        texts += [f"key {user} {address} {key}" for (user, key), address in self.keys.items()]
+        self.log.close()
+        self.replace_log(texts)
+        self.log, self.lines = open(self.at(LOG), "ab"), len(texts)
+
+    def replace_log(self, texts):
+        with open(self.at(LOG + ".new"), "wb") as log:
+            log.writelines(map(line_of, texts))
+            log.flush()
+            os.fsync(log.fileno())
+        os.replace(log.name, self.at(LOG))
+        os.fsync(self.folder)

@@ -1,0 +1,41 @@
+"""b3store: a content-addressed store in memory, from Python.
+
+`Store` starts a store in its own process, `Client` connects to a server that many processes share, and both have the same methods;
+`AsyncStore` is a layer for asyncio. `b3store.hashing` is BLAKE3 by the library libb3, `python -m b3store` the command line, and
+`python -m b3store.server` the server.
+
+    from b3store import Store
+
+    with Store("b3store") as store:
+        tenant = store.tenant(1 << 30)
+        filed = store.upload(open("file", "rb"), tenant)
+        print(filed.address, store.fetch(tenant, filed.address, 0, 10))
+"""
+import typing
+
+from .client import Client
+from .store import Store
+from .transfers import StoredObject, Upload
+from .values import (
+    CHUNK_LEN, MAX_LIMIT, MAX_NUMBER, MAX_PART_LEN, MAX_SESSIONS, MAX_UPLOAD_LEN, PART_LEN, RANGE_LEN, REFUSALS, Ended, Filed, Held, ObjectRow,
+    OpenUpload, Refused, StoreError, Totals, Usage,
+)
+
+if typing.TYPE_CHECKING:
+    from .asynchronous import AsyncStore
+
+__all__ = [
+    "CHUNK_LEN", "MAX_LIMIT", "MAX_NUMBER", "MAX_PART_LEN", "MAX_SESSIONS", "MAX_UPLOAD_LEN", "PART_LEN", "RANGE_LEN", "REFUSALS",
+    "AsyncStore", "Client", "Ended", "Filed", "Held", "ObjectRow", "OpenUpload", "Refused", "Store", "StoreError", "StoredObject", "Totals",
+    "Upload", "Usage",
+]
+__version__ = "1.0"
+
+
+def __getattr__(name: str) -> typing.Any:
+    """Imports asyncio only for a program that uses it."""
+    if name == "AsyncStore":
+        from .asynchronous import AsyncStore
+
+        return AsyncStore
+    raise AttributeError(f"module {__name__!r} has no attribute {name!r}")

@@ -1,0 +1,283 @@
+"""`python -m b3store`, also installed as `b3store-client`: one line of a shell against a server's store (docs/LIBRARY.md)."""
+import argparse
+import contextlib
+import errno
+import os
+import stat
+import sys
+from typing import Any, BinaryIO, Callable, Iterator, List, Optional, Tuple
+
+from .client import Client
+from .console import Progress, check_line, error_text, finish, report
+from .values import MAX_NUMBER, MAX_UPLOAD_LEN, PART_LEN, Refused, check_address, check_number
+
+USAGE, MISSING = 2, 1
+EPILOG = """\
+examples:
+  b3store-client --socket /run/b3store/socket put FILE
+  tar c DIR | b3store-client put -
+  b3store-client get ADDRESS -o FILE
+
+exit status: 0 done; 1 an object or a file is missing, or the store refused a command; 2 usage; 3 reading, writing or the connection failed
+"""
+
+
+def put(store: Client, words: Any) -> int:
+    """Stores files, and prints a line for each."""
+    tenant = tenant_of(store, words)
+    return worst(put_file(store, tenant, name) for name in words.files)
+
+
+def put_file(store: Client, tenant: int, name: str) -> int:
+    """Stores one file."""
+    try:
+        if name == "-" and sys.stdin is None:
+            raise OSError(errno.EBADF, "standard input is closed")
+        with open(0 if name == "-" else name, "rb", buffering=0, closefd=name != "-") as file:
+            status = os.fstat(file.fileno())
+            progress = Progress(name, status.st_size if stat.S_ISREG(status.st_mode) else None)
+            with contextlib.closing(progress):
+                filed = store.upload(file, tenant, progress=progress)
+    except (Refused, OSError) as fault:
+        return miss(f"{name}: {error_text(fault)}")
+    print(check_line(filed.address, name), flush=True)
+    return 0
+
+
+def get(store: Client, words: Any) -> int:
+    """Writes an object's bytes, or a range of them."""
+    tenant, (start, length) = tenant_of(store, words), words.range
+    words.output = None if words.output == "-" else words.output
+    try:
+        size = store.size(tenant, words.address)
+        end = max(start, min(size, start + length))
+        is_quiet = words.output is None and os.isatty(1)
+        with output_to(words.output) as write, contextlib.closing(Progress(words.address[:16], end - start, is_quiet)) as progress:
+            room = memoryview(bytearray(min(PART_LEN, end - start)))
+            for at in range(start, end, PART_LEN):
+                count = store.fetch_into(tenant, words.address, room[: end - at], at)
+                write(room[:count])
+                progress(at + count - start)
+    except Refused as fault:
+        return miss(f"{words.address}: {fault}")
+    return 0
+
+
+@contextlib.contextmanager
+def output_to(path: Optional[str]) -> Iterator[Callable[[memoryview], None]]:
+    """A function that writes to a file, or to standard output. A regular file gets its name when all is written, so that no half of one is left."""
+    if path is None:
+        yield writer(1, "standard output")
+        return
+    is_special = os.path.exists(path) and not os.path.isfile(path)
+    aside = path if is_special else f"{path}.{os.getpid()}.part"
+    with open(aside, "wb" if is_special else "xb", buffering=0) as file:
+        try:
+            yield writer(file.fileno(), path)
+            if not is_special:
+                os.replace(aside, path)
+        except BaseException:
+            if not is_special:
+                os.unlink(aside)
+            raise
+
+
+def writer(number: int, name: str) -> Callable[[memoryview], None]:
+    """A function that writes all of a buffer to a descriptor. It raises OSError with the name."""
+    def write(view: memoryview) -> None:
+        try:
+            while view:
+                view = view[os.write(number, view) :]
+        except OSError as fault:
+            raise type(fault)(fault.errno, fault.strerror, name) from None
+
+    return write
+
+
+def has(store: Client, words: Any) -> int:
+    """Prints the address and the length of each object that the tenant holds, of those that are named."""
+    tenant = tenant_of(store, words)
+    return worst(has_one(store, tenant, address) for address in words.addresses)
+
+
+def has_one(store: Client, tenant: int, address: str) -> int:
+    """Prints one of them."""
+    length = store.has(tenant, address)
+    if length is None:
+        return MISSING
+    print(address, length)
+    return 0
+
+
+def ls(store: Client, words: Any) -> int:
+    """Prints the address and the length of each object that the tenant holds."""
+    for row in store.objects(tenant_of(store, words)):
+        print(*row)
+    return 0
+
+
+def rm(store: Client, words: Any) -> int:
+    """Ends the tenant's hold of objects."""
+    tenant = tenant_of(store, words)
+    return worst(rm_one(store, tenant, address) for address in words.addresses)
+
+
+def rm_one(store: Client, tenant: int, address: str) -> int:
+    """Ends the hold of one."""
+    try:
+        store.forget(tenant, address)
+        return 0
+    except Refused as fault:
+        return miss(f"{address}: {fault}")
+
+
+def show_stat(store: Client, _: Any) -> int:
+    """Prints what the store contains."""
+    print(*(f"{name} {value}" for name, value in store.stat()._asdict().items()))
+    return 0
+
+
+def show_tenants(store: Client, _: Any) -> int:
+    """Prints a line for each tenant."""
+    for number, usage in store.tenants().items():
+        print(f"tenant {number}", *(f"{name} {value}" for name, value in usage._asdict().items()))
+    return 0
+
+
+def show_journal(store: Client, words: Any) -> int:
+    """Prints entries of the journal."""
+    left = words.count
+    for entry in store.journal(words.start):
+        if left == 0:
+            break
+        left -= 1
+        print(entry)
+    return 0
+
+
+def tenant_of(store: Client, words: Any) -> int:
+    """The tenant that is asked for: by default the first, which is opened if there is none."""
+    number = getattr(words, "tenant", None)
+    if number is not None:
+        return int(number)
+    tenants = store.tenants()
+    return min(tenants) if tenants else store.tenant()
+
+
+def worst(statuses: Iterator[int]) -> int:
+    """The greatest of some exit statuses, once all is done."""
+    return max(statuses, default=0)
+
+
+def miss(text: str) -> int:
+    """Reports what could not be done, and returns the exit status."""
+    report(text)
+    return MISSING
+
+
+def address_argument(text: str) -> str:
+    """An argument that is an address."""
+    try:
+        return check_address(text)
+    except ValueError as fault:
+        raise argparse.ArgumentTypeError(str(fault)) from None
+
+
+def number_argument(text: str) -> int:
+    """An argument that is a number."""
+    try:
+        return check_number("a number", int(text) if text.isdigit() and len(text) < 21 else text, 0, MAX_NUMBER)
+    except (TypeError, ValueError):
+        raise argparse.ArgumentTypeError(f"{text!r} is no number below 2^64") from None
+
+
+def range_argument(text: str) -> Tuple[int, int]:
+    """An argument that is a range."""
+    start, colon, length = text.partition(":")
+    if not colon:
+        raise argparse.ArgumentTypeError(f"{text!r} is no FROM:LEN")
+    return number_argument(start or "0"), number_argument(length) if length else MAX_UPLOAD_LEN
+
+
+def add_connection(parser: argparse.ArgumentParser) -> None:
+    """Adds the options that all commands have, before or after the command's name."""
+    parser.add_argument("--socket", default=argparse.SUPPRESS, metavar="PATH", help="connect to this Unix-domain socket (default: B3STORE_SOCKET)")
+    parser.add_argument("--tcp", default=argparse.SUPPRESS, metavar="HOST:PORT", help="connect to a TCP port instead")
+    parser.add_argument("--token-file", default=argparse.SUPPRESS, metavar="FILE", help="read the token for --tcp from this file")
+
+
+def add_command(commands: Any, work: Callable[[Client, Any], int], name: str, purpose: str, has_tenant: bool = True) -> argparse.ArgumentParser:
+    """Adds a command."""
+    parser: argparse.ArgumentParser = commands.add_parser(name, help=purpose, description=purpose[0].upper() + purpose[1:] + ".")
+    parser.set_defaults(work=work)
+    add_connection(parser)
+    if has_tenant:
+        parser.add_argument("--tenant", type=number_argument, metavar="N", help="use this tenant (default: the first, opened if there is none)")
+    return parser
+
+
+def make_parser() -> argparse.ArgumentParser:
+    """The parser of the command line."""
+    parser = argparse.ArgumentParser(
+        "b3store-client", description="Use the store of a running b3store server.", epilog=EPILOG, formatter_class=argparse.RawDescriptionHelpFormatter
+    )
+    add_connection(parser)
+    commands = parser.add_subparsers(required=True, dest="command", metavar="COMMAND")
+    putting = add_command(commands, put, "put", "store files, and print their addresses")
+    putting.add_argument("files", nargs="+", metavar="FILE", help="a file; - is standard input")
+    getting = add_command(commands, get, "get", "write an object's bytes")
+    getting.add_argument("address", type=address_argument, metavar="ADDRESS")
+    getting.add_argument("-o", "--output", metavar="FILE", help="write to this file (default: -, standard output)")
+    getting.add_argument("--range", type=range_argument, default=(0, MAX_UPLOAD_LEN), metavar="FROM:LEN", help="write LEN bytes from byte FROM on, or all after FROM:")
+    add_command(commands, has, "has", "print which of some objects the tenant holds").add_argument("addresses", nargs="+", type=address_argument, metavar="ADDRESS")
+    add_command(commands, ls, "ls", "print the address and length of each object")
+    add_command(commands, rm, "rm", "end the tenant's hold of objects").add_argument("addresses", nargs="+", type=address_argument, metavar="ADDRESS")
+    add_command(commands, show_stat, "stat", "print what the store contains", False)
+    add_command(commands, show_tenants, "tenants", "print what each tenant uses and may use", False)
+    journal = add_command(commands, show_journal, "journal", "print the journal's entries", False)
+    journal.add_argument("--from", dest="start", type=number_argument, default=0, metavar="N", help="start at entry N (default 0)")
+    journal.add_argument("--count", type=number_argument, default=MAX_NUMBER, metavar="N", help="print up to N entries")
+    return parser
+
+
+def read_token(path: str) -> str:
+    """The token in a file, without the white space around it."""
+    with open(path, "rb") as file:
+        return file.read(4096).decode("ascii", "replace").strip()
+
+
+def connect(parser: argparse.ArgumentParser, words: Any) -> Client:
+    """The client that the options ask for."""
+    tcp, token_file = getattr(words, "tcp", None), getattr(words, "token_file", None)
+    path = getattr(words, "socket", None)
+    if tcp is None:
+        path = path or os.environ.get("B3STORE_SOCKET")
+        if not path:
+            parser.error("no server is named: use --socket PATH, or set B3STORE_SOCKET")
+        if token_file is not None:
+            parser.error("--token-file belongs to --tcp")
+        return Client(path)
+    host, _, port = tcp.rpartition(":")
+    if path is not None or not host or not port.isdigit() or not 1 <= int(port[:6]) <= 65535:
+        parser.error("--tcp is HOST:PORT, and excludes --socket")
+    return Client(host=host.strip("[]"), port=int(port), token=None if token_file is None else read_token(token_file))
+
+
+def run(arguments: Optional[List[str]] = None) -> int:
+    """The program, without what it catches."""
+    parser = make_parser()
+    words = parser.parse_args(arguments)
+    with connect(parser, words) as store:
+        try:
+            return int(words.work(store, words))
+        except Refused as fault:
+            return miss(str(fault))
+
+
+def main() -> int:
+    """Runs the program, and returns its exit status."""
+    return finish(run)
+
+
+if __name__ == "__main__":
+    sys.exit(main())

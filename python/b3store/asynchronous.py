@@ -1,0 +1,121 @@
+"""A store for asyncio."""
+import asyncio
+import concurrent.futures
+import functools
+from types import TracebackType
+from typing import Any, AsyncIterator, BinaryIO, Callable, Dict, List, Optional, Type, TypeVar, Union
+
+from .transfers import Transfers
+from .values import MAX_LIMIT, MAX_SESSIONS, MAX_UPLOAD_LEN, RANGE_LEN, Buffer, Filed, Held, OpenUpload, Totals, Usage, check_number
+
+Value = TypeVar("Value")
+
+
+class AsyncStore:
+    """A `Store` or a `Client` whose methods are coroutines: each command runs in a thread, up to `threads` of them at a time. Give the store as many
+    sessions.
+
+        async with AsyncStore(Store("b3store", sessions=4)) as store:
+            tenant = await store.tenant()
+            rows = await asyncio.gather(*(store.upload(content, tenant) for content in contents))
+
+    Methods have the arguments and errors of the same methods of `Store`. A command whose coroutine is cancelled runs to its end all the same."""
+
+    def __init__(self, store: Transfers, threads: int = 4) -> None:
+        self.store = store
+        self._threads = concurrent.futures.ThreadPoolExecutor(check_number("threads", threads, 1, MAX_SESSIONS), "b3store")
+
+    async def __aenter__(self) -> "AsyncStore":
+        return self
+
+    async def __aexit__(self, kind: Optional[Type[BaseException]], fault: Optional[BaseException], trace: Optional[TracebackType]) -> None:
+        await self.close()
+
+    async def _run(self, call: Callable[..., Value], *words: Any, **options: Any) -> Value:
+        return await asyncio.get_running_loop().run_in_executor(self._threads, functools.partial(call, *words, **options))
+
+    async def close(self) -> None:
+        """Closes the store, once its commands are done."""
+        await self._run(self.store.close)
+        self._threads.shutdown()
+
+    async def tenant(self, limit: int = MAX_LIMIT) -> int:
+        """See `Store.tenant`."""
+        return await self._run(self.store.tenant, limit)
+
+    async def limit(self, tenant: int, limit: int) -> None:
+        """See `Store.limit`."""
+        await self._run(self.store.limit, tenant, limit)
+
+    async def begin(self, tenant: int, length: int) -> int:
+        """See `Store.begin`."""
+        return await self._run(self.store.begin, tenant, length)
+
+    async def begin_open(self, tenant: int, max_len: int) -> int:
+        """See `Store.begin_open`."""
+        return await self._run(self.store.begin_open, tenant, max_len)
+
+    async def fix(self, upload: int, length: int) -> None:
+        """See `Store.fix`."""
+        await self._run(self.store.fix, upload, length)
+
+    async def put(self, upload: int, offset: int, part: Buffer) -> Held:
+        """See `Store.put`."""
+        return await self._run(self.store.put, upload, offset, part)
+
+    async def seal(self, upload: int, address: Optional[str] = None) -> Filed:
+        """See `Store.seal` and `Store.seal_as`."""
+        return await (self._run(self.store.seal, upload) if address is None else self._run(self.store.seal_as, upload, address))
+
+    async def abort(self, upload: int) -> None:
+        """See `Store.abort`."""
+        await self._run(self.store.abort, upload)
+
+    async def upload(self, content: Union[Buffer, BinaryIO], tenant: int, length: Optional[int] = None, *, address: Optional[str] = None) -> Filed:
+        """See `Store.upload`. A file is read in the command's thread."""
+        return await self._run(self.store.upload, content, tenant, length, address=address)
+
+    async def forget(self, tenant: int, address: str) -> None:
+        """See `Store.forget`."""
+        await self._run(self.store.forget, tenant, address)
+
+    async def has(self, tenant: int, address: str) -> Optional[int]:
+        """See `Store.has`."""
+        return await self._run(self.store.has, tenant, address)
+
+    async def fetch(self, tenant: int, address: str, offset: int = 0, length: int = MAX_UPLOAD_LEN) -> bytes:
+        """See `Store.fetch`."""
+        return await self._run(self.store.fetch, tenant, address, offset, length)
+
+    async def ranges(self, tenant: int, address: str, length: int = RANGE_LEN) -> AsyncIterator[bytes]:
+        """See `Store.ranges`."""
+        offset = 0
+        content = await self.fetch(tenant, address, offset, check_number("length", length, 1))
+        while content:
+            yield content
+            offset += len(content)
+            content = await self.fetch(tenant, address, offset, length) if len(content) == length else b""
+
+    async def usage(self, tenant: int) -> Usage:
+        """See `Store.usage`."""
+        return await self._run(self.store.usage, tenant)
+
+    async def list(self, tenant: int) -> Dict[str, int]:
+        """See `Store.list`."""
+        return await self._run(self.store.list, tenant)
+
+    async def uploads(self, tenant: int) -> List[OpenUpload]:
+        """See `Store.uploads`."""
+        return await self._run(self.store.uploads, tenant)
+
+    async def tenants(self) -> Dict[int, Usage]:
+        """See `Store.tenants`."""
+        return await self._run(self.store.tenants)
+
+    async def stat(self) -> Totals:
+        """See `Store.stat`."""
+        return await self._run(self.store.stat)
+
+    async def entries(self, start: int = 0, count: Optional[int] = None) -> List[str]:
+        """See `Store.entries`."""
+        return await self._run(self.store.entries, start, count)

@@ -1,0 +1,227 @@
+"""The commands of a store, over its sessions."""
+from typing import Callable, Dict, Iterator, List, Optional, TypeVar
+
+from .sessions import Kinds, Session, Sessions
+from .values import (
+    MAX_LIMIT, MAX_UPLOAD_LEN, RANGE_LEN, Buffer, Filed, Held, ObjectRow, OpenUpload, Refused, Totals, Usage, check_address, check_bytes,
+    check_number, parse_digits, parse_filed, parse_held, parse_number, parse_object, parse_open_upload, parse_usage,
+)
+
+Value = TypeVar("Value")
+
+
+class Commands(Sessions):
+    """A method for each command. Arguments are checked before anything is sent: TypeError for a wrong type, ValueError for a value that no command
+    takes. Every method can raise Refused, which changes nothing, and Ended; docstrings list the refusals, which `REFUSALS` explains. S13, a full
+    journal, and S14, out of memory, can happen to every command that changes something."""
+
+    def __init__(self) -> None:
+        super().__init__()
+        self._next_upload: Optional[int] = None
+        """The number of the next upload, if no other client can begin one."""
+
+    def tenant(self, limit: int = MAX_LIMIT) -> int:
+        """Opens a tenant, who may hold up to `limit` bytes, and returns its number. Refusals: S2, S3."""
+        return self._ask(parse_number, "tenant", f"tenant {check_number('limit', limit)}")
+
+    def limit(self, tenant: int, limit: int) -> None:
+        """Changes a tenant's limit. Refusals: S1, S3, S4."""
+        self._do(f"limit {check_number('tenant', tenant)} {check_number('limit', limit)}")
+
+    def begin(self, tenant: int, length: int) -> int:
+        """Begins an upload of `length` bytes, and returns its number. Refusals: S1, S5, S6."""
+        return self._begin(f"begin {check_number('tenant', tenant)} {check_number('length', length)}")
+
+    def begin_open(self, tenant: int, max_len: int) -> int:
+        """Begins an upload of up to `max_len` bytes, whose end is fixed later, and returns its number. Refusals: S1, S5, S6."""
+        return self._begin(f"open {check_number('tenant', tenant)} {check_number('max_len', max_len)}")
+
+    def fix(self, upload: int, length: int) -> None:
+        """Fixes an upload's end. Refusals: S7, S5, S15."""
+        self._do(f"fix {check_number('upload', upload)} {check_number('length', length)}")
+
+    def put(self, upload: int, offset: int, part: Buffer) -> Held:
+        """Adds a part to an upload. Refusals: S7, F2 to F6, S9, S15."""
+        view = check_bytes(part)
+        line = f"putb {check_number('upload', upload)} {check_number('offset', offset)} {view.nbytes}"
+        return self._ask(parse_held, "held", line, view)
+
+    def seal(self, upload: int) -> Filed:
+        """Files an upload as an object. Refusals: S7, S16, S10, S6."""
+        return self._ask(parse_filed, ("new", "known"), f"seal {check_number('upload', upload)}")
+
+    def seal_as(self, upload: int, address: str) -> Filed:
+        """Files an upload as an object if it has this address. Refusals: those of `seal`, and S11."""
+        return self._ask(parse_filed, ("new", "known"), f"sealas {check_number('upload', upload)} {check_address(address)}")
+
+    def abort(self, upload: int) -> None:
+        """Ends an upload without an object. Refusals: S7."""
+        self._do(f"abort {check_number('upload', upload)}")
+
+    def file(self, tenant: int, content: Buffer, address: Optional[str] = None) -> Filed:
+        """Files content of up to MAX_PART_LEN bytes in one turn, if it has the address, in case one is given. `upload` has no maximum. Refusals: those of
+        `begin`, `put` and `seal_as`; then the upload is aborted."""
+        view, ending = check_bytes(content), "" if address is None else f" {check_address(address)}"
+        begin = f"begin {check_number('tenant', tenant)} {view.nbytes}"
+        with self._turn() as session:
+            if self._next_upload is None:
+                return file_begun(session, session.ask("upload", begin), view, ending)
+            return self._file_ahead(session, begin, view, ending)
+
+    def forget(self, tenant: int, address: str) -> None:
+        """Ends a tenant's hold of an object, which is removed with its last holder. Refusals: S1, S12."""
+        self._do(f"forget {check_number('tenant', tenant)} {check_address(address)}")
+
+    def has(self, tenant: int, address: str) -> Optional[int]:
+        """Returns the length of an object that a tenant holds, or None. Refusals: S1."""
+        try:
+            return self.size(tenant, address)
+        except Refused as refusal:
+            if refusal.number != "S12":
+                raise
+            return None
+
+    def size(self, tenant: int, address: str) -> int:
+        """Returns the length of an object that a tenant holds. Refusals: S1, S12."""
+        return self._ask(parse_number, "has", f"has {check_number('tenant', tenant)} {check_address(address)}")
+
+    def fetch(self, tenant: int, address: str, offset: int = 0, length: int = MAX_UPLOAD_LEN) -> bytes:
+        """Returns an object's bytes, or up to `length` of them from an offset on. Refusals: S1, S12."""
+        line, max_len = fetch_line(tenant, address, offset, length), check_number("length", length)
+        return self._talk(lambda session, words: session.content(words, max_len), "bytes", line)
+
+    def fetch_into(self, tenant: int, address: str, room: Buffer, offset: int = 0) -> int:
+        """Reads an object's bytes from an offset on into a writable buffer, and returns how many it read: fewer than there is room for only at the
+        object's end. Refusals: S1, S12."""
+        view = check_bytes(room)
+        if view.readonly:
+            raise TypeError("the buffer to read into must be writable")
+        line = fetch_line(tenant, address, offset, view.nbytes)
+        return self._talk(lambda session, words: session.content_into(words, view), "bytes", line)
+
+    def ranges(self, tenant: int, address: str, length: int = RANGE_LEN) -> Iterator[bytes]:
+        """Yields an object's bytes in ranges of `length`. Other commands can run between two of them. Refusals: S1, S12."""
+        check_number("length", length, 1)
+        return self._ranges(tenant, address, length)
+
+    def _ranges(self, tenant: int, address: str, length: int) -> Iterator[bytes]:
+        offset = 0
+        while True:
+            content = self.fetch(tenant, address, offset, length)
+            if content:
+                yield content
+            if len(content) < length:
+                return
+            offset += length
+
+    def usage(self, tenant: int) -> Usage:
+        """Returns how many bytes a tenant uses and reserves, and its limit. Refusals: S1."""
+        return self._ask(lambda words: parse_usage(words[0::2]), "used", f"usage {check_number('tenant', tenant)}")
+
+    def list(self, tenant: int) -> Dict[str, int]:
+        """Returns the lengths of the objects that a tenant holds, by address, in the order in which they were filed. Refusals: S1, S14."""
+        return dict(self._rows(parse_object, "list", f"list {check_number('tenant', tenant)}"))
+
+    def objects(self, tenant: int) -> Iterator[ObjectRow]:
+        """Yields the objects that a tenant holds, as of one moment, in the order in which they were filed. Refusals: S1, S14."""
+        rows = self._lines("list", f"list {check_number('tenant', tenant)}")
+        return (parse_object(*row.split(" ")) for row in rows)
+
+    def uploads(self, tenant: int) -> List[OpenUpload]:
+        """Returns a tenant's open uploads, in the order of their numbers. Refusals: S1, S14."""
+        return self._rows(parse_open_upload, "uploads", f"uploads {check_number('tenant', tenant)}")
+
+    def tenants(self) -> Dict[int, Usage]:
+        """Returns how many bytes each tenant uses and reserves, and its limit, by number."""
+        return dict(self._rows(lambda tenant, *row: (parse_digits(tenant), parse_usage([*row])), "tenants", "tenants"))
+
+    def stat(self) -> Totals:
+        """Returns what the store contains."""
+        return self._ask(lambda words: Totals(*map(parse_digits, words[0::2])), "objects", "stat")
+
+    def entries(self, start: int = 0, count: Optional[int] = None) -> List[str]:
+        """Returns the journal's entries from number `start` on, up to `count` of them, as lines without a newline. Refusals: S14."""
+        line = f"entries {check_number('start', start)}" + ("" if count is None else f" {check_number('count', count)}")
+        return self._lines("journal", line)
+
+    def journal(self, start: int = 0, page_len: int = 1000) -> Iterator[str]:
+        """Yields the journal's entries from number `start` on, which it reads in pages of `page_len`, until there are no more. Refusals: S14."""
+        check_number("start", start)
+        check_number("page_len", page_len, 1)
+        return self._journal(start, page_len)
+
+    def _journal(self, start: int, page_len: int) -> Iterator[str]:
+        while True:
+            page = self.entries(start, page_len)
+            yield from page
+            if len(page) < page_len:
+                return
+            start += page_len
+
+    def _put_ahead(self, upload: int, offset: int, parts: List[memoryview]) -> Held:
+        """Puts parts one after another in one turn, and sends ahead of the answers."""
+        with self._turn() as session:
+            return parse_held(session.put_ahead(upload, offset, parts))
+
+    def _begin(self, line: str) -> int:
+        def read(words: List[str]) -> int:
+            number = parse_number(words)
+            if self._next_upload is not None:
+                self._next_upload = number + 1
+            return number
+
+        return self._ask(read, "upload", line)
+
+    def _file_ahead(self, session: Session, begin: str, content: memoryview, ending: str) -> Filed:
+        """Files content by three commands that are sent together, since the upload's number is known before."""
+        number = self._next_upload or 0
+        put = f"putb {number} 0 {content.nbytes}\n" if content.nbytes else ""
+        seal = f"{'sealas' if ending else 'seal'} {number}{ending}\n"
+        session.write(f"{begin}\n{put}".encode(), content, seal.encode())
+        kinds: List[Kinds] = ["upload", *["held"] * bool(content.nbytes), ("new", "known")]
+        answers, refusals = session.answers(kinds)
+        self._next_upload = number + bool(answers)
+        if refusals and answers:
+            session.ask("ok", f"abort {number}")
+        if refusals:
+            raise refusals[0]
+        return parse_filed(answers[-1])
+
+    def _do(self, line: str) -> None:
+        """Sends a command that is answered `ok`."""
+        self._talk(lambda _, words: None, "ok", line)
+
+    def _ask(self, read: Callable[[List[str]], Value], kinds: Kinds, line: str, content: Buffer = b"") -> Value:
+        """Sends a command, and returns what `read` makes of the words of its answer."""
+        return self._talk(lambda _, words: read(words), kinds, line, content)
+
+    def _rows(self, read: Callable[..., Value], kind: str, line: str) -> List[Value]:
+        """The same for each line of an answer that has several."""
+        return self._talk(lambda session, words: [read(*session.line()) for _ in range(parse_number(words))], kind, line)
+
+    def _lines(self, kind: str, line: str) -> List[str]:
+        """The lines of an answer that has several."""
+        return self._talk(lambda session, words: [session.text() for _ in range(parse_number(words))], kind, line)
+
+    def _talk(self, read: Callable[[Session, List[str]], Value], kinds: Kinds, line: str, content: Buffer = b"") -> Value:
+        """The same for a session and the words of an answer."""
+        with self._turn() as session:
+            return read(session, session.ask(kinds, line, content))
+
+
+def fetch_line(tenant: int, address: str, offset: int, length: int) -> str:
+    """The command that fetches a range."""
+    return f"fetchb {check_number('tenant', tenant)} {check_address(address)} {check_number('offset', offset)} {check_number('length', length)}"
+
+
+def file_begun(session: Session, begun: List[str], content: memoryview, ending: str) -> Filed:
+    """Files content as an upload that has begun, by commands that are sent together."""
+    number = parse_number(begun)
+    put = f"putb {number} 0 {content.nbytes}\n" if content.nbytes else ""
+    session.write(put.encode(), content, f"{'sealas' if ending else 'seal'} {number}{ending}\n".encode())
+    kinds: List[Kinds] = [*["held"] * bool(content.nbytes), ("new", "known")]
+    answers, refusals = session.answers(kinds)
+    if refusals:
+        session.ask("ok", f"abort {number}")
+        raise refusals[0]
+    return parse_filed(answers[-1])

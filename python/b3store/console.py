@@ -1,0 +1,107 @@
+"""What the programs of this package share: lines, messages, progress, and endings without a traceback."""
+import os
+import signal
+import sys
+import time
+from typing import Callable, Optional
+
+from .values import StoreError
+
+SECONDS_TO_PROGRESS = 1
+"""Progress is shown from then on,"""
+SECONDS_BETWEEN = 0.2
+"""and this often."""
+ESCAPES = {"\\": "\\\\", "\n": "\\n", "\r": "\\r"}
+FAILED = 3
+"""The exit status when reading, writing or the connection fails."""
+
+
+def check_line(address: str, name: str) -> str:
+    """A line of 64 digits, two spaces and the name, as `b3store check` and `b3sum` read it."""
+    escaped = "".join(ESCAPES.get(letter, letter) for letter in name)
+    return ("\\" if escaped != name else "") + f"{address}  {escaped}"
+
+
+def report(text: str) -> None:
+    """Writes a message to standard error. Bytes of names that are no text are escaped."""
+    line = f"b3store: {text}\n".encode("utf-8", "backslashreplace").decode("utf-8")
+    try:
+        sys.stderr.write(line)
+        sys.stderr.flush()
+    except OSError:
+        pass
+
+
+def error_text(fault: BaseException) -> str:
+    """An error in a few words, without its class and number."""
+    if isinstance(fault, OSError) and fault.strerror:
+        return fault.strerror[:1].lower() + fault.strerror[1:]
+    return str(fault) or type(fault).__name__
+
+
+def finish(run: Callable[[], int]) -> int:
+    """Runs a program, and returns its exit status. What it raises ends it with a message, and never with a traceback."""
+    if not open_standard_files():
+        report("cannot write: standard output is closed")
+        return FAILED
+    if hasattr(sys.stdout, "reconfigure"):
+        sys.stdout.reconfigure(errors="surrogateescape")
+    try:
+        status = run()
+        sys.stdout.flush()
+        return status
+    except BrokenPipeError:
+        pass
+    except KeyboardInterrupt:
+        drop_output()
+        return 128 + signal.SIGINT
+    except OSError as fault:
+        report(f"{fault.filename or 'cannot write'}: {error_text(fault)}")
+    except (StoreError, MemoryError, ValueError) as fault:
+        report("out of memory" if isinstance(fault, MemoryError) else error_text(fault))
+    drop_output()
+    return FAILED
+
+
+def open_standard_files() -> bool:
+    """Opens /dev/null in place of each standard stream that is closed, so that no connection gets its number, and returns whether standard output was
+    open."""
+    number = 0
+    while number <= 2:
+        number = os.open(os.devnull, os.O_RDWR)
+    os.close(number)
+    if sys.stderr is None:
+        sys.stderr = open(2, "w", closefd=False)
+    return sys.stdout is not None
+
+
+def drop_output() -> None:
+    """Drops what could not be written, so that the interpreter doesn't try again when it ends."""
+    os.dup2(os.open(os.devnull, os.O_WRONLY), 1)
+
+
+class Progress:
+    """Reports on a terminal how much of something long is done."""
+
+    def __init__(self, name: str, total: Optional[int], is_quiet: bool = False) -> None:
+        self._name, self._total = name, total
+        self._start = self._last = time.monotonic()
+        self._is_shown = sys.stderr.isatty() and not is_quiet
+        self._has_line = False
+
+    def __call__(self, count: int) -> None:
+        now = time.monotonic()
+        if not self._is_shown or now - self._start < SECONDS_TO_PROGRESS or now - self._last < SECONDS_BETWEEN:
+            return
+        self._last, self._has_line = now, True
+        of = "" if self._total is None else f" of {self._total >> 20}"
+        seconds = now - self._start
+        text = f"b3store: {self._name}: {count >> 20}{of} MiB in {seconds:.0f} s, {count / seconds / (1 << 20):.0f} MiB/s"
+        sys.stderr.write(f"\r\x1b[K{text.encode('utf-8', 'backslashreplace').decode('utf-8')}")
+        sys.stderr.flush()
+
+    def close(self) -> None:
+        """Removes the line."""
+        if self._has_line:
+            sys.stderr.write("\r\x1b[K")
+            sys.stderr.flush()

@@ -1,0 +1,187 @@
+"""The sockets that a server listens on: its own, and those that systemd passes; and what it reports to systemd."""
+import contextlib
+import errno
+import fcntl
+import os
+import re
+import socket
+import stat
+from typing import Iterator, List, Optional, Tuple
+
+FIRST_PASSED = 3
+"""The first descriptor that systemd passes."""
+BACKLOG = 1024
+MIN_TOKEN = 16
+MAX_TOKEN = 512
+"""The minimum and maximum number of digits of a token."""
+KEEP_ALIVE = (("TCP_KEEPIDLE", 60), ("TCP_KEEPINTVL", 10), ("TCP_KEEPCNT", 6))
+"""A TCP peer that has vanished is noticed after two minutes."""
+
+
+class ListenError(Exception):
+    """A socket can't be listened on."""
+
+
+class Listener:
+    """A listening socket."""
+
+    def __init__(self, listening: socket.socket, path: Optional[str] = None) -> None:
+        self.socket = listening
+        self.needs_token = listening.family != socket.AF_UNIX
+        self.name = path or address_text(listening)
+        self._path = path
+        self._identity = identity(path) if path else None
+
+    def prepare(self, connection: socket.socket) -> None:
+        """Sets the options of a new connection."""
+        if not self.needs_token:
+            return
+        with contextlib.suppress(OSError):
+            connection.setsockopt(socket.IPPROTO_TCP, socket.TCP_NODELAY, 1)
+            connection.setsockopt(socket.SOL_SOCKET, socket.SO_KEEPALIVE, 1)
+            for option, value in KEEP_ALIVE:
+                if hasattr(socket, option):
+                    connection.setsockopt(socket.IPPROTO_TCP, getattr(socket, option), value)
+
+    def close(self) -> None:
+        """Closes the socket, and removes its file if the path still names it."""
+        self.socket.close()
+        if self._path and self._identity == identity(self._path):
+            with contextlib.suppress(OSError):
+                os.unlink(self._path)
+        self._path = None
+
+
+def identity(path: str) -> Optional[Tuple[int, int]]:
+    """The device and inode of a file, or None if there is no file."""
+    try:
+        found = os.lstat(path)
+    except OSError:
+        return None
+    return found.st_dev, found.st_ino
+
+
+def address_text(listening: socket.socket) -> str:
+    """A socket's address as it is written in arguments."""
+    address = listening.getsockname()
+    if listening.family == socket.AF_UNIX:
+        return os.fsdecode(address) if isinstance(address, str) else repr(address)
+    host, port = address[:2]
+    return f"[{host}]:{port}" if ":" in host else f"{host}:{port}"
+
+
+@contextlib.contextmanager
+def folder_lock(path: str) -> Iterator[None]:
+    """Locks the folder of a path, so that only one server at a time replaces a stale socket in it."""
+    folder = os.open(os.path.dirname(path) or ".", os.O_RDONLY | os.O_DIRECTORY)
+    try:
+        fcntl.flock(folder, fcntl.LOCK_EX)
+        yield
+    finally:
+        os.close(folder)
+
+
+def remove_stale(path: str) -> None:
+    """Removes a socket that no process listens on. Anything else at the path is an error."""
+    try:
+        mode = os.lstat(path).st_mode
+    except FileNotFoundError:
+        return
+    if not stat.S_ISSOCK(mode):
+        raise ListenError(f"{path} exists and is not a socket")
+    with socket.socket(socket.AF_UNIX, socket.SOCK_STREAM) as probe:
+        probe.setblocking(False)
+        fault = probe.connect_ex(path)
+    if fault in (0, errno.EAGAIN, errno.EINPROGRESS):
+        raise ListenError(f"{path} is in use: another process listens on it")
+    if fault != errno.ECONNREFUSED:
+        raise ListenError(f"{path} is a socket that can't be replaced: {os.strerror(fault)}")
+    os.unlink(path)
+
+
+def listen_at(path: str) -> Listener:
+    """Listens on a Unix-domain socket that only this user can connect to."""
+    listening = socket.socket(socket.AF_UNIX, socket.SOCK_STREAM)
+    try:
+        with folder_lock(path):
+            remove_stale(path)
+            before = os.umask(0o177)
+            try:
+                listening.bind(path)
+            finally:
+                os.umask(before)
+            listening.listen(BACKLOG)
+        return Listener(listening, path)
+    except (OSError, ListenError) as error:
+        listening.close()
+        if isinstance(error, ListenError):
+            raise
+        raise ListenError(f"cannot listen on {path}: {error.strerror or error}") from None
+
+
+def listen_tcp(text: str) -> Listener:
+    """Listens on HOST:PORT, or [HOST]:PORT."""
+    found = re.fullmatch(r"(?:\[([^\[\]]+)\]|([^:\[\]]+)):([0-9]{1,5})", text)
+    if not found or int(found.group(3)) > 65535:
+        raise ListenError(f"{text!r} is not HOST:PORT")
+    try:
+        family, kind, protocol, _, address = socket.getaddrinfo(found.group(1) or found.group(2), int(found.group(3)), type=socket.SOCK_STREAM)[0]
+        listening = socket.socket(family, kind, protocol)
+    except OSError as error:
+        raise ListenError(f"cannot listen on {text}: {error.strerror or error}") from None
+    try:
+        listening.setsockopt(socket.SOL_SOCKET, socket.SO_REUSEADDR, 1)
+        listening.bind(address)
+        listening.listen(BACKLOG)
+    except OSError as error:
+        listening.close()
+        raise ListenError(f"cannot listen on {text}: {error.strerror or error}") from None
+    return Listener(listening)
+
+
+def inherited() -> List[Listener]:
+    """The listening sockets that systemd passes to this process. Programs that it starts don't see them."""
+    count, owner = os.environ.pop("LISTEN_FDS", ""), os.environ.pop("LISTEN_PID", "")
+    os.environ.pop("LISTEN_FDNAMES", None)
+    if not count or owner != str(os.getpid()):
+        return []
+    if not re.fullmatch("[0-9]{1,4}", count):
+        raise ListenError(f"LISTEN_FDS is {count!r}, not a number")
+    return [passed(descriptor) for descriptor in range(FIRST_PASSED, FIRST_PASSED + int(count))]
+
+
+def passed(descriptor: int) -> Listener:
+    """A socket that systemd passes."""
+    try:
+        os.set_inheritable(descriptor, False)
+        listening = socket.socket(fileno=descriptor)
+        is_listening = listening.getsockopt(socket.SOL_SOCKET, socket.SO_ACCEPTCONN)
+    except OSError as error:
+        raise ListenError(f"the passed descriptor {descriptor} is not a socket: {error.strerror}") from None
+    if not is_listening or listening.type != socket.SOCK_STREAM:
+        raise ListenError(f"the passed descriptor {descriptor} is not a listening stream socket")
+    return Listener(listening)
+
+
+def notify(state: str) -> None:
+    """Reports a state to systemd, if it started the server."""
+    path = os.environ.get("NOTIFY_SOCKET", "")
+    if path[:1] not in ("/", "@"):
+        return
+    with contextlib.suppress(OSError), socket.socket(socket.AF_UNIX, socket.SOCK_DGRAM) as sender:
+        sender.sendto(state.encode(), "\0" + path[1:] if path[0] == "@" else path)
+
+
+def read_token(path: str) -> bytes:
+    """The token in a file that only its owner can read."""
+    try:
+        with open(path, "rb") as file:
+            mode = os.fstat(file.fileno()).st_mode
+            text = file.read(2 * MAX_TOKEN).strip()
+    except OSError as error:
+        raise ListenError(f"cannot read {path}: {error.strerror}") from None
+    if mode & 0o077:
+        raise ListenError(f"{path} can be read by others: chmod 600 {path}")
+    if not re.fullmatch(rb"[0-9a-fA-F]{%d,%d}" % (MIN_TOKEN, MAX_TOKEN), text):
+        raise ListenError(f"{path} is not a token: {MIN_TOKEN} to {MAX_TOKEN} hexadecimal digits")
+    return text

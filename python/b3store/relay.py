@@ -1,0 +1,260 @@
+"""Connects a client with a session of the store: a process for each connection moves the bytes both ways.
+
+Within one process Python runs one thread at a time, and the threads of several connections would mostly wait for each other."""
+import array
+import contextlib
+import errno
+import os
+import select
+import signal
+import socket
+import threading
+from typing import Any, Callable, Optional, Set
+
+from .answers import Answers
+from .server_store import Pipes, Store, status_text
+
+AT_A_TIME = 1 << 20
+"""The maximum number of bytes spliced by one call."""
+BUFFER = 1 << 16
+"""The maximum number of bytes read by one call."""
+LEAST_SPLICED = 1 << 12
+"""Raw bytes of an answer are spliced if at least this many follow."""
+MAX_KEPT = 1 << 10
+"""With this many uploads a relay reports them to the server."""
+MAX_BEGUN = 1 << 14
+"""With more uploads than this, the server asks the store which of them are still open."""
+FIRST_FREE = 3
+SIGNALS = (signal.SIGINT, signal.SIGTERM)
+"""The signals that are for the server alone."""
+
+_splice: Optional[Callable[[int, int, int], int]] = getattr(os, "splice", None)
+
+
+Wait = Callable[[], Any]
+"""Returns when an event has come, or the connection has ended."""
+
+
+def waiter(connection: int, events: int) -> Wait:
+    """Waits until a connection can be read or written.
+
+    A connection doesn't block. To splice from a socket without data would hold the lock of the pipe until there is some, so that the store couldn't
+    read what is in the pipe; and to a socket without room would do the same to the pipe of the answers."""
+    poll = select.poll()
+    poll.register(connection, events)
+    return poll.poll
+
+
+def write_all(target: int, data: bytes, wait_for_room: Wait) -> None:
+    """Writes all bytes."""
+    written = 0
+    while written < len(data):
+        try:
+            written += os.write(target, memoryview(data)[written:] if written else data)
+        except BlockingIOError:
+            wait_for_room()
+
+
+def splice(source: int, target: int, count: int) -> Optional[int]:
+    """Moves up to `count` bytes within the kernel, and returns how many: 0 at the end of the source, None if they can't be moved so."""
+    global _splice
+    if _splice is None:
+        return None
+    try:
+        return _splice(source, target, count)
+    except OSError as error:
+        if error.errno not in (errno.EINVAL, errno.ENOSYS):
+            raise
+        # Not with such descriptors, or not on this system: from now on bytes are read and written.
+        _splice = None
+        return None
+
+
+def move(source: int, target: int, wait_for_room: Wait) -> int:
+    """Moves what there is, or what comes first, and returns how many bytes: 0 at the end of the source."""
+    moved = splice(source, target, AT_A_TIME)
+    if moved is not None:
+        return moved
+    data = os.read(source, BUFFER)
+    write_all(target, data, wait_for_room)
+    return len(data)
+
+
+class Relay:
+    """The process that moves the bytes of one connection and its session."""
+
+    def __init__(self, connection: socket.socket, pipes: Pipes, reports: int, keeps_uploads: bool) -> None:
+        self._connection, self._pipes, self._reports = connection, pipes, reports
+        self._answers = None if keeps_uploads else Answers()
+
+    def run(self) -> None:
+        """Moves all bytes. Returns when the session has ended, and all uploads that it began are reported."""
+        threading.Thread(target=self._watch_server, daemon=True).start()
+        threading.Thread(target=self._relay_requests, daemon=True).start()
+        with open(os.devnull, "wb", buffering=0) as nowhere:
+            self._relay_answers(nowhere.fileno())
+        if self._answers is not None:
+            self._report(self._answers)
+
+    def _watch_server(self) -> None:
+        """Ends the process when the server has ended: the pipe of the reports then has no reader."""
+        poll = select.poll()
+        poll.register(self._reports, 0)
+        poll.poll()
+        os._exit(0)
+
+    def _relay_requests(self) -> None:
+        """Ends with the connection's input or the session. The session then reads the end of its input."""
+        source, requests = self._connection.fileno(), self._pipes.requests
+        wait_for_data = waiter(source, select.POLLIN)
+        try:
+            with contextlib.suppress(OSError):
+                while self._move_requests(source, requests, wait_for_data):
+                    pass
+        finally:
+            os.close(requests)
+
+    @staticmethod
+    def _move_requests(source: int, requests: int, wait_for_data: Wait) -> bool:
+        """Moves requests as they come. False at the end of the connection's input; true if there was nothing to read after all."""
+        wait_for_data()
+        try:
+            while move(source, requests, wait_for_data):
+                wait_for_data()
+        except BlockingIOError:
+            return True
+        return False
+
+    def _relay_answers(self, nowhere: int) -> None:
+        """Ends with the session. When the client is gone, the remaining answers are read all the same: they may report uploads."""
+        target = self._connection.fileno()
+        try:
+            self._pass_answers(target, waiter(target, select.POLLOUT))
+        except OSError:
+            self._pass_answers(nowhere, waiter(nowhere, select.POLLOUT))
+
+    def _pass_answers(self, target: int, wait_for_room: Wait) -> None:
+        """Forwards the answers until they end. An OSError is the target's; whatever was read before it counts as forwarded."""
+        goes_on = True
+        while goes_on:
+            try:
+                if self._answers is None:
+                    goes_on = self._pass_all(self._pipes.answers, target, wait_for_room)
+                else:
+                    goes_on = self._pass_read(self._answers, self._pipes.answers, target, wait_for_room)
+            except BlockingIOError:
+                wait_for_room()
+
+    @staticmethod
+    def _pass_all(source: int, target: int, wait_for_room: Wait) -> bool:
+        """Forwards answers without reading them. False at their end."""
+        while move(source, target, wait_for_room):
+            pass
+        return False
+
+    def _pass_read(self, answers: Answers, source: int, target: int, wait_for_room: Wait) -> bool:
+        """Forwards raw bytes if many follow, else lines until many raw bytes follow. False at the end of the answers."""
+        if answers.body >= LEAST_SPLICED:
+            moved = splice(source, target, min(answers.body, AT_A_TIME))
+            if moved is not None:
+                answers.body -= moved
+                return moved > 0
+        while True:
+            piece = os.read(source, BUFFER)
+            answers.read(piece)
+            if len(answers.begun) >= MAX_KEPT:
+                self._report(answers)
+            write_all(target, piece, wait_for_room)
+            if not piece or answers.body >= LEAST_SPLICED:
+                return bool(piece)
+
+    def _report(self, answers: Answers) -> None:
+        """Reports the uploads that were begun since the last report. Only an end of the server can make this fail."""
+        data = memoryview(array.array("Q", answers.begun)).cast("B")
+        while data:
+            data = data[os.write(self._reports, data) :]
+        answers.begun.clear()
+
+
+def relay_in_child(connection: socket.socket, pipes: Pipes, reports: int, keeps_uploads: bool) -> None:
+    """Relays in a process that was forked, and ends it. Nothing of the server is used here: its other threads don't exist in this process."""
+    status = 1
+    try:
+        kept = sorted({connection.fileno(), *pipes, reports})
+        for start, end in zip([FIRST_FREE - 1, *kept], [*kept, os.sysconf("SC_OPEN_MAX")]):
+            os.closerange(start + 1, end)
+        Relay(connection, pipes, reports, keeps_uploads).run()
+        status = 0
+    finally:
+        os._exit(status)
+
+
+def start_relay(connection: socket.socket, pipes: Pipes, reports: int, keeps_uploads: bool) -> int:
+    """Starts the process of a relay, and returns its process id."""
+    before = signal.pthread_sigmask(signal.SIG_BLOCK, SIGNALS)
+    try:
+        process = os.fork()
+        if not process:
+            relay_in_child(connection, pipes, reports, keeps_uploads)
+        return process
+    finally:
+        signal.pthread_sigmask(signal.SIG_SETMASK, before)
+
+
+class Uploads:
+    """The uploads that a connection began, without those that the store was found to have no more."""
+
+    def __init__(self, store: Store) -> None:
+        self._store = store
+        self._begun: Set[int] = set()
+        self._max_begun = MAX_BEGUN
+
+    def read(self, reports: int) -> None:
+        """Reads what a relay reports, until its end."""
+        rest = b""
+        while True:
+            piece = os.read(reports, BUFFER)
+            if not piece:
+                return
+            rest += piece
+            whole = len(rest) // 8 * 8
+            self._begun.update(memoryview(rest[:whole]).cast("Q"))
+            rest = rest[whole:]
+            if len(self._begun) > self._max_begun:
+                self._drop_ended()
+
+    def _drop_ended(self) -> None:
+        """Drops the uploads that are no longer open."""
+        open_uploads = self._store.open_uploads()
+        if open_uploads is not None:
+            self._begun &= open_uploads
+        self._max_begun = max(MAX_BEGUN, 2 * len(self._begun))
+
+    def abort(self, report: Callable[[str], None]) -> None:
+        """Aborts the uploads. For one that was sealed or aborted this has no effect, since numbers are never reused."""
+        for failure in self._store.abort(self._begun):
+            report(failure)
+
+
+def serve_connection(store: Store, connection: socket.socket, keeps_uploads: bool, report: Callable[[str], None]) -> None:
+    """Opens a session, connects both by a process, and waits until it ends. Then the uploads that the session began and left open are aborted."""
+    reading, writing = os.pipe()
+    uploads = Uploads(store)
+    try:
+        try:
+            pipes = store.open_session()
+            try:
+                process = start_relay(connection, pipes, writing, keeps_uploads)
+            finally:
+                for pipe in pipes:
+                    os.close(pipe)
+        finally:
+            os.close(writing)
+        uploads.read(reading)
+        status = os.waitpid(process, 0)[1]
+        if status:
+            ended = status_text(-os.WTERMSIG(status) if os.WIFSIGNALED(status) else os.WEXITSTATUS(status))
+            report(f"the process of a connection ended with {ended}; uploads that the connection began may be left open")
+    finally:
+        os.close(reading)
+        uploads.abort(report)

@@ -1,0 +1,343 @@
+"""A store that many processes share: `python -m b3store.server --socket PATH`.
+
+The server starts `b3store serve --at DOOR --sessions N` with a door in a private temporary folder, and listens on a socket. Each connection is one session,
+which speaks the lines of `b3store serve` and nothing else. A process of its own moves its bytes:
+
+    $ python -m b3store.server --socket /tmp/store &
+    b3store.server: listening on /tmp/store
+    $ printf 'tenant 4096\\nstat\\n' | socat - UNIX-CONNECT:/tmp/store
+    tenant 0
+    objects 0 bytes 0 uploads 0 held 0 parts 0
+
+- A connection ends when the client closes it, or when the client has shut down its sending side and all answers are sent. The server then aborts the uploads
+  that the connection began and that are still open, unless it was started with `--keep-uploads`. It never aborts an upload that another connection began.
+- Up to N connections are served at a time. Others wait for their turn, in the order in which they came. One that has waited for `--wait` seconds is sent the
+  line `busy` and closed: no answer begins with this word. None of its commands was executed.
+- Over TCP a client's first line is `token HEX`, with the digits of the token file. The server answers `ok`, or closes the connection.
+- On SIGTERM or SIGINT the server stops accepting connections, and waits up to `--grace` seconds for the open ones to end. A second signal ends the wait.
+- The store lives in memory: when the server exits, everything in the store is lost.
+
+Exit status: 0 after a signal, 1 if it can't start, 2 for wrong arguments, 3 if the store's process ended.
+"""
+import argparse
+import contextlib
+import hmac
+import math
+import os
+import resource
+import selectors
+import signal
+import socket
+import sys
+import threading
+import time
+import warnings
+from typing import Callable, List, NamedTuple, Optional, Set, TextIO
+
+from .listening import Listener, ListenError, inherited, listen_at, listen_tcp, notify, read_token
+from .relay import serve_connection
+from .server_store import Store, StoreError, status_text
+from .turns import Turns
+
+NAME = "b3store.server"
+MAX_SESSIONS = 64
+MAX_WAITING = 1024
+"""The maximum number of connections that wait for a turn. Others stay in the queues of the listening sockets."""
+SECONDS_FOR_TOKEN = 10.0
+SECONDS_TO_LEAVE = 1.0
+"""How long a refused client may take to close its side."""
+SECONDS_BETWEEN_LOOKS = 0.02
+SECONDS_AT_REST = 5.0
+"""How long the server sleeps if nothing happens."""
+MAX_TOKEN_LINE = 1024
+STACK = 1 << 18
+FILES = 64
+"""How many descriptors the server itself uses, at most."""
+FILES_PER_SESSION = 8
+
+
+class Options(NamedTuple):
+    """The server's options."""
+
+    sessions: int
+    wait: float
+    grace: float
+    keeps_uploads: bool
+    token: Optional[bytes]
+
+
+def report(message: str) -> None:
+    """Writes a line to standard error."""
+    write_line(sys.stderr, message)
+
+
+def write_line(stream: Optional[TextIO], message: str) -> None:
+    """Writes a line to a standard stream, if it is open."""
+    if stream is not None:
+        with contextlib.suppress(OSError):
+            os.write(stream.fileno(), f"{NAME}: {message}\n".encode(errors="surrogateescape"))
+
+
+class Connections:
+    """The connections that are open, each with a thread."""
+
+    def __init__(self, store: Store, options: Options) -> None:
+        self._store, self._options = store, options
+        self._turns = Turns(options.sessions)
+        self._open: Set[socket.socket] = set()
+        self._lock = threading.Lock()
+
+    def count(self) -> int:
+        with self._lock:
+            return len(self._open)
+
+    def add(self, connection: socket.socket, needs_token: bool) -> None:
+        """Serves a connection by a thread."""
+        with self._lock:
+            self._open.add(connection)
+        try:
+            threading.Thread(target=self._serve, args=(connection, needs_token), daemon=True).start()
+        except RuntimeError as error:
+            report(f"a connection is closed: {error}")
+            self._remove(connection)
+
+    def close_waiting(self) -> None:
+        """Sends `busy` to the connections that wait, and to any that come later."""
+        self._turns.close()
+
+    def _remove(self, connection: socket.socket) -> None:
+        with self._lock:
+            self._open.discard(connection)
+            connection.close()
+
+    def _serve(self, connection: socket.socket, needs_token: bool) -> None:
+        try:
+            if needs_token and not has_token(connection, self._options.token):
+                report("a connection is closed: its first line is not the token")
+                leave(connection, b"")
+            elif self._turns.take(self._options.wait):
+                self._relay(connection)
+            else:
+                leave(connection, b"busy\n")
+        except Exception as error:  # whatever it is, it ends this connection alone
+            if self._store.is_usable():
+                report(f"a connection is closed: {type(error).__name__}: {error}")
+        finally:
+            self._remove(connection)
+
+    def _relay(self, connection: socket.socket) -> None:
+        try:
+            connection.setblocking(False)
+            serve_connection(self._store, connection, self._options.keeps_uploads, report)
+        finally:
+            self._turns.give_back()
+
+
+def has_token(connection: socket.socket, token: Optional[bytes]) -> bool:
+    """Whether the first line of a connection is the token. If it is, it is answered. No byte after the line is read."""
+    connection.settimeout(SECONDS_FOR_TOKEN)
+    line, end = b"", time.monotonic() + SECONDS_FOR_TOKEN
+    with contextlib.suppress(OSError):
+        while not line.endswith(b"\n") and len(line) < MAX_TOKEN_LINE and time.monotonic() < end:
+            byte = connection.recv(1)
+            if not byte:
+                return False
+            line += byte
+    if token is None or not hmac.compare_digest(line[:6] + line[6:].lower(), b"token " + token.lower() + b"\n"):
+        return False
+    connection.sendall(b"ok\n")
+    return True
+
+
+def leave(connection: socket.socket, line: bytes) -> None:
+    """Sends a last line, and waits until the client closes its side: the line could be lost if the connection were closed with unread bytes."""
+    with contextlib.suppress(OSError):
+        connection.settimeout(SECONDS_TO_LEAVE)
+        connection.sendall(line)
+        connection.shutdown(socket.SHUT_WR)
+        end = time.monotonic() + SECONDS_TO_LEAVE
+        while connection.recv(1 << 16) and time.monotonic() < end:
+            pass
+
+
+class Server:
+    """The loop that accepts connections, until a signal or the end of the store."""
+
+    def __init__(self, store: Store, listeners: List[Listener], options: Options) -> None:
+        self._store, self._listeners, self._options = store, listeners, options
+        self._connections = Connections(store, options)
+        self._deadline: Optional[float] = None
+        """After a signal: when the server ends at the latest."""
+        self._selector = selectors.DefaultSelector()
+        self._signals, written = socket.socketpair()
+        for end in (self._signals, written):
+            end.setblocking(False)
+        self._written = written
+        signal.set_wakeup_fd(written.fileno(), warn_on_full_buffer=False)
+        for number in (signal.SIGTERM, signal.SIGINT, signal.SIGCHLD):
+            signal.signal(number, lambda *_: None)
+        self._selector.register(self._signals, selectors.EVENT_READ)
+        for listener in listeners:
+            listener.socket.setblocking(False)
+            self._selector.register(listener.socket, selectors.EVENT_READ, listener)
+
+    def run(self) -> int:
+        """Serves, and returns the exit status."""
+        try:
+            return self._serve()
+        finally:
+            signal.set_wakeup_fd(-1)
+
+    def _serve(self) -> int:
+        while True:
+            status = self._store.status()
+            if status is not None:
+                report(f"the store ended with {status_text(status)}; everything in it is lost")
+                return 3
+            if self._is_over():
+                return self._end()
+            for key, _ in self._selector.select(SECONDS_AT_REST if self._deadline is None else SECONDS_BETWEEN_LOOKS):
+                if key.data is None:
+                    self._read_signals()
+                else:
+                    self._accept(key.data)
+
+    def _is_over(self) -> bool:
+        return self._deadline is not None and (time.monotonic() >= self._deadline or not self._connections.count())
+
+    def _end(self) -> int:
+        cut = self._connections.count()
+        if cut:
+            report(f"the server ends while {cut} {'connection is' if cut == 1 else 'connections are'} open")
+        status = self._store.close()
+        if status:
+            report(f"the store ended with {status_text(status)}")
+        return 3 if status else 0
+
+    def _read_signals(self) -> None:
+        numbers = self._signals.recv(64)
+        asked = sum(number in (signal.SIGTERM, signal.SIGINT) for number in numbers)
+        if asked and self._deadline is None:
+            self._stop()
+            asked -= 1
+        if asked:
+            self._deadline = time.monotonic()
+
+    def _stop(self) -> None:
+        """Stops accepting connections."""
+        notify("STOPPING=1")
+        self._deadline = time.monotonic() + self._options.grace
+        for listener in self._listeners:
+            self._selector.unregister(listener.socket)
+            listener.close()
+        self._connections.close_waiting()
+
+    def _accept(self, listener: Listener) -> None:
+        if self._connections.count() >= self._options.sessions + MAX_WAITING:
+            time.sleep(SECONDS_BETWEEN_LOOKS)
+            return
+        try:
+            connection, _ = listener.socket.accept()
+        except (BlockingIOError, ConnectionAbortedError):
+            return
+        except OSError as error:
+            report(f"a connection can't be accepted: {error.strerror}")
+            time.sleep(1)
+            return
+        listener.prepare(connection)
+        self._connections.add(connection, listener.needs_token)
+
+
+def number(least: float, most: float, kind: Callable[[str], float]) -> Callable[[str], float]:
+    """Reads an argument that is a number in a range."""
+
+    def read(text: str) -> float:
+        try:
+            value = kind(text)
+        except ValueError:
+            value = math.nan
+        if not least <= value <= most:
+            raise argparse.ArgumentTypeError(f"{text!r} is not a number from {least} to {most}")
+        return value
+
+    return read
+
+
+def read_words() -> argparse.Namespace:
+    usage = "python -m b3store.server --socket PATH [OPTION..]"
+    parser = argparse.ArgumentParser(prog=NAME, usage=usage, description="Serve one store to many processes, over a socket.", allow_abbrev=False)
+    add = parser.add_argument
+    add("--socket", metavar="PATH", help="listen on this Unix-domain socket, created with mode 0600")
+    add("--tcp", metavar="HOST:PORT", help="listen on a TCP port, too or instead; requires --token-file")
+    add("--token-file", metavar="FILE", help="read the token of TCP clients from FILE: 16 to 512 hexadecimal digits; only its owner may read it")
+    add("--sessions", metavar="N", type=number(1, MAX_SESSIONS, int), default=16, help="serve up to N connections at a time (1 to 64, default 16)")
+    add("--program", metavar="PATH", default="b3store", help="run this b3store program (default: b3store)")
+    seconds = number(0, 86400, float)
+    add("--wait", metavar="SECONDS", type=seconds, default=10, help="send `busy` to a connection that has waited this long for its turn (default 10)")
+    add("--grace", metavar="SECONDS", type=seconds, default=10, help="after SIGTERM, wait this long for open connections to end (default 10)")
+    add("--keep-uploads", action="store_true", help="leave the uploads that a connection began open when it ends")
+    words = parser.parse_args()
+    if words.token_file and not words.tcp and "LISTEN_FDS" not in os.environ:
+        parser.error("--token-file is for --tcp")
+    if words.tcp and not words.token_file:
+        parser.error("--tcp requires --token-file")
+    return words
+
+
+def open_listeners(words: argparse.Namespace, token: Optional[bytes]) -> List[Listener]:
+    """The sockets named by options, and those that systemd passed."""
+    listeners = inherited()
+    if any(listener.needs_token for listener in listeners) and token is None:
+        raise ListenError("a TCP socket was passed to the server, which requires --token-file")
+    if words.socket:
+        listeners.append(listen_at(words.socket))
+    if words.tcp:
+        listeners.append(listen_tcp(words.tcp))
+    if not listeners:
+        raise ListenError("nothing to listen on: give --socket PATH")
+    return listeners
+
+
+def raise_file_limit(sessions: int) -> None:
+    """Raises the limit on open files to what all connections may need, as far as the system allows."""
+    soft, hard = resource.getrlimit(resource.RLIMIT_NOFILE)
+    wanted = FILES + FILES_PER_SESSION * sessions + MAX_WAITING
+    if soft != resource.RLIM_INFINITY and soft < wanted:
+        with contextlib.suppress(OSError, ValueError):
+            resource.setrlimit(resource.RLIMIT_NOFILE, (wanted if hard == resource.RLIM_INFINITY else min(wanted, hard), hard))
+
+
+def serve(words: argparse.Namespace) -> int:
+    """Starts the store, and serves it until the end."""
+    for number_of_signal in (signal.SIGTERM, signal.SIGINT):
+        signal.signal(number_of_signal, lambda *_: sys.exit(0))
+    token = read_token(words.token_file) if words.token_file else None
+    options = Options(words.sessions, words.wait, words.grace, words.keep_uploads, token)
+    raise_file_limit(options.sessions)
+    threading.stack_size(STACK)
+    # The process that is forked for a connection uses nothing that another thread may have locked.
+    warnings.filterwarnings("ignore", ".*multi-threaded, use of fork", DeprecationWarning)
+    with contextlib.ExitStack() as stack:
+        listeners = open_listeners(words, token)
+        for listener in listeners:
+            stack.callback(listener.close)
+        store = Store(words.program, options.sessions)
+        stack.callback(store.close)
+        server = Server(store, listeners, options)
+        for listener in listeners:
+            write_line(sys.stdout, f"listening on {listener.name}")
+        notify("READY=1")
+        return server.run()
+
+
+def main() -> int:
+    words = read_words()
+    try:
+        return serve(words)
+    except (ListenError, StoreError, OSError) as error:
+        report(str(error))
+        return 1
+
+
+if __name__ == "__main__":
+    sys.exit(main())

@@ -1,0 +1,234 @@
+"""The store's process: starts it, opens a session for each connection, and asks the server's own questions."""
+import contextlib
+import errno
+import fcntl
+import itertools
+import os
+import re
+import select
+import shutil
+import signal
+import subprocess
+import tempfile
+import threading
+import time
+from typing import Iterable, List, NamedTuple, Optional, Set
+
+SECONDS_TO_BEGIN = 30.0
+"""How long the program may take to answer, and to open a session."""
+SECONDS_TO_END = 30.0
+"""How long the program may take to exit once its standard input is closed."""
+SECONDS_TO_ANSWER = 1.0
+"""How long the server waits at its end for the answers to its own commands."""
+SECONDS_TO_SEE = 0.5
+SECONDS_BETWEEN_LOOKS = 0.01
+ABORTS_AT_ONCE = 1000
+"""How many commands are sent before their answers are read. The commands and the answers each fit into a pipe."""
+MAX_PIPE_BYTES = 1 << 20
+MAX_PIPES_BYTES = 1 << 25
+"""The maximum capacity of all pipes together. Linux grants a user 64 MiB by default."""
+SET_PIPE_SIZE = getattr(fcntl, "F_SETPIPE_SZ", 1031)
+"""Python has this name since 3.10."""
+
+
+class StoreError(Exception):
+    """The program can't be started, or doesn't answer as a store does."""
+
+
+class Pipes(NamedTuple):
+    """The server's ends of a session: requests are written to one, and answers are read from the other."""
+
+    requests: int
+    answers: int
+
+
+def status_text(status: int) -> str:
+    """An exit status in words."""
+    if status >= 0:
+        return f"status {status}"
+    try:
+        return f"status {status}, killed by {signal.Signals(-status).name}"
+    except ValueError:
+        return f"status {status}, killed by signal {-status}"
+
+
+def pipe_size(sessions: int) -> int:
+    """The capacity of each of the two pipes of each session: a power of two."""
+    share = min(MAX_PIPE_BYTES, MAX_PIPES_BYTES // (2 * sessions))
+    return 1 << (share.bit_length() - 1)
+
+
+class Store:
+    """A running `b3store serve --at DOOR --sessions N`. Its standard input and output are the server's own session."""
+
+    def __init__(self, program: str, sessions: int) -> None:
+        self._size = pipe_size(sessions)
+        self._numbers = itertools.count(1)
+        self._lock = threading.Lock()
+        self._is_closing = False
+        self._folder = tempfile.mkdtemp(prefix="b3store-server-")
+        self._door = os.path.join(self._folder, "door")
+        try:
+            os.mkfifo(self._door, 0o600)
+            self._start(program, sessions)
+        except BaseException:
+            shutil.rmtree(self._folder, ignore_errors=True)
+            raise
+
+    def _start(self, program: str, sessions: int) -> None:
+        words = [program, "serve", "--at", self._door, "--sessions", str(sessions)]
+        try:
+            # In its own session, so that an interrupt at a terminal reaches only the server.
+            self._process = subprocess.Popen(words, stdin=subprocess.PIPE, stdout=subprocess.PIPE, start_new_session=True)
+        except OSError as error:
+            raise StoreError(f"cannot start {program}: {error.strerror}") from None
+        assert self._process.stdin and self._process.stdout
+        self._commands, self._answers = self._process.stdin, self._process.stdout
+        try:
+            self._commands.write(b"stat\n")
+            self._commands.flush()
+            self._expect_totals(self._answers.fileno(), "the program")
+        except (OSError, StoreError) as error:
+            status = self._end_of_failed()
+            ended = "" if status is None else f"{program} ended with {status_text(status)} before it answered"
+            raise StoreError(ended or f"{program} is not a store: {error}") from None
+
+    def _end_of_failed(self) -> Optional[int]:
+        """Ends a program that didn't start as a store. Returns its status if it had ended by itself."""
+        with contextlib.suppress(subprocess.TimeoutExpired):
+            return self._process.wait(1)
+        self._process.kill()
+        self._process.wait()
+        return None
+
+    def _expect_totals(self, answers: int, who: str) -> None:
+        """Reads the answer to `stat`. No other answer is pending."""
+        poll = select.poll()
+        poll.register(answers, select.POLLIN)
+        if not poll.poll(1000 * SECONDS_TO_BEGIN):
+            raise StoreError(f"{who} gave no answer within {SECONDS_TO_BEGIN:.0f} s")
+        answer = os.read(answers, 1024)
+        if not re.fullmatch(rb"objects [0-9]+ bytes .*\n", answer):
+            raise StoreError(f"{who} answered {answer[:60]!r} to stat" if answer else f"{who} closed its output")
+
+    def open_session(self) -> Pipes:
+        """Opens a session. The names of its pipes are removed once the store has opened them."""
+        with self._lock:
+            number = next(self._numbers)
+        paths = [f"{self._door}.{number}.{end}" for end in ("in", "out")]
+        with contextlib.ExitStack() as names:
+            for path in paths:
+                os.mkfifo(path, 0o600)
+                names.callback(os.remove, path)
+                # Until the store has opened them both pipes have a reader and a writer here.
+                names.callback(os.close, os.open(path, os.O_RDWR))
+            requests = os.open(paths[0], os.O_WRONLY)
+            try:
+                answers = os.open(paths[1], os.O_RDONLY)
+            except BaseException:
+                os.close(requests)
+                raise
+            try:
+                self._enter(number, Pipes(requests, answers))
+            except BaseException:
+                os.close(requests)
+                os.close(answers)
+                raise
+        return Pipes(requests, answers)
+
+    def _enter(self, number: int, pipes: Pipes) -> None:
+        """Writes a session's number to the door, and waits until the store serves it."""
+        for pipe in pipes:
+            with contextlib.suppress(OSError):
+                fcntl.fcntl(pipe, SET_PIPE_SIZE, self._size)
+        self._knock(b"%d\n" % number)
+        os.write(pipes.requests, b"stat\n")
+        self._expect_totals(pipes.answers, "a session")
+
+    def _knock(self, line: bytes) -> None:
+        end = time.monotonic() + SECONDS_TO_BEGIN
+        while True:
+            try:
+                door = os.open(self._door, os.O_WRONLY | os.O_NONBLOCK)
+                break
+            except OSError as error:
+                if error.errno != errno.ENXIO or time.monotonic() > end:
+                    raise StoreError(f"the store doesn't open its door: {error.strerror}") from None
+                time.sleep(SECONDS_BETWEEN_LOOKS)
+        try:
+            os.write(door, line)
+        finally:
+            os.close(door)
+
+    def _ask(self, lines: List[bytes]) -> None:
+        if self._is_closing:
+            raise StoreError("the store has ended")
+        self._commands.write(b"".join(line + b"\n" for line in lines))
+        self._commands.flush()
+
+    def _line(self) -> bytes:
+        line = self._answers.readline()
+        if not line.endswith(b"\n"):
+            raise StoreError("the store has ended")
+        return line[:-1]
+
+    def _rows(self, line: bytes, kind: bytes) -> Optional[List[List[bytes]]]:
+        """The words of each row of an answer that starts with the number of its rows. None if the question is refused."""
+        self._ask([line])
+        words = self._line().split()
+        return [self._line().split() for _ in range(int(words[1]))] if words[:1] == [kind] else None
+
+    def open_uploads(self) -> Optional[Set[int]]:
+        """The numbers of all open uploads of all tenants, or None if the store is out of memory for the answer."""
+        found: Set[int] = set()
+        with self._lock:
+            tenants = self._rows(b"tenants", b"tenants")
+            for tenant in tenants or []:
+                rows = self._rows(b"uploads " + tenant[0], b"uploads")
+                if rows is None:
+                    return None
+                found.update(int(row[0]) for row in rows)
+        return None if tenants is None else found
+
+    def abort(self, uploads: Iterable[int]) -> List[str]:
+        """Aborts uploads, except those that are no longer open. Returns a message for each failure."""
+        numbers, failures = sorted(uploads), []
+        for start in range(0, len(numbers), ABORTS_AT_ONCE):
+            some = numbers[start : start + ABORTS_AT_ONCE]
+            with self._lock:
+                self._ask([b"abort %d" % number for number in some])
+                answers = [self._line() for _ in some]
+            failures += [
+                f"upload {number} is not aborted: {answer.decode('ascii', 'replace')}"
+                for number, answer in zip(some, answers)
+                if answer not in (b"ok", b"refused S7")
+            ]
+        return failures
+
+    def status(self) -> Optional[int]:
+        """The exit status of the process, or None while it runs. Only the main thread looks: two threads that look at once may both miss the end."""
+        return self._process.poll()
+
+    def is_usable(self) -> bool:
+        """Whether the process runs, and was not asked to end. Gives the main thread time to see an end that caused an error in this thread."""
+        time.sleep(SECONDS_TO_SEE)
+        return not self._is_closing and self._process.returncode is None
+
+    def close(self) -> int:
+        """Ends the process, and returns its exit status. Everything in the store is lost."""
+        self._is_closing = True
+        # A thread that holds the lock has sent its commands, and their answers come soon.
+        has_lock = self._lock.acquire(timeout=SECONDS_TO_ANSWER)
+        with contextlib.suppress(OSError):
+            self._commands.close()
+        if has_lock:
+            self._lock.release()
+        try:
+            status = self._process.wait(SECONDS_TO_END)
+        except subprocess.TimeoutExpired:
+            self._process.kill()
+            status = -signal.SIGKILL
+            with contextlib.suppress(subprocess.TimeoutExpired):
+                status = self._process.wait(SECONDS_TO_END)
+        shutil.rmtree(self._folder, ignore_errors=True)
+        return status

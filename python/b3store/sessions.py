@@ -1,0 +1,211 @@
+"""Sessions: connections to a store, each used by one thread at a time, and the rule that a broken one is never used again."""
+import contextlib
+import os
+import queue
+import select
+from types import TracebackType
+from typing import Any, BinaryIO, Callable, List, Optional, Sequence, Tuple, Type, Union
+
+from .values import Buffer, Ended, Refused, parse_number, parse_refusal
+
+READ_LEN = 1 << 16
+"""The length of a session's read buffer."""
+MAX_AHEAD = 8
+"""How many parts are sent before the first one's answer is read. All their answers fit any pipe, so neither side waits for the other."""
+
+Kinds = Union[str, Tuple[str, ...]]
+"""The first word that an answer must have; or several, one of which it must have."""
+
+
+class Session:
+    """Two ends: commands are written to one, and answers read from the other."""
+
+    def __init__(self, sending: Any, reading: BinaryIO, ended: Callable[..., Ended]) -> None:
+        self._sending, self._reading, self._ended = sending, reading, ended
+
+    def has_answer(self, seconds: float) -> bool:
+        """Whether an answer arrives within some time."""
+        poll = select.poll()
+        poll.register(self._reading, select.POLLIN)
+        return bool(poll.poll(1000 * seconds))
+
+    def has_closed(self) -> bool:
+        """Whether the other side has closed the connection. No answer may be due."""
+        return self.has_answer(0) and not self._reading.peek(1)  # type: ignore[attr-defined]
+
+    def write(self, *pieces: Buffer) -> None:
+        """Writes pieces one after another, in as few system calls as possible: other threads run while one lasts."""
+        views = [memoryview(piece) for piece in pieces if len(piece)]
+        try:
+            while views:
+                count = os.writev(self._sending.fileno(), views)
+                while views and count >= views[0].nbytes:
+                    count -= views.pop(0).nbytes
+                if count:
+                    views[0] = views[0][count:]
+        except OSError:
+            raise self._ended() from None
+
+    def ask(self, kinds: Kinds, line: str, content: Buffer = b"") -> List[str]:
+        """Sends a command, and returns the words of its answer."""
+        self.write(line.encode("ascii") + b"\n", content)
+        return self.answer(kinds)
+
+    def answer(self, kinds: Kinds) -> List[str]:
+        """Returns the words of an answer after its kind, or all of them if several kinds are allowed. Raises Refused."""
+        words = self.line()
+        if words[0] == "refused":
+            raise parse_refusal(words[1:])
+        if isinstance(kinds, tuple) and words[0] in kinds:
+            return words
+        if words == ["busy"]:
+            raise self._ended("the server is busy: each of its sessions has a client", 0)
+        if words[0] != kinds:
+            raise self._ended(f"the store answers {' '.join(words)[:60]!r}", 0)
+        return words[1:]
+
+    def answers(self, kinds: Sequence[Kinds]) -> Tuple[List[List[str]], List[Refused]]:
+        """Reads several answers, and returns those that are no refusals, and the refusals."""
+        answers: List[List[str]] = []
+        refusals: List[Refused] = []
+        for kind in kinds:
+            try:
+                answers.append(self.answer(kind))
+            except Refused as refusal:
+                refusals.append(refusal)
+        return answers, refusals
+
+    def put_ahead(self, upload: int, offset: int, parts: Sequence[memoryview]) -> List[str]:
+        """Puts parts one after another, each before the answers of the last few, and returns the words of the last answer. Raises the first Refused:
+        nothing is sent after it is read."""
+        waiting = 0
+        answers: List[List[str]] = []
+        refusals: List[Refused] = []
+        for part in parts:
+            self.write(b"putb %d %d %d\n" % (upload, offset, part.nbytes), part)
+            offset += part.nbytes
+            waiting += 1
+            if waiting > MAX_AHEAD:
+                answers, refusals = self.answers(["held"])
+                waiting -= 1
+            if refusals:
+                break
+        last, others = self.answers(["held"] * waiting)
+        refusals += others
+        if refusals:
+            raise refusals[0]
+        return (last or answers)[-1]
+
+    def line(self) -> List[str]:
+        """Reads a line, and returns its words."""
+        return self.text().split(" ")
+
+    def text(self) -> str:
+        """Reads a line, and returns it without its newline."""
+        try:
+            line = self._reading.readline()
+        except OSError:
+            line = b""
+        if not line.endswith(b"\n"):
+            raise self._ended()
+        return line[:-1].decode("ascii")
+
+    def content(self, words: List[str], max_len: int) -> bytes:
+        """Reads the raw bytes of an answer."""
+        count = parse_number(words)
+        if count > max_len:
+            raise ValueError(f"{count} bytes instead of {max_len}")
+        try:
+            content = self._reading.read(count)
+        except OSError:
+            content = b""
+        if len(content) < count:
+            raise self._ended()
+        return content
+
+    def content_into(self, words: List[str], room: memoryview) -> int:
+        """Reads the raw bytes of an answer into a buffer, and returns how many they are."""
+        count = parse_number(words)
+        if count > room.nbytes:
+            raise ValueError(f"{count} bytes instead of {room.nbytes}")
+        try:
+            got = self._reading.readinto(room[:count])  # type: ignore[attr-defined]
+        except OSError:
+            got = 0
+        if got < count:
+            raise self._ended()
+        return count
+
+    def close(self) -> None:
+        """Closes both ends."""
+        for end in self._sending, self._reading:
+            with contextlib.suppress(OSError):
+                end.close()
+
+
+class Sessions:
+    """The sessions of a store. Each command and its answer take a free one, and wait for it if there is none."""
+
+    def __init__(self) -> None:
+        self._free: "queue.SimpleQueue[Session]" = queue.SimpleQueue()
+        self._count = 0
+        self._fault: Optional[Ended] = None
+        """Why the sessions can't be used any more."""
+
+    def close(self) -> Any:
+        """Ends all sessions."""
+        raise NotImplementedError
+
+    def _add(self, sessions: Sequence[Session]) -> None:
+        self._count += len(sessions)
+        for session in sessions:
+            self._free.put(session)
+
+    def _ended(self, reason: str = "the store has ended", seconds: float = 0) -> Ended:
+        """Why the sessions can't be used any more. It waits up to `seconds` for the process to end."""
+        raise NotImplementedError
+
+    def _take_all(self) -> List[Session]:
+        """Takes all sessions, once their commands are done."""
+        return [self._free.get() for _ in range(self._count)]
+
+    def _turn(self) -> "Turn":
+        """A free session, for a command and its answer."""
+        return Turn(self)
+
+    def _note(self, fault: BaseException) -> None:
+        """Notes what interrupted a command: after anything but a refusal no session is used again. Raises Ended in place of what a wrong answer raised."""
+        if isinstance(fault, Refused):
+            return
+        if isinstance(fault, Ended):
+            self._fault = fault
+        elif isinstance(fault, (ValueError, TypeError, IndexError)):
+            self._fault = self._ended(f"the store's answer makes no sense: {fault}", 0)
+            raise self._fault from None
+        else:
+            self._fault = Ended(f"a command was interrupted by {type(fault).__name__}")
+
+
+class Turn:
+    """A free session, taken for a command and its answer. It waits for one, and raises Ended if they can't be used any more."""
+
+    __slots__ = ("_sessions", "_session")
+
+    def __init__(self, sessions: Sessions) -> None:
+        self._sessions = sessions
+
+    def __enter__(self) -> Session:
+        session = self._sessions._free.get()
+        fault = self._sessions._fault
+        if fault is not None:
+            self._sessions._free.put(session)
+            raise Ended(*fault.args)
+        self._session = session
+        return session
+
+    def __exit__(self, kind: Optional[Type[BaseException]], fault: Optional[BaseException], trace: Optional[TracebackType]) -> None:
+        try:
+            if fault is not None:
+                self._sessions._note(fault)
+        finally:
+            self._sessions._free.put(self._session)

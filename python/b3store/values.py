@@ -1,0 +1,226 @@
+"""The values of a store's commands: constants, errors, what commands return, and the checks of their arguments."""
+import operator
+import re
+from typing import Any, List, NamedTuple, Optional, Union
+
+Buffer = Any
+"""bytes, or any object with a contiguous buffer: bytearray, memoryview, array, mmap, a numpy array."""
+
+CHUNK_LEN = 1024
+"""Each part starts at a multiple of this offset, and every part but an upload's last is a multiple of it long."""
+MAX_PART_LEN = 1 << 24
+"""The maximum length of a part, in bytes."""
+MAX_UPLOAD_LEN = 1 << 44
+"""The maximum length of an upload, in bytes."""
+MAX_LIMIT = 1 << 46
+"""The maximum limit of a tenant, in bytes."""
+MAX_NUMBER = (1 << 64) - 1
+"""The maximum of every number that a command takes."""
+MAX_DIGITS = 20
+"""The maximum number of digits of a number in an answer."""
+MAX_SESSIONS = 64
+"""The maximum number of a store's sessions."""
+PART_LEN = 1 << 20
+"""The length of the parts that an upload is split into."""
+RANGE_LEN = 1 << 18
+"""The default length of the ranges in which an object is read."""
+
+ADDRESS = re.compile("[0-9a-fA-F]{64}")
+
+REFUSALS = {
+    "S1": "there is no such tenant",
+    "S2": "the store has the maximum number of tenants",
+    "S3": "the limit is above 2^46 bytes",
+    "S4": "the limit is below what the tenant uses and reserves",
+    "S5": "the upload is too long",
+    "S6": "the tenant has too few bytes left",
+    "S7": "there is no such open upload",
+    "S9": "a byte of the part is already covered",
+    "S10": "a byte is missing",
+    "S11": "the content has a different address",
+    "S12": "the tenant holds no such object",
+    "S13": "the journal is full",
+    "S14": "out of memory",
+    "S15": "the part or the end disagrees with what the upload holds",
+    "S16": "the upload's end is not fixed",
+    "F2": "the part is empty",
+    "F3": "the part's offset is not a multiple of 1024",
+    "F4": "the part ends past the upload's bound",
+    "F5": "the part's length is not a multiple of 1024, and it is not the last part",
+    "F6": "the part is longer than 2^24 bytes",
+}
+"""What each refusal means."""
+
+
+class StoreError(Exception):
+    """The base class of the errors of this package."""
+
+
+class Refused(StoreError):
+    """The store refused a command, which changed nothing. The connection can still be used."""
+
+    def __init__(self, number: str, value: Union[int, str, None] = None, label: Optional[str] = None) -> None:
+        super().__init__(number, value, label)
+        self.number = number
+        """The name of the refusal, such as `S6`; `REFUSALS` has its meaning."""
+        self.value = value
+        """What the refusal carries: a number, an address, or None."""
+        self.label = label
+        """What `value` is, such as `free`."""
+
+    def __str__(self) -> str:
+        meaning = REFUSALS.get(self.number, "the command was refused")
+        return f"{self.number}: {meaning}" + ("" if self.value is None else f" ({self.label} {self.value})")
+
+
+class Ended(StoreError):
+    """The connection can't be used any more, and every later call raises the same error. Either the store's process or its server has ended,
+    or it sent something that is no answer, or an exception interrupted a command."""
+
+    def __init__(self, reason: str, status: Optional[int] = None, stderr: str = "") -> None:
+        super().__init__(reason, status, stderr)
+        self.reason = reason
+        """What went wrong."""
+        self.status = status
+        """The exit status of the store's process; None if it still runs, or is a server's."""
+        self.stderr = stderr
+        """The last bytes that the process wrote to standard error."""
+
+    def __str__(self) -> str:
+        status = "" if self.status is None else f"; its exit status is {self.status}"
+        return self.reason + status + (f"; it wrote {self.stderr!r}" if self.stderr else "")
+
+
+class Held(NamedTuple):
+    """What an upload holds after a part."""
+
+    bytes: int
+    missing: Optional[int]
+    """The smallest offset that is missing, or None."""
+
+
+class Filed(NamedTuple):
+    """An object that was filed."""
+
+    is_new: bool
+    """False if the store already had this object."""
+    address: str
+    length: int
+
+
+class Usage(NamedTuple):
+    """A tenant's bytes."""
+
+    used: int
+    reserved: int
+    limit: int
+
+
+class Totals(NamedTuple):
+    """What a store contains."""
+
+    objects: int
+    bytes: int
+    uploads: int
+    held: int
+    """The bytes that open uploads cover."""
+    parts: int
+    """In how many parts."""
+
+
+class OpenUpload(NamedTuple):
+    """An upload that is neither sealed nor aborted."""
+
+    number: int
+    bound: int
+    end: Optional[int]
+    """Its end, or None while that is not fixed."""
+    held: int
+
+
+class ObjectRow(NamedTuple):
+    """An object that a tenant holds."""
+
+    address: str
+    length: int
+
+
+def check_number(name: str, value: Any, min_value: int = 0, max_value: int = MAX_NUMBER) -> int:
+    """Returns an argument that must be an integer in a range. Raises TypeError or ValueError."""
+    try:
+        number = int(operator.index(value))
+    except TypeError:
+        raise TypeError(f"{name} must be an integer, not {type(value).__name__}") from None
+    if not min_value <= number <= max_value:
+        raise ValueError(f"{name} must be from {min_value} to {max_value}, not {shortened(number)}")
+    return number
+
+
+def shortened(value: int) -> str:
+    """The digits of an integer, if they are few: long ones can't be printed by every Python."""
+    return str(value) if abs(value) < 1 << 200 else f"a number of {value.bit_length()} bits"
+
+
+def check_address(value: Any) -> str:
+    """Returns an argument that must be an object's address. Raises TypeError or ValueError."""
+    if not isinstance(value, str):
+        raise TypeError(f"an address must be a str, not {type(value).__name__}")
+    if not ADDRESS.fullmatch(value):
+        raise ValueError(f"an address has 64 hexadecimal digits, unlike {value[:100]!r}")
+    return str.__str__(value)
+
+
+def check_bytes(content: Any) -> memoryview:
+    """Returns a view of the bytes of an argument that must have a contiguous buffer. Raises TypeError."""
+    try:
+        view = memoryview(content)
+        # a view of no bytes may have a shape that can't be cast
+        return view.cast("B") if view.nbytes else memoryview(bytearray())
+    except TypeError:
+        raise TypeError(f"content must be bytes or a contiguous buffer, not {type(content).__name__}") from None
+
+
+def parse_digits(text: str) -> int:
+    """The number that decimal digits are. Raises ValueError for anything else, also for what `int` would accept."""
+    if not (text.isdigit() and text.isascii() and len(text) <= MAX_DIGITS):
+        raise ValueError(f"{text[:30]!r} is no number")
+    return int(text)
+
+
+def parse_refusal(words: List[str]) -> Refused:
+    """The error for the words after `refused`."""
+    if len(words) == 1:
+        return Refused(words[0])
+    number, label, value = words
+    return Refused(number, check_address(value) if number == "S11" else parse_digits(value), label)
+
+
+def parse_number(words: List[str]) -> int:
+    """The number that an answer starts with."""
+    return parse_digits(words[0])
+
+
+def parse_filed(words: List[str]) -> Filed:
+    """The answer to a seal."""
+    kind, address, length = words
+    return Filed(kind == "new", check_address(address), parse_digits(length))
+
+
+def parse_held(words: List[str]) -> Held:
+    """The answer to a part."""
+    return Held(parse_digits(words[0]), None if words[1:] == ["all"] else parse_digits(words[2]))
+
+
+def parse_usage(numbers: List[str]) -> Usage:
+    """A tenant's bytes, from their digits."""
+    return Usage(*map(parse_digits, numbers))
+
+
+def parse_open_upload(number: str, bound: str, end: str, covered: str) -> OpenUpload:
+    """A row of the open uploads."""
+    return OpenUpload(parse_digits(number), parse_digits(bound), None if end == "-" else parse_digits(end), parse_digits(covered))
+
+
+def parse_object(address: str, length: str) -> ObjectRow:
+    """A row of a list of objects."""
+    return ObjectRow(check_address(address), parse_digits(length))

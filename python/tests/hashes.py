@@ -1,0 +1,112 @@
+"""b3store.hashing, by the library that B3_LIBRARY names. `python3 python/tests/hashes.py` runs these cases alone."""
+import copy
+import io
+import os
+import random
+import subprocess
+import sys
+import tempfile
+import timeit
+
+from shared import ABC, EMPTY, SECONDS, TOP, differences, raised
+from judging import judged
+
+LENGTHS = (0, 1, 63, 64, 65, 1023, 1024, 1025, 4095, 4096, 4097, 10000, 1 << 20, (1 << 20) + 1, 3 << 20, (5 << 20) + 77)
+KEY = b"whats the Elvish word for friend"
+KEYED = "92b2b75604ed3c761f9d6f62392c8a9227ad0ea3f09573e783f1498a4ed60d26"
+"""The keyed hash of no bytes."""
+MAX_SMALL_CALL = 10e-6
+"""Far above the two microseconds that a small call takes on a machine with nothing else to do."""
+
+
+def content_of(length):
+    return random.Random(length).getrandbits(8 * length + 8).to_bytes(length + 1, "little")[:length]
+
+
+def equal_ways():
+    """However bytes are given, their hash is the same."""
+    from b3store.hashing import blake3, digest_by_threads, file_digest
+
+    found = differences((blake3(b"abc").hexdigest(), ABC), (blake3().hexdigest(), EMPTY), (blake3(key=KEY).hexdigest(), KEYED))
+    with tempfile.TemporaryDirectory() as place:
+        for length in LENGTHS:
+            content, path = content_of(length), os.path.join(place, "file")
+            with open(path, "wb") as file:
+                file.write(content)
+            digest, hasher = blake3(content).digest(), blake3()
+            for start in range(0, length, 1 + length // 3):
+                hasher.update(content[start : start + 1 + length // 3])
+            with open(path, "rb") as file, open(path, "rb", buffering=0) as raw, open(path, "rb") as later:
+                later.read(1)
+                files = [file_digest(file, 3), file_digest(raw, 1), file_digest(io.BytesIO(content)), file_digest(later)]
+            ways = [hasher.digest(), blake3(bytearray(content)).digest(), blake3(memoryview(content)).digest(), digest_by_threads(content, 3), digest_by_threads(bytearray(content))]
+            wrong = [at for at, way in enumerate([*ways, *files[:3]]) if way != digest]
+            found += differences(((length, wrong), (length, [])), (files[3], blake3(content[1:]).digest()), (digest_by_threads(content, 2, KEY), blake3(content, key=KEY).digest()))
+            long = blake3(content, context="context").digest(100)
+            found += differences((blake3(content, context="context").digest(30, position=70), long[70:]), (hasher.digest(0), b""))
+    return found
+
+
+def copies():
+    """A copy goes its own way, whether the bytes so far are few or many."""
+    from b3store.hashing import blake3
+
+    found = []
+    for length in 0, 10, 4096, 5000:
+        first = blake3(content_of(length), key=KEY)
+        second, third = first.copy(), copy.copy(first)
+        second.update(b"more")
+        wanted = blake3(content_of(length) + b"more", key=KEY).digest()
+        found += differences((second.digest(), wanted), (first.digest(), blake3(content_of(length), key=KEY).digest()))
+        first.update(memoryview(b"more"))
+        found += differences((first.digest(), wanted), (first.hexdigest(), wanted.hex()), (type(third), blake3))
+    return found
+
+
+def wrong_values():
+    from b3store.hashing import blake3, digest_by_threads, file_digest
+
+    hasher = blake3(b"abc")
+    calls = [(TypeError, lambda wrong=wrong: blake3(wrong)) for wrong in ("abc", 5, None, [1])]
+    calls += [(TypeError, lambda wrong=wrong: hasher.update(wrong)) for wrong in ("abc", 5, None, memoryview(b"abcd")[::2])]
+    calls += [(ValueError, lambda: blake3(key=b"short")), (ValueError, lambda: blake3(key=b"")), (TypeError, lambda: blake3(key=32)), (TypeError, lambda: blake3(key="k" * 32))]
+    calls += [(ValueError, lambda: blake3(key=KEY, context="c")), (TypeError, lambda: blake3(context=b"c")), (ValueError, lambda: hasher.digest(-1)), (TypeError, lambda: hasher.digest("5"))]
+    calls += [(ValueError, lambda: hasher.digest(5, position=-1)), (ValueError, lambda: hasher.digest(5, position=1 << 64)), (ValueError, lambda: hasher.digest(2, position=(1 << 64) - 2))]
+    calls += [(ValueError, lambda: digest_by_threads(b"abc", 0)), (TypeError, lambda: digest_by_threads("abc")), (ValueError, lambda: file_digest(io.BytesIO(), 0))]
+    return differences(*((raised(call), wanted) for wanted, call in calls), (hasher.hexdigest(), ABC))
+
+
+def small_calls():
+    """They take microseconds, and threads do not disturb each other."""
+    from b3store.hashing import blake3
+    from sessions import in_threads
+
+    def work(number):
+        content = bytes([number]) * 100
+        digest = blake3(content).digest()
+        return all(blake3(content).digest() == digest for _ in range(3000))
+
+    best = min(timeit.repeat(lambda: blake3(b"abc").digest(), number=2000, repeat=9)) / 2000
+    return differences((in_threads(work, 4), [True] * 4)) + ([] if best < MAX_SMALL_CALL else [f"a small call takes {best * 1e6:.1f} us"])
+
+
+def prints_hashes():
+    with tempfile.TemporaryDirectory() as place:
+        path, none = os.path.join(place, "a\nb"), os.path.join(place, "none")
+        with open(path, "wb") as file:
+            file.write(b"abc")
+        lines = "\\" + ABC + "  " + path.replace("\n", "\\n") + "\n"
+        found = []
+        for words, data, wanted in ([path], b"", (0, lines, "")), ([], b"abc", (0, ABC + "  -\n", "")), (["--threads", "3", none, "-"], b"", (1, EMPTY + "  -\n", f"b3store: {none}: no such file or directory\n")):
+            ran = subprocess.run([sys.executable, "-m", "b3store.hashing", *words], input=data, capture_output=True, timeout=SECONDS, env={**os.environ, "PYTHONPATH": os.path.join(TOP, "python")})
+            found += differences(((ran.returncode, ran.stdout.decode(), ran.stderr.decode()), wanted))
+        return found
+
+
+CASES = (
+    ("hashes of bytes given in many ways", equal_ways), ("copies of hashers", copies), ("wrong values for hashers", wrong_values), ("small calls of hashers", small_calls),
+    ("the program b3store.hashing", prints_hashes),
+)
+
+if __name__ == "__main__":
+    sys.exit(judged(CASES))

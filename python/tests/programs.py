@@ -1,0 +1,132 @@
+"""The command line, `python -m b3store`."""
+import os
+import pty
+import signal
+import subprocess
+import sys
+import tempfile
+import time
+
+from bridge import Bridge
+from shared import ABC, EMPTY, FOUR, PROGRAM, SECONDS, TOP, differences
+from served import server_of
+from transfers import PART_LEN, content_of
+
+PACKAGE = os.path.join(TOP, "python")
+
+
+def run(words, data=b"", **variables):
+    """The status, standard output and standard error of a run."""
+    environment = {**os.environ, "PYTHONPATH": PACKAGE, "PYTHONDONTWRITEBYTECODE": "1", **variables}
+    ran = subprocess.run([sys.executable, "-m", "b3store", *words], input=data, capture_output=True, timeout=SECONDS, env=environment)
+    return ran.returncode, ran.stdout, ran.stderr.decode()
+
+
+def puts_and_gets():
+    with tempfile.TemporaryDirectory() as place, Bridge() as server:
+        def client(*words, data=b""):
+            return run(words, data, B3STORE_SOCKET=server.path)
+
+        odd, large, content = os.path.join(place, "a\\b"), os.path.join(place, "large"), content_of(9 * PART_LEN + 5)
+        for path, inside in (odd, b"abc"), (large, content):
+            with open(path, "wb") as file:
+                file.write(inside)
+        status, out, err = client("put", odd, large)
+        lines = out.decode().splitlines()
+        found = differences((status, 0), (err, ""), (lines[0], "\\" + ABC + "  " + odd.replace("\\", "\\\\")), (lines[1][64:], "  " + large))
+        address = lines[1][:64]
+        found += differences((client("put", "-", data=b"four"), (0, f"{FOUR}  -\n".encode(), "")), (client("put", "-"), (0, f"{EMPTY}  -\n".encode(), "")))
+        found += differences((client("get", address) == (0, content, ""), True), (client("get", ABC.upper(), "--range", "1:1"), (0, b"b", "")))
+        found += differences((client("get", ABC, "--range", "1:"), (0, b"bc", "")), (client("get", ABC, "--range", "7:5"), (0, b"", "")), (client("get", EMPTY), (0, b"", "")))
+        copy = os.path.join(place, "copy")
+        found += differences((client("get", address, "-o", copy), (0, b"", "")), (open(copy, "rb").read() == content, True))
+        found += differences((client("get", ABC, "--output", copy), (0, b"", "")), (open(copy, "rb").read(), b"abc"), (client("get", ABC, "-o", "/dev/null"), (0, b"", "")), (client("get", ABC, "-o", "-"), (0, b"abc", "")))
+        found += differences((client("has", ABC), (0, f"{ABC} 3\n".encode(), "")), (client("has", "0" * 64, ABC), (1, f"{ABC} 3\n".encode(), "")))
+        rows = f"{ABC} 3\n{address} {len(content)}\n{FOUR} 4\n{EMPTY} 0\n"
+        found += differences((client("ls"), (0, rows.encode(), "")), (client("rm", FOUR, EMPTY), (0, b"", "")), (client("ls", "--tenant", "0"), (0, rows[: -67 - 67].encode(), "")))
+        used = len(content) + 3
+        found += differences((client("stat"), (0, f"objects 2 bytes {used} uploads 0 held 0 parts 0\n".encode(), "")))
+        found += differences((client("tenants"), (0, f"tenant 0 used {used} reserved 0 limit {1 << 46}\n".encode(), "")))
+        status, out, err = client("journal")
+        found += differences((out.splitlines()[0], f"tenant 0 {1 << 46}".encode()), (client("journal", "--from", "1", "--count", "2"), (0, b"\n".join(out.splitlines()[1:3]) + b"\n", "")))
+        return found + differences((run(["--socket", server.path, "has", ABC])[0], 0), (run(["has", "--socket", server.path, ABC])[0], 0), (sorted(os.listdir(place)), ["a\\b", "copy", "large"]))
+
+
+def says_what_is_wrong():
+    """A message of one line, a status, and never a traceback."""
+    with tempfile.TemporaryDirectory() as place, Bridge() as server:
+        none, gone = os.path.join(place, "none"), "0" * 64
+        socket = ["--socket", server.path]
+        cases = (
+            (1, "no such file or directory", [*socket, "put", none]), (1, "is a directory", [*socket, "put", place]), (1, f"b3store: {gone}: S12: ", [*socket, "get", gone]),
+            (1, f"b3store: {gone}: S12: ", [*socket, "get", gone, "-o", none]), (1, "S12", [*socket, "rm", gone]), (1, "S1: there is no such tenant", [*socket, "ls", "--tenant", "7"]),
+            (1, "S1", [*socket, "put", "-", "--tenant", "7"]), (3, none + ": no such file or directory", ["--socket", none, "ls"]),
+            (3, "connection refused", ["--tcp", "127.0.0.1:1", "ls"]), (3, none + ": no such file", ["--tcp", "127.0.0.1:1", "--token-file", none, "ls"]),
+            (3, "a token has", ["--tcp", "127.0.0.1:1", "--token-file", PROGRAM, "ls"]), (2, "B3STORE_SOCKET", ["ls"]), (2, "COMMAND", []), (2, "frob", [*socket, "frob"]),
+            (2, "64 hexadecimal digits", [*socket, "get", "abc"]), (2, "64 hexadecimal digits", [*socket, "has", ABC + "\nforget 0 " + ABC]), (2, "FROM:LEN", [*socket, "get", ABC, "--range", "5"]),
+            (2, "no number", [*socket, "get", ABC, "--range", "x:1"]), (2, "no number", [*socket, "ls", "--tenant", "x"]), (2, "HOST:PORT", ["--tcp", "localhost", "ls"]),
+            (2, "HOST:PORT", ["--tcp", "localhost:99999", "ls"]), (2, "--token-file", [*socket, "--token-file", none, "ls"]), (2, "required", [*socket, "put"]),
+        )
+        found = []
+        for status, text, words in cases:
+            got, out, err = run(words)
+            found += differences(((words[-3:], got, out), (words[-3:], status, b"")), ((text, text in err, "Traceback" in err), (text, True, False)))
+        found += differences((os.listdir(place), []), (run(["--help"])[0], 0))
+        return found + fails_to_write(server, place)
+
+
+def fails_to_write(server, place):
+    """An output that is full, one that nobody reads, and a server that ends."""
+    large = os.path.join(place, "large")
+    with open(large, "wb") as file:
+        file.write(content_of(4 * PART_LEN))
+    address = run(["--socket", server.path, "put", large])[1].decode()[:64]
+    found = []
+    for words in ["ls"], ["get", address]:
+        line = f'"$0" -m b3store --socket {server.path} {" ".join(words)} > /dev/full'
+        ran = subprocess.run(["bash", "-c", line, sys.executable], capture_output=True, timeout=SECONDS, env={**os.environ, "PYTHONPATH": PACKAGE})
+        found += differences((ran.returncode, 3), (ran.stderr.decode().endswith(": no space left on device\n"), True), (ran.stderr.count(b"\n"), 1))
+    line = f'"$0" -m b3store --socket {server.path} get {address} | head -c 5 | wc -c'
+    ran = subprocess.run(["bash", "-c", line, sys.executable], capture_output=True, timeout=SECONDS, env={**os.environ, "PYTHONPATH": PACKAGE})
+    found += differences((ran.stdout, b"5\n"), (ran.stderr, b""))
+    for closing, status, text in (">&-", 3, b"standard output is closed\n"), ("<&-", 1, b"standard input is closed\n"), ("2>&-", 1, b""):
+        line = f'"$0" -m b3store --socket {server.path} put - {"none" if closing[0] == "2" else ""} {closing}'
+        ran = subprocess.run(["bash", "-c", line, sys.executable], capture_output=True, stdin=subprocess.DEVNULL, timeout=SECONDS, env={**os.environ, "PYTHONPATH": PACKAGE})
+        found += differences((ran.returncode, status), (ran.stderr[-len(text) :] if text else ran.stderr, text))
+    with server_of(b"") as path:
+        return found + differences((run(["--socket", path, "ls"]), (3, b"", f"b3store: {path} has closed the connection\n")))
+
+
+def ends_on_an_interrupt():
+    """Without a traceback, also in the middle of an upload, which is not filed."""
+    with Bridge() as server:
+        words = [sys.executable, "-m", "b3store", "--socket", server.path, "put", "-"]
+        # a shell's background job ignores interrupts, and so would its children
+        put = subprocess.Popen(words, stdin=subprocess.PIPE, stdout=subprocess.PIPE, stderr=subprocess.PIPE, env={**os.environ, "PYTHONPATH": PACKAGE},
+                               preexec_fn=lambda: signal.signal(signal.SIGINT, signal.SIG_DFL))
+        with put:
+            put.stdin.write(bytes(9 * PART_LEN))
+            put.stdin.flush()
+            time.sleep(0.3)
+            put.send_signal(signal.SIGINT)
+            out, err = put.communicate(timeout=SECONDS)
+        return differences((put.returncode, 130), (out, b""), (err, b""), (run(["--socket", server.path, "ls"]), (0, b"", "")))
+
+
+def shows_progress():
+    """On a terminal, once a second has gone by, and not elsewhere."""
+    with Bridge() as server:
+        main_end, terminal = pty.openpty()
+        words = [sys.executable, "-m", "b3store", "--socket", server.path, "put", "-"]
+        environment = {**os.environ, "PYTHONPATH": PACKAGE}
+        with subprocess.Popen(words, stdin=subprocess.PIPE, stdout=subprocess.PIPE, stderr=terminal, env=environment) as put:
+            for _ in range(3):
+                put.stdin.write(bytes(5 * PART_LEN))
+                put.stdin.flush()
+                time.sleep(0.8)
+            put.stdin.close()
+            line = put.stdout.read()
+        os.close(terminal)
+        shown = os.read(main_end, 10000)
+        os.close(main_end)
+        return differences((put.returncode, 0), (line[64:], b"  -\n"), (b"b3store: -: 12 MiB in " in shown, True), (shown.endswith(b"\r\x1b[K"), True))

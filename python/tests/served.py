@@ -1,0 +1,139 @@
+"""Clients of a server, over a Unix-domain socket and over TCP."""
+import contextlib
+import io
+import os
+import pathlib
+import socket
+import tempfile
+import threading
+
+from bridge import Bridge
+from shared import ABC, FOUR, SECONDS, differences, ended, raised, refusal
+from b3store import Client, Ended, Filed, Held, Usage
+from sessions import in_threads
+from transfers import PART_LEN, content_of
+
+TOKEN = "0123456789abcdefABCDEF"
+
+
+def over_a_socket():
+    with Bridge() as server:
+        with Client(server.path) as store:
+            tenant = store.tenant(1 << 30)
+            upload = store.begin(tenant, 3)
+            found = differences((store.put(upload, 0, b"abc"), Held(3, None)), (store.seal(upload), Filed(True, ABC, 3)), (store.has(tenant, FOUR), None))
+            content = content_of(9 * PART_LEN + 3)
+            address = store.upload(io.BytesIO(content), tenant).address
+            found += differences((store.fetch(tenant, address) == content, True), (b"".join(store.ranges(tenant, address, 1 << 20)) == content, True))
+            found += differences((store.open(tenant, address).read() == content, True), (refusal(store.usage, 5), ("S1", None)), (store.alive, True))
+        found += differences((store.alive, False), (ended(store.stat), ("the client was closed", None, "")), (store.close(), None))
+        with Client(pathlib.Path(server.path), sessions=1) as store:
+            return found + differences((store.file(0, b"abc"), Filed(False, ABC, 3)), (store.usage(0), Usage(len(content) + 3, 0, 1 << 30)))
+
+
+def over_several_connections():
+    """Each thread finds what the others did."""
+    with Bridge() as server, Client(server.path, sessions=4) as store:
+        tenant, contents = store.tenant(1 << 30), [content_of(200000 * number) for number in range(8)]
+
+        def work(number):
+            address = store.upload(contents[number], tenant).address
+            return all(store.fetch(tenant, store.file(tenant, content).address) == content for content in contents) and address in store.list(tenant)
+
+        found = differences((in_threads(work, 8), [True] * 8), (store.stat().objects, 8), (store.alive, True))
+        with store._turn(), store._turn(), store._turn(), store._turn():
+            return found + differences((store.alive, True))
+
+
+def over_tcp():
+    with Bridge(TOKEN) as server:
+        with Client(host="127.0.0.1", port=server.port, token=TOKEN, sessions=2) as store:
+            found = differences((store.upload(b"abc", store.tenant()), Filed(True, ABC, 3)))
+        for token in "00", TOKEN.lower(), TOKEN[:-1]:
+            told = ended(lambda: Client(host="127.0.0.1", port=server.port, token=token))
+            found += differences((told and told[0], f"127.0.0.1:{server.port} closes the connection: is the token right?"))
+        return found
+
+
+def places_that_are_wrong():
+    """They raise before anything is sent."""
+    found = []
+    with tempfile.TemporaryDirectory() as place:
+        none, file, long = (os.path.join(place, name) for name in ("none", "file", "l" * 200))
+        with open(file, "wb"):
+            pass
+        found += differences((raised(Client, none), FileNotFoundError), (raised(Client, file), ConnectionRefusedError), (raised(Client, long), OSError))
+        try:
+            Client(none)
+        except OSError as fault:
+            found += differences((fault.filename, none))
+    for words in {}, {"path": "a", "host": "b"}, {"path": "a", "port": 1}, {"path": "a", "token": "00"}, {"host": "a", "port": 0}, {"host": "a", "port": 65536}:
+        found += differences((raised(lambda words=words: Client(**words)), ValueError))
+    for token in "", "x", "00\n", "00\nstat", "0" * 1025, "\u0660":
+        found += differences((raised(lambda token=token: Client(host="localhost", port=1, token=token)), ValueError))
+    for words in {"host": "a"}, {"host": "a", "port": "80"}, {"host": "a", "port": 80, "token": b"00"}, {"path": "a", "sessions": "2"}:
+        found += differences((raised(lambda words=words: Client(**words)), TypeError))
+    return found + differences((raised(lambda: Client(host="127.0.0.1", port=1)), ConnectionRefusedError))
+
+
+@contextlib.contextmanager
+def server_of(*answers):
+    """A server whose connections get some bytes, each after a line, and are then closed. With None for bytes it waits for ever."""
+    with tempfile.TemporaryDirectory() as place, socket.socket(socket.AF_UNIX) as listener:
+        path = os.path.join(place, "socket")
+        listener.bind(path)
+        listener.listen()
+        is_done = threading.Event()
+
+        def serve(connection):
+            with connection, contextlib.suppress(OSError):
+                for answer in answers:
+                    connection.recv(1 << 16)
+                    if answer is None:
+                        is_done.wait(SECONDS)
+                        return
+                    connection.sendall(answer)
+
+        def accept():
+            with contextlib.suppress(OSError):
+                while True:
+                    threading.Thread(target=serve, args=(listener.accept()[0],), daemon=True).start()
+
+        threading.Thread(target=accept, daemon=True).start()
+        try:
+            yield path
+        finally:
+            is_done.set()
+            listener.shutdown(socket.SHUT_RDWR)
+
+
+def servers_that_end():
+    """What was wrong is said at the call that finds it, and at every later one."""
+    found = []
+    cases = (
+        ([b"tenant 0\n"], 1, "has closed the connection"), ([b"tenant 0"], 0, "has closed the connection"), ([b"busy\n"], 0, "the server is busy: each of its sessions has a client"),
+        ([b"frob\n"], 0, "the store answers 'frob'"), ([b"\xff\xff\n"], 0, "the store's answer makes no sense"), ([b"tenant 0\n", b"tenant 1\n"], 2, "has closed the connection"),
+    )
+    for answers, count, reason in cases:
+        with server_of(*answers) as path, Client(path) as store:
+            found += differences(([store.tenant() for _ in range(count)], list(range(count))))
+            told = ended(store.tenant)
+            found += differences((told is not None and reason in told[0], True), (ended(store.stat), told), (ended(store.fetch, 0, ABC), told), (store.alive, False))
+    with server_of(b"tenant 0\n") as path, Client(path) as store:
+        store.tenant()
+        threading.Event().wait(0.2)
+        return found + differences((store.alive, False))
+
+
+def clients_that_are_closed():
+    """A client that is broken ends the commands of its other threads when it is closed."""
+    with server_of(None) as path:
+        store = Client(path, sessions=2)
+        results = []
+        thread = threading.Thread(target=lambda: results.append(raised(store.stat)), daemon=True)
+        thread.start()
+        threading.Event().wait(0.2)
+        store._fault = Ended("broken")
+        store.close()
+        thread.join(SECONDS)
+        return differences((results, [Ended]), (raised(store.stat), Ended))

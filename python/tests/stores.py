@@ -1,0 +1,193 @@
+"""A store over one session."""
+import array
+import contextlib
+import copy
+import os
+import pickle
+import re
+import signal
+import tempfile
+import threading
+
+from shared import ABC, EMPTY, FOUR, PROGRAM, TOP, differences, ended, raised, refusal, script_of
+from b3store import REFUSALS, Ended, Filed, Held, OpenUpload, Refused, Store, Totals, Usage
+
+JOURNAL = ["tenant 0 4096", "begin 0 0 3", "put 0 0 3", f"seal 0 {ABC} new"]
+
+
+def each_command():
+    with Store(PROGRAM, sessions=1) as store:
+        tenant = store.tenant(4096)
+        upload = store.begin(tenant, 3)
+        found = differences(
+            (tenant, 0), (upload, 0), (store.uploads(0), [OpenUpload(0, 3, 3, 0)]), (store.put(0, 0, b"abc"), Held(3, None)),
+            (store.seal(0), Filed(True, ABC, 3)), (store.entries(), JOURNAL), (store.entries(2), JOURNAL[2:]), (store.entries(4), []),
+            (store.has(0, ABC), 3), (store.has(0, FOUR), None), (store.fetch(0, ABC), b"abc"), (store.fetch(0, ABC, 1, 1), b"b"),
+            (store.fetch(0, ABC, 3), b""), (store.list(0), {ABC: 3}), (store.begin_open(0, 2048), 1), (store.put(1, 0, bytes(1024)), Held(1024, 1024)),
+            (store.uploads(0), [OpenUpload(1, 2048, None, 1024)]), (store.usage(0), Usage(3, 2048, 4096)), (store.fix(1, 1024), None),
+            (store.uploads(0), [OpenUpload(1, 2048, 1024, 1024)]), (store.limit(0, 2000), None), (store.tenant(5), 1),
+            (store.tenants(), {0: Usage(3, 1024, 2000), 1: Usage(0, 0, 5)}), (store.stat(), Totals(1, 3, 1, 1024, 1)),
+            (store.abort(1), None), (store.file(1, b"abc"), Filed(False, ABC, 3)), (store.forget(0, ABC), None), (store.list(0), {}),
+            (b"".join(store.ranges(1, ABC, 2)), b"abc"), (store.close(), 0),
+        )
+    return found
+
+
+def each_refusal():
+    with Store(PROGRAM, sessions=1) as store:
+        store.tenant(3000)
+        store.begin_open(0, 2048)
+        upload = store.begin(0, 3)
+        store.put(upload, 0, b"abc")
+        return differences(
+            (refusal(store.usage, 1), ("S1", None)), (refusal(store.tenant, (1 << 46) + 1), ("S3", None)), (refusal(store.limit, 0, 5), ("S4", 2051)),
+            (refusal(store.begin, 0, (1 << 44) + 1), ("S5", None)), (refusal(store.begin, 0, 950), ("S6", 949)), (refusal(store.seal, 7), ("S7", None)),
+            (refusal(store.put, upload, 0, b"abc"), ("S9", 0)), (refusal(store.put, 7, 0, bytes(1 << 20)), ("S7", None)),
+            (refusal(store.put, 0, 0, b""), ("F2", None)), (refusal(store.put, 0, 1, b"a"), ("F3", None)), (refusal(store.put, 0, 2048, b"a"), ("F4", None)),
+            (refusal(store.put, 0, 0, bytes((1 << 24) + 1)), ("F4", None)), (refusal(store.seal, 0), ("S16", None)),
+            (refusal(store.seal_as, upload, FOUR), ("S11", ABC)), (refusal(store.fetch, 0, ABC), ("S12", None)), (store.put(0, 1024, b"a"), Held(1, 0)),
+            (refusal(store.fix, 0, 5), ("S15", 1025)), (refusal(store.seal, 0), ("S10", 0)), (refusal(store.forget, 0, ABC), ("S12", None)),
+        )
+
+
+class Text(str):
+    """A str whose text in a format is another."""
+
+    def __format__(self, _):
+        return f"{ABC}\nforget 0 {ABC}"
+
+
+class NotEven:
+    """An integer that is none."""
+
+    def __index__(self):
+        raise TypeError
+
+
+def wrong_arguments():
+    """They raise before anything is sent: the commands after them are answered as if they had not been made."""
+    with Store(PROGRAM, sessions=1) as store:
+        tenant, upload = store.tenant(4096), store.begin(0, 8)
+        found = differences(*(
+            (raised(store.put, upload, 0, part), TypeError) for part in ("settings", None, 5, [1, 2], {"a": 1}, memoryview(b"settings")[::2], object())
+        ))
+        found += differences((store.put(upload, 0, array.array("I", [1, 2])), Held(8, None)), (store.seal(upload).length, 8))
+        found += differences(*((raised(store.usage, number), TypeError) for number in ("0", 0.0, None, b"0", [0], NotEven(), "0\nabort 0")))
+        found += differences(*((raised(store.usage, number), ValueError) for number in (-1, 1 << 64, 10 ** 5000)))
+        filed = store.file(tenant, b"abc")
+        wrong = (filed.address + "\nforget 0 " + filed.address, "", ABC[:-1], ABC + "0", "g" * 64, ABC + "\n", "\u0660" * 64, " " + ABC[1:])
+        for call in store.has, store.fetch, store.forget, lambda tenant, address: store.file(tenant, b"abc", address):
+            found += differences(*((raised(call, tenant, address), ValueError) for address in wrong))
+            found += differences(*((raised(call, tenant, address), TypeError) for address in (ABC.encode(), [], 5)))
+        found += differences((raised(store.ranges, tenant, ABC, 0), ValueError), (raised(store.file, tenant, "abc"), TypeError))
+        found += differences((store.has(tenant, Text(ABC)), 3), (store.file(tenant, array.array("I")).length, 0), (store.forget(tenant, EMPTY), None))
+        return found + differences(
+            (store.has(tenant, ABC.upper()), 3), (store.stat(), Totals(2, 11, 0, 0, 0)), (store.usage(True - 1).used, 11), (store.alive, True),
+            (store.fetch(tenant, list(store.list(tenant))[0]), array.array("I", [1, 2]).tobytes()), (len(store.entries()), 10),
+        )
+
+
+def refusals_are_values():
+    """A refusal is the same when it was copied or pickled, and says what it carries."""
+    with Store(PROGRAM, sessions=1) as store:
+        store.tenant(5)
+        try:
+            store.begin(0, 9)
+        except Refused as refused:
+            copies = [refused, copy.copy(refused), copy.deepcopy(refused), pickle.loads(pickle.dumps(refused))]
+            told = "S6: the tenant has too few bytes left (free 5)"
+            return differences(*(((it.number, it.value, it.label, str(it)), ("S6", 5, "free", told)) for it in copies))
+    return ["nothing was refused"]
+
+
+def stores_that_end():
+    """The next call and `alive` tell it, with the exit status and standard error, and so does every later call."""
+    with Store(PROGRAM, sessions=1) as store:
+        store.tenant(5)
+        os.kill(store.pid, signal.SIGKILL)
+        gone = ("the store has ended", -signal.SIGKILL, "")
+        found = differences((ended(store.usage, 0), gone), (store.alive, False), (ended(store.stat), gone), (store.close(), -signal.SIGKILL))
+        found += differences((ended(store.stat), gone))
+    with tempfile.TemporaryDirectory() as place, Store(script_of(place, "read -r line; echo out of luck >&2; exit 3"), sessions=1) as store:
+        found += differences((ended(store.usage, 0), ("the store has ended", 3, "out of luck\n")), (store.alive, False))
+    with Store(PROGRAM, sessions=1) as store:
+        store.close()
+        return found + differences((ended(store.stat), ("the store was closed", 0, "")), (store.alive, False), (store.close(), 0))
+
+
+WRONG_ANSWERS = ["frob", "tenant", "tenant x", "refused", "refused S6 free x", "refused S6 free", "", "held 3", "tenant -1", "tenant +1", "tenant 1_0", "tenant 1\\r", "refused S11 found 5"]
+
+
+def answers_that_do_not_fit():
+    """After the first of them nothing is sent any more, whatever the program would answer."""
+    found = []
+    for answer in WRONG_ANSWERS:
+        with tempfile.TemporaryDirectory() as place:
+            text = f"read -r line; echo '{answer}'; while read -r line; do echo $line >> {place}/lines; echo tenant 0; done"
+            with Store(script_of(place, text), sessions=1) as store:
+                found += differences((raised(store.tenant), Ended), (raised(store.tenant), Ended), (store.alive, False))
+            found += differences((os.path.exists(os.path.join(place, "lines")), False))
+    return found
+
+
+class Interrupted(Exception):
+    """What a signal's handler raises."""
+
+
+def interrupt(*_):
+    raise Interrupted
+
+
+def commands_that_are_broken_off():
+    """Where an exception comes in the middle of a command, the store can't be used any more, and ends."""
+    with tempfile.TemporaryDirectory() as place, Store(script_of(place, "exec sleep 60"), sessions=1) as store:
+        before = signal.signal(signal.SIGALRM, interrupt)
+        try:
+            signal.setitimer(signal.ITIMER_REAL, 0.3)
+            found = differences((raised(store.put, 0, 0, bytes(1 << 24)), Interrupted))
+        finally:
+            signal.setitimer(signal.ITIMER_REAL, 0)
+            signal.signal(signal.SIGALRM, before)
+        told = ended(store.stat)
+        return found + differences((told, ("a command was interrupted by Interrupted", None, "")), (store.alive, False), (store.close(), -signal.SIGKILL))
+
+
+def refusals_of_the_page():
+    """The module's table has the refusals that docs/FORMATS.md says of a session's lines."""
+    with open(os.path.join(TOP, "docs", "FORMATS.md"), encoding="utf-8") as page:
+        told = set(re.findall(r"^\| ([SF]\d+) \|", page.read(), re.MULTILINE))
+    return differences((set(REFUSALS), told - {"S8"}))
+
+
+def by_threads():
+    with Store(PROGRAM, sessions=1) as store:
+        tenant, found = store.tenant(), []
+
+        def work(number):
+            content = bytes([number]) * 300000
+            for _ in range(20):
+                address = file_of_parts(store, tenant, content)
+                found.extend(differences((b"".join(store.ranges(tenant, address)), content)))
+
+        workers = [threading.Thread(target=work, args=(number,)) for number in range(8)]
+        for worker in workers:
+            worker.start()
+        for worker in workers:
+            worker.join()
+        return found + differences((store.stat(), Totals(8, 2400000, 0, 0, 0)))
+
+
+def file_of_parts(store, tenant, content):
+    upload = store.begin(tenant, len(content))
+    for offset in range(0, len(content), 65536):
+        store.put(upload, offset, memoryview(content)[offset : offset + 65536])
+    return store.seal(upload).address
+
+
+def stores_that_are_none():
+    """One that ends at once, and one whose answers are none."""
+    found = []
+    for answer in "exit 0", "while read -r line; do echo held; done":
+        with tempfile.TemporaryDirectory() as place, Store(script_of(place, answer), sessions=1) as store, contextlib.suppress(Ended):
+            found.append(f"{answer}: {store.tenant(5)}")
+    return found

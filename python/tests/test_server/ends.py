@@ -1,0 +1,426 @@
+"""How a server begins and ends, what it is refused, and what it refuses."""
+import os
+import signal
+import socket
+import stat
+import subprocess
+import sys
+import tempfile
+import threading
+import time
+from typing import Any, List, Tuple
+
+from lines import SHORTLY, SOON, soon
+from running import AS_MODULE, CLEAN, SECONDS, WITH_FEW_FILES, Client, Running, differences, environment, fails
+
+TOKEN = "0123456789abcdef" * 2
+
+
+def _token_file(folder: str, text: str = TOKEN + "\n", mode: int = 0o600) -> str:
+    path = os.path.join(folder, "token")
+    with open(path, "w", encoding="ascii") as file:
+        file.write(text)
+    os.chmod(path, mode)
+    return path
+
+
+def _script(folder: str, text: str) -> str:
+    path = os.path.join(folder, "program")
+    with open(path, "w", encoding="ascii") as file:
+        file.write("#!/bin/sh\n" + text)
+    os.chmod(path, 0o755)
+    return path
+
+
+def busy(program: str) -> List[str]:
+    """A connection above N waits, has its turn when another ends, and is sent `busy` after a time; then nothing that it sent was done."""
+    with Running(program, "--sessions", "1", "--wait", "1") as server, server.client() as first:
+        first.ask("tenant 5000")
+        start = time.monotonic()
+        with server.client() as late:
+            late.send(b"limit 0 4000\n")
+            found = differences((late.remaining(), b"busy\n"), (0.9 < time.monotonic() - start < SOON, True))
+        with server.client() as following:
+            following.send(b"usage 0\n")
+            threading.Timer(SHORTLY, first.close).start()
+            found += differences((following.answer(), b"used 0 reserved 0 limit 5000\n"), (following.ends(), b""))
+        return found + differences((server.end(), CLEAN))
+
+
+def turns_in_order(program: str) -> List[str]:
+    """Those that wait have their turns in the order in which they came."""
+    with Running(program, "--sessions", "2", "--wait", "60") as server:
+        clients, served = [server.client() for _ in range(10)], []
+        for client in clients:
+            client.send(b"stat\n")
+            time.sleep(0.02)
+        for number, client in enumerate(clients):
+            client.answer()
+            served.append(number)
+            client.close()
+        return differences((served, list(range(10))), (server.end(), CLEAN))
+
+
+def many_in_turn(program: str) -> List[str]:
+    """Hundreds that come and go leave no open file, no thread and no pipe."""
+    with Running(program, "--sessions", "4") as server:
+
+        def kept() -> Tuple[int, int, List[str]]:
+            at = f"/proc/{server.process.pid}"
+            names = os.listdir(os.path.join(server.temporary, os.listdir(server.temporary)[0]))
+            return len(os.listdir(f"{at}/fd")), len(os.listdir(f"{at}/task")), names
+
+        before, found = kept(), []
+        for number in range(300):
+            client = server.client()
+            if number % 3:
+                found += differences((client.ask("tenants"), b"tenants 0\n"))
+            if number % 2:
+                client.ends()
+            client.close()
+        found += differences((soon(lambda: kept() == before), True), (before[2], ["door"]))
+        return found[:5] + differences((server.end(), CLEAN))
+
+
+def hundreds_at_once(program: str) -> List[str]:
+    """Two hundred connections at once over four sessions are all served."""
+    with Running(program, "--sessions", "4", "--wait", "60") as server:
+        clients = [server.client() for _ in range(200)]
+        for client in clients:
+            client.send(b"stat\n")
+            client.socket.shutdown(socket.SHUT_WR)
+        answers = [client.remaining() for client in clients]
+        for client in clients:
+            client.close()
+        return differences((set(answers), {b"objects 0 bytes 0 uploads 0 held 0 parts 0\n"}), (server.end(), CLEAN))
+
+
+def too_few_files(program: str) -> List[str]:
+    """Connections for which there are no open files left are closed or wait, the server says so, and serves again once others have ended."""
+    with Running(program, "--sessions", "16", "--wait", "1", python=WITH_FEW_FILES) as server:
+        with server.client() as first:
+            first.ask("tenant 5000")
+            first.ask("begin 0 5")
+            clients = [server.client() for _ in range(60)]
+            found = differences((soon(lambda: "Too many open files" in server.reported()), True))
+            for client in clients:
+                client.close()
+        with server.client() as last:
+            found += differences((soon(lambda: last.uploads() == []), True), (last.ask("usage 0"), b"used 0 reserved 0 limit 5000\n"), (last.ends(), b""))
+        status, told, left = server.end()
+        return found + differences((status, 0), ("Traceback" in told, False), (left, []))
+
+
+def closed_streams(program: str) -> List[str]:
+    """A server without standard streams, or whose output nobody reads, serves all the same."""
+    found = []
+    for redirections in "<&- >&- 2>&-", ">&-", ">/dev/full 2>/dev/full":
+        with tempfile.TemporaryDirectory() as folder:
+            path = f"{folder}/socket"
+            words = [sys.executable, *AS_MODULE, "--socket", path, "--program", program]
+            shell = ["/bin/sh", "-c", f'exec "$@" {redirections}', "sh", *words]
+            with subprocess.Popen(shell, env=environment(folder, {}), start_new_session=True) as server:
+                found += differences((soon(lambda: os.path.exists(path)), True))
+                time.sleep(SHORTLY)
+                with Client(path) as client:
+                    found += differences((client.ask("tenants"), b"tenants 0\n"), (client.ends(), b""))
+                server.terminate()
+                found += differences((server.wait(SECONDS), 0), (os.listdir(folder), []))
+    return found
+
+
+def _tcp_remaining(port: int, *pieces: bytes) -> bytes:
+    with Client(("127.0.0.1", port), socket.AF_INET) as client:
+        client.send(*pieces)
+        return client.ends()
+
+
+def tokens(program: str) -> List[str]:
+    """Over TCP the first line is the token, else the connection ends without a word."""
+    with tempfile.TemporaryDirectory() as folder:
+        words = ("--tcp", "127.0.0.1:0", "--token-file", _token_file(folder))
+        with Running(program, *words) as server, server.client() as unix:
+            port, line = server.port(), f"token {TOKEN}\n".encode()
+            found = differences((unix.ask("tenant 5000"), b"tenant 0\n"))
+            found += differences((_tcp_remaining(port, line), b"ok\n"), (_tcp_remaining(port, line + b"tenants\n"), b"ok\ntenants 1\n0 0 0 5000\n"))
+            found += differences((_tcp_remaining(port, line[:9], line[9:], b"begin 0 3\nputb 0 0 3\nab"), b"ok\nupload 0\n"))
+            wrong = [b"stat\n", b"\n", b"", line[:-1], line[:-2] + b"\n", line[:-1] + b"\r\n", b"x" * 5000]
+            wrong += [line.replace(b"f", b"e"), line.replace(b"token", b"Token")]
+            for text in wrong:
+                found += differences((_tcp_remaining(port, text), b""))
+            reports = server.reported().splitlines()
+            found += differences((unix.uploads(), []), (unix.ask("journal").count(b"\n"), 4))
+            wanted = {"b3store.server: a connection is closed: its first line is not the token"}
+            return found + differences((len(reports), len(wrong)), (set(reports), wanted), (server.end()[::2], (0, [])))
+
+
+def tcp_alone(program: str) -> List[str]:
+    """A server may listen on TCP alone, and moves contents over it."""
+    with tempfile.TemporaryDirectory() as folder:
+        words = ("--tcp", "localhost:0", "--token-file", _token_file(folder))
+        with Running(program, *words, is_unix=False) as server:
+            family = socket.AF_INET6 if "[" in server.lines[0] else socket.AF_INET
+            with Client(("localhost", server.port()), family) as client:
+                found = differences((client.ask(f"token {TOKEN}"), b"ok\n"), (client.ask("tenant 100000000"), b"tenant 0\n"))
+                content = os.urandom(1 << 18)
+                found += differences((client.ask(f"fetchb 0 {client.file(content)}") == b"bytes 262144\n" + content, True), (client.ends(), b""))
+            return found + differences((server.end(), CLEAN))
+
+
+def token_files(program: str) -> List[str]:
+    """One that isn't there, that others can read, or that has no token; and words that don't go together."""
+    del program
+    found = []
+    with tempfile.TemporaryDirectory() as folder:
+        none = "is not a token"
+        for text, mode, wanted in (TOKEN, 0o644, "can be read by others"), ("abc", 0o600, none), ("x" * 32, 0o600, none), ("", 0o600, none):
+            path = _token_file(folder, text, mode)
+            status, told = fails("--tcp", "127.0.0.1:0", "--token-file", path)
+            found += differences((status, 1), (wanted in told and told.count("\n") == 1, True))
+        told = fails("--tcp", "127.0.0.1:0", "--token-file", f"{folder}/none")
+        found += differences((told, (1, f"b3store.server: cannot read {folder}/none: No such file or directory\n")))
+        path = _token_file(folder)
+        for address in "127.0.0.1", "127.0.0.1:", ":5", "127.0.0.1:99999", "a b:1", "::1:5", "127.0.0.1:x", "host.invalid:80", "256.1.1.1:5":
+            status, told = fails("--tcp", address, "--token-file", path)
+            found += differences((status, 1), (told.startswith("b3store.server: ") and address in told and told.count("\n") == 1, True))
+        with socket.socket() as taken:
+            taken.bind(("127.0.0.1", 0))
+            taken.listen(1)
+            address = f"127.0.0.1:{taken.getsockname()[1]}"
+            found += differences((fails("--tcp", address, "--token-file", path), (1, f"b3store.server: cannot listen on {address}: Address already in use\n")))
+    return found
+
+
+def wrong_words(program: str) -> List[str]:
+    """Each has status 2 and a line that names it."""
+    found = []
+    for words, wanted in (
+        (["--sessions", "0"], "'0'"),
+        (["--sessions", "65"], "'65'"),
+        (["--sessions", "4.5"], "'4.5'"),
+        (["--wait", "-1"], "'-1'"),
+        (["--wait", "nan"], "'nan'"),
+        (["--grace", "inf"], "'inf'"),
+        (["--grace", "soon"], "'soon'"),
+        (["--frob"], "--frob"),
+        (["--tcp", "127.0.0.1:0"], "requires --token-file"),
+        (["--token-file", "f"], "--tcp"),
+        (["more"], "more"),
+    ):
+        status, told = fails("--program", program, "--socket", "/nowhere/at/all", *words)
+        found += differences((status, 2), (wanted in told and "Traceback" not in told, True))
+    return found + differences((fails("--program", program), (1, "b3store.server: nothing to listen on: give --socket PATH\n")))
+
+
+def files_of_sockets(program: str) -> List[str]:
+    """The socket has mode 0600 and is removed. A stale one is replaced; one that is listened on, or no socket, is an error and stays."""
+    with Running(program) as server:
+        mode = os.lstat(server.path).st_mode
+        found = differences((stat.S_ISSOCK(mode), True), (stat.S_IMODE(mode), 0o600))
+        words = ("--program", program, "--socket")
+        found += differences((fails(*words, server.path), (1, f"b3store.server: {server.path} is in use: another process listens on it\n")))
+        with server.client() as client:
+            found += differences((client.ask("tenants"), b"tenants 0\n"))
+        os.rename(server.path, f"{server.folder}/other")
+        with open(server.path, "w", encoding="ascii") as file:
+            file.write("kept")
+        found += differences((fails(*words, server.path), (1, f"b3store.server: {server.path} exists and is not a socket\n")))
+        found += differences((fails(*words, f"{server.folder}/a/b"), (1, f"b3store.server: cannot listen on {server.folder}/a/b: No such file or directory\n")))
+        status, told = fails(*words, f"{server.folder}/{'a' * 120}")
+        found += differences((status, 1), ("path too long" in told and told.count("\n") == 1, True))
+        return found + differences((server.end(), (0, "", ["other", "socket"])))
+
+
+def stale_sockets(program: str) -> List[str]:
+    """The socket of a server that was killed is replaced."""
+    with Running(program) as server:
+        store = server.store()
+        server.signal(signal.SIGKILL)
+        server.status()
+        found = differences((os.path.exists(server.path), True), (soon(lambda: not os.path.exists(f"/proc/{store}")), True))
+        words = [sys.executable, *AS_MODULE, "--program", program, "--socket", server.path]
+        with subprocess.Popen(words, stdout=subprocess.PIPE, env=environment(server.temporary, {})) as second:
+            assert second.stdout
+            second.stdout.readline()
+            with server.client() as client:
+                found += differences((client.ask("tenants"), b"tenants 0\n"))
+            second.terminate()
+            found += differences((second.wait(SECONDS), 0))
+        return found + differences((os.path.exists(server.path), False))
+
+
+def programs_that_are_none(program: str) -> List[str]:
+    """A program that is missing, can't be run, ends at once or is no store: one line, status 1, and nothing is left."""
+    del program
+    found = []
+    for text, wanted in (
+        (None, "cannot start {}: No such file or directory"),
+        ("exit 3\n", "{} ended with status 3 before it answered"),
+        ("kill -9 $$\n", "{} ended with status -9, killed by SIGKILL before it answered"),
+        ("exec cat\n", "{} is not a store: the program answered b'stat\\n' to stat"),
+        ("exec >&-; exec sleep 60\n", "{} is not a store: the program closed its output"),
+    ):
+        with tempfile.TemporaryDirectory() as folder:
+            path, temporary = os.path.join(folder, "program"), os.path.join(folder, "temporary")
+            os.mkdir(temporary)
+            if text is not None:
+                _script(folder, text)
+            told = fails("--socket", f"{folder}/socket", "--program", path, temporary=temporary)
+            found += differences((told, (1, f"b3store.server: {wanted.format(path)}\n")))
+            found += differences((os.listdir(temporary), []), (os.path.exists(f"{folder}/socket"), False))
+    with tempfile.TemporaryDirectory() as folder:
+        path = _token_file(folder)
+        found += differences((fails("--socket", f"{folder}/socket", "--program", path), (1, f"b3store.server: cannot start {path}: Permission denied\n")))
+    return found
+
+
+def a_store_that_is_killed(program: str) -> List[str]:
+    """The server says so, with its status, and ends with 3; clients see the end."""
+    with Running(program) as server, server.client() as client, server.client() as silent:
+        found = differences((client.ask("tenant 1000000000"), b"tenant 0\n"))
+        address = client.file(bytes(1 << 20))
+        silent.send(f"fetchb 0 {address}\n".encode() * 100)
+        client.ask("begin 0 5")
+        time.sleep(SHORTLY)
+        os.kill(server.store(), signal.SIGKILL)
+        wanted = "b3store.server: the store ended with status -9, killed by SIGKILL; everything in it is lost\n"
+        return found + differences((client.remaining(), b""), (server.status(), 3), (server.reported(), wanted), (server.left(), []))
+
+
+def processes_that_are_killed(program: str) -> List[str]:
+    """When the process of one connection is killed, the server says so and serves the others, and its turn is free."""
+    with Running(program, "--sessions", "2") as server, server.client() as other:
+        other.ask("tenant 5000")
+        with server.client() as one:
+            found = differences((one.ask("begin 0 5"), b"upload 0\n"), (len(server.children()), 3))
+            os.kill(server.children()[-1], signal.SIGKILL)
+            found += differences((one.remaining(), b""))
+        with server.client() as one:
+            found += differences((one.ask("stat"), b"objects 0 bytes 0 uploads 1 held 0 parts 0\n"), (other.ask("abort 0"), b"ok\n"), (one.ends(), b""))
+        wanted = "the process of a connection ended with status -9, killed by SIGKILL; uploads that the connection began may be left open"
+        found += differences((other.ends(), b""), (soon(lambda: len(server.children()) == 1), True))
+        return found + differences((server.end(), (0, f"b3store.server: {wanted}\n", [])))
+
+
+def a_server_that_is_killed(program: str) -> List[str]:
+    """All its processes end, whatever their clients do, and the clients see the end."""
+    with Running(program) as server, server.client() as client, server.client() as silent:
+        client.ask("tenant 1000000000")
+        silent.send(f"fetchb 0 {client.file(bytes(1 << 20))}\n".encode() * 100)
+        time.sleep(SHORTLY)
+        processes = server.children()
+        found = differences((len(processes), 3))
+        server.signal(signal.SIGKILL)
+        server.status()
+        found += differences((client.remaining(), b""), (soon(lambda: not any(os.path.exists(f"/proc/{process}") for process in processes)), True))
+        return found
+
+
+def ends_in_time(program: str) -> List[str]:
+    """After SIGTERM those that are served go on, new ones are refused, those that wait are sent `busy`; the server ends with the last."""
+    with Running(program, "--sessions", "1", "--grace", "60") as server, server.client() as client, server.client() as waiting:
+        client.ask("tenant 5000")
+        client.send(b"begin 0 3\nputb 0 0 3\na")
+        found = differences((client.line(), b"upload 0\n"))
+        server.signal()
+        found += differences((waiting.remaining(), b"busy\n"), (soon(lambda: not os.path.exists(server.path)), True))
+        client.send(b"bc")
+        found += differences((client.line(), b"held 3 all\n"), (client.ask("seal 0").split()[0], b"new"), (server.process.poll(), None))
+        found += differences((client.ends(), b""), (server.status(), 0))
+        return found + differences((server.reported(), ""), (server.left(), []))
+
+
+def ends_by_force(program: str) -> List[str]:
+    """Who doesn't finish within the grace is cut; a second signal ends it; an interrupt is a signal like the other."""
+    found = []
+    for numbers, grace, wanted in (
+        ([signal.SIGTERM], "1", 1.0), ([signal.SIGTERM] * 2, "60", 0.0), ([signal.SIGINT] * 2, "60", 0.0), ([signal.SIGTERM], "0", 0.0)
+    ):
+        with Running(program, "--grace", grace) as server, server.client() as client, server.client() as silent:
+            client.ask("tenant 1000000000")
+            address = client.file(bytes(1 << 20))
+            silent.send(f"fetchb 0 {address}\n".encode() * 100)
+            time.sleep(SHORTLY)
+            start = time.monotonic()
+            for number in numbers:
+                os.killpg(server.process.pid, number)
+                time.sleep(SHORTLY)
+            told = (server.status(), server.reported())
+            found += differences((told, (0, "b3store.server: the server ends while 2 connections are open\n")), (server.left(), []), (client.remaining(), b""))
+            found += differences((wanted <= time.monotonic() - start < wanted + SOON, True))
+    return found
+
+
+def _notified(listening: socket.socket) -> bytes:
+    listening.settimeout(SECONDS)
+    return listening.recv(100)
+
+
+def notifications(program: str) -> List[str]:
+    """systemd is told when the server is ready and when it stops, by a path and by an abstract name."""
+    found = []
+    with tempfile.TemporaryDirectory() as folder:
+        for name, address in (f"{folder}/notify", f"{folder}/notify"), (f"@b3store-test-{os.getpid()}", f"\0b3store-test-{os.getpid()}"):
+            with socket.socket(socket.AF_UNIX, socket.SOCK_DGRAM) as listening:
+                listening.bind(address)
+                with Running(program, NOTIFY_SOCKET=name) as server:
+                    found += differences((_notified(listening), b"READY=1"), (server.end(), CLEAN), (_notified(listening), b"STOPPING=1"))
+    return found
+
+
+PASSING = "import os, sys; os.environ['LISTEN_PID'] = str(os.getpid()); os.execv(sys.argv[1], sys.argv[1:])"
+
+
+def _passing(server_words: List[str], passed: socket.socket, folder: str) -> Any:
+    """Starts a server as systemd does, with a descriptor 3."""
+    words = [sys.executable, "-c", PASSING, sys.executable, *AS_MODULE, *server_words]
+    shell = ["/bin/sh", "-c", f'exec 3<&{passed.fileno()}; exec "$@"', "sh", *words]
+    env = environment(folder, {"LISTEN_FDS": "1"})
+    return subprocess.Popen(shell, stdout=subprocess.PIPE, stderr=subprocess.PIPE, pass_fds=[passed.fileno()], env=env)
+
+
+def sockets_that_are_passed(program: str) -> List[str]:
+    """The server listens on what systemd passes, and leaves its file. What is no listening socket, or a TCP one without a token, is an error."""
+    found = []
+    with tempfile.TemporaryDirectory() as folder, socket.socket(socket.AF_UNIX) as passed:
+        path = os.path.join(folder, "socket")
+        passed.bind(path)
+        passed.listen(5)
+        with _passing(["--program", program], passed, folder) as server:
+            found += differences((server.stdout.readline(), f"b3store.server: listening on {path}\n".encode()))
+            with Client(path) as client:
+                found += differences((client.ask("tenants"), b"tenants 0\n"), (client.ends(), b""))
+            server.terminate()
+            found += differences((server.wait(SECONDS), 0), (os.path.exists(path), True), (server.stderr.read(), b""))
+        with socket.socket(socket.AF_UNIX) as silent, socket.socket() as tcp:
+            tcp.bind(("127.0.0.1", 0))
+            tcp.listen(1)
+            for other, wanted in (silent, b"descriptor 3 is not a listening stream socket"), (tcp, b"requires --token-file"):
+                with _passing(["--program", program], other, folder) as server:
+                    out, told = server.communicate(timeout=SECONDS)
+                    found += differences((server.returncode, 1), (out, b""), (wanted in told and told.count(b"\n") == 1, True))
+    return found + differences((fails("--program", program, variables={"LISTEN_FDS": "1", "LISTEN_PID": "1"})[0], 1))
+
+
+ENDS = (
+    ("more connections than sessions", busy),
+    ("turns in order", turns_in_order),
+    ("hundreds that come and go", many_in_turn),
+    ("hundreds at once", hundreds_at_once),
+    ("too few files", too_few_files),
+    ("closed streams", closed_streams),
+    ("tokens", tokens),
+    ("TCP alone", tcp_alone),
+    ("files of tokens, and addresses", token_files),
+    ("wrong words", wrong_words),
+    ("files of sockets", files_of_sockets),
+    ("stale sockets", stale_sockets),
+    ("programs that are none", programs_that_are_none),
+    ("a store that is killed", a_store_that_is_killed),
+    ("processes that are killed", processes_that_are_killed),
+    ("a server that is killed", a_server_that_is_killed),
+    ("an end in time", ends_in_time),
+    ("an end by force", ends_by_force),
+    ("notifications", notifications),
+    ("sockets that are passed", sockets_that_are_passed),
+)

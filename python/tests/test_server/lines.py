@@ -1,0 +1,265 @@
+"""What goes through a connection: lines, raw bytes, much of it, by many; and uploads that a connection leaves open."""
+import hashlib
+import multiprocessing
+import os
+import random
+import signal
+import threading
+import time
+from typing import Callable, List
+
+from running import CLEAN, WITHOUT_SPLICE, Client, Running, differences
+
+SHORTLY = 0.3
+"""How long it is made sure that nothing happens."""
+SOON = 10.0
+LONG_LINE = 100_000_000
+
+
+def soon(look: Callable[[], bool]) -> bool:
+    """Whether something holds within some time."""
+    end = time.monotonic() + SOON
+    while not look():
+        if time.monotonic() > end:
+            return False
+        time.sleep(0.01)
+    return True
+
+
+def a_session(program: str) -> List[str]:
+    """The lines of `serve` and nothing else; after the client has shut down its side it gets its answers, and the end."""
+    with Running(program) as server:
+        with server.client() as one, server.client() as two:
+            found = differences((one.ask("tenant 5000"), b"tenant 0\n"), (two.ask("begin 0 3"), b"upload 0\n"))
+            found += differences((two.ask("putb 0 0 3", b"abc"), b"held 3 all\n"), (one.uploads(), [0]))
+            address = two.ask("seal 0").split()[1].decode()
+            found += differences((one.ask(f"fetchb 0 {address}"), b"bytes 3\nabc"), (one.ask("frob"), b"bad\n"))
+            two.send(b"usage 0\nstat\n")
+            totals = b"used 3 reserved 0 limit 5000\nobjects 1 bytes 3 uploads 0 held 0 parts 0\n"
+            found += differences((two.ends(), totals), (one.ask("entries 1 1"), b"journal 1\nbegin 0 0 3\n"))
+        return found + differences((server.lines, [f"b3store.server: listening on {server.path}\n"]), (server.end(), CLEAN))
+
+
+def _large_contents(program: str, python: List[str], *words: str) -> List[str]:
+    with Running(program, *words, python=python) as server, server.client() as one, server.client() as two:
+        chance, found = random.Random(1), []
+        one.ask("tenant 1000000000")
+        for length in (0, 1, 1023, 4095, 4096, 4097, 65535, 65536, 65537, 1 << 20, (1 << 24) - 1, 1 << 24):
+            content = chance.getrandbits(8 * length).to_bytes(length, "little") if length else b""
+            if not length:
+                continue
+            address = one.file(content)
+            for client in one, two:
+                answer = client.ask(f"fetchb 0 {address}")
+                found += differences((answer == b"bytes %d\n" % length + content, True))
+        pieces = b"".join(f"fetchb 0 {address} {start} 100000\nhas 0 {address}\n".encode() for start in range(0, 1 << 24, 100_000))
+        sender = threading.Thread(target=two.send, args=(pieces,))
+        sender.start()
+        digest = hashlib.sha256()
+        for _ in range(0, 1 << 24, 100_000):
+            digest.update(two.answer().partition(b"\n")[2])
+            found += differences((two.answer(), b"has %d\n" % (1 << 24)))
+        sender.join()
+        return found + differences((digest.hexdigest(), hashlib.sha256(content).hexdigest()))
+
+
+def contents_of_all_lengths(program: str) -> List[str]:
+    """Parts and contents go both ways as they are, also where they are read in pieces or sent ahead."""
+    return _large_contents(program, ["-m", "b3store.server"])
+
+
+def contents_without_splice(program: str) -> List[str]:
+    """The same where Python has no os.splice."""
+    return _large_contents(program, WITHOUT_SPLICE)
+
+
+def contents_with_kept_uploads(program: str) -> List[str]:
+    """The same where answers aren't looked at."""
+    return _large_contents(program, ["-m", "b3store.server"], "--keep-uploads")
+
+
+def by_many(program: str) -> List[str]:
+    """Eight clients at once file and fetch, and begin uploads that they leave open: only those are aborted, each once."""
+    with Running(program, "--sessions", "8") as server:
+        found: List[str] = []
+        with server.client() as first:
+            first.ask("tenant 1000000000")
+
+        def work(number: int) -> None:
+            with server.client() as client:
+                for turn in range(30):
+                    content = b"%d %d" % (number % 4, turn) * 1000
+                    address = client.file(content)
+                    found.extend(differences((client.ask(f"fetchb 0 {address}"), b"bytes %d\n" % len(content) + content)))
+                    client.ask("begin 0 5")
+                found.extend(differences((len(client.ends()), 0)))
+
+        workers = [threading.Thread(target=work, args=(number,)) for number in range(8)]
+        for worker in workers:
+            worker.start()
+        for worker in workers:
+            worker.join()
+        with server.client() as last:
+            entries = last.ask("journal").splitlines()
+            aborts = [line for line in entries if line.startswith(b"abort")]
+            found += differences((len(aborts), 240), (len(set(aborts)), 240), (last.uploads(), []), (last.number("stat"), 120))
+        return found[:5] + differences((server.end(), CLEAN))
+
+
+def uploads_of_a_connection(program: str) -> List[str]:
+    """What it began and left open is aborted when it ends, before it sees the end. What others began stays, also where it put parts; what it sealed stays."""
+    with Running(program) as server, server.client() as other:
+        other.ask("tenant 100000")
+        found = differences((other.ask("begin 0 10"), b"upload 0\n"))
+        with server.client() as one:
+            found += differences((one.ask("begin 0 3"), b"upload 1\n"), (one.ask("open 0 2048"), b"upload 2\n"), (one.ask("begin 0 5"), b"upload 3\n"))
+            one.ask("putb 1 0 3", b"abc")
+            one.ask("putb 0 0 10", b"0123456789")
+            found += differences((other.ask("putb 3 0 5", b"01234"), b"held 5 all\n"), (other.ask("begin 0 4"), b"upload 4\n"))
+            found += differences((one.ask("seal 1").split()[0], b"new"), (other.uploads(), [0, 2, 3, 4]), (one.ends(), b""))
+        found += differences((other.uploads(), [0, 4]), (other.ask("seal 0").split()[0], b"new"), (other.ask("seal 3"), b"refused S7\n"))
+        return found + differences((other.ends(), b""), (server.end(), CLEAN))
+
+
+def kept_uploads(program: str) -> List[str]:
+    """With --keep-uploads all stays open, and another goes on with it."""
+    with Running(program, "--keep-uploads") as server, server.client() as other:
+        other.ask("tenant 100000")
+        with server.client() as one:
+            found = differences((one.ask("begin 0 3"), b"upload 0\n"), (one.ends(), b""))
+        found += differences((other.uploads(), [0]), (other.ask("putb 0 0 3", b"abc"), b"held 3 all\n"))
+        return found + differences((other.ask("seal 0").split()[0], b"new"), (other.ends(), b""), (server.end(), CLEAN))
+
+
+def names_of_uploads_in_contents(program: str) -> List[str]:
+    """Raw bytes, names of addresses and other answers that look like the line of an upload abort nothing."""
+    with Running(program) as server, server.client() as other:
+        other.ask("tenant 1000000")
+        kept = [other.number("begin 0 10") for _ in range(3)]
+        lines = b"upload 0\nupload 1\nupload 2\n"
+        with server.client() as one:
+            found = []
+            for content in (lines, b"\n" + lines, b"x" * 4096 + b"\n" + lines, b"y" * 65530 + b"\n" + lines * 100):
+                address = one.file(content)
+                answers = one.ask(f"fetchb 0 {address}"), one.ask(f"fetch 0 {address}"), one.ask(f"fetchb 0 {address} {len(content) - 9} 99")
+                found += differences((answers[0], b"bytes %d\n" % len(content) + content), (answers[2], b"bytes 9\nupload 2\n"))
+            one.ask("journal")
+            one.ask("uploads 0")
+            found += differences((one.ends(), b""))
+        return found + differences((other.uploads(), kept), (other.ends(), b""), (server.end(), CLEAN))
+
+
+def thousands_of_uploads(program: str) -> List[str]:
+    """Of 40,000 uploads that a connection began, the few that are open at its end are aborted."""
+    with Running(program) as server, server.client() as other:
+        other.ask("tenant 1000000000")
+        kept = other.number("begin 0 7")
+        with server.client() as one:
+            for start in range(0, 40_000, 1000):
+                numbers = range(kept + 1 + start, kept + 1 + start + 1000)
+                one.send(b"begin 0 5\n" * 1000)
+                found = differences(([one.line() for _ in numbers], [b"upload %d\n" % number for number in numbers]))
+                one.send(b"".join(b"abort %d\n" % number for number in numbers if number % 1000))
+                found += differences(({one.line() for number in numbers if number % 1000}, {b"ok\n"}))
+            found += differences((len(other.uploads()), 41), (one.ends(), b""))
+        return found + differences((other.uploads(), [kept]), (other.ends(), b""), (server.end(), CLEAN))
+
+
+def _begin_and_wait(path: str, lines: bytes, pipe: int) -> None:
+    with Client(path) as client:
+        client.send(lines)
+        os.write(pipe, client.line())
+        time.sleep(60)
+
+
+def clients_that_are_killed(program: str) -> List[str]:
+    """Their uploads are aborted, also those whose answers they never read, and no half of a command is done."""
+    with Running(program, "--sessions", "2") as server, server.client() as other:
+        other.ask("tenant 1000000000")
+        kept, found = other.number("begin 0 7"), []
+        halves = (b"", b"limit 0 5", b"putb 1 0 1024\nabc", b"begin 0 5\n" * 500, b"begin 0 5\nentries 0\n" * 1000, b"fetchb 0 " + b"0" * 64)
+        for half in halves:
+            reading, writing = os.pipe()
+            client = multiprocessing.get_context("fork").Process(target=_begin_and_wait, args=(server.path, b"begin 0 5\n" + half, writing))
+            client.start()
+            found += differences((os.read(reading, 100)[:7], b"upload "))
+            os.kill(client.pid or 0, signal.SIGKILL)
+            client.join()
+            found += differences((soon(lambda: other.uploads() == [kept]), True))
+            os.close(reading)
+            os.close(writing)
+        found += differences((other.ask("usage 0"), b"used 0 reserved 7 limit 1000000000\n"), (other.ends(), b""))
+        return found + differences((server.end(), CLEAN))
+
+
+def half_a_line(program: str) -> List[str]:
+    """A client that ends within a line or a part has not sent it."""
+    with Running(program) as server, server.client() as other:
+        other.ask("tenant 5000")
+        found = []
+        for half in (b"begin 0 1", b"limit 0 4", b"tenant 5", b"putb 0 0 3\nab", b"s"):
+            with server.client() as one:
+                one.send(b"stat\n" + half)
+                found += differences((one.ends(), b"objects 0 bytes 0 uploads 0 held 0 parts 0\n"))
+        return found + differences((other.ask("journal"), b"journal 1\ntenant 0 5000\n"), (other.ends(), b""), (server.end(), CLEAN))
+
+
+def a_line_of_100_mb(program: str) -> List[str]:
+    """It is `bad`, and the next line is answered."""
+    with Running(program) as server, server.client() as one:
+        for _ in range(LONG_LINE // 1_000_000):
+            one.send(b"a" * 1_000_000)
+        found = differences((one.ask(""), b"bad\n"), (one.ask("tenants"), b"tenants 0\n"))
+        return found + differences((one.ends(), b""), (server.end(), CLEAN))
+
+
+def one_that_never_reads(program: str) -> List[str]:
+    """It delays no other, and has its answers, in order, when it reads at last."""
+    with Running(program, "--sessions", "3") as server, server.client() as silent, server.client() as other:
+        other.ask("tenant 1000000000")
+        address = other.file(bytes(1 << 20))
+        lines = f"fetchb 0 {address}\nhas 0 {address}\njournal\n".encode() * 300
+        sender = threading.Thread(target=silent.send, args=(lines,))
+        sender.start()
+        time.sleep(SHORTLY)
+        start, found = time.monotonic(), []
+        for number in range(100):
+            other.file(b"%d" % number)
+            with server.client() as one:
+                found += differences((one.ask(f"has 0 {address}"), b"has 1048576\n"))
+        found += differences((time.monotonic() - start < SOON, True))
+        kinds = [silent.answer().split(b" ", 1)[0] for _ in range(900)]
+        sender.join()
+        found += differences((kinds == [b"bytes", b"has", b"journal"] * 300, True), (silent.ends(), b""), (other.ends(), b""))
+        return found[:5] + differences((server.end(), CLEAN))
+
+
+def one_that_never_reads_and_dies(program: str) -> List[str]:
+    """Its turn is free soon after, and its uploads are aborted."""
+    with Running(program, "--sessions", "1") as server:
+        with server.client() as first:
+            first.ask("tenant 1000000000")
+            address = first.file(bytes(1 << 20))
+        with server.client() as silent:
+            silent.send(f"begin 0 5\nfetchb 0 {address}\n".encode() * 200)
+            time.sleep(SHORTLY)
+        with server.client() as last:
+            return differences((last.uploads(), []), (last.ends(), b""), (server.end(), CLEAN))
+
+
+LINES = (
+    ("a session", a_session),
+    ("contents of all lengths", contents_of_all_lengths),
+    ("contents without splice", contents_without_splice),
+    ("contents where uploads are kept", contents_with_kept_uploads),
+    ("eight clients", by_many),
+    ("the uploads of a connection", uploads_of_a_connection),
+    ("uploads that are kept", kept_uploads),
+    ("names of uploads in contents", names_of_uploads_in_contents),
+    ("thousands of uploads", thousands_of_uploads),
+    ("clients that are killed", clients_that_are_killed),
+    ("half a line", half_a_line),
+    ("a line of 100 MB", a_line_of_100_mb),
+    ("a client that never reads", one_that_never_reads),
+    ("a client that never reads, and dies", one_that_never_reads_and_dies),
+)

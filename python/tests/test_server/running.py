@@ -1,0 +1,200 @@
+"""A server in a process of its own, and clients' connections to it."""
+import contextlib
+import os
+import signal
+import socket
+import subprocess
+import sys
+import tempfile
+from typing import Any, Dict, List, Optional, Sequence, Tuple
+
+PACKAGE = os.path.dirname(os.path.dirname(os.path.dirname(os.path.abspath(__file__))))
+SECONDS = 30.0
+"""How long an answer, a start or an end may take."""
+ROWS = (b"list", b"journal", b"uploads", b"tenants", b"entries")
+AS_MODULE = ["-m", "b3store.server"]
+WITHOUT_SPLICE = ["-c", "import os, runpy; os.__dict__.pop('splice', None); runpy.run_module('b3store.server', run_name='__main__', alter_sys=True)"]
+"""Words after `python` that run the server as a Python without os.splice would."""
+
+
+FEW_FILES = 48
+WITH_FEW_FILES = [
+    "-c",
+    f"import resource, runpy; resource.setrlimit(resource.RLIMIT_NOFILE, ({FEW_FILES}, {FEW_FILES}));"
+    " runpy.run_module('b3store.server', run_name='__main__', alter_sys=True)",
+]
+"""Words after `python` that run the server with a low limit on open files."""
+
+
+class Client:
+    """A connection to a server."""
+
+    def __init__(self, path: Any, family: int = socket.AF_UNIX) -> None:
+        self.socket = socket.socket(family, socket.SOCK_STREAM)
+        self.socket.settimeout(SECONDS)
+        self.socket.connect(path)
+        self.rest = b""
+
+    def __enter__(self) -> "Client":
+        return self
+
+    def __exit__(self, *_: Any) -> None:
+        self.close()
+
+    def close(self) -> None:
+        self.socket.close()
+
+    def send(self, *pieces: bytes) -> None:
+        for piece in pieces:
+            self.socket.sendall(piece)
+
+    def ends(self) -> bytes:
+        """Shuts down the sending side, and returns all that is left to read."""
+        self.socket.shutdown(socket.SHUT_WR)
+        return self.remaining()
+
+    def remaining(self) -> bytes:
+        """What is left to read until the connection ends."""
+        with contextlib.suppress(ConnectionResetError):
+            while True:
+                piece = self.socket.recv(1 << 20)
+                if not piece:
+                    break
+                self.rest += piece
+        rest, self.rest = self.rest, b""
+        return rest
+
+    def _more(self) -> None:
+        piece = self.socket.recv(1 << 20)
+        if not piece:
+            raise EOFError("the connection ended")
+        self.rest += piece
+
+    def line(self) -> bytes:
+        while b"\n" not in self.rest:
+            self._more()
+        line, _, self.rest = self.rest.partition(b"\n")
+        return line + b"\n"
+
+    def answer(self) -> bytes:
+        """The next answer, whole."""
+        first = self.line()
+        words = first.split()
+        if words[0] == b"bytes":
+            pieces, missing = [self.rest[: int(words[1])]], int(words[1]) - len(self.rest)
+            self.rest = self.rest[int(words[1]) :]
+            while missing > 0:
+                pieces.append(self.socket.recv(min(missing, 1 << 20)))
+                missing -= len(pieces[-1])
+            return first + b"".join(pieces)
+        if words[0] in ROWS and len(words) == 2:
+            return first + b"".join(self.line() for _ in range(int(words[1])))
+        return first
+
+    def ask(self, line: str, content: bytes = b"") -> bytes:
+        self.send(line.encode() + b"\n" + content)
+        return self.answer()
+
+    def number(self, line: str) -> int:
+        """The number that an answer has after its word."""
+        return int(self.ask(line).split()[1])
+
+    def file(self, content: bytes, tenant: int = 0) -> str:
+        """Files an object of one part, and returns its address."""
+        upload = self.number(f"begin {tenant} {len(content)}")
+        self.ask(f"putb {upload} 0 {len(content)}", content)
+        return self.ask(f"seal {upload}").split()[1].decode()
+
+    def uploads(self, tenant: int = 0) -> List[int]:
+        """The numbers of a tenant's open uploads."""
+        return [int(row.split()[0]) for row in self.ask(f"uploads {tenant}").splitlines()[1:]]
+
+
+class Running:
+    """A server that runs, with its socket and its temporary folder in a folder of its own."""
+
+    def __init__(self, program: str, *words: str, python: Sequence[str] = AS_MODULE, is_unix: bool = True, **variables: str) -> None:
+        self.folder = tempfile.mkdtemp(prefix="b3store-test-")
+        self.path = os.path.join(self.folder, "socket")
+        self.temporary = os.path.join(self.folder, "temporary")
+        os.mkdir(self.temporary)
+        self.errors = open(os.path.join(self.folder, "errors"), "w+b")
+        command = [sys.executable, *python, *(["--socket", self.path] if is_unix else []), "--program", program, *words]
+        self.process = subprocess.Popen(
+            command, stdin=subprocess.DEVNULL, stdout=subprocess.PIPE, stderr=self.errors, env=environment(self.temporary, variables), start_new_session=True
+        )
+        assert self.process.stdout
+        self.lines = [self.process.stdout.readline().decode() for _ in range(is_unix + ("--tcp" in words))]
+        """What it wrote to standard output when it began."""
+
+    def __enter__(self) -> "Running":
+        return self
+
+    def __exit__(self, *_: Any) -> None:
+        if self.process.poll() is None:
+            self.process.kill()
+        self.process.wait()
+        assert self.process.stdout
+        self.process.stdout.close()
+        self.errors.close()
+        subprocess.run(["rm", "-rf", self.folder], check=True)
+
+    def client(self) -> Client:
+        return Client(self.path)
+
+    def port(self) -> int:
+        """The TCP port that the server chose."""
+        return int(self.lines[-1].rsplit(":", 1)[1])
+
+    def children(self) -> List[int]:
+        """The process ids of the store and of the connections, in the order of their start."""
+        found: List[int] = []
+        for task in os.listdir(f"/proc/{self.process.pid}/task"):
+            with contextlib.suppress(OSError), open(f"/proc/{self.process.pid}/task/{task}/children", encoding="ascii") as file:
+                found += map(int, file.read().split())
+        return sorted(found)
+
+    def store(self) -> int:
+        """The process id of the store."""
+        return self.children()[0]
+
+    def reported(self) -> str:
+        """What the server has written to standard error."""
+        self.errors.seek(0)
+        return self.errors.read().decode(errors="replace")
+
+    def signal(self, number: int = signal.SIGTERM) -> None:
+        self.process.send_signal(number)
+
+    def status(self, seconds: float = SECONDS) -> int:
+        """The exit status, once the server has ended."""
+        return self.process.wait(seconds)
+
+    def end(self) -> Tuple[int, str, List[str]]:
+        """Ends the server. Returns its status, what it reported, and what it left in its folders."""
+        self.signal()
+        return self.status(), self.reported(), self.left()
+
+    def left(self) -> List[str]:
+        return sorted(set(os.listdir(self.folder)) - {"temporary", "errors"}) + os.listdir(self.temporary)
+
+
+def environment(temporary: str, variables: Dict[str, str]) -> Dict[str, str]:
+    """The environment of a server."""
+    return {**os.environ, "PYTHONPATH": PACKAGE, "PYTHONDONTWRITEBYTECODE": "1", "TMPDIR": temporary, **variables}
+
+
+def fails(*words: str, variables: Optional[Dict[str, str]] = None, temporary: str = "/tmp", **more: Any) -> Tuple[int, str]:
+    """The status and the standard error of a server that can't start."""
+    command = [sys.executable, *AS_MODULE, *words]
+    run = subprocess.run(command, stdin=subprocess.DEVNULL, capture_output=True, timeout=SECONDS, env=environment(temporary, variables or {}), **more)
+    return run.returncode, run.stderr.decode(errors="replace")
+
+
+def differences(*pairs: Tuple[Any, Any]) -> List[str]:
+    """What is not as it should be, of pairs of a value and the one that is wanted."""
+    return [f"{found!r}"[:300] + f", not {wanted!r}"[:300] for found, wanted in pairs if found != wanted]
+
+
+CLEAN = (0, "", [])
+"""The status, the report and the remains of a server that ended as it should."""

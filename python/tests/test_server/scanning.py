@@ -1,0 +1,84 @@
+"""What a server finds in the answers of a session, however they are cut into pieces."""
+import random
+import sys
+from typing import Callable, List, Set, Tuple
+
+from running import PACKAGE, differences
+
+sys.path.insert(1, PACKAGE)
+from b3store.answers import Answers
+from b3store.turns import Turns
+
+STREAMS = 300
+ADDRESS = "upload0123456789abcdef" * 3
+
+
+def _content(chance: random.Random) -> bytes:
+    """Raw bytes, of which some look like answers."""
+    lines = (b"upload 7\n", b"\nupload 8\n", b"bytes 99999\n", b"\nbytes 3\n", b"upload ", b"\n", b"u", b"x" * 50)
+    return b"".join(chance.choice(lines) for _ in range(chance.randrange(8)))
+
+
+def _answer(chance: random.Random, begun: Set[int]) -> bytes:
+    """An answer of a random kind. An upload's number is noted."""
+    number, content = chance.randrange(1 << 64), _content(chance)
+    kinds: Tuple[Callable[[], bytes], ...] = (
+        lambda: b"bytes %d\n%s" % (len(content), content),
+        lambda: b"object %d %s\n" % (len(content), content.hex().encode() or b"-"),
+        lambda: b"uploads 2\n%d 5 5 0\n8 2048 - 1024\n" % number,
+        lambda: b"journal 3\nbegin 5 0 3\nopen 6 0 3\nput 5 0 3\n",
+        lambda: b"held %d all\n" % number,
+        lambda: b"new %s 5\n" % ADDRESS.encode(),
+        lambda: b"refused S6 free %d\n" % number,
+        lambda: b"bad\n",
+    )
+    if chance.random() < 0.3:
+        begun.add(number)
+        return b"upload %d\n" % number
+    return chance.choice(kinds)()
+
+
+def pieces_of_answers(program: str) -> List[str]:
+    """The uploads that were begun, and no others; between answers no raw bytes are expected."""
+    del program
+    chance, found = random.Random(5), []
+    for _ in range(STREAMS):
+        begun: Set[int] = set()
+        text, answers = b"".join(_answer(chance, begun) for _ in range(chance.randrange(1, 30))), Answers()
+        longest, at = chance.choice((1, 3, 10, 100, 10_000)), 0
+        while at < len(text):
+            length = chance.randrange(1, longest + 1)
+            answers.read(text[at : at + length])
+            at += length
+        found += differences((answers.begun, begun), (answers.body, 0))
+    return found[:5]
+
+
+def every_cut(program: str) -> List[str]:
+    """The same of two pieces, cut at each byte."""
+    del program
+    text, found = b"upload 1\nbytes 20\nupload 2\nupload 3\n12held 5 all\nbytes 0\nupload 4\nobject 3 616263\nbytes 9\nupload 5\nupload 6\nok\n", []
+    for at in range(len(text) + 1):
+        answers = Answers()
+        answers.read(text[:at])
+        answers.read(text[at:])
+        found += differences((answers.begun, {1, 4, 6}), (answers.body, 0))
+    return found[:5]
+
+
+def turns(program: str) -> List[str]:
+    """Turns are given back to the first that waits, are not given after a time, and not at all once they are closed."""
+    del program
+    given = Turns(2)
+    found = differences((given.take(0), True), (given.take(0), True), (given.take(0), False), (given.take(0.01), False))
+    given.give_back()
+    found += differences((given.take(0), True), (given.take(0), False))
+    given.give_back()
+    given.give_back()
+    found += differences((given.take(0), True), (given.take(0), True), (given.take(0), False))
+    given.give_back()
+    given.close()
+    return found + differences((given.take(0), False))
+
+
+SCANNING = (("pieces of answers", pieces_of_answers), ("answers cut at every byte", every_cut), ("turns", turns))

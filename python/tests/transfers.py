@@ -1,0 +1,269 @@
+"""Uploads of any content, and objects as files."""
+import asyncio
+import io
+import mmap
+import os
+import random
+import tempfile
+import threading
+import time
+
+from shared import ABC, EMPTY, FOUR, PROGRAM, differences, raised, refusal, script_of
+from b3store import MAX_UPLOAD_LEN, PART_LEN, AsyncStore, Ended, Filed, Held, ObjectRow, Refused, Store, Totals, Usage
+
+LIMIT = 1 << 30
+LENGTHS = (0, 1, 1024, PART_LEN, PART_LEN + 1, 3 * PART_LEN + 1024, 4 * PART_LEN, 4 * PART_LEN + 7, 9 * PART_LEN + 3)
+
+
+def content_of(length):
+    return random.Random(length).getrandbits(8 * length + 8).to_bytes(length + 1, "little")[:length]
+
+
+class Reader:
+    """A file that can only read, and reads little at a time."""
+
+    def __init__(self, content, step=70001):
+        self.content, self.at, self.step = content, 0, step
+
+    def read(self, count):
+        piece = self.content[self.at : self.at + min(count, self.step)]
+        self.at += len(piece)
+        return piece
+
+
+def read_end_of_pipe(content):
+    """The end of a pipe, into which a thread writes content."""
+    reading, writing = os.pipe()
+
+    def write():
+        with os.fdopen(writing, "wb") as file:
+            file.write(content)
+
+    threading.Thread(target=write, daemon=True).start()
+    return os.fdopen(reading, "rb", buffering=0)
+
+
+def sources_of(content, place):
+    """The same content, with a length or without, from all that an upload takes."""
+    path = os.path.join(place, "file")
+    with open(path, "wb") as file:
+        file.write(b"before" + content + b"after")
+    file = open(path, "rb")
+    file.seek(6)
+    yield from ((bytearray(content), None), (memoryview(content), len(content)), (io.BytesIO(content), None), (Reader(content), None))
+    yield from ((Reader(content + b"more"), len(content)), (file, len(content)), (read_end_of_pipe(content), None))
+    yield read_end_of_pipe(content), len(content)
+    if content:
+        with open(path, "wb") as whole:
+            whole.write(content)
+        with open(path, "r+b") as whole:
+            yield whole, None
+            yield mmap.mmap(whole.fileno(), 0), None
+
+
+def uploads_of_all_sources():
+    found = []
+    with tempfile.TemporaryDirectory() as place, Store(PROGRAM, sessions=2) as store:
+        tenant = store.tenant(LIMIT)
+        for length in LENGTHS:
+            content = content_of(length)
+            filed = store.upload(content, tenant)
+            found += differences((filed.length, length), (store.fetch(tenant, filed.address) == content, True))
+            for source, given in sources_of(content, place):
+                again = store.upload(source, tenant, given)
+                found += differences(((type(source).__name__, length, again), (type(source).__name__, length, filed._replace(is_new=False))))
+        return found + differences((store.stat().objects, len(LENGTHS)), (store.uploads(tenant), []), (store.usage(tenant).reserved, 0))
+
+
+class Failing(Reader):
+    """A file that can't be read to its end."""
+
+    def read(self, count):
+        if self.at > 5 * PART_LEN:
+            raise OSError("the disk is broken")
+        return super().read(count)
+
+
+class Lying(io.BytesIO):
+    def readinto(self, room):
+        return len(room) + 1
+
+
+def uploads_that_fail():
+    """Each raises what is wrong, and leaves no upload and no reservation."""
+    large = content_of(9 * PART_LEN)
+    reading, writing = os.pipe()
+    os.set_blocking(reading, False)
+    with os.fdopen(reading, "rb", buffering=0) as waiting, os.fdopen(writing, "wb"), Store(PROGRAM, sessions=1) as store:
+        tenant = store.tenant(10 * PART_LEN)
+        cases = (
+            (OSError, Failing(large), None), (ValueError, io.BytesIO(large[:-1]), len(large)), (ValueError, Reader(large[:-1]), len(large)),
+            (ValueError, io.BytesIO(b"abc"), 4), (ValueError, b"abc", 4), (ValueError, large, 4), (TypeError, io.StringIO("abc"), None), (TypeError, "abc", None),
+            (TypeError, None, None), (ValueError, Lying(b"abc"), None), (BlockingIOError, waiting, None), (ValueError, b"abc", -1), (TypeError, b"abc", "3"),
+            (ValueError, b"abc", MAX_UPLOAD_LEN + 1), (Refused, bytes(10 * PART_LEN + 1), None), (Refused, Reader(large + large), None),
+            (Refused, io.BytesIO(large + large), None), (Refused, Reader(large), 10 * PART_LEN + 1),
+        )
+        found = []
+        for wanted, source, length in cases:
+            found += differences((raised(store.upload, source, tenant, length), wanted), (store.uploads(tenant), []), (store.usage(tenant).reserved, 0))
+        for source in b"abc", large, io.BytesIO(large), Reader(b"abc"):
+            found += differences((raised(lambda: store.upload(source, tenant, address=FOUR)), Refused), (raised(lambda: store.upload(source, tenant, address="4")), ValueError))
+        for wanted, max_len in ("F4", 1024), ("S6", 20 * PART_LEN), ("F4", PART_LEN):
+            found += differences((refusal(lambda: store.upload(io.BytesIO(large), tenant, max_len=max_len))[0], wanted))
+        found += differences((refusal(lambda: store.upload(Reader(b"abc"), tenant, max_len=2)), ("F4", None)))
+        found += differences((refusal(store.upload, b"abc", 7), ("S1", None)), (store.uploads(tenant), []), (store.usage(tenant).reserved, 0), (store.alive, True))
+        return found + differences((store.upload(io.BytesIO(large), tenant).length, len(large)), (store.upload(b"abc", tenant, address=ABC).address, ABC))
+
+
+def uploads_with_blocks():
+    """An upload that is left by an exception is aborted, and sealed otherwise."""
+    with Store(PROGRAM, sessions=1) as store:
+        tenant, found = store.tenant(LIMIT), []
+        try:
+            with store.start_upload(tenant, 3) as upload:
+                upload.write(b"a")
+                raise KeyError
+        except KeyError:
+            found += differences((store.uploads(tenant), []), (upload.is_open, False), (upload.filed, None))
+        content = content_of(5 * PART_LEN + 5)
+        for step in 1000, 700001, PART_LEN, 10 * PART_LEN:
+            filed = written(store, tenant, content, step)
+            found += differences((filed.length, len(content)), (store.has(tenant, filed.address), len(content)), (store.fetch(tenant, filed.address) == content, True))
+        with store.start_upload(tenant, max_len=4096) as upload:
+            found += differences((upload.put(1024, bytes(1024)), Held(1024, 0)), (upload.put(0, bytes(1024)), Held(2048, 2048)), (upload.fix(2048), None))
+            found += differences((upload.seal().length, 2048), (store.uploads(tenant), []))
+        with store.start_upload(tenant) as upload:
+            pass
+        found += differences((upload.filed.address, EMPTY))
+        with store.start_upload(tenant, 3) as upload:
+            upload.abort()
+        found += differences((upload.filed, None), (store.uploads(tenant), []))
+        found += differences((refusal(lambda: seal_wrongly(store, tenant)), ("S11", ABC)), (refusal(lambda: leave_early(store, tenant)), ("S10", 0)))
+        found += differences((raised(store.start_upload, tenant, 5, 5), ValueError), (raised(upload.write, "abc"), TypeError))
+        return found + differences((store.uploads(tenant), []), (store.usage(tenant).reserved, 0), (len(store.list(tenant)), 3))
+
+
+def written(store, tenant, content, step):
+    with store.start_upload(tenant) as upload:
+        for at in range(0, len(content), step):
+            upload.write(content[at : at + step])
+    return upload.filed
+
+
+def seal_wrongly(store, tenant):
+    with store.start_upload(tenant) as upload:
+        upload.write(b"abc")
+        upload.seal(FOUR)
+
+
+def leave_early(store, tenant):
+    with store.start_upload(tenant, 3):
+        pass
+
+
+def slow_files():
+    """A file that waits keeps no session from others."""
+    reading, writing = os.pipe()
+    with os.fdopen(reading, "rb", buffering=0) as source, Store(PROGRAM, sessions=1) as store:
+        tenant, results = store.tenant(LIMIT), []
+        thread = threading.Thread(target=lambda: results.append(store.upload(source, tenant)), daemon=True)
+        thread.start()
+        start, content = time.monotonic(), content_of(6 * PART_LEN)
+        with os.fdopen(writing, "wb", buffering=0) as file:
+            file.write(content[: 5 * PART_LEN])
+            for _ in range(10):
+                store.stat()
+            took = time.monotonic() - start
+            file.write(content[5 * PART_LEN :])
+        thread.join(60)
+        return differences((len(results), 1), (results and results[0].length, len(content)), (took < 10, True))
+
+
+def objects_as_files():
+    with Store(PROGRAM, sessions=1) as store:
+        tenant, content = store.tenant(LIMIT), content_of(3 * PART_LEN + 5)
+        address, found = store.upload(content, tenant).address, []
+        for buffering in 1 << 18, 100, 0:
+            with store.open(tenant, address, buffering) as file:
+                found += differences((file.readable(), True), (file.seekable(), True), (file.writable(), False), (file.tell(), 0))
+                found += differences((file.read(10), content[:10]), (file.tell(), 10), (file.seek(-5, io.SEEK_END), len(content) - 5), (file.read(), content[-5:]))
+                found += differences((file.read(1), b""), (file.seek(1 << 50), 1 << 50), (file.read(), b""), (file.seek(7), 7), (file.seek(3, io.SEEK_CUR), 10))
+                found += differences((file.read() == content[10:], True), (raised(file.seek, -1), ValueError), (raised(file.seek, 0, 9), ValueError), (raised(file.write, b"a"), io.UnsupportedOperation))
+                found += differences((file.seek(0), 0), (b"".join(iter(lambda: file.read(100000), b"")) == content, True))
+            found += differences((raised(file.read), ValueError), (raised(file.read, 1), ValueError))
+        lines = store.upload(b"first\nsecond\n", tenant).address
+        found += differences((list(store.open(tenant, lines)), [b"first\n", b"second\n"]), (io.TextIOWrapper(store.open(tenant, lines)).read(), "first\nsecond\n"))
+        found += differences((store.open(tenant, lines, 0).size, 13), (refusal(store.open, tenant, FOUR), ("S12", None)), (raised(store.open, tenant, "4"), ValueError))
+        with store.open(tenant, lines, 0) as file:
+            store.forget(tenant, lines)
+            return found + differences((refusal(file.read, 1), ("S12", None)), (store.alive, True))
+
+
+def reads_into_buffers():
+    with Store(PROGRAM, sessions=1) as store:
+        tenant = store.tenant(LIMIT)
+        address, room = store.upload(b"abcdef", tenant).address, bytearray(b"......")
+        found = differences((store.fetch_into(tenant, address, room, 2), 4), (room, b"cdef.."), (store.fetch_into(tenant, address, memoryview(room)[4:], 6), 0))
+        found += differences((store.fetch_into(tenant, address, memoryview(room)[5:]), 1), (room, b"cdef.a"), (store.fetch_into(tenant, address, b""[:0] or bytearray()), 0))
+        return found + differences(*((raised(store.fetch_into, tenant, address, wrong), TypeError) for wrong in (b"abc", "abc", None, 5)), (store.alive, True))
+
+
+def iterates():
+    """Over the journal in pages, and over objects."""
+    with Store(PROGRAM, sessions=1) as store:
+        tenant = store.tenant(LIMIT)
+        addresses = [store.upload(b"%d" % number, tenant).address for number in range(25)]
+        rows, entries = list(store.objects(tenant)), store.entries()
+        found = differences((rows, [ObjectRow(address, 1 if at < 10 else 2) for at, address in enumerate(addresses)]), (dict(rows), store.list(tenant)))
+        for page_len in 1, 7, 76, 1000:
+            found += differences((list(store.journal(page_len=page_len)), entries), (list(store.journal(70, page_len)), entries[70:]))
+        found += differences((list(store.journal(1000)), []), *((raised(store.journal, 0, wrong), ValueError) for wrong in (0, -1)))
+        half = store.journal(page_len=2)
+        found += differences((next(half), entries[0]), (store.stat().objects, 25), (next(half), entries[1]))
+        return found + differences((refusal(store.objects, 5), ("S1", None)), (raised(store.objects, "0"), TypeError), (raised(store.journal, "0"), TypeError))
+
+
+def answers_that_are_too_long():
+    """More bytes than were asked for, or fewer than were promised, are no answer."""
+    found = []
+    calls = (lambda store: store.fetch(0, ABC, 0, 5), lambda store: store.fetch_into(0, ABC, bytearray(5)))
+    for text in "bytes 6\\nabcdef", "bytes -1\\nabc", "bytes 99999999999999999999999\\nabc", "bytes\\n", "bytes 5\\nabc":
+        for call in calls:
+            with tempfile.TemporaryDirectory() as place, Store(script_of(place, f"read -r line; printf '{text}'"), sessions=1) as store:
+                found += differences((raised(call, store), Ended), (raised(store.stat), Ended), (store.alive, False))
+    return found
+
+
+def by_asyncio():
+    async def work(store):
+        tenant = await store.tenant(LIMIT)
+        contents = [content_of(length) for length in LENGTHS]
+        rows = await asyncio.gather(*(store.upload(content, tenant) for content in contents))
+        fetched = await asyncio.gather(*(store.fetch(tenant, row.address) for row in rows))
+        pieces = [piece async for piece in store.ranges(tenant, rows[-1].address, 1 << 20)]
+        upload = await store.begin_open(tenant, 4096)
+        held = await store.put(upload, 0, b"abc")
+        found = differences((fetched == contents, True), (b"".join(pieces) == contents[-1], True), (held, Held(3, None)), (await store.seal(upload, ABC), Filed(True, ABC, 3)))
+        found += differences((await store.has(tenant, FOUR), None), ((await store.usage(tenant)).reserved, 0), (len(await store.list(tenant)), len(LENGTHS) + 1))
+        found += differences(((await store.stat()).uploads, 0), (await store.forget(tenant, ABC), None), (await store.entries(0, 1), [f"tenant 0 {LIMIT}"]))
+        try:
+            await store.begin(tenant, LIMIT + 1)
+        except Refused as refused:
+            return found + differences((refused.number, "S6"), (await store.tenants(), {0: await store.usage(0)}))
+        return [*found, "nothing is refused"]
+
+    async def run():
+        async with AsyncStore(Store(PROGRAM, sessions=4)) as store:
+            found = await work(store)
+        return found + differences((store.store.alive, False))
+
+    return asyncio.run(run())
+
+
+def scales():
+    """A thread's uploads do not wait for another thread's: with two sessions, one that is stuck does not stop the other."""
+    with Store(PROGRAM, sessions=2) as store:
+        tenant = store.tenant(LIMIT)
+        with store._turn():
+            found = differences((store.upload(b"abc", tenant).address, ABC), (store.stat(), Totals(1, 3, 0, 0, 0)), (store.usage(tenant), Usage(3, 0, LIMIT)))
+        return found

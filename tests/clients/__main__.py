@@ -1,0 +1,61 @@
+"""python3 tests/clients [PROGRAM] (default target/b3store): runs the tests of the Python package (python/tests), and of the programs that use it:
+examples/backup.py, examples/cache_server.py, and, if nginx and ccache are installed, examples/cluster.py and bench/ccache. The last line is
+`N passed, M failed`.
+"""
+import os
+import shutil
+import sys
+
+sys.dont_write_bytecode = True
+TOP = os.path.dirname(os.path.dirname(os.path.dirname(os.path.abspath(__file__))))
+sys.path[1:1] = [os.path.join(TOP, "python", "tests"), os.path.join(TOP, "tests", "common")]
+import backups
+import cache_disk
+import caches
+import cases as package
+from judging import judged
+from python_needed import end_where_older
+
+CASES = (
+    ("a backup", backups.backs_up),
+    ("a backup whose object was changed", backups.finds_changed_objects),
+    ("odd files in a repository", backups.odd_files_in_a_repository),
+    ("a backup that leads elsewhere", backups.restores_nothing_elsewhere),
+    ("owners and hard links", backups.keeps_owners_and_links),
+    ("saves that are killed", backups.saves_that_are_killed),
+    ("a cache's keys", caches.caches_keys),
+    ("a cache's ranges", caches.gives_ranges),
+    ("a cache's contents that a client has", caches.gives_what_is_new),
+    ("a cache's contents that go while they are read", caches.gives_what_is_gone),
+    ("a cache that evicts keys", caches.evicts_what_was_used_least_recently),
+    ("a cache, and bodies that grow", caches.reserves_as_a_body_grows),
+    ("a cache, and what is too long", caches.refuses_what_is_too_long),
+    ("a cache, and connections that end", caches.aborts_what_is_cut),
+    ("a cache that begins again", cache_disk.begins_again),
+    ("a cache that is killed", cache_disk.loses_a_second),
+    ("a cache whose files end early", cache_disk.reads_to_the_last_whole_record),
+    ("a cache that gives disk back", cache_disk.gives_disk_back),
+    ("a cache that stops", cache_disk.stops_at_once),
+    ("a cache with an older folder", cache_disk.begins_from_an_older_folder),
+    ("a cache that can't write", cache_disk.ends_where_nothing_can_be_written),
+    ("a cache that begins with other users", cache_disk.keeps_what_it_cannot_begin_with),
+    ("two caches on one folder", caches.keeps_others_out),
+    ("a cache's keys of any bytes", caches.keys_of_any_bytes),
+    ("a cache whose store ends", caches.ends_with_its_store),
+)
+NEED_MORE = (("nginx", caches.parts_the_keys), ("ccache", caches.compiles_twice))
+
+
+def cases():
+    yield from package.cases()
+    yield from CASES
+    for name, case in NEED_MORE:
+        if shutil.which(name) is None:
+            print(f"skipped: there is no {name}")
+        else:
+            yield name, case
+
+
+if __name__ == "__main__":
+    end_where_older()
+    sys.exit(judged(cases()))

@@ -1,0 +1,205 @@
+"""Backups by examples/backup.py."""
+import fcntl
+import os
+import shutil
+import stat
+import subprocess
+import sys
+import tempfile
+import time
+
+from shared import ABC, EMPTY, PROGRAM, SECONDS, TOP, differences
+from b3store import Store
+from backup import Repository
+
+
+def backup(*words):
+    words = [sys.executable, os.path.join(TOP, "examples", "backup.py"), "--program", PROGRAM, *words]
+    run = subprocess.run(words, capture_output=True, timeout=SECONDS)
+    return run.returncode, run.stdout.decode().splitlines()
+
+
+def folder_to_keep(place):
+    """A folder of odd things, and the path of its large file."""
+    folder = os.path.join(place, "folder")
+    os.makedirs(os.path.join(folder, "sub", "empty"))
+    large = os.path.join(folder, "large")
+    with open(large, "wb") as file:
+        file.write(os.urandom(2000000))
+    for name, content in {"sub/odd\n name": b"x", "none": b""}.items():
+        with open(os.path.join(folder, name), "wb") as file:
+            file.write(content)
+    shutil.copy(large, os.path.join(folder, "again"))
+    os.symlink("large", os.path.join(folder, "link"))
+    os.chmod(os.path.join(folder, "none"), 0o640)
+    os.utime(os.path.join(folder, "none"), ns=(5, 1234567890))
+    return folder, large
+
+
+def state_of(folder):
+    """Names below a folder, with what a backup keeps of them."""
+    found = {}
+    for place, folders, names in os.walk(folder):
+        for name in folders + names:
+            path = os.path.join(place, name)
+            status = os.lstat(path)
+            inside = os.readlink(path) if stat.S_ISLNK(status.st_mode) else None
+            if stat.S_ISREG(status.st_mode):
+                with open(path, "rb") as file:
+                    inside = file.read()
+            time_told = None if stat.S_ISLNK(status.st_mode) else status.st_mtime_ns
+            found[os.path.relpath(path, folder)] = (status.st_mode, time_told, inside)
+    return found
+
+
+def new_bytes(lines):
+    return int(next(line for line in lines if line.startswith("new objects ")).split()[4])
+
+
+def backs_up():
+    """It is restored as it was; a second backup, and one of a file with six bytes more in front, add little."""
+    with tempfile.TemporaryDirectory() as place:
+        folder, large = folder_to_keep(place)
+        repository = os.path.join(place, "repository")
+        status, lines = backup("save", folder, repository)
+        again, told = backup("save", "--all", folder, repository)
+        found = differences((status, 0), (again, 0), (new_bytes(told), 0), (told[-1], lines[-1]), (lines[0], "files 4 folders 2 links 1"))
+        restored = os.path.join(place, "restored")
+        status, said = backup("restore", repository, lines[-1].split()[1], restored)
+        found += differences((status, 0), (said, [])) + ([] if state_of(restored) == state_of(folder) else ["it is restored as something else"])
+        with open(large, "rb") as file:
+            content = file.read()
+        with open(large, "wb") as file:
+            file.write(b"abcdef" + content)
+        os.mkfifo(os.path.join(folder, "pipe"))
+        status, lines = backup("--memory", str(1 << 23), "save", folder, repository)
+        found += differences((status, 1), (lines[0], "left out: pipe is no file, folder or link"))
+        return found if 0 < new_bytes(lines) < 300000 else [*found, f"{new_bytes(lines)} bytes are new"]
+
+
+def folder_of_abc(place):
+    """The paths of a new folder with one file, and of a repository that isn't there yet."""
+    folder, repository = os.path.join(place, "folder"), os.path.join(place, "repository")
+    os.mkdir(folder)
+    with open(os.path.join(folder, "file"), "wb") as file:
+        file.write(b"abc")
+    return folder, repository
+
+
+def finds_changed_objects():
+    with tempfile.TemporaryDirectory() as place:
+        folder, repository = folder_of_abc(place)
+        address = backup("save", folder, repository)[1][-1].split()[1]
+        right = (0, ["objects 3 wrong 0", "backups 1 broken 0"])
+        lost = [f"backup {address} can't restore file"]
+        found = differences((backup("check", repository), right))
+        kept = os.path.join(repository, "objects", ABC[:2], ABC)
+        for content in b"abd", b"ab":
+            with open(kept, "wb") as file:
+                file.write(content)
+            status, lines = backup("check", repository)
+            found += differences((status, 1), (lines[1:], [*lost, "objects 3 wrong 1", "backups 1 broken 1"]))
+            status, lines = backup("restore", repository, address, os.path.join(place, "restored"))
+            found += differences((status, 1), (len(lines), 1))
+        found += differences((backup("save", "--all", folder, repository)[1][1].split()[:3], ["new", "objects", "1"]), (backup("check", repository), right))
+        os.remove(kept)
+        return found + differences((backup("check", repository), (1, [*lost, "objects 2 wrong 0", "backups 1 broken 1"])), (backup("frob")[0], 2))
+
+
+def odd_files_in_a_repository():
+    """What a killed run left, and what else is no object, is told and does no harm; what names no backup ends with a message."""
+    with tempfile.TemporaryDirectory() as place:
+        folder, repository = folder_of_abc(place)
+        backup("save", folder, repository)
+        left = os.path.join(repository, "objects", ABC[:2], ABC + ".new")
+        os.makedirs(os.path.dirname(left), exist_ok=True)
+        for path in left, os.path.join(repository, "objects", "stray"):
+            with open(path, "wb"):
+                pass
+        status, lines = backup("check", repository)
+        found = differences((status, 0), (sorted(lines)[1:], [f"no object: objects/{ABC[:2]}/{ABC}.new", "no object: objects/stray", "objects 3 wrong 0"]))
+        found += differences((backup("save", folder, repository)[0], 0), (os.path.exists(left), False))
+        for words in ["restore", repository, ABC, place], ["restore", repository, EMPTY, place], ["check", place + "/gone"], ["save", place + "/gone", repository]:
+            found += differences((backup(*words)[0], 1))
+        found += differences((backup("restore", repository, "frob", folder)[0], 2))
+        holding = os.open(repository, os.O_RDONLY)
+        fcntl.flock(holding, fcntl.LOCK_EX)
+        found += differences((backup("save", folder, repository)[0], 1), (backup("check", repository)[0], 1))
+        os.close(holding)
+        with open(os.path.join(repository, "backups"), "a", encoding="ascii") as file:
+            file.write("frob\n")
+        return found + differences((backup("check", repository)[0], 1), (backup("save", folder, repository)[0], 1))
+
+
+def made_backup(place, *lines):
+    """A repository with a backup of these lines, in which `abc` is the address of an object, and its address."""
+    repository = os.path.join(place, "repository")
+    os.makedirs(os.path.join(repository, "objects"))
+    with Store(PROGRAM, sessions=1) as store:
+        kept = Repository(repository, store, 1 << 23)
+        address = kept.keep(b"abc")
+        return repository, kept.keep_backup(place, [line.replace("abc", address) for line in lines])
+
+
+def restores_nothing_elsewhere():
+    """No line leads out of the folder, through a link or over what is there; and without an owner there is no setuid bit."""
+    with tempfile.TemporaryDirectory() as place:
+        outside, inside = os.path.join(place, "outside"), os.path.join(place, "inside")
+        os.mkdir(outside)
+        lines = ["file f 4755 0 3 abc", f"link d 777 0 {outside}", "file d/x 644 0 3 abc", "file ../x 644 0 3 abc", f"file {outside}/y 644 0 3 abc"]
+        repository, address = made_backup(place, *lines, "file f 644 0 3 abc", "folder d 755 0")
+        status, said = backup("restore", repository, address, inside)
+        found = differences((status, 1), (len(said), 6), (os.listdir(outside), []), (sorted(os.listdir(inside)), ["d", "f"]))
+        mode = stat.S_IMODE(os.stat(os.path.join(inside, "f")).st_mode)
+        return found + differences((said[-1], "owners not restored: 2, which have no setuid and setgid bits"), (mode, 0o755))
+
+
+def keeps_owners_and_links():
+    """Hard links are links again, and who may give files away gets owners, and setuid bits with them."""
+    with tempfile.TemporaryDirectory() as place:
+        folder, repository, restored = (os.path.join(place, name) for name in ("folder", "repository", "restored"))
+        os.mkdir(folder)
+        first, second, link = (os.path.join(folder, name) for name in ("a", "b", "link"))
+        with open(first, "wb") as file:
+            file.write(b"abc")
+        os.link(first, second)
+        os.symlink("a", link)
+        os.utime(link, ns=(5, 1234567890), follow_symlinks=False)
+        if os.geteuid() == 0:
+            os.chown(first, 1234, 4321)
+            os.chown(link, 1234, 4321, follow_symlinks=False)
+        os.chmod(first, 0o4755)
+        status, lines = backup("save", folder, repository)
+        found = differences((status, 0), (lines[0], "files 2 folders 0 links 1"))
+        found += differences((backup("restore", repository, lines[-1].split()[1], restored), (0, [])))
+        for name in os.listdir(folder):
+            was, now = (os.lstat(os.path.join(at, name)) for at in (folder, restored))
+            found += differences(((now.st_mode, now.st_uid, now.st_gid, now.st_mtime_ns, now.st_nlink), (was.st_mode, was.st_uid, was.st_gid, was.st_mtime_ns, was.st_nlink)))
+        return found + differences((os.path.samefile(os.path.join(restored, "a"), os.path.join(restored, "b")), True))
+
+
+KILLS = 12
+
+
+def saves_that_are_killed():
+    """Whenever a save is killed, each backup that is noted can be restored, and the next save does what it would have done."""
+    with tempfile.TemporaryDirectory() as place:
+        folder, repository = os.path.join(place, "folder"), os.path.join(place, "repository")
+        os.mkdir(folder)
+        words = [sys.executable, os.path.join(TOP, "examples", "backup.py"), "--program", PROGRAM, "save", folder, repository]
+        found, broken_off = [], 0
+        for number in range(KILLS):
+            for name in range(40):
+                with open(os.path.join(folder, f"{number}.{name}"), "wb") as file:
+                    file.write(os.urandom(50000))
+            run = subprocess.Popen(words, stdout=subprocess.DEVNULL)
+            time.sleep(0.05 + 0.04 * number)
+            run.kill()
+            broken_off += run.wait() != 0
+            if os.path.isdir(os.path.join(repository, "objects")):
+                status, lines = backup("check", repository)
+                found += differences((status, 0), (lines[-2].endswith(" wrong 0"), True), (lines[-1].endswith(" broken 0"), True))
+        status, lines = backup("save", folder, repository)
+        restored = os.path.join(place, "restored")
+        found += differences((status, 0), (backup("restore", repository, lines[-1].split()[1], restored), (0, [])), (state_of(restored) == state_of(folder), True))
+        return found + ([] if broken_off else ["no save was killed"])

@@ -1,0 +1,202 @@
+"""What caches have on disk."""
+import os
+import subprocess
+import sys
+import tempfile
+import time
+
+from shared import ABC, EMPTY, FOUR, PROGRAM, SECONDS, TOP, differences
+from servers import USERS, Cache, ask
+
+
+def begins_again():
+    """It has what it saved; and it tells an object that was changed, and a user who is gone."""
+    with tempfile.TemporaryDirectory() as place:
+        folder = os.path.join(place, "cache")
+        with Cache(folder, USERS) as cache:
+            for key, content, token in ("/a%20b", b"abc", "token-a"), ("/again", b"abc", "token-a"), ("/b", b"abc", "token-b"), ("/four", b"four", "token-a"):
+                cache.ask("PUT", key, content, token)
+            told = cache.stop()
+        found = differences((told, ("cache_server: saved 4 keys, 2 objects\n", "")), (sorted(places_of(folder)), [FOUR, ABC]))
+        with Cache(folder, USERS) as cache:
+            found += differences((cache.begun.split(", ", 1)[1], "has 4 keys, 2 objects\n"), (cache.ask("GET", "/b", token="token-b"), (200, b"abc")))
+            cache.ask("DELETE", "/four", token="token-a")
+            found += differences((cache.stop(), ("cache_server: saved 3 keys, 1 objects\n", "")))
+        segment, offset, _ = places_of(folder)[ABC]
+        with open(os.path.join(folder, segment), "r+b") as file:
+            file.seek(offset)
+            file.write(b"abd")
+        with Cache(folder, "bob token-b 2000\n") as cache:
+            out, err = cache.stop()
+        with open(os.path.join(folder, "aside", ABC), "rb") as file:
+            found += differences((file.read(), b"abd"))
+        return found + differences((cache.begun.split(", ", 1)[1], "has 0 keys, 0 objects\n"), ("2 keys are left out: its user is gone" in err, True), ("1 keys are left out: S11" in err, True))
+
+
+def texts_of_log(folder):
+    """The lines of a cache's log, without what is in front of each."""
+    with open(os.path.join(folder, "log"), encoding="latin-1", newline="\n") as log:
+        return [line.rstrip("\n").partition(" ")[2] for line in log]
+
+
+def places_of(folder):
+    """Where a cache's log says that objects are: the segment, the offset and the length."""
+    rows = [text.split(" ") for text in texts_of_log(folder) if text.startswith("object ")]
+    return {address: (segment, int(offset), int(length)) for _, address, segment, offset, length in rows}
+
+
+def bytes_below(folder):
+    with os.scandir(folder) as entries:
+        return sum(entry.stat().st_size for entry in entries if entry.is_file())
+
+
+def change_until(cache, number, values, end):
+    """Changes some keys until a time, and notes what each has had, and when that was answered."""
+    while time.monotonic() < end:
+        number += 1
+        key, content = f"/{number % 37}", None if number % 5 == 0 else b"%d" % number * (1 + number % 3000)
+        cache.ask("DELETE" if content is None else "PUT", key, content)
+        values.setdefault(key, []).append((time.monotonic(), content))
+    return number
+
+
+def lost_keys(cache, values, killed):
+    """The keys that have what they may not have after a kill; what each has is what it had."""
+    found = []
+    for key, rows in values.items():
+        old = [at for at, (when, _) in enumerate(rows) if when < killed - 1]
+        may_be = [content for _, content in rows[old[-1] if old else 0 :]] + [None] * (len(old) < len(rows))
+        status, content = cache.ask("GET", key)
+        content = content if status == 200 else None
+        found += [] if content in may_be else [f"{key} has {content and content[:20]!r}"]
+        rows[:] = [(0, content)]
+    return found
+
+
+def loses_a_second():
+    """Killed at any moment, it begins with all that was answered a second before; a key that has changed since has what it had in that second, or none."""
+    with tempfile.TemporaryDirectory() as place:
+        folder, found, values, number = os.path.join(place, "cache"), [], {}, 0
+        for life in range(4):
+            with Cache(folder) as cache:
+                number = change_until(cache, number, values, time.monotonic() + 1.3 + 0.2 * life)
+                cache.process.kill()
+                killed = time.monotonic()
+                cache.process.wait(SECONDS)
+            with Cache(folder) as cache:
+                found += lost_keys(cache, values, killed)
+                _, err = cache.stop()
+                found += [err] if "left out" in err else []
+        return found[:5] if number > 200 else [*found, f"there are {number} changes"]
+
+
+def reads_to_the_last_whole_record():
+    """A log that ends within a line, or with what is none, and a segment that ends within an object."""
+    with tempfile.TemporaryDirectory() as place:
+        folder, found = os.path.join(place, "cache"), []
+        with Cache(folder) as cache:
+            for name in "abc":
+                cache.ask("PUT", f"/{name}", name.encode() * 5000)
+        whole = len(texts_of_log(folder))
+        for garbage in b"12345678 key all", b"00000000 drop all /a\n", b"\0" * 600, b"0" * 8 + b" \n" + b"drop all /b\n":
+            with open(os.path.join(folder, "log"), "ab") as log:
+                log.write(garbage)
+            with Cache(folder) as cache:
+                found += differences((cache.begun.split(", ", 1)[1], "has 3 keys, 3 objects\n"), (cache.ask("GET", "/c") == (200, b"c" * 5000), True))
+                told = f"cache_server: the last {len(garbage)} bytes of the log are no whole lines, and are dropped\n"
+                found += differences((cache.stop()[1], told), (len(texts_of_log(folder)), whole))
+        segment, offset, length = sorted(places_of(folder).values(), key=lambda row: row[1])[-1]
+        os.truncate(os.path.join(folder, segment), offset + length - 1)
+        with Cache(folder) as cache:
+            found += differences((cache.begun.split(", ", 1)[1], "has 2 keys, 2 objects\n"), (cache.ask("GET", "/c")[0], 404))
+            found += differences((cache.ask("PUT", "/c", b"c" * 5000)[0], 201))
+            found += differences((cache.stop()[1], "cache_server: 1 keys are left out: its object is cut off\n"))
+        with Cache(folder) as cache:
+            return found + differences((cache.begun.split(", ", 1)[1], "has 3 keys, 3 objects\n"), (cache.ask("GET", "/c") == (200, b"c" * 5000), True))
+
+
+MAX_BELOW = 100 << 20
+"""What a folder has at most, of whose contents a third is live."""
+
+
+def gives_disk_back():
+    """Of contents that no key leads to, and of lines that later ones undo, no more stays than of the others, and a little."""
+    with tempfile.TemporaryDirectory() as place:
+        folder, found = os.path.join(place, "cache"), []
+        with Cache(folder) as cache:
+            cache.ask("PUT", "/kept", b"kept" * 5000000)
+            cache.ask("PUT", "/also", b"also" * 1000000)
+            for number in range(250):
+                cache.ask("PUT", f"/{number % 10}", bytes([number]) * (1 << 20))
+            for number in range(2000):
+                cache.ask("PUT", "/small", b"%d" % number)
+            end = time.monotonic() + 20
+            while time.monotonic() < end and bytes_below(folder) > MAX_BELOW:
+                time.sleep(0.1)
+            found += differences((bytes_below(folder) <= MAX_BELOW, True), (len(texts_of_log(folder)) < 1200, True))
+        with Cache(folder) as cache:
+            found += differences((cache.begun.split(", ", 1)[1], "has 13 keys, 13 objects\n"), (cache.ask("GET", "/kept") == (200, b"kept" * 5000000), True))
+            found += differences((cache.ask("GET", "/also") == (200, b"also" * 1000000), True))
+            return found + differences(*((cache.ask("GET", f"/{number % 10}") == (200, bytes([number]) * (1 << 20)), True) for number in range(240, 250)))
+
+
+def stops_at_once():
+    """The best of a few stops, behind many stores."""
+    times, found = [], []
+    for _ in range(3):
+        with tempfile.TemporaryDirectory() as place, Cache(os.path.join(place, "cache")) as cache:
+            for number in range(100):
+                cache.ask("PUT", f"/{number}", bytes([number]) * (1 << 20))
+            start = time.monotonic()
+            found += differences((cache.stop(), ("cache_server: saved 100 keys, 100 objects\n", "")))
+            times.append(time.monotonic() - start)
+    return found if min(times) < 1 else [*found, f"they take {times} s"]
+
+
+def begins_from_an_older_folder():
+    """One with a file for each object, and one of the keys."""
+    with tempfile.TemporaryDirectory() as place:
+        folder = os.path.join(place, "cache")
+        os.makedirs(os.path.join(folder, "objects"))
+        for name, content in (ABC, b"abc"), (FOUR, b"four"), (EMPTY, b""):
+            with open(os.path.join(folder, "objects", name), "wb") as file:
+                file.write(content)
+        with open(os.path.join(folder, "keys"), "w", encoding="ascii") as file:
+            file.write(f"all {ABC} /a b\nall {FOUR} /four\nall {EMPTY} /none\nall {'0' * 64} /gone\ncarl {ABC} /c\n")
+        found = []
+        for _ in range(2):
+            with Cache(folder) as cache:
+                found += differences((cache.begun.split(", ", 1)[1], "has 3 keys, 3 objects\n"), (cache.ask("GET", "/four"), (200, b"four")))
+                found += differences((cache.ask("GET", "/none"), (200, b"")), ("1 keys are left out: its user is gone" in cache.stop()[1], True))
+        return found
+
+
+def ends_where_nothing_can_be_written():
+    with tempfile.TemporaryDirectory() as place:
+        words = [sys.executable, os.path.join(TOP, "examples", "cache_server.py"), os.path.join(place, "cache"), "--port", "0", "--program", PROGRAM]
+        words = ["bash", "-c", 'ulimit -f 1000; exec "$@"', "bash", *words]
+        with subprocess.Popen(words, stdout=subprocess.PIPE, stderr=subprocess.PIPE) as server:
+            port = int(server.stdout.readline().decode().split("port ")[1].split(",")[0])
+            ask(port, "PUT", "/k", bytes(3000000))
+            try:
+                _, err = server.communicate(timeout=SECONDS)
+            finally:
+                server.kill()
+        return differences((server.returncode, 1), (err.decode(), f"cache_server: {place}/cache can't be written: [Errno 27] File too large\n"))
+
+
+def keeps_what_it_cannot_begin_with():
+    """A start with other users, or with limits that are too low, loses nothing that a later one could have."""
+    with tempfile.TemporaryDirectory() as place:
+        folder = os.path.join(place, "cache")
+        with Cache(folder, USERS) as cache:
+            for key, content, token in ("/a", b"abc", "token-a"), ("/b", b"abc", "token-b"), ("/four", b"four", "token-a"):
+                cache.ask("PUT", key, content, token)
+        found = []
+        for users in "carl token-c 5000\n", "ann token-a 2\nbob token-b 2\n", "ann token-a 4\ncarl token-c 4\n":
+            with Cache(folder, users) as cache:
+                found += differences(("has 3 keys" in cache.begun, False), (cache.ask("PUT", "/new", b"no", "token-c")[0], 201 if "carl" in users else 401))
+        with Cache(folder, USERS) as cache:
+            found += differences((cache.begun.split(", ", 1)[1], "has 3 keys, 2 objects\n"), (cache.ask("GET", "/a", token="token-a"), (200, b"abc")))
+            found += differences((cache.ask("GET", "/b", token="token-b"), (200, b"abc")), (cache.ask("GET", "/four", token="token-a"), (200, b"four")))
+        return found

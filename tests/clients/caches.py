@@ -1,0 +1,248 @@
+"""Caches by examples/cache_server.py, and what stands on them."""
+import http.client
+import os
+import signal
+import socket
+import subprocess
+import sys
+import tempfile
+import time
+
+from shared import ABC, FOUR, PROGRAM, SECONDS, TOP, differences
+from servers import USERS, Cache, ask, free_port, raw_answer, wait_for
+
+
+def caches_keys():
+    with tempfile.TemporaryDirectory() as place, Cache(os.path.join(place, "cache"), USERS, ["--no-evict"]) as cache:
+        large = os.urandom(3000000)
+        found = differences(
+            (cache.ask("PUT", "/k", large, "token-a"), (201, b"")), (cache.ask("GET", "/k", token="token-a"), (200, large)),
+            (cache.ask("PUT", "/in-chunks", iter([large[:5], large[5:]]), "token-a", {"Transfer-Encoding": "chunked"}), (201, b"")),
+            (cache.ask("GET", "/in-chunks", token="token-a"), (200, large)), (cache.ask("HEAD", "/k", token="token-a"), (200, b"")),
+            (cache.ask("GET", "/k", token="token-b"), (404, b"")), (cache.ask("GET", "/k"), (401, b"")), (cache.ask("GET", "/k", token="token"), (401, b"")),
+            (cache.ask("PUT", "/k", large, "token-b"), (507, b"")), (cache.ask("PUT", "/k", large[:1500], "token-b"), (201, b"")),
+            (cache.ask("PUT", "/more", large[:501], "token-b"), (507, b"")), (cache.ask("PUT", "/more", large[:500], "token-b"), (201, b"")),
+            (cache.ask("PUT", "/none", b"", "token-b"), (201, b"")), (cache.ask("GET", "/none", token="token-b"), (200, b"")),
+            (cache.ask("PUT", "/no", iter([b"a"]), "token-b", {"Transfer-Encoding": "chunked"}), (507, b"")),
+            (cache.ask("PUT", "/k", large[1:1501], "token-b"), (507, b"")), (cache.ask("DELETE", "/k", token="token-b"), (204, b"")),
+            (cache.ask("DELETE", "/k", token="token-b"), (404, b"")), (cache.ask("PUT", "/k", large[1:1501], "token-b"), (201, b"")),
+            (cache.ask("PUT", "/x", None, "token-a", {"Content-Length": "x"}), (400, b"")), (without_length(cache.port), 411),
+        )
+    return found
+
+
+def told_of(cache, method, headers=(), key="/k"):
+    """The status of an answer, its content, and its headers of ranges and lengths."""
+    connection = http.client.HTTPConnection("127.0.0.1", cache.port, timeout=SECONDS)
+    try:
+        connection.request(method, key, None, dict(headers))
+        answer = connection.getresponse()
+        return answer.status, answer.read(), answer.headers["Content-Range"], answer.headers["Content-Length"]
+    finally:
+        connection.close()
+
+
+def gives_ranges():
+    """One range of a content, and the whole one where the words are none of a range, or of several."""
+    with tempfile.TemporaryDirectory() as place, Cache(os.path.join(place, "cache")) as cache:
+        content = os.urandom(1000000)
+        cache.ask("PUT", "/k", content)
+        cache.ask("PUT", "/none", b"")
+        found = []
+        for words, first, end in ("0-0", 0, 1), ("5-9", 5, 10), ("999990-", 999990, 1000000), ("-7", 999993, 1000000), ("100000-700000", 100000, 700001), ("999999-2000000", 999999, 1000000), ("-2000000", 0, 1000000):
+            wanted = (206, content[first:end], f"bytes {first}-{end - 1}/1000000", str(end - first))
+            found += [f"{words} is given wrongly"] if told_of(cache, "GET", {"Range": f"bytes={words}"}) != wanted else []
+        for words in "bytes=5-4", "bytes=0-1,5-6", "bytes=-", "lines=0-1", "bytes=a-b", "bytes=" + "9" * 5000 + "-", "":
+            found += [f"{words[:20]} is given wrongly"] if told_of(cache, "GET", {"Range": words}) != (200, content, None, "1000000") else []
+        for key, words, length in ("/k", "1000000-", 1000000), ("/k", "-0", 1000000), ("/none", "0-", 0), ("/none", "-5", 0):
+            found += differences((told_of(cache, "GET", {"Range": f"bytes={words}"}, key), (416, b"", f"bytes */{length}", "0")))
+        found += differences((told_of(cache, "HEAD", {"Range": "bytes=0-5"}), (200, b"", None, "1000000")))
+        other = {"Range": "bytes=0-5", "If-Range": f'"{ABC}"'}
+        return found + differences((told_of(cache, "GET", other)[0], 200), (cache.ask("GET", "/k")[1] == content, True))
+
+
+def gives_what_is_new():
+    """A client that has the content is told so."""
+    with tempfile.TemporaryDirectory() as place, Cache(os.path.join(place, "cache")) as cache:
+        cache.ask("PUT", "/k", b"abc")
+        found = []
+        for method, content in ("GET", b"abc"), ("HEAD", b""):
+            for tags in f'"{ABC}"', f'W/"{ABC}"', f'"x", "{ABC}"', "*":
+                found += differences((told_of(cache, method, {"If-None-Match": tags}), (304, b"", None, None)))
+            for tags in f'"{FOUR}"', ABC, '"x"', "":
+                found += differences((told_of(cache, method, {"If-None-Match": tags}), (200, content, None, "3")))
+        return found + differences((told_of(cache, "GET", {"If-None-Match": "*"}, "/no")[0], 404), (cache.ask("GET", "/k"), (200, b"abc")))
+
+
+def begin_to_read(cache, key):
+    """A connection on which an answer comes, of which the headers and a little were read, and what was read."""
+    connection = socket.create_connection(("127.0.0.1", cache.port), timeout=SECONDS)
+    connection.sendall(f"GET {key} HTTP/1.1\r\nConnection: close\r\n\r\n".encode())
+    read = b""
+    while b"\r\n\r\n" not in read:
+        read += connection.recv(1000)
+    return connection, read.partition(b"\r\n\r\n")[2]
+
+
+def gives_what_is_gone():
+    """A content that is being read is given whole, though its key is stored anew, deleted or evicted; then its room is free."""
+    with tempfile.TemporaryDirectory() as place, Cache(os.path.join(place, "cache"), words=["--limit", "70000000"]) as cache:
+        found, large = [], os.urandom(32000000)
+        changes = {"stored": ("PUT", "/k", b"abc"), "deleted": ("DELETE", "/k", None), "evicted": ("PUT", "/l", large[::-1] + bytes(6000000))}
+        for name, change in changes.items():
+            found += differences((cache.ask("PUT", "/k", large)[0], 201))
+            connection, read = begin_to_read(cache, "/k")
+            with connection:
+                found += differences((cache.ask(*change)[0], 204 if change[2] is None else 201))
+                read += b"".join(iter(lambda: connection.recv(1 << 20), b""))
+            found += [f"{name}: {len(read)} bytes come"] if read != large else []
+        for _ in range(100):
+            status = cache.ask("PUT", "/all", bytes(70000000))[0]
+            if status == 201:
+                return found
+            time.sleep(0.1)
+        return [*found, f"the status is {status}"]
+
+
+def evicts_what_was_used_least_recently():
+    """No more than is needed, nothing where that isn't enough, what several keys have when the last of them goes, and the key's own content last. A
+    question for a key is a use of it."""
+    with tempfile.TemporaryDirectory() as place, Cache(os.path.join(place, "cache"), words=["--limit", "3500"]) as cache:
+        def kept():
+            return "".join(name for name in "abcdef" if cache.ask("HEAD", f"/{name}")[0] == 200)
+
+        def put(name, length, fill):
+            return cache.ask("PUT", f"/{name}", bytes([fill]) * length)[0]
+
+        found = differences(*[(put(name, 1000, at), 201) for at, name in enumerate("abc")], (cache.ask("GET", "/a")[0], 200))
+        found += differences((put("d", 1000, 3), 201), (kept(), "acd"), (put("e", 3501, 4), 507), (kept(), "acd"))
+        found += differences((put("e", 1000, 3), 201), (kept(), "cde"), (put("f", 2500, 5), 201), (kept(), "def"))
+        found += differences((put("a", 600, 8), 201), (kept(), "af"), (put("f", 3400, 6), 201), (kept(), "f"))
+        found += differences((put("f", 1000, 7), 201), *[(put(name, 1000, at), 201) for at, name in enumerate("bc")], (put("f", 1400, 8), 201), (kept(), "cf"))
+        found += differences((put("f", 3300, 7), 201), (kept(), "f"), (put("a", 200, 8), 201), (kept(), "af"))
+        in_chunks = cache.ask("PUT", "/b", iter([bytes([9]) * 3400]), None, {"Transfer-Encoding": "chunked"})
+        return found + differences((in_chunks[0], 201), (kept(), "b"), (cache.ask("GET", "/b"), (200, bytes([9]) * 3400)))
+
+
+def reserves_as_a_body_grows():
+    """A body of unknown length doesn't take the quota that others need, and is whole though it outgrew what it had reserved."""
+    with tempfile.TemporaryDirectory() as place, Cache(os.path.join(place, "cache"), words=["--limit", "40000000", "--no-evict"]) as cache:
+        slow = http.client.HTTPConnection("127.0.0.1", cache.port, timeout=SECONDS)
+        slow.putrequest("PUT", "/slow")
+        slow.putheader("Transfer-Encoding", "chunked")
+        slow.endheaders()
+        slow.send(b"3\r\nabc\r\n")
+        time.sleep(0.3)
+        content, chunked = os.urandom(9500000), {"Transfer-Encoding": "chunked"}
+        pieces = [content[at : at + 70000] for at in range(0, len(content), 70000)]
+        found = differences((cache.ask("PUT", "/other", bytes(10000000))[0], 201), (cache.ask("PUT", "/k", iter(pieces), None, chunked)[0], 201))
+        found += differences((cache.ask("GET", "/k")[1] == content, True))
+        slow.send(b"1\r\nd\r\n0\r\n\r\n")
+        found += differences((slow.getresponse().status, 201), (cache.ask("GET", "/slow"), (200, b"abcd")))
+        slow.close()
+        found += differences((cache.ask("PUT", "/too-much", iter([*pieces, *pieces, *pieces]), None, chunked)[0], 507))
+        rest = 40000000 - 10000000 - len(content) - 4
+        found += differences((cache.ask("PUT", "/rest", bytes(rest + 1))[0], 507), (cache.ask("PUT", "/rest", bytes(rest))[0], 201))
+        return found + differences((cache.ask("GET", "/k")[1] == content, True))
+
+
+def without_length(port):
+    """The status of a request to store something whose length isn't told."""
+    connection = http.client.HTTPConnection("127.0.0.1", port, timeout=SECONDS)
+    connection.putrequest("PUT", "/x")
+    connection.putheader("Authorization", "Bearer token-a")
+    connection.endheaders()
+    status = connection.getresponse().status
+    connection.close()
+    return status
+
+
+def refuses_what_is_too_long():
+    with tempfile.TemporaryDirectory() as place, Cache(os.path.join(place, "cache"), words=["--most", "2000"]) as cache:
+        return differences(
+            (cache.ask("PUT", "/k", bytes(2001))[0], 413), (cache.ask("PUT", "/k", bytes(2000))[0], 201),
+            (cache.ask("PUT", "/k", iter([bytes(2001)]), None, {"Transfer-Encoding": "chunked"})[0], 413),
+            (cache.ask("PUT", "/k", iter([bytes(2000)]), None, {"Transfer-Encoding": "chunked"})[0], 201),
+        )
+
+
+def aborts_what_is_cut():
+    """An upload whose connection ends gives its reservation back."""
+    with tempfile.TemporaryDirectory() as place, Cache(os.path.join(place, "cache"), USERS) as cache:
+        for _ in range(3):
+            connection = http.client.HTTPConnection("127.0.0.1", cache.port, timeout=SECONDS)
+            connection.putrequest("PUT", "/k")
+            connection.putheader("Authorization", "Bearer token-b")
+            connection.putheader("Content-Length", "1500")
+            connection.endheaders()
+            connection.send(bytes(1200))
+            connection.close()
+        for _ in range(100):
+            status = cache.ask("PUT", "/k", bytes(1500), "token-b")[0]
+            if status == 201:
+                return []
+            time.sleep(0.1)
+    return [f"the status is {status}"]
+
+
+def keeps_others_out():
+    """A second server on a folder ends at once, and says why."""
+    with tempfile.TemporaryDirectory() as place, Cache(os.path.join(place, "cache")) as cache:
+        words = [sys.executable, os.path.join(TOP, "examples", "cache_server.py"), cache.folder, "--port", "0", "--program", PROGRAM]
+        run = subprocess.run(words, capture_output=True, timeout=SECONDS)
+        return differences((run.returncode, 1), (run.stdout, b""), (run.stderr.decode(), f"cache_server: {cache.folder} is in use by another server\n"))
+
+
+def keys_of_any_bytes():
+    """A key of raw bytes is there after a new start."""
+    with tempfile.TemporaryDirectory() as place:
+        folder, key = os.path.join(place, "cache"), "/größe λ".replace(" ", "").encode() + b"\xff"
+        with Cache(folder) as cache:
+            put = raw_answer(cache.port, b"PUT " + key + b" HTTP/1.1\r\nContent-Length: 3\r\nConnection: close\r\n\r\nabc")
+        with Cache(folder) as cache:
+            got = raw_answer(cache.port, b"GET " + key + b" HTTP/1.1\r\nConnection: close\r\n\r\n")
+            return differences((put[:12], b"HTTP/1.1 201"), (got[:12], b"HTTP/1.1 200"), (got[-3:], b"abc"))
+
+
+def ends_with_its_store():
+    """Where the store's process is killed, each request is answered by 503, and the server ends with 3; a new one begins with what was saved."""
+    with tempfile.TemporaryDirectory() as place:
+        folder, found = os.path.join(place, "cache"), []
+        with Cache(folder) as cache:
+            cache.ask("PUT", "/k", b"abc")
+        for method, key, body in ("GET", "/k", None), ("HEAD", "/k", None), ("PUT", "/l", b"four"), ("DELETE", "/k", None), ("GET", "/none", None):
+            with Cache(folder) as cache:
+                with open(f"/proc/{cache.process.pid}/task/{cache.process.pid}/children", encoding="ascii") as children:
+                    os.kill(int(children.read().split()[0]), signal.SIGKILL)
+                time.sleep(0.1)
+                found += differences((cache.begun.split(", ", 1)[1], "has 1 keys, 1 objects\n"), (cache.ask(method, key, body)[0], 503))
+                found += differences((cache.process.wait(SECONDS), 3))
+                _, err = cache.stop()
+                found += differences((err, "cache_server: the store has ended; its exit status is -9\n"))
+        return found
+
+
+def parts_the_keys():
+    """Of four servers one is taken away: the keys of the others are there, and its own can be stored again."""
+    with tempfile.TemporaryDirectory() as place:
+        port = free_port()
+        words = [sys.executable, os.path.join(TOP, "examples", "cluster.py"), place, "--port", str(port), "--program", PROGRAM]
+        with subprocess.Popen(words, stdout=subprocess.PIPE) as cluster:
+            cluster.stdout.readline()
+            servers = [int(word) for word in cluster.stdout.readline().decode().split()[2:]]
+            wait_for(port)
+            keys = [f"/key{number}" for number in range(100)]
+            found = differences(({ask(port, "PUT", key, key.encode())[0] for key in keys}, {201}))
+            found += differences(({ask(port, "GET", key) == (200, key.encode()) for key in keys}, {True}))
+            os.kill(servers[0], signal.SIGKILL)
+            kept = [key for key in keys if ask(port, "GET", key) == (200, key.encode())]
+            statuses = {ask(port, "PUT", key, key.encode())[0] for key in keys}
+            after = {ask(port, "GET", key) for key in keys}
+            cluster.send_signal(signal.SIGTERM)
+        found += differences((statuses, {201}), (after, {(200, key.encode()) for key in keys}))
+        return found if 50 <= len(kept) < 100 else [*found, f"{len(kept)} of 100 keys are kept"]
+
+
+def compiles_twice():
+    run = subprocess.run([os.path.join(TOP, "bench", "ccache"), PROGRAM, "4"], stdout=subprocess.PIPE, timeout=SECONDS)
+    return differences((b"with 4 hits\n" in run.stdout, True))

@@ -1,0 +1,77 @@
+"""Cache servers in processes of their own, and requests to them."""
+import contextlib
+import http.client
+import os
+import signal
+import socket
+import subprocess
+import sys
+import time
+
+from shared import PROGRAM, SECONDS, TOP
+
+
+class Cache:
+    """A cache server in a process of its own."""
+
+    def __init__(self, folder, users=None, words=()):
+        self.folder = folder
+        command = [sys.executable, os.path.join(TOP, "examples", "cache_server.py"), folder, "--port", "0", "--program", PROGRAM, *words]
+        if users is not None:
+            path = os.path.join(os.path.dirname(folder), "users")
+            with open(path, "w", encoding="ascii") as file:
+                file.write(users)
+            command += ["--users", path]
+        self.process = subprocess.Popen(command, stdout=subprocess.PIPE, stderr=subprocess.PIPE)
+        self.begun = self.process.stdout.readline().decode()
+        self.port = int(self.begun.split("port ")[1].split(",")[0])
+
+    def __enter__(self):
+        return self
+
+    def __exit__(self, *_):
+        self.stop()
+
+    def stop(self):
+        """Ends it, and gives what it told since its beginning."""
+        self.process.send_signal(signal.SIGTERM)
+        out, err = self.process.communicate(timeout=SECONDS)
+        return out.decode(), err.decode()
+
+    def ask(self, method, key, body=None, token=None, headers=()):
+        return ask(self.port, method, key, body, token, headers)
+
+
+def ask(port, method, key, body=None, token=None, headers=()):
+    """The status and the content of an answer."""
+    connection = http.client.HTTPConnection("127.0.0.1", port, timeout=SECONDS)
+    try:
+        sent = dict(headers) if token is None else {**dict(headers), "Authorization": f"Bearer {token}"}
+        connection.request(method, key, body, sent, encode_chunked=body is not None and not isinstance(body, bytes))
+        answer = connection.getresponse()
+        return answer.status, answer.read()
+    finally:
+        connection.close()
+
+
+USERS = "ann token-a 10000000\nbob token-b 2000\n"
+
+
+def free_port():
+    with socket.socket() as it:
+        it.bind(("127.0.0.1", 0))
+        return it.getsockname()[1]
+
+
+def wait_for(port):
+    for _ in range(100):
+        with contextlib.suppress(OSError):
+            return ask(port, "GET", "/")
+        time.sleep(0.1)
+
+
+def raw_answer(port, request):
+    """What a server answers to the bytes of a request, after which the connection is closed."""
+    with socket.create_connection(("127.0.0.1", port), timeout=SECONDS) as connection:
+        connection.sendall(request)
+        return b"".join(iter(lambda: connection.recv(4096), b""))

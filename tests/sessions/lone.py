@@ -1,0 +1,196 @@
+"""Clients that don't read, come in numbers, end early, or come wrongly: one promise each."""
+import contextlib
+import os
+import threading
+import time
+
+from door import NoAnswer, Server, knock
+
+SOON = 5
+"""How long an answer is waited for that nothing holds up."""
+SHORTLY = 0.3
+"""How long it is made sure that no answer comes."""
+ROUNDS = 100
+MORE_THAN_PIPES = 1 << 18
+BAD_LINES = (b"frob\n", b"\n", b"-1\n", b"1 2\n", b"0x10\n", b" 5\n", b"18446744073709551616\n", b"a" * 4000 + b"\n", b"\xff\xfe\n")
+"""Lines at the door that are no number."""
+
+
+def differences(*pairs):
+    """What is not as it should be, of pairs of a value and the one that is wanted."""
+    return [f"{found!r}, not {wanted!r}" for found, wanted in pairs if found != wanted]
+
+
+def answered(session, line, wait=SOON):
+    """A session's answer to a line, or None where there is none in time."""
+    try:
+        return session.ask(line, wait=wait)
+    except NoAnswer:
+        return None
+
+
+@contextlib.contextmanager
+def sessions_of(server, count):
+    """So many clients at once."""
+    found = [server.session() for _ in range(count)]
+    try:
+        yield found
+    finally:
+        for session in found:
+            session.close()
+
+
+def file_one(session, content=b"abc"):
+    """Files an object of one part by a session, and gives the answers."""
+    upload = int(session.ask(f"begin 0 {len(content)}", wait=SOON).split()[1])
+    return [session.ask(f"putb {upload} 0 {len(content)}", content, SOON), session.ask(f"seal {upload}", wait=SOON)]
+
+
+def one_that_never_reads(program):
+    """It holds no one up, and has its own answers, in order, once it reads."""
+    with Server(program, 4) as server, sessions_of(server, 4) as (silent, *others):
+        server.ask("tenant 1000000")
+        file_one(others[0])
+        lines = ["journal", "stat", "usage 0", "entries 0"] * 2000
+        sender = threading.Thread(target=silent.send, args=("".join(f"{line}\n" for line in lines).encode(),), daemon=True)
+        sender.start()
+        time.sleep(SHORTLY)
+        start, found = time.monotonic(), []
+        for number in range(ROUNDS):
+            for session in others:
+                found += differences((file_one(session, b"%d" % number)[0], b"held %d all\n" % len(b"%d" % number)))
+        found += [f"{3 * ROUNDS} objects take too long"] if time.monotonic() - start > SOON else []
+        answers = [silent.answer() for _ in lines]
+        kinds = [answer.split()[0] for answer in answers]
+        found += [] if sum(map(len, answers)) > MORE_THAN_PIPES else ["the answers fit into the pipe"]
+        return found + differences((kinds == [b"journal", b"objects", b"used", b"journal"] * 2000, True), (server.end(), 0))
+
+
+def more_than_there_are_sessions(program):
+    """They wait, and are served when others end."""
+    with Server(program, 2) as server, sessions_of(server, 6) as clients:
+        found = []
+        for session in clients:
+            session.send(b"stat\n")
+        served = [session for session in clients if is_answered(session, SHORTLY)]
+        found += differences((len(served), 2))
+        while len(served) < len(clients) and not found:
+            served[-1].close()
+            following = [session for session in clients if session not in served and is_answered(session, SHORTLY)]
+            found += differences((len(following), 1))
+            served += following
+        return found + differences((server.end(), 0))
+
+
+def is_answered(session, wait):
+    with contextlib.suppress(NoAnswer):
+        return session.answer(wait).startswith(b"objects ")
+    return False
+
+
+def bad_lines_at_the_door(program):
+    """They are reported on standard error, and every session goes on."""
+    with Server(program, 3) as server, sessions_of(server, 1) as (before,):
+        found = differences((answered(before, "tenant 5000"), b"tenant 0\n"))
+        for number, line in enumerate(BAD_LINES, 1):
+            knock(server.at, line)
+            found += is_reported(server, number, line)
+        with sessions_of(server, 2) as after:
+            for session in (before, *after):
+                found += differences((answered(session, "usage 0"), b"used 0 reserved 0 limit 5000\n"))
+        return found + differences((server.end(), 0))
+
+
+def is_reported(server, count, line):
+    """What is wrong where the server doesn't have so many lines on standard error soon."""
+    end = time.monotonic() + SOON
+    while time.monotonic() < end:
+        if len(server.reported().splitlines()) >= count:
+            return []
+        time.sleep(0.01)
+    return [f"{line[:30]!r} is not reported: {server.reported()[-200:]!r}"]
+
+
+def pipes_that_are_not_there(program):
+    """A number with no pipes, or with one of the two, is reported, and every session goes on."""
+    with Server(program, 3) as server:
+        found = differences((server.ask("tenant 5000"), b"tenant 0\n"))
+        for count, missing in enumerate((("in", "out"), ("in",), ("out",)), 1):
+            session = server.session(knocks=False)
+            for end in missing:
+                os.remove(f"{server.at}.{session.number}.{end}")
+            session.knock()
+            found += is_reported(server, count, f"no {missing}".encode())
+            session.close()
+        with sessions_of(server, 3) as after:
+            for session in after:
+                found += differences((answered(session, "usage 0"), b"used 0 reserved 0 limit 5000\n"))
+        return found + differences((server.end(), 0))
+
+
+HALVES = (b"abort 1", b"limit 0 4", b"begin 0 10", b"seal 1", b"putb 1 0 3", b"putb 1 0 3\nab", b"putb 1 0 1024\n" + bytes(1023), b"tenant 5")
+"""What a client can have sent when it dies, which is no whole command."""
+
+
+def halves_of_commands(program):
+    """A client that ends within a line or a part has not sent it; what it had begun stays open."""
+    with Server(program, 2) as server:
+        found = differences((server.ask("tenant 5000"), b"tenant 0\n"), (server.ask("begin 0 3"), b"upload 0\n"), (server.ask("begin 0 3"), b"upload 1\n"))
+        for half in HALVES:
+            with server.session() as session:
+                found += differences((answered(session, "has 0 " + "0" * 64), b"refused S12\n"))
+                session.send(half)
+            with server.session() as session:
+                found += differences((answered(session, "uploads 0"), b"uploads 2\n0 3 3 0\n1 3 3 0\n"))
+        time.sleep(SHORTLY)
+        return found + differences((server.ask("journal"), b"journal 3\ntenant 0 5000\nbegin 0 0 3\nbegin 1 0 3\n"), (server.end(), 0))
+
+
+def the_end_of_standard_input(program):
+    """It ends the server with the status of its session, whatever clients do."""
+    found = []
+    for text, status in (b"", 0), (b"frob\n", 0), (b"tenant 5\n", 0), (b"putb 0 0 5\nab", 1):
+        with Server(program, 3) as server, sessions_of(server, 2) as (one, two):
+            found += differences((answered(one, "tenants"), b"tenants 0\n"), (answered(two, "stat") is None, False))
+            two.send(b"putb 0 0 1024\nabc")
+            server.process.stdin.write(text)
+            start = time.monotonic()
+            found += differences((server.end(), status), (time.monotonic() - start < SOON, True), (server.reported(), ""))
+    return found
+
+
+def many_that_say_nothing(program):
+    """Clients that come and go without a line, or are gone before they are served."""
+    with Server(program, 2) as server:
+        for _ in range(ROUNDS):
+            server.session().close()
+        with sessions_of(server, 2) as after:
+            found = differences(*((answered(session, "tenants"), b"tenants 0\n") for session in after))
+        return found + differences((server.end(), 0))
+
+
+def one_store(program):
+    """What one client was told, every client and the session on standard input find."""
+    with Server(program, 2) as server, sessions_of(server, 2) as (one, two):
+        found = differences((one.ask("tenant 5000"), b"tenant 0\n"), (two.ask("tenant 6000"), b"tenant 1\n"), (server.ask("begin 1 3"), b"upload 0\n"))
+        found += differences((two.ask("putb 0 0 3", b"abc"), b"held 3 all\n"), (one.ask("uploads 1"), b"uploads 1\n0 3 3 3\n"))
+        sealed = one.ask("seal 0")
+        address = sealed.split()[1].decode()
+        found += differences((two.ask(f"fetchb 1 {address}"), b"bytes 3\nabc"), (server.ask(f"has 1 {address}"), b"has 3\n"))
+        entries = [b"tenant 0 5000", b"tenant 1 6000", b"begin 0 1 3", b"put 0 0 3", b"seal 0 %s new" % address.encode()]
+        for line, least, most in ("journal", 0, 5), ("entries 2", 2, 5), ("entries 1 2", 1, 3), ("entries 4 9", 4, 5), ("entries 9 9", 5, 5), ("entries 0 0", 0, 0):
+            wanted = b"".join(entry + b"\n" for entry in [b"journal %d" % (most - least), *entries[least:most]])
+            found += differences((one.ask(line), wanted), (server.ask(line), wanted))
+        return found + differences((server.end(), 0))
+
+
+LONE_CASES = {
+    "one store": one_store,
+    "a client that never reads": one_that_never_reads,
+    "more clients than sessions": more_than_there_are_sessions,
+    "bad lines at the door": bad_lines_at_the_door,
+    "pipes that are not there": pipes_that_are_not_there,
+    "halves of commands": halves_of_commands,
+    "the end of standard input": the_end_of_standard_input,
+    "clients that say nothing": many_that_say_nothing,
+}
