@@ -22,6 +22,7 @@ from lone import LONE_CASES
 from memory import refused_growths
 from plain_server import WRONG
 from python_needed import end_where_older
+from same import answered_late
 
 PLAIN = os.path.join(TESTS, "sessions", "plain_server.py")
 SECONDS_PER_COMMAND = 0.02
@@ -66,6 +67,7 @@ def finds(mistake, seed):
 def cases(program, options):
     half = options.commands // 2
     if not options.program_alone:
+        yield "the same sent twice", answered_late
         yield "the plain server", lambda: storm([sys.executable, PLAIN], 4, COMMANDS_TO_FIND, options.seed)
         for mistake in WRONG:
             yield f"the mistake {mistake}", functools.partial(finds, mistake, options.seed)

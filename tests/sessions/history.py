@@ -185,11 +185,14 @@ class Claims:
         return None
 
     def other_choice(self, op):
-        """For an answer that holds nowhere, another choice at an entry that it has to be before or behind: the place and the client."""
-        for place in op.most, op.least - 1:
-            others = self.trail[place][2] if 0 <= place < len(self.trail) else ()
-            if others and place not in self.preferred:
-                return {place: others[-1].client}
+        """For an answer that holds nowhere, another choice of whose an entry is: the place and the client. Either another client's command has the entry
+        that the answer has to be before, or the command whose entry it has to be after has an earlier one of the same text."""
+        if op.most < len(self.trail) and op.most not in self.preferred and self.trail[op.most][2]:
+            return {op.most: self.trail[op.most][2][-1].client}
+        bounding = self.trail[op.least - 1][0] if op.least else None
+        for place in reversed(range(op.least - 1)):
+            if place not in self.preferred and bounding in self.trail[place][2]:
+                return {place: bounding.client}
         return None
 
     def left(self):
