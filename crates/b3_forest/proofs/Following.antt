@@ -120,30 +120,30 @@ upload_of n ps = record { plan = closed_plan n; end = Some n; parts = ps }
 is_upload : (n : ℕ) (ps : List HeldPart) (es : Subtrees) → Keeps n ps es → IsUpload length (upload_of n ps)
 is_upload n ps es keeps = record { most = keeps.most; within = omega arith; placed = keeps.placed; closed = λ _. refl; whole = λ none. cc }
 
-pub told_missing : (b : List ℕ) (ps : List HeldPart) (es : Subtrees) (m : ℕ) → Missing → Keeps (length b) ps es → m ≡ first_gap length 0 ps → m < length b → IsFirstUnnoted (followed b es) m
-told_missing b ps es m law keeps is below =
+pub reported_missing : (b : List ℕ) (ps : List HeldPart) (es : Subtrees) (m : ℕ) → Missing → Keeps (length b) ps es → m ≡ first_gap length 0 ps → m < length b → IsFirstUnnoted (followed b es) m
+reported_missing b ps es m law keeps is below =
     let u : Upload (List ℕ) = upload_of (length b) ps in
     let low : first_gap length 0 ps < length b = omega (arith, is, below) in
     let test : nat_lt (first_gap length 0 ps) (length b) ≡ true = grind (arith, nat_tests, low) in
     let some : first_missing length u ≡ Some (first_gap length 0 ps) = rw test refl in
-    let told : first_missing length u ≡ Some m = some ∙ ap Some (sym is) in
-    let first = subst (λ o. IfSome o (IsFirstMissing length u)) told (law u (is_upload (length b) ps es keeps)).some in
+    let reported : first_missing length u ≡ Some m = some ∙ ap Some (sym is) in
+    let first = subst (λ o. IfSome o (IsFirstMissing length u)) reported (law u (is_upload (length b) ps es keeps)).some in
     record {
       below = first.below;
       missing = λ noted. first.missing (held_of b ps es m keeps noted);
       least = λ i before. noted_of b ps es i keeps (first.least i before);
     }
 
-pub told_all : (b : List ℕ) (ps : List HeldPart) (es : Subtrees) → Missing → Keeps (length b) ps es → length b ≤ first_gap length 0 ps → AllNoted (followed b es)
-told_all b ps es law keeps all i low =
+pub reported_all : (b : List ℕ) (ps : List HeldPart) (es : Subtrees) → Missing → Keeps (length b) ps es → length b ≤ first_gap length 0 ps → AllNoted (followed b es)
+reported_all b ps es law keeps all i low =
     let u : Upload (List ℕ) = upload_of (length b) ps in
     let test : nat_lt (first_gap length 0 ps) (length b) ≡ false = grind (arith, nat_tests, all) in
     let none : first_missing length u ≡ None = rw test refl in
     let held = subst (λ o. IfNone o ((j : ℕ) → j < length b → IsHeldAt length ps j)) none (law u (is_upload (length b) ps es keeps)).none in
     noted_of b ps es i keeps (held i low)
 
-pub told_overlap : (b : List ℕ) (ps : List HeldPart) (es : Subtrees) (p : Part) (at : ℕ) → Overlap → Keeps (length b) ps es → 0 < length p.bytes → overlap_at p ps ≡ Some at → IsFirstNoted (followed b es) p at
-told_overlap b ps es p at law keeps some is =
+pub reported_overlap : (b : List ℕ) (ps : List HeldPart) (es : Subtrees) (p : Part) (at : ℕ) → Overlap → Keeps (length b) ps es → 0 < length p.bytes → overlap_at p ps ≡ Some at → IsFirstNoted (followed b es) p at
+reported_overlap b ps es p at law keeps some is =
     let n = length p.bytes in
     let first = subst (λ o. IfSome o (IsFirstOverlap length p.offset n ps)) is (law (upload_of (length b) ps) p.offset n (is_upload (length b) ps es keeps) some).some in
     record {
@@ -152,8 +152,8 @@ told_overlap b ps es p at law keeps some is =
       least = λ i after before noted. first.least i after before (held_of b ps es i keeps noted);
     }
 
-pub told_apart : (b : List ℕ) (ps : List HeldPart) (es : Subtrees) (p : Part) → Overlap → Keeps (length b) ps es → 0 < length p.bytes → overlap_at p ps ≡ None → NothingNoted (followed b es) p
-told_apart b ps es p law keeps some is i inside noted =
+pub reported_apart : (b : List ℕ) (ps : List HeldPart) (es : Subtrees) (p : Part) → Overlap → Keeps (length b) ps es → 0 < length p.bytes → overlap_at p ps ≡ None → NothingNoted (followed b es) p
+reported_apart b ps es p law keeps some is i inside noted =
     let n = length p.bytes in
     let none = subst (λ o. IfNone o ((j : ℕ) → p.offset ≤ j → j < p.offset + n → IsHeldAt length ps j → ⊥)) is (law (upload_of (length b) ps) p.offset n (is_upload (length b) ps es keeps) some).none in
     none i inside.0 inside.1 (held_of b ps es i keeps noted)

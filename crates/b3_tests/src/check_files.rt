@@ -166,7 +166,7 @@ fn a_file_is_verified(rt: HostRuntime) -> Result<(), Fail> {
 }
 
 #[test]
-fn lines_are_told_before_they_are_asked_for(rt: HostRuntime) -> Result<(), Fail> {
+fn lines_are_reported_before_they_are_asked_for(rt: HostRuntime) -> Result<(), Fail> {
     let alloc = rt.alloc();
     let mut names = Hinted {
         asked: Vec::new(alloc),

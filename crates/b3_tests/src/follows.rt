@@ -3,7 +3,7 @@
 ghost use Rattle.std.specs.Prelude.{◌<◌};
 
 use crate::fakes::pattern;
-use crate::scripts::{Answers, cut, number, told, two_numbers};
+use crate::scripts::{Answers, cut, number, reported, two_numbers};
 use b3_core::{Runtime, Work};
 use b3_forest::{Follow, NoteFault, PartFault, Plan, Prepared, Stretches, StretchesBuilder};
 use std::alloc::{AllocError, Global};
@@ -96,7 +96,7 @@ impl Lent<'_> {
 }
 
 // The answers to the script over these bytes.
-fn told_of<R: AllocGlobal + Runtime>(
+fn reported_of<R: AllocGlobal + Runtime>(
     rt: &R,
     bytes: &[u8],
     script: &str,
@@ -109,7 +109,7 @@ fn told_of<R: AllocGlobal + Runtime>(
         follow,
         work: Work::new(rt),
     };
-    told(rt.alloc(), &mut lent, script)
+    reported(rt.alloc(), &mut lent, script)
 }
 
 /// These bytes in stretches of `stretch_len`, gathered from pieces of at most 1500 bytes.
@@ -128,7 +128,7 @@ pub(crate) fn in_stretches(
 }
 
 // The answers to the script over these bytes in stretches.
-fn told_of_stretches<R: AllocGlobal + Runtime>(
+fn reported_of_stretches<R: AllocGlobal + Runtime>(
     rt: &R,
     bytes: &[u8],
     stretch_len: usize,
@@ -145,7 +145,7 @@ fn told_of_stretches<R: AllocGlobal + Runtime>(
         follow,
         work: Work::new(rt),
     };
-    told(rt.alloc(), &mut lent, script)
+    reported(rt.alloc(), &mut lent, script)
 }
 
 /// Like `holds`, over these bytes in stretches.
@@ -157,11 +157,11 @@ pub(crate) fn holds_in_stretches<R: AllocGlobal + Runtime + Abort>(
 ) -> Result<(), Fail>
     requires { 0 < stretch_len }
 {
-    let told = match told_of_stretches(rt, bytes, stretch_len, script) {
-        Ok(told) => told,
-        Err(_) => told_of_stretches(rt, bytes, stretch_len, script)?,
+    let reported = match reported_of_stretches(rt, bytes, stretch_len, script) {
+        Ok(reported) => reported,
+        Err(_) => reported_of_stretches(rt, bytes, stretch_len, script)?,
     };
-    assert_eq!(rt; told.as_str(), script);
+    assert_eq!(rt; reported.as_str(), script);
     Ok(())
 }
 
@@ -171,11 +171,11 @@ pub(crate) fn holds<R: AllocGlobal + Runtime + Abort>(
     bytes: &[u8],
     script: &str,
 ) -> Result<(), Fail> {
-    let told = match told_of(rt, bytes, script) {
-        Ok(told) => told,
-        Err(_) => told_of(rt, bytes, script)?,
+    let reported = match reported_of(rt, bytes, script) {
+        Ok(reported) => reported,
+        Err(_) => reported_of(rt, bytes, script)?,
     };
-    assert_eq!(rt; told.as_str(), script);
+    assert_eq!(rt; reported.as_str(), script);
     Ok(())
 }
 

@@ -3,7 +3,7 @@
 //! return what is there.
 
 use crate::fakes::{is_pattern, pattern};
-use crate::scripts::{Answers, cut, number, told, two_numbers};
+use crate::scripts::{Answers, cut, number, reported, two_numbers};
 use b3_core::{Runtime, Top, Work};
 use b3_forest::{AddFault, AddRefused, Forest, PartFault, PartRefused, Plan, Prepared, TooLong};
 use std::alloc::{AllocError, Global};
@@ -148,28 +148,28 @@ impl Upload {
         let Some(part) = self.part.take() else {
             return Ok(made);
         };
-        let told = self.forest.refusal_of(&part);
+        let reported = self.forest.refusal_of(&part);
         let before = self.work.count();
         let added = self.added(part);
         let count = self.work.count().wrapping_sub(before);
         match added {
             Ok(merges) => {
-                let is_told = told.is_none();
-                format!(in self.alloc; "{made}, {merges} merges by {count} {is_told}")
+                let is_reported = reported.is_none();
+                format!(in self.alloc; "{made}, {merges} merges by {count} {is_reported}")
             }
             Err(refused) => {
                 let is_back = is_part(&refused.part, &plan, offset, size);
-                let is_told = told == Some(refused.fault);
-                format!(in self.alloc; "{:?} by {count} back {is_back} {is_told}", refused.fault)
+                let is_reported = reported == Some(refused.fault);
+                format!(in self.alloc; "{:?} by {count} back {is_back} {is_reported}", refused.fault)
             }
         }
     }
 
     fn fix(&mut self, len: u64) -> Result<String, AllocError> {
-        let told = self.forest.fix_refusal_of(len);
+        let reported = self.forest.fix_refusal_of(len);
         let fault = self.forest.fix(len).err();
-        let is_told = told == fault;
-        format!(in self.alloc; "{fault:?} {is_told}")
+        let is_reported = reported == fault;
+        format!(in self.alloc; "{fault:?} {is_reported}")
     }
 
     fn state(&mut self) -> Result<String, AllocError> {
@@ -241,7 +241,7 @@ fn is_part(part: &Prepared, plan: &Plan, offset: u64, size: u64) -> bool {
 }
 
 // The answers to the script.
-fn told_of<R: AllocGlobal + Runtime>(
+fn reported_of<R: AllocGlobal + Runtime>(
     rt: &R,
     plan: Plan,
     script: &str,
@@ -255,16 +255,16 @@ fn told_of<R: AllocGlobal + Runtime>(
         work: Work::new(rt),
         count: 0,
     };
-    told(rt.alloc(), &mut on, script)
+    reported(rt.alloc(), &mut on, script)
 }
 
 /// The answers to the script are those in the script. If an allocation of the test itself fails, everything is repeated.
 pub(crate) fn holds<R: AllocGlobal + Runtime + Abort>(rt: &R, script: &str) -> Result<(), Fail> {
     let plan = Plan::new(0).ok().ok_or("no plan")?;
-    let told = match told_of(rt, plan, script) {
-        Ok(told) => told,
-        Err(_) => told_of(rt, plan, script)?,
+    let reported = match reported_of(rt, plan, script) {
+        Ok(reported) => reported,
+        Err(_) => reported_of(rt, plan, script)?,
     };
-    assert_eq!(rt; told.as_str(), script);
+    assert_eq!(rt; reported.as_str(), script);
     Ok(())
 }

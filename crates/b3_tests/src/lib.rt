@@ -31,4 +31,4 @@ mod scripts;
 mod shared_parts;
 
 pub use fakes::{FailingWriter, is_pattern, pattern};
-pub use scripts::{Answers, cut, number, told, two_numbers};
+pub use scripts::{Answers, cut, number, reported, two_numbers};

@@ -2,7 +2,7 @@
 
 use crate::fakes::pattern;
 use crate::helpers::{CONTEXT, KEY};
-use crate::scripts::{Answers, cut, number, told, two_numbers};
+use crate::scripts::{Answers, cut, number, reported, two_numbers};
 use b3_core::{Mode, Runtime, Top, Work, is_subtree};
 use std::alloc::{AllocError, Global};
 use std::fmt::Write;
@@ -96,8 +96,8 @@ fn holds<R: AllocGlobal + Runtime + Abort>(rt: &R, mode: Mode, script: &str) -> 
         right: none,
         work,
     };
-    let told = told(rt.alloc(), &mut nodes, script)?;
-    assert_eq!(rt; told.as_str(), script);
+    let reported = reported(rt.alloc(), &mut nodes, script)?;
+    assert_eq!(rt; reported.as_str(), script);
     Ok(())
 }
 

@@ -1,7 +1,7 @@
 //! Extended outputs.
 
 use crate::helpers::KEY;
-use crate::scripts::{Answers, cut, number, told};
+use crate::scripts::{Answers, cut, number, reported};
 use b3_core::{Mode, OutputReader, Runtime, Top, Work};
 use std::alloc::{AllocError, Global};
 use std::process::Abort;
@@ -58,8 +58,8 @@ fn holds<R: AllocGlobal + Runtime + Abort>(rt: &R, script: &str) -> Result<(), F
         reader: OutputReader::new(top),
         work,
     };
-    let told = told(rt.alloc(), &mut output, script)?;
-    assert_eq!(rt; told.as_str(), script);
+    let reported = reported(rt.alloc(), &mut output, script)?;
+    assert_eq!(rt; reported.as_str(), script);
     Ok(())
 }
 

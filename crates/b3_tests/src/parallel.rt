@@ -100,7 +100,7 @@ fn failed_kind<T: Threads + Runtime>(
     threads: Option<u32>,
 ) -> Option<ErrorKind> {
     let mut reader = reader;
-    let told = hash_all(
+    let reported = hash_all(
         rt,
         alloc,
         &Mode::hash(),
@@ -108,7 +108,7 @@ fn failed_kind<T: Threads + Runtime>(
         threads,
         &mut Work::new(rt),
     );
-    told.err().map(|error| error.kind())
+    reported.err().map(|error| error.kind())
 }
 
 const THREADS: [Option<u32>; 4] = [None, Some(1), Some(3), Some(16)];
@@ -124,7 +124,7 @@ const FAILS_AT: &[usize] = &[
 ];
 
 #[test]
-fn a_read_that_fails_is_told(rt: HostRuntime) -> Result<(), Fail> {
+fn a_read_that_fails_is_reported(rt: HostRuntime) -> Result<(), Fail> {
     let bytes = pattern(rt.alloc(), 0, 3 * 2_097_152 + 1024)?;
     for threads in THREADS {
         for fails_at in FAILS_AT {

@@ -74,7 +74,7 @@ fn by_one<T: Runtime>(rt: &T, shelf: &Shelf) -> (Top, u64) {
 
 // The result for a source of the stated length: the node and the count of one thread ("alike"), none and no count ("none"), or anything
 // else.
-fn told<T: Threads + Runtime, S: Source + Send + Drop + 'static>(
+fn reported<T: Threads + Runtime, S: Source + Send + Drop + 'static>(
     rt: &T,
     alloc: Global,
     source: &S,
@@ -109,7 +109,7 @@ fn are_alike<T: Threads + Runtime + AllocGlobal>(rt: &T, len: u64) -> Result<boo
     let shelf = shelf_of(rt.alloc(), len)?;
     let wanted = by_one(rt, &shelf);
     for threads in [2u32, 3, 16] {
-        if told(rt, rt.alloc(), &shelf, len, threads, &wanted) != "alike" {
+        if reported(rt, rt.alloc(), &shelf, len, threads, &wanted) != "alike" {
             return Ok(false);
         }
     }
@@ -126,7 +126,7 @@ fn each_length_has_the_node_of_one_thread(rt: HostRuntime) -> Result<(), Fail> {
 
 // There is a node up to the length of all whole blocks and of the one after them.
 #[test]
-fn a_length_that_is_told_wrong(rt: HostRuntime) -> Result<(), Fail> {
+fn a_length_that_is_reported_wrong(rt: HostRuntime) -> Result<(), Fail> {
     let len = LEAST + BLOCK + 5000;
     let shelf = shelf_of(rt.alloc(), len)?;
     let wanted = by_one(&rt, &shelf);
@@ -139,14 +139,14 @@ fn a_length_that_is_told_wrong(rt: HostRuntime) -> Result<(), Fail> {
         (LEAST + 2 * BLOCK, false),
         (2 * LEAST, false),
     ] {
-        let told = told(&rt, rt.alloc(), &shelf, len, 3, &wanted);
+        let reported = reported(&rt, rt.alloc(), &shelf, len, 3, &wanted);
         assert!(rt;
-            told == if is_alike { "alike" } else { "none" },
-            "{len} {told}"
+            reported == if is_alike { "alike" } else { "none" },
+            "{len} {reported}"
         );
     }
-    let told = told(&rt, rt.alloc(), &shelf, len, 1, &wanted);
-    assert!(rt; told == "none", "{told}");
+    let reported = reported(&rt, rt.alloc(), &shelf, len, 1, &wanted);
+    assert!(rt; reported == "none", "{reported}");
     Ok(())
 }
 
@@ -167,10 +167,10 @@ fn a_read_that_fails(rt: HostRuntime) -> Result<(), Fail> {
                 shelf: shelf.again()?,
                 fails_at,
             };
-            let told = told(&rt, rt.alloc(), &source, len, threads, &wanted);
+            let reported = reported(&rt, rt.alloc(), &source, len, threads, &wanted);
             assert!(rt;
-                told == if is_alike { "alike" } else { "none" },
-                "{fails_at} {threads} {told}"
+                reported == if is_alike { "alike" } else { "none" },
+                "{fails_at} {threads} {reported}"
             );
         }
     }

@@ -9,15 +9,15 @@ pub trait Answers {
 }
 
 /// The script again, with the actual answers to its commands; also a line without an answer gets its answer.
-pub fn told<A: Answers>(alloc: Global, on: &mut A, script: &str) -> Result<String, AllocError> {
-    let mut told = String::new(alloc);
+pub fn reported<A: Answers>(alloc: Global, on: &mut A, script: &str) -> Result<String, AllocError> {
+    let mut reported = String::new(alloc);
     for line in script.lines() {
-        told.push_str(told_line(alloc, on, command_of(line))?.as_str())?;
+        reported.push_str(reported_line(alloc, on, command_of(line))?.as_str())?;
     }
-    Ok(told)
+    Ok(reported)
 }
 
-fn told_line<A: Answers>(alloc: Global, on: &mut A, command: &str) -> Result<String, AllocError> {
+fn reported_line<A: Answers>(alloc: Global, on: &mut A, command: &str) -> Result<String, AllocError> {
     let answer = on.answer(command)?;
     let answer = answer.as_str();
     format!(in alloc; "{command} > {answer}\n")

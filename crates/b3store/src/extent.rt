@@ -9,7 +9,7 @@ use store_engines::{FileFault, Reason, Sources};
 /// The numbers of files and bytes to hash, if they are known, and the number of files that remain.
 #[derive(Drop)]
 pub(crate) struct Extent {
-    is_told: bool,
+    is_reported: bool,
     files: AtomicU64,
     left: AtomicU64,
     bytes: AtomicU64,
@@ -17,9 +17,9 @@ pub(crate) struct Extent {
 
 impl Extent {
     /// Nothing is known yet. The sizes of files are looked up only if progress is shown.
-    pub(crate) fn new(is_told: bool) -> Extent {
+    pub(crate) fn new(is_reported: bool) -> Extent {
         Extent {
-            is_told,
+            is_reported,
             files: AtomicU64::new(0),
             left: AtomicU64::new(0),
             bytes: AtomicU64::new(0),
@@ -38,7 +38,7 @@ impl Extent {
             return false;
         }
         self.files.store(left as u64, Ordering::Relaxed);
-        self.is_told
+        self.is_reported
     }
 
     /// The number of files that are done, and the number of all files, if there is more than one.
@@ -109,7 +109,7 @@ impl<'a, S: Drop> Metered<'a, S> {
 impl<S: Sources + Drop> Sources for Metered<'_, S> {
     ghost gives = { λ old name answer new. S.gives old.within name answer new.within };
 
-    ghost tells = { λ old name reason new. S.tells old.within name reason new.within };
+    ghost reports = { λ old name reason new. S.reports old.within name reason new.within };
 
     fn expect(&mut self, names: &[Name]) {
         if self.extent.note_left(names.len()) {
@@ -122,8 +122,8 @@ impl<S: Sources + Drop> Sources for Metered<'_, S> {
         self.within.root_of(name)
     }
 
-    fn tell(&mut self, name: &[u8], reason: Reason) {
-        self.within.tell(name, reason);
+    fn report(&mut self, name: &[u8], reason: Reason) {
+        self.within.report(name, reason);
     }
 }
 

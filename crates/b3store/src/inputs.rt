@@ -6,7 +6,7 @@ ghost use Rattle.store_command_line.specs.Ranges.{IsSumInRange};
 
 use crate::extent::{Extent, Metered};
 use crate::standard::{StandardError, StandardInput, standard_output};
-use crate::telling::{misused, opened, status, stopped};
+use crate::reporting::{misused, opened, status, stopped};
 use b3_check::Name;
 use b3_core::{Runtime, Work};
 use edge::SumMode;

@@ -8,7 +8,7 @@ mod inputs;
 mod progress;
 mod sessions;
 mod standard;
-mod telling;
+mod reporting;
 
 use b3_core::{Runtime, Work};
 use edge::UploadOptions;
@@ -28,7 +28,7 @@ use store_engines::{ALL_PARTS, Cause, Verdict, audit, migrate, upload};
 use store_history::UnnamedHistory;
 use store_script::run;
 use store_session::serve;
-use telling::{GOOD, USAGE, status, stopped};
+use reporting::{GOOD, USAGE, status, stopped};
 
 // The arguments of the command line. The system's arguments may be any bytes; those that are not UTF-8 are a usage fault.
 fn words_of(rt: &HostRuntime) -> Result<Vec<String>, Fault> {
@@ -110,7 +110,7 @@ fn perform<T: Threads + Wait + Copy + Send + Sync + Runtime + 'static>(
 }
 
 // Whether progress is shown: if it is not turned off, standard error is a terminal, and no lines are written to a terminal meanwhile.
-fn tells_progress(rt: &HostRuntime, options: &Options<'_>) -> bool {
+fn reports_progress(rt: &HostRuntime, options: &Options<'_>) -> bool {
     let (is_unwanted, writes_lines) = match options {
         Options::Sum(options) => (
             options.no_progress,
@@ -124,16 +124,16 @@ fn tells_progress(rt: &HostRuntime, options: &Options<'_>) -> bool {
 }
 
 // Performs the subcommand, with progress if it is wanted, and returns the exit status.
-fn perform_telling<T: Threads + Wait + Copy + Send + Sync + Runtime + 'static>(
+fn perform_reporting<T: Threads + Wait + Copy + Send + Sync + Runtime + 'static>(
     rt: &HostRuntime,
     threads: &T,
     options: &Options<'_>,
 ) -> u8
     requires { InRange options.now }
 {
-    let is_told = tells_progress(rt, options);
-    let extent = &Extent::new(is_told);
-    if !is_told {
+    let is_reported = reports_progress(rt, options);
+    let extent = &Extent::new(is_reported);
+    if !is_reported {
         return perform(rt, threads, extent, options);
     }
     with_progress(
@@ -167,7 +167,7 @@ fn main(rt: HostRuntime) -> ExitCode {
         Err(fault) => return ExitCode::from(unusable(&rt, fault)),
     };
     let status = match options(rt.alloc(), words.as_slice()) {
-        Ok(options) => perform_telling(&rt, &rt, &options),
+        Ok(options) => perform_reporting(&rt, &rt, &options),
         Err(fault) => unusable(&rt, fault),
     };
     ExitCode::from(status)

@@ -73,7 +73,7 @@ fn bytes_text(alloc: Global, extent: &Extent, mib: u64) -> Option<String> {
 }
 
 // Shows a line with what was done since the work began. The cursor is left at the start of the line, so that the next output overwrites it.
-fn tell(rt: &HostRuntime, extent: &Extent, start: Instant) -> Option<()> {
+fn report(rt: &HostRuntime, extent: &Extent, start: Instant) -> Option<()> {
     let elapsed = start.elapsed(rt).ok()?;
     let seconds = elapsed.as_secs();
     if seconds == 0 {
@@ -87,7 +87,7 @@ fn tell(rt: &HostRuntime, extent: &Extent, start: Instant) -> Option<()> {
 }
 
 // Reports progress until the work is done, and leaves the line empty.
-fn tell_on<T: Wait>(rt: &HostRuntime, waiter: &T, extent: &Extent, signal: &Signal) {
+fn report_on<T: Wait>(rt: &HostRuntime, waiter: &T, extent: &Extent, signal: &Signal) {
     let Ok(start) = Instant::now(rt) else {
         return;
     };
@@ -96,7 +96,7 @@ fn tell_on<T: Wait>(rt: &HostRuntime, waiter: &T, extent: &Extent, signal: &Sign
             let _ = eprint!(rt; "{EMPTIED}");
             return;
         }
-        let _ = tell(rt, extent, start);
+        let _ = report(rt, extent, start);
     }
 }
 
@@ -117,7 +117,7 @@ pub(crate) fn with_progress<T: Threads + Wait + Sync, F: FnOnce() -> u8>(
         move |scope| -> u8
             requires { F.pre work }
         {
-            let teller = scope.spawn(move || tell_on(rt, threads, extent, signal));
+            let teller = scope.spawn(move || report_on(rt, threads, extent, signal));
             let status = work();
             signal.end();
             if let Ok(teller) = teller {

@@ -64,7 +64,7 @@ pub fn time_store(
     let step = (objects / TIMED).max(1) as usize;
     let start = Instant::now(rt)?;
     for address in addresses.iter().step_by(step) {
-        let _gone = store.forget(tenant, *address).map_err(refused)?;
+        let _removed = store.forget(tenant, *address).map_err(refused)?;
     }
     let forgetting = start.elapsed(rt)?.as_nanos() / 512;
     println!(rt; "{}", store.totals().objects)?;

@@ -189,7 +189,7 @@ impl Names for NoNames {
 #[derive(Drop)]
 pub struct AbcSources {
     pub calls: u64,
-    pub told: Vec<u8>,
+    pub reported: Vec<u8>,
     work: Work,
 }
 
@@ -197,7 +197,7 @@ impl AbcSources {
     pub fn new(alloc: Global, work: Work) -> AbcSources {
         AbcSources {
             calls: 0,
-            told: Vec::new(alloc),
+            reported: Vec::new(alloc),
             work,
         }
     }
@@ -206,7 +206,7 @@ impl AbcSources {
 impl Sources for AbcSources {
     ghost gives = { λ _ _ _ _. Unit {0} };
 
-    ghost tells = { λ _ _ _ _. Unit {0} };
+    ghost reports = { λ _ _ _ _. Unit {0} };
 
     fn root_of(&mut self, name: &[u8]) -> Result<Top, FileFault> {
         self.calls = self.calls.saturating_add(1);
@@ -219,9 +219,9 @@ impl Sources for AbcSources {
         Err(FileFault::Failed(Reason::Missing))
     }
 
-    fn tell(&mut self, name: &[u8], reason: Reason) {
-        let _ = self.told.extend_from_slice(name);
-        let _ = self.told.extend_from_slice(reason.text().as_bytes());
+    fn report(&mut self, name: &[u8], reason: Reason) {
+        let _ = self.reported.extend_from_slice(name);
+        let _ = self.reported.extend_from_slice(reason.text().as_bytes());
     }
 }
 
@@ -257,7 +257,7 @@ impl HintedSources {
 impl Sources for HintedSources {
     ghost gives = { λ _ _ _ _. Unit {0} };
 
-    ghost tells = { λ _ _ _ _. Unit {0} };
+    ghost reports = { λ _ _ _ _. Unit {0} };
 
     fn expect(&mut self, names: &[Name]) {
         for name in names {
@@ -273,5 +273,5 @@ impl Sources for HintedSources {
         Err(FileFault::Failed(Reason::Missing))
     }
 
-    fn tell(&mut self, _name: &[u8], _reason: Reason) {}
+    fn report(&mut self, _name: &[u8], _reason: Reason) {}
 }

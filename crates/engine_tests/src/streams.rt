@@ -135,7 +135,7 @@ fn ended<R: Threads + Wait + Sync + AllocGlobal + Runtime>(
 }
 
 #[test]
-fn each_read_that_fails_is_told(rt: HostRuntime) {
+fn each_read_that_fails_is_reported(rt: HostRuntime) {
     for engine in ENGINES {
         let text = input(engine);
         for fails_at in 0..(text.len() as u64).saturating_add(1) {

@@ -38,36 +38,36 @@ fn summed<R: AllocGlobal + Runtime>(
         &mut writer,
         &mut work,
     );
-    let AbcSources { calls, told, .. } = sources;
+    let AbcSources { calls, reported, .. } = sources;
     let ByteWriter { taken, .. } = writer;
-    Ok((ended, taken, calls, told))
+    Ok((ended, taken, calls, reported))
 }
 
 const LINE: &[u8] = b"6437b3ac38465133ffb63b75273a8db548c558465d79db03fd359c6cd5bd9d85  abc\n";
 
 #[test]
 fn names_are_answered_in_order(rt: HostRuntime) -> Result<(), Fail> {
-    let (ended, text, calls, told) = summed(&rt, &["x", "abc", "y", "abc"], None, u64::MAX)?;
+    let (ended, text, calls, reported) = summed(&rt, &["x", "abc", "y", "abc"], None, u64::MAX)?;
     assert_eq!(rt; (ended, calls), (Ok(Verdict::Refused), 4));
     let mut wanted = Vec::from_slice(rt.alloc(), LINE)?;
     wanted.extend_from_slice(LINE)?;
     assert!(rt; text.as_slice() == wanted.as_slice());
     let faults: &[u8] = b"xno such fileyno such file";
-    assert!(rt; told.as_slice() == faults);
+    assert!(rt; reported.as_slice() == faults);
     Ok(())
 }
 
 #[test]
 fn a_length_leaves_names_out(rt: HostRuntime) -> Result<(), Fail> {
-    let (ended, text, _calls, told) = summed(&rt, &["abc", "abc"], Some(4), u64::MAX)?;
+    let (ended, text, _calls, reported) = summed(&rt, &["abc", "abc"], Some(4), u64::MAX)?;
     assert_eq!(rt; ended, Ok(Verdict::Good));
     let wanted: &[u8] = b"6437b3ac\n6437b3ac\n";
-    assert!(rt; text.as_slice() == wanted && told.is_empty());
+    assert!(rt; text.as_slice() == wanted && reported.is_empty());
     Ok(())
 }
 
 #[test]
-fn names_are_told_before_they_are_asked_for(rt: HostRuntime) -> Result<(), Fail> {
+fn names_are_reported_before_they_are_asked_for(rt: HostRuntime) -> Result<(), Fail> {
     let alloc = rt.alloc();
     let names = names(alloc, &["x", "abc", "-"])?;
     let mut sources = HintedSources::new(alloc);
@@ -89,9 +89,9 @@ fn names_are_told_before_they_are_asked_for(rt: HostRuntime) -> Result<(), Fail>
 
 #[test]
 fn sources_without_memory_end_it(rt: HostRuntime) -> Result<(), Fail> {
-    let (ended, text, calls, told) = summed(&rt, &["abc", "full", "abc"], None, u64::MAX)?;
+    let (ended, text, calls, reported) = summed(&rt, &["abc", "full", "abc"], None, u64::MAX)?;
     assert_eq!(rt; (ended, calls), (Err(Cause::OutOfMemory), 2));
-    assert!(rt; text.as_slice() == LINE && told.is_empty());
+    assert!(rt; text.as_slice() == LINE && reported.is_empty());
     Ok(())
 }
 
@@ -99,7 +99,7 @@ fn sources_without_memory_end_it(rt: HostRuntime) -> Result<(), Fail> {
 #[test]
 fn a_failed_write_ends_it(rt: HostRuntime) -> Result<(), Fail> {
     for fails_at in 0..142u64 {
-        let (ended, text, calls, _told) = summed(&rt, &["abc", "abc", "abc"], None, fails_at)?;
+        let (ended, text, calls, _reported) = summed(&rt, &["abc", "abc", "abc"], None, fails_at)?;
         let wanted = if fails_at < 71 { 1u64 } else { 2 };
         assert_eq!(rt; (ended, calls), (Err(Cause::CannotWrite), wanted));
         assert!(rt; text.len() as u64 <= fails_at);

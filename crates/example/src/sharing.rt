@@ -28,7 +28,7 @@ pub fn back_up_shared<T: Threads + Wait + Sync + Runtime>(
     alloc: Global,
     bytes: &[u8],
 ) -> Result<(Address, Accepted)>
-    ensures { IfOk result (λ told. (told.0 ≡ hash_of bytes.now) × (told.1.bytes ≡ length bytes.now)) }
+    ensures { IfOk result (λ reported. (reported.0 ≡ hash_of bytes.now) × (reported.1.bytes ≡ length bytes.now)) }
 {
     let (of_bytes, of_calls) = (Blank::new(ALL_PARTS), Blank::new(ALL_PARTS));
     let history = UnnamedHistory::new(alloc)?;
@@ -47,7 +47,7 @@ fn back_up_counted<L: Ledgers, T: Threads + Wait + Sync + Runtime>(
     requires bytes { (of_bytes.name ≡ L.bytes_name) × (of_bytes.parts ≡ L.bytes_parts) × (of_bytes.parts ≡ all_parts) }
     requires calls { (of_calls.name ≡ L.calls_name) × (of_calls.parts ≡ L.calls_parts) × (of_calls.parts ≡ all_parts) }
     requires history { history ≡ L.history }
-    ensures { IfOk result (λ told. (told.0 ≡ hash_of bytes.now) × (told.1.bytes ≡ length bytes.now)) }
+    ensures { IfOk result (λ reported. (reported.0 ≡ hash_of bytes.now) × (reported.1.bytes ≡ length bytes.now)) }
 {
     let (shared, share) = Shared::<L>::new(alloc, Limits::full(), of_bytes, of_calls, history);
     let tenant = lent_open_tenant(&mut *shared.lock(threads), 1 << 40)?;

@@ -243,35 +243,35 @@ module _ {O : Type 0} (size : O → ℕ) (address : O → List ℕ) where
   -- ---- what is told of them
 
   -- the address and the length of what is filed there
-  abbrev pub told : Option (List ℕ × Filed O) → List ℕ × ℕ
-  told f = option_map_or (λ f. (address f.1.content, size f.1.content)) f ([], 0)
+  abbrev pub reported : Option (List ℕ × Filed O) → List ℕ × ℕ
+  reported f = option_map_or (λ f. (address f.1.content, size f.1.content)) f ([], 0)
 
   -- what is told of the filings of a row
-  abbrev pub told_of : (BTreeMap ℕ (List ℕ × Filed O)) → List (ℕ × ℕ) → List (List ℕ × ℕ)
-  told_of m ps = map (λ p. told (get nat_cmp m p.1)) ps
+  abbrev pub reported_of : (BTreeMap ℕ (List ℕ × Filed O)) → List (ℕ × ℕ) → List (List ℕ × ℕ)
+  reported_of m ps = map (λ p. reported (get nat_cmp m p.1)) ps
 
-  told_row : (m : (BTreeMap ℕ (List ℕ × Filed O))) (ps : List (ℕ × ℕ)) → told_of m ps ≡ map (λ n. told (get nat_cmp m n)) (map (λ p. p.1) ps)
-  told_row m [] = refl
-  told_row m (p ∷ ps) = ap (λ xs. told (get nat_cmp m p.1) ∷ xs) (told_row m ps)
+  reported_row : (m : (BTreeMap ℕ (List ℕ × Filed O))) (ps : List (ℕ × ℕ)) → reported_of m ps ≡ map (λ n. reported (get nat_cmp m n)) (map (λ p. p.1) ps)
+  reported_row m [] = refl
+  reported_row m (p ∷ ps) = ap (λ xs. reported (get nat_cmp m p.1) ∷ xs) (reported_row m ps)
 
   copied_entries : (t : ℕ) (m : (BTreeMap ℕ (List ℕ × Filed O))) (es : List (ℕ × (List ℕ × Filed O))) → AllByRecursion (λ e. get nat_cmp m e.0 ≡ Some e.1) es
-      → map (λ n. told (get nat_cmp m n)) (filter (λ n. is_holding t (get nat_cmp m n)) (keys_of es)) ≡ listed size address t (shown es)
+      → map (λ n. reported (get nat_cmp m n)) (filter (λ n. is_holding t (get nat_cmp m n)) (keys_of es)) ≡ listed size address t (shown es)
   copied_entries t m [] h = refl
   copied_entries t m (e ∷ es) h =
       ap (λ (b : Bool). map f (cond b (e.0 ∷ ns) ns)) (ap (is_holding t) h.0)
-      ∙ listed_step (is_held_by t e.1.1) (told (Some e.1)) e.1.1 (filter (is_held_by t) (shown es)) e.0 ns f (λ o. (address o.content, size o.content)) (ap told h.0) (copied_entries t m es h.1)
+      ∙ listed_step (is_held_by t e.1.1) (reported (Some e.1)) e.1.1 (filter (is_held_by t) (shown es)) e.0 ns f (λ o. (address o.content, size o.content)) (ap reported h.0) (copied_entries t m es h.1)
     where
       f : ℕ → List ℕ × ℕ
-      f n = told (get nat_cmp m n)
+      f n = reported (get nat_cmp m n)
 
       ns : List ℕ
       ns = filter (λ n. is_holding t (get nat_cmp m n)) (keys_of es)
 
   -- the row of a tenant tells what it holds
-  pub row_told : (k t : ℕ) (m : (BTreeMap ℕ (List ℕ × Filed O))) (h : Held) (ps : List (ℕ × ℕ)) → IsOrdered nat_cmp m → ((n : ℕ) (f : (List ℕ × Filed O)) → get nat_cmp m n ≡ Some f → n < k) → AreHoldings m h → ps ≡ filter (range_contains pair_cmp (Included (t, 0)) (Excluded (t, k))) h.keys
-      → (told_of m ps ≡ listed size address t (shown m.entries)) × AreThere m ps
-  row_told k t m h ps ordered before are is =
+  pub row_reported : (k t : ℕ) (m : (BTreeMap ℕ (List ℕ × Filed O))) (h : Held) (ps : List (ℕ × ℕ)) → IsOrdered nat_cmp m → ((n : ℕ) (f : (List ℕ × Filed O)) → get nat_cmp m n ≡ Some f → n < k) → AreHoldings m h → ps ≡ filter (range_contains pair_cmp (Included (t, 0)) (Excluded (t, k))) h.keys
+      → (reported_of m ps ≡ listed size address t (shown m.entries)) × AreThere m ps
+  row_reported k t m h ps ordered before are is =
       let numbers : map (λ p. p.1) ps ≡ kept t m = ap (map (λ (p : ℕ × ℕ). p.1)) is ∙ row_is k t m h ordered before are in (
-        told_row m ps ∙ ap (map (λ (n : ℕ). told (get nat_cmp m n))) numbers ∙ copied_entries t m m.entries (all_found m ordered),
+        reported_row m ps ∙ ap (map (λ (n : ℕ). reported (get nat_cmp m n))) numbers ∙ copied_entries t m m.entries (all_found m ordered),
         subst (AllByRecursion (λ n. IsSome (get nat_cmp m n))) (sym numbers) (all_some t m (keys_of m.entries)),
       )

@@ -129,8 +129,8 @@ module _ {O : Type 0} (m n : (BTreeMap ℕ (List ℕ × Filed O))) (h g : Held) 
         (λ u apart. has_with t u o.holders ∙ rw (ne_eqb t u apart) (sym (ap (is_holding u) found))) are
 
     pub holdings_without : has t (without_holder t o.holders) ≡ false → Changes t k false h g → ((q : ℕ) → get nat_cmp n q ≡ cond (is_at (nat_cmp k) q) (Some (a, record o { holders = without_holder t o.holders })) (get nat_cmp m q)) → AreHoldings n g
-    holdings_without gone changes objects =
-        holdings_after m n h g t k false (Some (a, record o { holders = without_holder t o.holders })) ordered changes objects gone
+    holdings_without freed changes objects =
+        holdings_after m n h g t k false (Some (a, record o { holders = without_holder t o.holders })) ordered changes objects freed
         (λ u apart. other_without t u o.holders apart ∙ sym (ap (is_holding u) found)) are
 
     pub holdings_less : nat_le (length o.holders) 1 ≡ true → has t o.holders ≡ true → Changes t k false h g → ((q : ℕ) → get nat_cmp n q ≡ cond (is_at (nat_cmp k) q) None (get nat_cmp m q)) → AreHoldings n g

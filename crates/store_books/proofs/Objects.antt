@@ -30,8 +30,8 @@ has_own t hs = has_with t t hs ∙ rw (eq-eqb t t refl) refl
 has_other : (t q : ℕ) (hs : List ℕ) → (t ≡ q → ⊥) → has q (with_holder t hs) ≡ has q hs
 has_other t q hs apart = has_with t q hs ∙ rw (ne_eqb t q apart) refl
 
-gone_own : (t : ℕ) (hs : List ℕ) → IsRisingFrom 0 hs → has t (without_holder t hs) ≡ false
-gone_own t hs rising = has_without t t 0 hs rising ∙ rw (eq-eqb t t refl) (none_of (has t hs))
+freed_own : (t : ℕ) (hs : List ℕ) → IsRisingFrom 0 hs → has t (without_holder t hs) ≡ false
+freed_own t hs rising = has_without t t 0 hs rising ∙ rw (eq-eqb t t refl) (none_of (has t hs))
   where
     none_of : (x : Bool) → (x && not true) ≡ false
     none_of true = refl
@@ -92,8 +92,8 @@ module _ {P O : Type 0} (len : P → ℕ) (size : O → ℕ) (address : O → Li
   files b number content u found sound room ready absent long =
       let was = found_among len size address b number u found sound in
       let there = was.0 in
-      let gone = goes len size address b number u found sound room in
-      let m = gone.moves in
+      let freed = goes len size address b number u found sound room in
+      let m = freed.moves in
       let o : Filed O = record { content = content; holders = u.tenant ∷ [] } in
       let whole = whole_is len u.upload was.1 ready in
       let within = sound.within u.tenant there in
@@ -123,12 +123,12 @@ module _ {P O : Type 0} (len : P → ℕ) (size : O → ℕ) (address : O → Li
           sorted = m.sorted;
           objects = all_push (IsFiledAmong (length b.limits)) b.objects o sound.objects (record { tenants = (there, tt); rising = (omega arith, tt) });
           apart = apart_filed address b.objects o sound.apart absent;
-          stored = omega (arith, bytes, long, gone.held, whole.held);
+          stored = omega (arith, bytes, long, freed.held, whole.held);
           parts = m.parts;
         };
         bytes = omega (arith, bytes, long);
-        held = gone.held;
-        parts = gone.parts;
+        held = freed.held;
+        parts = freed.parts;
       }
 
   -- ---- a complete upload's tenant joins
@@ -155,8 +155,8 @@ module _ {P O : Type 0} (len : P → ℕ) (size : O → ℕ) (address : O → Li
   joins b number at u o found known sound room over =
       let was = found_among len size address b number u found sound in
       let there = was.0 in
-      let gone = goes len size address b number u found sound room in
-      let m = gone.moves in
+      let freed = goes len size address b number u found sound room in
+      let m = freed.moves in
       let t = u.tenant in
       let holders = with_holder t o.holders in
       let filed = object_found address (IsFiledAmong (length b.limits)) b.objects at o known sound.objects in
@@ -190,12 +190,12 @@ module _ {P O : Type 0} (len : P → ℕ) (size : O → ℕ) (address : O → Li
           sorted = m.sorted;
           objects = all_with address (IsFiledAmong (length b.limits)) b.objects at o holders known sound.objects (record { tenants = below_with (length b.limits) t o.holders there filed.tenants; rising = rising_with 0 t o.holders (omega arith) filed.rising });
           apart = apart_with address b.objects at o holders known sound.apart;
-          stored = omega (arith, bytes, same, gone.held);
+          stored = omega (arith, bytes, same, freed.held);
           parts = m.parts;
         };
         bytes = omega (arith, bytes, same);
-        held = gone.held;
-        parts = gone.parts;
+        held = freed.held;
+        parts = freed.parts;
       }
 
   -- ---- a tenant holds an object no longer
@@ -207,9 +207,9 @@ module _ {P O : Type 0} (len : P → ℕ) (size : O → ℕ) (address : O → Li
   bytes_left : (t : ℕ) (o : Filed O) → is_held_by t o ≡ true → weight (λ x. size x.content) o (without_holder t o.holders) + where_so (nat_le (length o.holders) 1) (size o.content) ≡ size o.content
   bytes_left t o held = elim (cases_Bool (nat_le (length o.holders) 1)) [
     | inl alone ↦
-        let gone = ap (weight (λ (x : Filed O). size x.content) o) (alone_without t o.holders alone held) in
+        let freed = ap (weight (λ (x : Filed O). size x.content) o) (alone_without t o.holders alone held) in
         let all : where_so (nat_le (length o.holders) 1) (size o.content) ≡ size o.content = rw alone refl in
-        omega (arith, gone, all)
+        omega (arith, freed, all)
     | inr several ↦
         let stays = weight_some (λ (x : Filed O). size x.content) o (without_holder t o.holders) (several_without t o.holders several) in
         let none : where_so (nat_le (length o.holders) 1) (size o.content) ≡ 0 = rw several refl in
@@ -223,7 +223,7 @@ module _ {P O : Type 0} (len : P → ℕ) (size : O → ℕ) (address : O → Li
       let within = sound.within t there in
       let uses = sum_with address (use_by size t) b.objects at o holders known in
       let mine : use_by size t o ≡ size o.content = rw held refl in
-      let now = weight_use size t o holders ∙ ap (λ (x : Bool). where_so x (size o.content)) (gone_own t o.holders filed.rising) in
+      let now = weight_use size t o holders ∙ ap (λ (x : Bool). where_so x (size o.content)) (freed_own t o.holders filed.rising) in
       let bytes = sum_with address (λ (x : Filed O). size x.content) b.objects at o holders known in
       let left = bytes_left t o held in
       record {

@@ -86,11 +86,11 @@ or_and_not false b c apart = refl
 
 without_step : (t h n : ℕ) (hs less : List ℕ) (same : Bool) → (t == h) ≡ same → IsRisingFrom (h + 1) hs → has n less ≡ (has n hs && not (t == n))
     → has n (either same hs (h ∷ less)) ≡ (((h == n) || has n hs) && not (t == n))
-without_step t h n hs less true is rising rest = rw (eqb-true t h is) (gone (h == n) refl)
+without_step t h n hs less true is rising rest = rw (eqb-true t h is) (freed (h == n) refl)
   where
-    gone : (b : Bool) → (h == n) ≡ b → has n hs ≡ ((b || has n hs) && not b)
-    gone true e = let lt : n < h + 1 = omega (arith, eqb-true h n e) in and_not_self true (has n hs) (not_below n (h + 1) hs lt rising)
-    gone false e = stays (has n hs)
+    freed : (b : Bool) → (h == n) ≡ b → has n hs ≡ ((b || has n hs) && not b)
+    freed true e = let lt : n < h + 1 = omega (arith, eqb-true h n e) in and_not_self true (has n hs) (not_below n (h + 1) hs lt rising)
+    freed false e = stays (has n hs)
       where
         stays : (b : Bool) → b ≡ (b && true)
         stays true = refl

@@ -176,7 +176,7 @@ impl<O: Content, I: AddressIndex> Catalog<O, I> {
         requires held { (o : Item O) → object_among O.address self.old.objects address ≡ Some o → (is_held_by tenant o ≡ true) × (is_alone ≡ nat_le (length o.holders) 1) }
         ensures left { (o : Item O) → object_among O.address self.old.objects address ≡ Some o
             → self.new ≡ record self.old { objects = with_holders O.address self.old.objects address o (without_holder tenant o.holders) } }
-        ensures gone { (o : Item O) → object_among O.address self.old.objects address ≡ Some o → result ≡ (if is_alone then Some o.content else None) }
+        ensures freed { (o : Item O) → object_among O.address self.old.objects address ≡ Some o → result ≡ (if is_alone then Some o.content else None) }
     {
         let Some(number) = self.numbers.get(address) else {
             unreachable!();
@@ -214,7 +214,7 @@ fn add_at<O: Content>(
 fn leave_at<O: Content>(filed: &mut BTreeMap<u64, FiledObject<O>>, number: u64, tenant: u64)
     requires { IsSome (get nat_cmp filed.old number) }
     ensures left { (f : List ℕ × Item O) → get nat_cmp filed.old number ≡ Some f → WritesThrough nat_cmp (nat_cmp number) filed.old (f.0, record f.1 { holders = without_holder tenant f.1.holders }) filed.new }
-    ensures gone { (f : List ℕ × Item O) → get nat_cmp filed.old number ≡ Some f → is_held_by tenant (record f.1 { holders = without_holder tenant f.1.holders }) ≡ false }
+    ensures freed { (f : List ℕ × Item O) → get nat_cmp filed.old number ≡ Some f → is_held_by tenant (record f.1 { holders = without_holder tenant f.1.holders }) ≡ false }
 {
     match filed.get_mut(&number) {
         Some(found) => found.leave(tenant),

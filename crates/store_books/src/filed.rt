@@ -100,7 +100,7 @@ impl<O: Content> FiledObject<O> {
     /// Removes a holder.
     pub(crate) fn leave(&mut self, tenant: u64)
         ensures holders { self.new ≡ (self.old.0, record self.old.1 { holders = without_holder tenant self.old.1.holders }) }
-        ensures gone { is_held_by_in tenant (record self.old.1 { holders = without_holder tenant self.old.1.holders }) ≡ false }
+        ensures freed { is_held_by_in tenant (record self.old.1 { holders = without_holder tenant self.old.1.holders }) ≡ false }
     {
         holders::leave(&mut self.holders, tenant);
     }

@@ -36,6 +36,6 @@ pub(crate) fn leave(holders: &mut Vec<u64>, tenant: u64)
     ensures { holders.new.items ≡ without_holder tenant holders.old.items }
 {
     if let Ok(at) = holders.as_slice().binary_search(&tenant) {
-        let _gone = holders.remove(at);
+        let _removed = holders.remove(at);
     }
 }

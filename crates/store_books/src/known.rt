@@ -29,7 +29,7 @@ impl Known {
     }
 
     /// The bytes that are freed when the tenant stops holding the object.
-    pub(crate) fn gone(&self) -> u64
+    pub(crate) fn freed(&self) -> u64
         ensures { result ≡ (if self.now.is_alone then self.now.size else 0) }
     {
         if self.is_alone { self.size } else { 0 }

@@ -62,29 +62,29 @@ memory a words e shape fails is = go (subst (λ ks. HasKind ks e) (ap (λ (b : A
     go (inr h) = absurd h
 
 -- what is told where a parse fails
-pub told_at : (a : App) (words : List Text) (e : Error) (fault : Fault) → a ≡ command_line → (is_simple_and_free a ≡ true → HasKind (fault_of a words) e)
+pub reported_at : (a : App) (words : List Text) (e : Error) (fault : Fault) → a ≡ command_line → (is_simple_and_free a ≡ true → HasKind (fault_of a words) e)
     → (kind_of e ≡ kinds.OutOfMemory → fault ≡ NoMemory) → ReportsKind (kind_of e) fault → IsFaultAt words fault
 unfolding AsksVersion MayAskVersion
-told_at a words e fault shape fails short tells = go fault (subst (λ ks. HasKind ks e) (ap (λ (b : App). fault_of b words) shape) (fails (ap is_simple_and_free shape))) short tells
+reported_at a words e fault shape fails short reports = go fault (subst (λ ks. HasKind ks e) (ap (λ (b : App). fault_of b words) shape) (fails (ap is_simple_and_free shape))) short reports
   where
     go : (f : Fault) → HasKind (fault_of command_line words) e → (kind_of e ≡ kinds.OutOfMemory → f ≡ NoMemory) → ReportsKind (kind_of e) f → IsFaultAt words f
-    go (Version t) (inl h) short tells = absurd (cc)
-    go (Version t) (inr h) short tells = subst (λ k. IsAmong k (fault_of command_line words)) tells h
-    go (Usage t) (inl h) short tells = absurd (let is = short h in cc)
-    go (Usage t) (inr h) short tells = λ asks. none (subst (IsAmong (kind_of e)) asks h)
+    go (Version t) (inl h) short reports = absurd (cc)
+    go (Version t) (inr h) short reports = subst (λ k. IsAmong k (fault_of command_line words)) reports h
+    go (Usage t) (inl h) short reports = absurd (let is = short h in cc)
+    go (Usage t) (inr h) short reports = λ asks. none (subst (IsAmong (kind_of e)) asks h)
       where
         none : IsAmong (kind_of e) (kinds.DisplayVersion ∷ []) → ⊥
-        none (inl is) = tells is
+        none (inl is) = reports is
         none (inr impossible) = impossible
-    go NoMemory h short tells = tt
+    go NoMemory h short reports = tt
 
 -- what is told where it doesn't
-pub told_by : {T : Type 0} (r : Result T Fault) (words : List Text) → IsTaken words → IfErr r IsNoVersion → IfErr r (IsFaultAt words)
+pub reported_by : {T : Type 0} (r : Result T Fault) (words : List Text) → IsTaken words → IfErr r IsNoVersion → IfErr r (IsFaultAt words)
 unfolding IsTaken AsksVersion MayAskVersion
-told_by (Ok x) words is tells = tt
-told_by (Err (Version t)) words is tells = absurd tells
-told_by (Err (Usage t)) words is tells = λ asks. cc
-told_by (Err NoMemory) words is tells = tt
+reported_by (Ok x) words is reports = tt
+reported_by (Err (Version t)) words is reports = absurd reports
+reported_by (Err (Usage t)) words is reports = λ asks. cc
+reported_by (Err NoMemory) words is reports = tt
 
 -- what follows of the number that is spelled, where one is given
 pub spelled_or : (most other n : ℕ) (o : Option Text) (P : Type 0) → SpellsOr other o n → IsWithin most n → ((m : Option ℕ) → SaysNumber o m → IfSome m (IsWithin most) → P) → P

@@ -49,7 +49,7 @@ const DEFAULT_SESSIONS: u32 = 16;
 const MAX_OUTPUT_LEN: u32 = 65536;
 
 // The text of a usage fault, if there was memory for it.
-fn told(text: Result<String, AllocError>) -> Fault
+fn reported(text: Result<String, AllocError>) -> Fault
     ensures usage { IfOk text (λ t. result ≡ Usage t) }
     ensures memory { IsErr text → result ≡ NoMemory }
     ensures no_version { IsNoVersion result }
@@ -80,13 +80,13 @@ fn fault_of<S: AsStr>(alloc: Global, error: &Error, words: &[S]) -> Fault
 {
     match error.kind() {
         ErrorKind::OutOfMemory => Fault::NoMemory,
-        ErrorKind::DisplayVersion => version_told(error.to_string(alloc)),
-        _ => told(error_text(alloc, error, words)),
+        ErrorKind::DisplayVersion => version_reported(error.to_string(alloc)),
+        _ => reported(error_text(alloc, error, words)),
     }
 }
 
 // The text of the version, if there was memory for it.
-fn version_told(text: Result<String, AllocError>) -> Fault
+fn version_reported(text: Result<String, AllocError>) -> Fault
     ensures { IsNoUsage result }
 {
     match text {
@@ -99,7 +99,7 @@ fn version_told(text: Result<String, AllocError>) -> Fault
 fn usage(alloc: Global, subcommand: &str, wrong: &str) -> Fault
     ensures { IsNoVersion result }
 {
-    told(format!(in alloc; "b3store: {wrong}; see b3store {subcommand} --help\n"))
+    reported(format!(in alloc; "b3store: {wrong}; see b3store {subcommand} --help\n"))
 }
 
 fn help_text(alloc: Global) -> Result<String, AllocError> {
@@ -455,7 +455,7 @@ fn options_of<'a>(alloc: Global, matches: &ArgMatches<'a>) -> Result<Options<'a>
         Some(("check", found)) => Ok(Options::Check(check_options(alloc, found)?)),
         Some(("audit", _)) => Ok(Options::Audit),
         Some(("migrate", _)) => Ok(Options::Migrate),
-        _ => Err(told(help_text(alloc))),
+        _ => Err(reported(help_text(alloc))),
     }
 }
 

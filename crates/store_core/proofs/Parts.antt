@@ -26,7 +26,7 @@ pub is_for_plan : (s : ModelStore) (number : ℕ) (p : ModelPrepared) → part_r
 is_for_plan s number p free = by (upload_at s number) refl
   where
     by : (found : Option ModelUpload) → upload_at s number ≡ found → IsForPlan s number p
-    by None is = let gone : part_refused s number p ≡ Some NoUpload = rw is refl in absurd (not_some NoUpload (sym free ∙ gone))
+    by None is = let removed : part_refused s number p ≡ Some NoUpload = rw is refl in absurd (not_some NoUpload (sym free ∙ removed))
     by (Some u) is = elim (cases_Bool (same_plan p.plan u.upload.plan)) [
       | inr other ↦ let wrong : part_refused s number p ≡ Some WrongPlan = rw (is, other) refl in absurd (not_some WrongPlan (sym free ∙ wrong))
       | inl same ↦ record { upload = u; found = is; same = same; free = sym (for_plan s number p u is same) ∙ free }

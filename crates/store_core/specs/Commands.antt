@@ -62,8 +62,8 @@ as_is reply = reply
 
 -- a question's answer, as viewed, is the model's; or it ran out of memory
 abbrev pub AnswersAs : {R M : Type 0} → (R → M) → Result M Refusal → Result R Refusal → Type 0
-AnswersAs seen (Ok told) (Ok reply) = seen reply ≡ told
-AnswersAs seen (Ok told) (Err refusal) = refusal ≡ NoMemory
+AnswersAs seen (Ok reported) (Ok reply) = seen reply ≡ reported
+AnswersAs seen (Ok reported) (Err refusal) = refusal ≡ NoMemory
 AnswersAs seen (Err first) (Err refusal) = refusal ≡ first
 AnswersAs seen (Err first) (Ok reply) = ⊥
 
@@ -189,12 +189,12 @@ abbrev pub seal_as_in : ModelStore → ℕ → List ℕ → Result (Acceptance M
 seal_as_in s number address = and_then (ready_refusal length s number) (and_then (address_refused s number address) (filed_in s number))
 
 -- what is removed with its last holder: its bytes
-abbrev pub gone_in : ModelStore → List ℕ → Option (List ℕ)
-gone_in s address = option_map_or (λ o. if nat_le (length o.holders) 1 then Some o.content else None) (object_at hash_of s address) None
+abbrev pub removed_in : ModelStore → List ℕ → Option (List ℕ)
+removed_in s address = option_map_or (λ o. if nat_le (length o.holders) 1 then Some o.content else None) (object_at hash_of s address) None
 
 abbrev pub forget_in : ModelStore → ℕ → List ℕ → Result (Acceptance (Option (List ℕ))) Refusal
 forget_in s tenant address = unless (forget_refusal hash_of s tenant address) (record {
-  reply = gone_in s address;
+  reply = removed_in s address;
   state = with_forgotten hash_of s tenant address;
   entry = entry.Forget tenant address;
 })

@@ -48,9 +48,9 @@ replied reply (Ok a) = Ok (record { reply = reply a.reply; state = a.state; entr
 replied reply (Err refusal) = Err refusal
 
 -- an answer as a Reply
-abbrev pub told : {M : Type 0} → (M → Reply) → Result M Refusal → Result Reply Refusal
-told reply (Ok answer) = Ok (reply answer)
-told reply (Err refusal) = Err refusal
+abbrev pub as_reply : {M : Type 0} → (M → Reply) → Result M Refusal → Result Reply Refusal
+as_reply reply (Ok answer) = Ok (reply answer)
+as_reply reply (Err refusal) = Err refusal
 
 -- a given part fits the plan that it was made for
 abbrev pub FitsItsPlan : ModelPrepared → Type 0
@@ -58,12 +58,12 @@ FitsItsPlan p = Fits p.plan p.part.offset (length p.part.bytes)
 
 -- The answer to a question; if it allocates, it may run out of memory.
 abbrev pub Answers : Shown → Question → Result Reply Refusal → Type 0
-Answers shown (questions.Fetch tenant address) reply = AnswersAs as_is (told the_bytes (fetch_in shown.state tenant address)) reply
-Answers shown (questions.Usage tenant) reply = reply ≡ told the_usage (usage_in length shown.state tenant)
-Answers shown (questions.Plan upload) reply = reply ≡ told the_plan (plan_in shown.state upload)
-Answers shown (questions.List tenant) reply = AnswersAs as_is (told the_list (list_in shown.state tenant)) reply
-Answers shown (questions.Holds tenant address) reply = reply ≡ told the_length (holds_in shown.state tenant address)
-Answers shown (questions.Uploads tenant) reply = AnswersAs as_is (told the_uploads (uploads_in shown.state tenant)) reply
+Answers shown (questions.Fetch tenant address) reply = AnswersAs as_is (as_reply the_bytes (fetch_in shown.state tenant address)) reply
+Answers shown (questions.Usage tenant) reply = reply ≡ as_reply the_usage (usage_in length shown.state tenant)
+Answers shown (questions.Plan upload) reply = reply ≡ as_reply the_plan (plan_in shown.state upload)
+Answers shown (questions.List tenant) reply = AnswersAs as_is (as_reply the_list (list_in shown.state tenant)) reply
+Answers shown (questions.Holds tenant address) reply = reply ≡ as_reply the_length (holds_in shown.state tenant address)
+Answers shown (questions.Uploads tenant) reply = AnswersAs as_is (as_reply the_uploads (uploads_in shown.state tenant)) reply
 Answers shown questions.Tenants reply = AnswersAs as_is (Ok (the_tenants (tenants_in shown.state))) reply
 Answers shown questions.Totals reply = reply ≡ Ok (the_totals (totals_of length length shown.state))
 Answers shown questions.Journal reply = reply ≡ Ok (the_journal shown.journal)

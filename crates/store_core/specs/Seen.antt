@@ -14,8 +14,8 @@ abbrev pub sealed_seen : Sealed → ModelSealed
 sealed_seen s = record { address = s.address; new = s.new; bytes = arc_value s.object; released = s.released }
 
 -- a forget's reply, with the object as its bytes
-abbrev pub gone_seen : {Z : Type 0} → Option (Arc (List ℕ) Z) → Option (List ℕ)
-gone_seen gone = option_map (λ object. arc_value object) gone
+abbrev pub removed_bytes : {Z : Type 0} → Option (Arc (List ℕ) Z) → Option (List ℕ)
+removed_bytes removed = option_map (λ object. arc_value object) removed
 
 -- the reply of a store with this view; the journal stays in the store
 abbrev pub reply_of : Shown → CodeReply → Reply
@@ -25,7 +25,7 @@ reply_of shown (replies.Held held) = now_held held
 reply_of shown (replies.Sealed sealed) = now_sealed (sealed_seen sealed)
 reply_of shown replies.Done = done
 reply_of shown (replies.Object object) = the_bytes (arc_value object)
-reply_of shown (replies.Usage use_told) = the_usage use_told
+reply_of shown (replies.Usage use_reported) = the_usage use_reported
 reply_of shown (replies.Plan plan) = the_plan plan
 reply_of shown (replies.List objects) = the_list objects.items
 reply_of shown (replies.Length len) = the_length len

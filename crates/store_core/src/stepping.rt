@@ -117,7 +117,7 @@ fn abort(store: &mut Store, upload: UploadId) -> Result<Reply, Refusal>
 fn forget(store: &mut Store, tenant: TenantId, address: Address) -> Result<Reply, Refusal>
     ensures { Step store.old (change (commands.Forget tenant address)) (reply_seen (reply_of store.new) result) store.new }
 {
-    let _gone = store.forget(tenant, address)?;
+    let _removed = store.forget(tenant, address)?;
     Ok(Reply::Done)
 }
 

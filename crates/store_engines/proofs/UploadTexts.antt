@@ -11,7 +11,7 @@ use Rattle.store_books.specs.Commands.{holding_refusal}
 use Rattle.store_books.specs.Forgetting.{bare_object}
 use Rattle.store_books.proofs.Commands.{passed}
 use Rattle.store_books.proofs.Forgets.{object_same}
-use Rattle.store_core.specs.Carried.{told_of}
+use Rattle.store_core.specs.Carried.{replayed_of}
 use Rattle.store_core.specs.Commands.{Acceptance, StepsAs, AnswersAs, fetch_in, unless}
 use Rattle.store_core.specs.Model.{ModelObject, ModelStore, Shown}
 use Rattle.store_upload.proofs.Places.{not_some}
@@ -36,9 +36,9 @@ use Rattle.edge.specs.declared.options.UploadOptions.{UploadOptions}
 -- ---- a failed upload
 
 -- a refusal that was told, and is not want of memory, is some refusal
-pub told : (o : UploadOptions) (r : Result Verdict Cause) (kind : UploadFaultKind) (old new : Option (List ℕ)) → MayFail o kind → OnOk r (Appends old new (failed_text kind)) → (is_memory kind ≡ true → r ≡ Err OutOfMemory) → r ≡ Ok Refused
+pub reported : (o : UploadOptions) (r : Result Verdict Cause) (kind : UploadFaultKind) (old new : Option (List ℕ)) → MayFail o kind → OnOk r (Appends old new (failed_text kind)) → (is_memory kind ≡ true → r ≡ Err OutOfMemory) → r ≡ Ok Refused
     → SomeRefusal o old new
-told o r kind old new may wrote memory is = go (is_memory kind) refl
+reported o r kind old new may wrote memory is = go (is_memory kind) refl
   where
     go : (b : Bool) → is_memory kind ≡ b → SomeRefusal o old new
     go true e = let stopped = memory e in absurd (cc)
@@ -49,19 +49,19 @@ pub no_memory : (old new : Option (List ℕ)) → new ≡ old → WroteMemory ol
 no_memory old new same = (kinds.NoMemory, refl, subst (λ (a : Option (List ℕ)). WroteSome old a (failed_text kinds.NoMemory)) (sym same) (wrote_none old (failed_text kinds.NoMemory)))
 
 -- nothing else was told of a want of memory
-pub told_memory : (r : Result Verdict Cause) (kind : UploadFaultKind) (old new : Option (List ℕ)) → OnErr r (WroteSome old new (failed_text kind)) → (is_memory kind ≡ false → r ≡ Err OutOfMemory → new ≡ old) → r ≡ Err OutOfMemory
+pub reported_memory : (r : Result Verdict Cause) (kind : UploadFaultKind) (old new : Option (List ℕ)) → OnErr r (WroteSome old new (failed_text kind)) → (is_memory kind ≡ false → r ≡ Err OutOfMemory → new ≡ old) → r ≡ Err OutOfMemory
     → WroteMemory old new
-told_memory r kind old new wrote other is = go (is_memory kind) refl
+reported_memory r kind old new wrote other is = go (is_memory kind) refl
   where
     go : (b : Bool) → is_memory kind ≡ b → WroteMemory old new
     go true e = (kind, e, rw is at wrote)
     go false e = no_memory old new (other e is)
 
 -- of a refusal that is no want of memory a beginning went out
-pub told_some : (o : UploadOptions) (r : Result Verdict Cause) (kind : UploadFaultKind) (old new known : Option (List ℕ)) → MayFail o kind → OnErr r (WroteSome old new (failed_text kind)) → (is_memory kind ≡ true → r ≡ Err OutOfMemory) → r ≡ Err CannotWrite
+pub reported_some : (o : UploadOptions) (r : Result Verdict Cause) (kind : UploadFaultKind) (old new known : Option (List ℕ)) → MayFail o kind → OnErr r (WroteSome old new (failed_text kind)) → (is_memory kind ≡ true → r ≡ Err OutOfMemory) → r ≡ Err CannotWrite
     → IfSome known (λ input. WrotePrefix o input old new)
-told_some o r kind old new None may wrote memory is = tt
-told_some o r kind old new (Some input) may wrote memory is = go (is_memory kind) refl
+reported_some o r kind old new None may wrote memory is = tt
+reported_some o r kind old new (Some input) may wrote memory is = go (is_memory kind) refl
   where
     go : (b : Bool) → is_memory kind ≡ b → WrotePrefix o input old new
     go true e = let stopped = memory e in absurd (cc)
@@ -107,20 +107,20 @@ cut_may o kinds.StrangePart bad good stopped gate = (tt, λ b. let e = bad b in 
 -- what is told of a store whose upload was filed is a text of its input
 pub is_upload_text : (o : UploadOptions) (input text address : List ℕ) (share : Holding) (shown : Shown) → address ≡ hash_of input → share.bytes ≡ length input → share.calls ≡ length (cut_of input o.part_chunks)
     → IsUploadReport o.journal address share shown text → IsUploadText o input text
-is_upload_text o input text address share shown hash bytes calls told = record {
+is_upload_text o input text address share shown hash bytes calls reported = record {
   entries = shown.journal;
-  journal = record { left = told.left; legal = told.legal; filed = subst (λ (a : List ℕ). HasObject told.left a (length input)) hash (subst (HasObject told.left address) bytes told.filed); bytes = told.bytes ∙ bytes; calls = told.calls ∙ calls };
-  is = told.text_is ∙ ap (λ (a : List ℕ). uploaded_text o.journal a share.bytes share.calls shown.journal) hash
+  journal = record { left = reported.left; legal = reported.legal; filed = subst (λ (a : List ℕ). HasObject reported.left a (length input)) hash (subst (HasObject reported.left address) bytes reported.filed); bytes = reported.bytes ∙ bytes; calls = reported.calls ∙ calls };
+  is = reported.text_is ∙ ap (λ (a : List ℕ). uploaded_text o.journal a share.bytes share.calls shown.journal) hash
       ∙ ap₂ (λ (n m : ℕ). uploaded_text o.journal (hash_of input) n m shown.journal) bytes calls;
 }
 
 -- what is filed is left by the journal
-pub has_object : (s : ModelStore) (address : List ℕ) (n : ℕ) → IsFiled s address n → HasObject (told_of s) address n
+pub has_object : (s : ModelStore) (address : List ℕ) (n : ℕ) → IsFiled s address n → HasObject (replayed_of s) address n
 has_object s address n filed = (bare_object length hash_of filed.0, object_same length length hash_of s address ∙ ap (option_map (bare_object length hash_of)) filed.1, filed.2)
 
 -- what is fetched is filed
 pub fetched_is : {R : Type 0} (seen : R → List ℕ) (s : ModelStore) (tenant : ℕ) (address : List ℕ) (reply : R) (n : ℕ) → AnswersAs seen (fetch_in s tenant address) (Ok reply) → length (seen reply) ≡ n → IsFiled s address n
-fetched_is seen s tenant address reply n told long = by (holding_refusal hash_of s tenant address) refl told
+fetched_is seen s tenant address reply n reported long = by (holding_refusal hash_of s tenant address) refl reported
   where
     found : (known : Option ModelObject) → object_at hash_of s address ≡ known → option_map_or (λ (o : ModelObject). if is_held_by tenant o then None else Some NotHeld) known (Some NotHeld) ≡ None
         → seen reply ≡ option_map_or (λ (o : ModelObject). o.content) known [] → IsFiled s address n
@@ -128,8 +128,8 @@ fetched_is seen s tenant address reply n told long = by (holding_refusal hash_of
     found (Some o) is free same = (o, is, ap (λ (b : List ℕ). length b) (sym same) ∙ long)
 
     by : (refusal : Option Refusal) → holding_refusal hash_of s tenant address ≡ refusal → AnswersAs seen (unless refusal (option_map_or (λ (o : ModelObject). o.content) (object_at hash_of s address) [])) (Ok reply) → IsFiled s address n
-    by (Some refusal) is told = absurd told
-    by None is told = found (object_at hash_of s address) refl (passed (is_absent s tenant) NoTenant _ is).1 told
+    by (Some refusal) is reported = absurd reported
+    by None is reported = found (object_at hash_of s address) refl (passed (is_absent s tenant) NoTenant _ is).1 reported
 
 -- three texts in a row
 pub in_a_row : (a b c x y z : List ℕ) → a ≡ x → b ≡ y → c ≡ z → a ++ (b ++ (codes "\n" ++ c)) ≡ x ++ (y ++ (codes "\n" ++ z))

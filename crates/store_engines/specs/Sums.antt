@@ -52,15 +52,15 @@ RootAnswer = Result ModelTop Reason
 
 -- a name was asked for; if there is no root, the reason was reported
 abbrev pub IsRootAnswer : {S : Type 0} → (S → List ℕ → Result ModelTop FileFault → S → Type 0) → (S → List ℕ → Reason → S → Type 0) → S → List ℕ → RootAnswer → S → Type 0
-IsRootAnswer gives tells old name (Ok root) new = gives old name (Ok root) new
-IsRootAnswer {S} gives tells old name (Err reason) new = (mid : S) × gives old name (Err (Failed reason)) mid × tells mid name reason new
+IsRootAnswer gives reports old name (Ok root) new = gives old name (Ok root) new
+IsRootAnswer {S} gives reports old name (Err reason) new = (mid : S) × gives old name (Err (Failed reason)) mid × reports mid name reason new
 
 -- A chain of answers, one for each name, in order, each in the state that the one before left.
 abbrev pub AreRootAnswers : {S : Type 0} → (S → List ℕ → Result ModelTop FileFault → S → Type 0) → (S → List ℕ → Reason → S → Type 0) → S → List (List ℕ) → List RootAnswer → S → Type 0
-AreRootAnswers gives tells old [] [] new = new ≡ old
-AreRootAnswers {S} gives tells old (name ∷ names) (answer ∷ answers) new = (mid : S) × IsRootAnswer gives tells old name answer mid × AreRootAnswers gives tells mid names answers new
-AreRootAnswers gives tells old [] (answer ∷ answers) new = ⊥
-AreRootAnswers gives tells old (name ∷ names) [] new = ⊥
+AreRootAnswers gives reports old [] [] new = new ≡ old
+AreRootAnswers {S} gives reports old (name ∷ names) (answer ∷ answers) new = (mid : S) × IsRootAnswer gives reports old name answer mid × AreRootAnswers gives reports mid names answers new
+AreRootAnswers gives reports old [] (answer ∷ answers) new = ⊥
+AreRootAnswers gives reports old (name ∷ names) [] new = ⊥
 
 -- what is written for an answer: a line if there is a root, otherwise nothing
 abbrev pub root_answer_text : Option ℕ → List ℕ → RootAnswer → List ℕ
@@ -89,7 +89,7 @@ IsStoppedAt gives length CannotWrite old name new before after = (root : ModelTo
 IsStoppedAt gives length OutOfMemory old name new before after = (gives old name (Err NoMemory) new ⊎ ((root : ModelTop) × gives old name (Ok root) new)) × (after ≡ before)
 
 -- The names before the one at which it stopped were answered, and their texts were written.
-pub record IsSumStopped {S : Type 0} (gives : S → List ℕ → Result ModelTop FileFault → S → Type 0) (tells : S → List ℕ → Reason → S → Type 0) (length : Option ℕ) (old : S) (names : List (List ℕ)) (cause : Cause) (new : S) (before after : Option (List ℕ)) : Type 0 where
+pub record IsSumStopped {S : Type 0} (gives : S → List ℕ → Result ModelTop FileFault → S → Type 0) (reports : S → List ℕ → Reason → S → Type 0) (length : Option ℕ) (old : S) (names : List (List ℕ)) (cause : Cause) (new : S) (before after : Option (List ℕ)) : Type 0 where
   pub front : List (List ℕ)
   pub name : List ℕ
   pub back : List (List ℕ)
@@ -97,7 +97,7 @@ pub record IsSumStopped {S : Type 0} (gives : S → List ℕ → Result ModelTop
   pub mid : S
   pub grown : Option (List ℕ)
   pub all : front ++ name ∷ back ≡ names
-  pub answered : AreRootAnswers gives tells old front answers mid
+  pub answered : AreRootAnswers gives reports old front answers mid
   pub wrote : Appends before grown (root_answers_text length front answers)
   pub stopped : IsStoppedAt gives length cause mid name new grown after
 

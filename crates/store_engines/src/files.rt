@@ -322,26 +322,26 @@ impl<T: Threads + Runtime> Names for SystemFiles<'_, T> {
 pub struct SystemInputs<'a, T, I: Standing + Drop, E: Write + Drop> {
     files: SystemFiles<'a, T>,
     input: I,
-    told: E,
+    reported: E,
 }
 
 impl<'a, T, I: Standing + Drop, E: Write + Drop> SystemInputs<'a, T, I, E> {
-    /// These files and this input; messages are written to `told`.
-    pub fn new(files: SystemFiles<'a, T>, input: I, told: E) -> SystemInputs<'a, T, I, E>
+    /// These files and this input; messages are written to `reported`.
+    pub fn new(files: SystemFiles<'a, T>, input: I, reported: E) -> SystemInputs<'a, T, I, E>
         ensures { result.files ≡ files.entry }
     {
-        SystemInputs { files, input, told }
+        SystemInputs { files, input, reported }
     }
 }
 
 // Writes the reason in one line, with the literal name.
-fn write_reason<E: Write>(name: &[u8], reason: Reason, told: &mut E) -> io::Result<()> {
-    told.write_all(b"b3store: ")?;
-    told.write_all(name)?;
-    told.write_all(b": ")?;
-    told.write_all(reason.text().as_bytes())?;
-    told.write_all(b"\n")?;
-    told.flush()
+fn write_reason<E: Write>(name: &[u8], reason: Reason, reported: &mut E) -> io::Result<()> {
+    reported.write_all(b"b3store: ")?;
+    reported.write_all(name)?;
+    reported.write_all(b": ")?;
+    reported.write_all(reason.text().as_bytes())?;
+    reported.write_all(b"\n")?;
+    reported.flush()
 }
 
 impl<T: Threads + Runtime, I: Standing + Drop, E: Write + Drop> Sources
@@ -356,9 +356,9 @@ impl<T: Threads + Runtime, I: Standing + Drop, E: Write + Drop> Sources
     ghost gives = { λ old name answer new. IsRootOfSome old.files.mode answer
         × (name ≢ codes "-" → IsRootOfFile name answer × (new.input ≡ old.input))
         × (name ≡ codes "-" → OnOk answer (IsAtEnd (I.remaining new.input)) × (answer ≢ Err (Failed NotUtf8)) × IsRootOfLeft (I.remaining old.input) old.files.mode answer)
-        × (new.files.mode ≡ old.files.mode) × (new.told ≡ old.told) };
+        × (new.files.mode ≡ old.files.mode) × (new.reported ≡ old.reported) };
 
-    ghost tells = { λ old name reason new. (new.files ≡ old.files) × (new.input ≡ old.input) };
+    ghost reports = { λ old name reason new. (new.files ≡ old.files) × (new.input ≡ old.input) };
 
     fn expect(&mut self, names: &[Name]) {
         self.files.expect_names(names);
@@ -377,7 +377,7 @@ impl<T: Threads + Runtime, I: Standing + Drop, E: Write + Drop> Sources
     }
 
     /// A failed write is ignored.
-    fn tell(&mut self, name: &[u8], reason: Reason) {
-        let _ = write_reason(name, reason, &mut self.told);
+    fn report(&mut self, name: &[u8], reason: Reason) {
+        let _ = write_reason(name, reason, &mut self.reported);
     }
 }

@@ -57,7 +57,7 @@ pub trait Sources {
     ghost gives: { Self → List ℕ → Result ModelTop Refusal → Self → Type 0 };
 
     // Whether a call that reports why there is no root may leave the state after.
-    ghost tells: { Self → List ℕ → Cause → Self → Type 0 };
+    ghost reports: { Self → List ℕ → Cause → Self → Type 0 };
 
     /// Announces the following names, in their order, so that they can be looked up ahead. It is a hint: no result depends on it, and any
     /// other name may be asked for.
@@ -70,8 +70,8 @@ pub trait Sources {
         ensures { gives self.old name.now result self.new };
 
     /// Reports to the user why there is no root for a name.
-    fn tell(&mut self, name: &[u8], reason: Reason)
-        ensures { tells self.old name.now reason self.new };
+    fn report(&mut self, name: &[u8], reason: Reason)
+        ensures { reports self.old name.now reason self.new };
 }
 
 /// An input that may be an open file, such as standard input redirected from a file.

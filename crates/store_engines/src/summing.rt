@@ -169,9 +169,9 @@ pub fn sum_files<S: Sources, W: Write>(
     writer: &mut W,
     work: &mut Work,
 ) -> Result<Verdict, Cause>
-    ensures summed { IfOk result (λ verdict. (answers : List RootAnswer) × AreRootAnswers S.gives S.tells sources.old names.now answers sources.new
+    ensures summed { IfOk result (λ verdict. (answers : List RootAnswer) × AreRootAnswers S.gives S.reports sources.old names.now answers sources.new
         × Appends (W.contents writer.old) (W.contents writer.new) (root_answers_text length names.now answers) × (verdict ≡ root_answers_verdict answers)) }
-    ensures stopped { IfErr result (λ cause. IsSumStopped S.gives S.tells length sources.old names.now cause sources.new (W.contents writer.old) (W.contents writer.new)) }
+    ensures stopped { IfErr result (λ cause. IsSumStopped S.gives S.reports length sources.old names.now cause sources.new (W.contents writer.old) (W.contents writer.new)) }
 {
     let mut verdict = Verdict::Good;
     for (index, name) in names.iter().enumerate() {
@@ -201,7 +201,7 @@ fn sum_file<S: Sources, W: Write>(
     writer: &mut W,
     work: &mut Work,
 ) -> Result<Verdict, Cause>
-    ensures summed { IfOk result (IsSumOf S.gives S.tells length sources.old name.now sources.new (W.contents writer.old) (W.contents writer.new)) }
+    ensures summed { IfOk result (IsSumOf S.gives S.reports length sources.old name.now sources.new (W.contents writer.old) (W.contents writer.new)) }
     ensures stopped { IfErr result (λ cause. IsStoppedAt S.gives length cause sources.old name.now sources.new (W.contents writer.old) (W.contents writer.new)) }
 {
     let bytes = name.as_bytes();
@@ -211,7 +211,7 @@ fn sum_file<S: Sources, W: Write>(
             Ok(Verdict::Good)
         }
         Err(FileFault::Failed(reason)) => {
-            sources.tell(bytes, reason);
+            sources.report(bytes, reason);
             Ok(Verdict::Refused)
         }
         Err(FileFault::NoMemory) => Err(Cause::OutOfMemory),

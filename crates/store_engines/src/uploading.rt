@@ -39,7 +39,7 @@ fn is_memory(kind: &UploadFaultKind) -> bool
 
 // Reports a failed upload. Out of memory is the engine's cause, even if the write of the report fails; everything else is a refusal.
 fn refuse<W: Write>(alloc: Global, kind: UploadFaultKind, writer: &mut W) -> Result<Verdict, Cause>
-    ensures told { OnOk result (Appends (W.contents writer.old) (W.contents writer.new) (failed_text kind)) }
+    ensures reported { OnOk result (Appends (W.contents writer.old) (W.contents writer.new) (failed_text kind)) }
     ensures failed { OnErr result (WroteSome (W.contents writer.old) (W.contents writer.new) (failed_text kind)) }
     ensures verdict { IfOk result (λ verdict. verdict ≡ Verdict.Refused) }
     ensures memory { is_memory kind ≡ true → result ≡ Err Cause.OutOfMemory }

@@ -23,7 +23,7 @@ use Rattle.store_books.specs.Forgetting.{bare, bare_begun, bare_object}
 use Rattle.store_books.proofs.Forgets.{object_same, upload_same}
 use Rattle.store_upload.proofs.Places.{not_some}
 use Rattle.b3_core.specs.Modes.{hash_of}
-use Rattle.store_core.specs.Carried.{told_of}
+use Rattle.store_core.specs.Carried.{replayed_of}
 use Rattle.store_core.specs.Model.{ModelStore}
 use Rattle.store_lease.specs.Laws.{IsHeld, SealedIsHeld, forgets}
 use Rattle.store_lease.proofs.Lookups.{front_by, last_by, removed_apart, set_apart, set_here}
@@ -174,9 +174,9 @@ seal_new b number label u (Some v) is none =
 
 seal_known : (b : Bare) (number : ℕ) (at : List ℕ) (u : ModelOwnedUpload ℕ) (found : Option (ModelOwnedUpload ℕ)) (o : Option (Filed ObjectLabel)) → found ≡ Some u → object_at label_address b at ≡ o → says_filing false o ≡ true
     → Holds (with_known label_address b number at found o) u.tenant at
-seal_known b number at u None o is known told = absurd (cc is)
-seal_known b number at u (Some v) None is known told = absurd (true≢false (sym told))
-seal_known b number at u (Some v) (Some o) is known told =
+seal_known b number at u None o is known reported = absurd (cc is)
+seal_known b number at u (Some v) None is known reported = absurd (true≢false (sym reported))
+seal_known b number at u (Some v) (Some o) is known reported =
     held_with label_address b.objects at at u.tenant o (with_holder v.tenant o.holders) known
     (λ same. has_with v.tenant u.tenant o.holders ∙ ap (λ (x : Bool). x || has u.tenant o.holders) (eq-eqb v.tenant u.tenant (ap tenant_in is)))
     (λ apart. absurd (true≢false (sym ((bytes_eq-Decides at at).1 refl) ∙ apart)))
@@ -189,18 +189,18 @@ seal_known b number at u (Some v) (Some o) is known told =
 seal_holds : (b : Bare) (number : ℕ) (at : List ℕ) (new : Bool) (u : ModelOwnedUpload ℕ) → upload_at b number ≡ Some u → IsLegal b (Seal number at new) → Holds (after b (Seal number at new)) u.tenant at
 seal_holds b number at new u found legal = by new ((and_parts _ (says_filing new (object_at label_address b at)) ((and_parts (is_none (ready_refusal as_it_is b number)) _ legal).1)).1)
   where
-    none_told : (o : Option (Filed ObjectLabel)) → says_filing true o ≡ true → o ≡ None
-    none_told None told = refl
-    none_told (Some o) told = absurd (true≢false (sym told))
+    none_reported : (o : Option (Filed ObjectLabel)) → says_filing true o ≡ true → o ≡ None
+    none_reported None reported = refl
+    none_reported (Some o) reported = absurd (true≢false (sym reported))
 
     by : (n : Bool) → says_filing n (object_at label_address b at) ≡ true → Holds (after b (Seal number at n)) u.tenant at
-    by true told = seal_new b number (record { address = at; len = upload_length b number }) u (upload_at b number) found (none_told (object_at label_address b at) told)
-    by false told = seal_known b number at u (upload_at b number) (object_at label_address b at) found refl told
+    by true reported = seal_new b number (record { address = at; len = upload_length b number }) u (upload_at b number) found (none_reported (object_at label_address b at) reported)
+    by false reported = seal_known b number at u (upload_at b number) (object_at label_address b at) found refl reported
 
 -- ---- stores
 
 -- what is held among labels is held among objects
-unlabelled : (s : ModelStore) (tenant : ℕ) (at : List ℕ) → Holds (told_of s) tenant at → IsHeld hash_of s tenant at
+unlabelled : (s : ModelStore) (tenant : ℕ) (at : List ℕ) → Holds (replayed_of s) tenant at → IsHeld hash_of s tenant at
 unlabelled s tenant at was = by (object_at hash_of s at) refl
   where
     by : (o : Option (Filed (List ℕ))) → object_at hash_of s at ≡ o → IsHeld hash_of s tenant at
@@ -215,12 +215,12 @@ unlabelled s tenant at was = by (object_at hash_of s at) refl
 pub sealed_is_held : SealedIsHeld
 sealed_is_held found later upload at new u more lawful lawful' begun grown none =
     let seal : Entry = Seal upload at new in
-    let b : Bare = told_of found.state in
+    let b : Bare = replayed_of found.state in
     let mine : ModelOwnedUpload ℕ = bare_begun length u in
     let joined : later.journal ≡ found.journal ++ seal ∷ more = grown ∙ append_assoc found.journal (seal ∷ []) more in
-    let all : replay_of (found.journal ++ seal ∷ more) ≡ Ok (told_of later.state) = ap replay_of (sym joined) ∙ lawful'.replayed in
-    let rest : replay_from b (seal ∷ more) ≡ Ok (told_of later.state) = replay_on nothing b (told_of later.state) found.journal (seal ∷ more) lawful.replayed all in
-    let legal = first_legal b (told_of later.state) seal more rest in
+    let all : replay_of (found.journal ++ seal ∷ more) ≡ Ok (replayed_of later.state) = ap replay_of (sym joined) ∙ lawful'.replayed in
+    let rest : replay_from b (seal ∷ more) ≡ Ok (replayed_of later.state) = replay_on nothing b (replayed_of later.state) found.journal (seal ∷ more) lawful.replayed all in
+    let legal = first_legal b (replayed_of later.state) seal more rest in
     let there : upload_at b upload ≡ Some mine = upload_same length length hash_of found.state upload ∙ ap (option_map (bare_begun length)) begun in
     let sealed : Holds (after b seal) u.tenant at = seal_holds b upload at new mine there legal in
-    unlabelled later.state u.tenant at (more_hold (after b seal) (told_of later.state) more u.tenant at (sym (goes_on b seal more legal) ∙ rest) none sealed)
+    unlabelled later.state u.tenant at (more_hold (after b seal) (replayed_of later.state) more u.tenant at (sym (goes_on b seal more legal) ∙ rest) none sealed)

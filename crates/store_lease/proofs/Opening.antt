@@ -13,7 +13,7 @@ use Rattle.store_books.specs.Forgetting.{bare_begun, bare_upload}
 use Rattle.store_books.specs.declared.content.ObjectLabel.{ObjectLabel}
 use Rattle.store_books.proofs.Forgets.{upload_same}
 use Rattle.store_books.proofs.Numbers.{at_is}
-use Rattle.store_core.specs.Carried.{told_of}
+use Rattle.store_core.specs.Carried.{replayed_of}
 use Rattle.store_journal.specs.declared.entry.Entry.{Entry}
 use Rattle.store_journal.specs.declared.entry.Entry.TheVariants.{Abort, Begin, Fix, Forget, Limit, Open, Put, Seal, Tenant}
 use Rattle.store_journal.specs.Replay.{after, nothing, replay_from, replay_of, upload_length}
@@ -156,8 +156,8 @@ entry_open number u b (Forget t at) apart was = left_open b t number at u (objec
 
 pub stays_open : StaysOpen
 stays_open found later number u more lawful lawful' begun grown none =
-    let b : Bare = told_of found.state in
-    let left : Bare = told_of later.state in
+    let b : Bare = replayed_of found.state in
+    let left : Bare = replayed_of later.state in
     let mine : ModelOwnedUpload ℕ = bare_begun length u in
     let all : replay_of (found.journal ++ more) ≡ Ok left = ap replay_of (sym grown) ∙ lawful'.replayed in
     let rest : replay_from b more ≡ Ok left = replay_on nothing b left found.journal more lawful.replayed all in
@@ -166,12 +166,12 @@ stays_open found later number u more lawful lawful' begun grown none =
     let still : StillOpen number mine left = all_keep (StillOpen number mine) (λ (e : Entry). closes number e ≡ false) (λ c e apart kept. entry_open number mine c e apart kept) b left more rest none was in
     by (upload_at later.state number) refl still
   where
-    by : (o : Option (ModelOwnedUpload (List ℕ))) → upload_at later.state number ≡ o → StillOpen number (bare_begun length u) (told_of later.state) → IsOpen later.state number u
+    by : (o : Option (ModelOwnedUpload (List ℕ))) → upload_at later.state number ≡ o → StillOpen number (bare_begun length u) (replayed_of later.state) → IsOpen later.state number u
     by None is still =
-        let gone : upload_at (told_of later.state) number ≡ None = upload_same length length hash_of later.state number ∙ ap (option_map (bare_begun length)) is in
-        absurd (not_some still.begun (sym gone ∙ still.found))
+        let removed : upload_at (replayed_of later.state) number ≡ None = upload_same length length hash_of later.state number ∙ ap (option_map (bare_begun length)) is in
+        absurd (not_some still.begun (sym removed ∙ still.found))
     by (Some w) is still =
-        let seen : upload_at (told_of later.state) number ≡ Some (bare_begun length w) = upload_same length length hash_of later.state number ∙ ap (option_map (bare_begun length)) is in
+        let seen : upload_at (replayed_of later.state) number ≡ Some (bare_begun length w) = upload_same length length hash_of later.state number ∙ ap (option_map (bare_begun length)) is in
         let same : bare_begun length w ≡ still.begun = begun_is (bare_begun length w) still.begun (sym seen ∙ still.found) in
         record {
           begun = w;

@@ -38,16 +38,16 @@ sealed_is x y same = ap sealed_or same
     sealed_or (now_sealed z) = z
     sealed_or _ = x
 
-told_entry : (number : ℕ) (m : Result (Acceptance ModelSealed) Refusal) (old new : Shown) (sealed : ModelSealed) → IsSealEntry number m → StepsAs as_is (replied now_sealed m) old (Ok (now_sealed sealed)) new
+reported_entry : (number : ℕ) (m : Result (Acceptance ModelSealed) Refusal) (old new : Shown) (sealed : ModelSealed) → IsSealEntry number m → StepsAs as_is (replied now_sealed m) old (Ok (now_sealed sealed)) new
     → new.journal ≡ old.journal ++ Seal number sealed.address sealed.new ∷ []
-told_entry number (Ok a) old new sealed is step =
+reported_entry number (Ok a) old new sealed is step =
     let same : sealed ≡ a.reply = sealed_is sealed a.reply step.0 in
     let entry : a.entry ≡ Seal number sealed.address sealed.new = is ∙ ap (λ (m : ModelSealed). Seal number m.address m.new) (sym same) in
     ap (λ (s : Shown). s.journal) step.1 ∙ ap (λ (e : Entry). old.journal ++ e ∷ []) entry
-told_entry number (Err refusal) old new sealed is step = absurd step
+reported_entry number (Err refusal) old new sealed is step = absurd step
 
-pub told_is_held : ReportedIsHeld
-told_is_held before now more upload sealed u later took begun lawful grown none =
-    let entry = told_entry upload (seal_in took.found.state upload) took.found took.left sealed (seal_entry took.found.state upload) took.step in
+pub reported_is_held : ReportedIsHeld
+reported_is_held before now more upload sealed u later took begun lawful grown none =
+    let entry = reported_entry upload (seal_in took.found.state upload) took.found took.left sealed (seal_entry took.found.state upload) took.step in
     let joined : later.journal ≡ (took.found.journal ++ Seal upload sealed.address sealed.new ∷ []) ++ more = grown ∙ ap (λ (l : List Entry). l ++ more) (took.seen ∙ entry) in
     sealed_is_held took.found later upload sealed.address sealed.new u more took.law lawful begun joined none

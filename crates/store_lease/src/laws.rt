@@ -6,6 +6,6 @@ ghost use Rattle.store_lease.specs.Laws.{SealedIsHeld, StaysOpen, ReportedIsHeld
 /// says that it was sealed or aborted. The laws are about the journals that clients have seen; the function does nothing.
 pub fn client_laws()
     ensures sealed { SealedIsHeld }
-    ensures told { ReportedIsHeld }
+    ensures reported { ReportedIsHeld }
     ensures open { StaysOpen }
 {}

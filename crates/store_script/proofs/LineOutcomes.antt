@@ -17,13 +17,13 @@ use Rattle.store_core.specs.declared.reply.Reply.{Reply as CodeReply}
 use Rattle.store_core.specs.declared.command.Command.{Command}
 use Rattle.store_core.specs.declared.command.Question.{Question}
 use Rattle.store_core.specs.declared.command.Question.TheVariants.{Plan}
-use Rattle.store_core.specs.Runs.{Answers, Reply, Step, ask, change, put, the_plan, told}
+use Rattle.store_core.specs.Runs.{Answers, Reply, Step, ask, change, put, the_plan, as_reply}
 use Rattle.store_script.specs.Grammar.{ScriptCommand, asks, command_at, does, puts}
 use Rattle.store_script.specs.Lines.{AnswersRead, IsPutLine, PutsRead}
 use Rattle.store_script.proofs.Lengths.{long_is_none}
 use Rattle.store_script.specs.Script.{Answered, IsTurnOfCommand, IsTurnOfMade, IsTurnOf, IsTurnOfPut, Turn, bad, fault_ending, reply_ending, skipped, took, unmade}
 use Rattle.store_script.specs.Texts.{answer_text, unmade_text, refused_text}
-use Rattle.store_script.specs.Answers.{reported_ending, told_text}
+use Rattle.store_script.specs.Answers.{reported_ending, reported_text}
 use Rattle.store_script.specs.declared.answer.Answer.{Answer}
 use Rattle.store_script.specs.declared.answer.Answer.TheVariants as answers
 use Rattle.store_script.specs.declared.ending.Ending.{Ending}
@@ -46,7 +46,7 @@ seen_ending : {R M : Type 0} (seen : R → M) (reply : Result R Refusal) → rep
 seen_ending seen (Ok reply) = refl
 seen_ending seen (Err refusal) = refl
 
-pub says : (shown : Shown) (reply : Result CodeReply Refusal) → Says (reply_seen (reply_of shown) reply) (told_text shown (answers.Replied reply)) (reported_ending (answers.Replied reply))
+pub says : (shown : Shown) (reply : Result CodeReply Refusal) → Says (reply_seen (reply_of shown) reply) (reported_text shown (answers.Replied reply)) (reported_ending (answers.Replied reply))
 says shown reply = (refl, seen_ending (reply_of shown) reply)
 
 -- ---- a part
@@ -62,7 +62,7 @@ by_plan old new upload offset bytes turn planned is h = subst (λ r. IsTurnOfPut
 pub no_plan : (old : Shown) (upload offset : ℕ) (bytes : List ℕ) (refusal : Refusal) (text : List ℕ) (ending : Ending) → Err refusal ≡ plan_in old.state upload → Says (Err refusal) text ending → Answered (PutTurn old upload offset bytes old) text ending
 no_plan old upload offset bytes refusal text ending is says = record {
   turn = took (ask (Plan upload)) (Err refusal);
-  is = by_plan old old upload offset bytes (took (ask (Plan upload)) (Err refusal)) (Err refusal) is (refl, (ap (told the_plan) is, refl));
+  is = by_plan old old upload offset bytes (took (ask (Plan upload)) (Err refusal)) (Err refusal) is (refl, (ap (as_reply the_plan) is, refl));
   text_is = says.0;
   ending_is = says.1;
 }
@@ -143,7 +143,7 @@ strip_shorter xs = go (nat_lt 0 (length xs) && slice_index xs (length xs - 1) ==
     go false = omega arith
 
 -- a longer line is no command
-pub long_line : (old : Shown) (count : ℕ) (kept : List ℕ) → 33554481 < count → AnswersRead old old count kept (told_text old answers.Bad) (reported_ending answers.Bad)
+pub long_line : (old : Shown) (count : ℕ) (kept : List ℕ) → 33554481 < count → AnswersRead old old count kept (reported_text old answers.Bad) (reported_ending answers.Bad)
 long_line old count kept long = record {
   answers = λ whole read.
       let line = strip_last 10 whole in
@@ -152,13 +152,13 @@ long_line old count kept long = record {
 }
 
 -- any other is kept whole
-pub short_line : {E : Type 0} (r : Result Answer E) (old new : Shown) (count : ℕ) (kept line : List ℕ) → count ≤ 33554481 → line ≡ strip_last 10 kept → IfOk r (λ a. Answered (LineTurn old line new) (told_text new a) (reported_ending a))
-    → IfOk r (λ a. AnswersRead old new count kept (told_text new a) (reported_ending a))
+pub short_line : {E : Type 0} (r : Result Answer E) (old new : Shown) (count : ℕ) (kept line : List ℕ) → count ≤ 33554481 → line ≡ strip_last 10 kept → IfOk r (λ a. Answered (LineTurn old line new) (reported_text new a) (reported_ending a))
+    → IfOk r (λ a. AnswersRead old new count kept (reported_text new a) (reported_ending a))
 short_line (Err e) old new count kept line short is h = tt
 short_line (Ok a) old new count kept line short is h = record {
   answers = λ whole read.
       let all : kept ≡ whole = read.1 ∙ take_all 33554481 whole (omega (arith, short, read.0)) in
-      subst (λ (l : List ℕ). Answered (LineTurn old l new) (told_text new a) (reported_ending a)) (is ∙ ap (strip_last 10) all) h;
+      subst (λ (l : List ℕ). Answered (LineTurn old l new) (reported_text new a) (reported_ending a)) (is ∙ ap (strip_last 10) all) h;
 }
 
 -- ---- want of memory

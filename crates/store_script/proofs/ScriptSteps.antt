@@ -201,7 +201,7 @@ script_begun now was is store ending input h = record {
 
 -- a failed read is told only where no answer before told want of memory
 pub has_memory : (ending : Ending) (cause : Cause) → (ending ≡ endings.OutOfMemory → cause ≡ causes.OutOfMemory) → cause ≡ causes.CannotRead → ending ≢ endings.OutOfMemory
-has_memory ending cause told is = λ memory. let other = told memory in absurd (cc)
+has_memory ending cause reported is = λ memory. let other = reported memory in absurd (cc)
 
 pub at_stop : (old now was is : Option (List ℕ)) (store : Shown) (ending : Ending) → ending ≢ endings.OutOfMemory → IfSome old (IsUnder now was is store ending) → IfSome old (λ input. RanSome input was is)
 at_stop None now was is store ending memory h = tt
@@ -243,9 +243,9 @@ nothing_read (Some xs) count kept zero h = nothing_through xs (omega (arith, h.0
         some_through false e = omega (arith, e)
 
 -- an answer told so
-pub told_left : (now : Option (List ℕ)) (ending : Ending) → ending ≡ endings.OutOfMemory → IfSome now (λ input. (0 < length input) ⊎ (ending ≡ endings.OutOfMemory))
-told_left None ending memory = tt
-told_left (Some input) ending memory = inr memory
+pub reported_left : (now : Option (List ℕ)) (ending : Ending) → ending ≡ endings.OutOfMemory → IfSome now (λ input. (0 < length input) ⊎ (ending ≡ endings.OutOfMemory))
+reported_left None ending memory = tt
+reported_left (Some input) ending memory = inr memory
 
 -- of a failed write the writer tells nothing
 pub whatever_written : (old now was is : Option (List ℕ)) (store : Shown) (ending : Ending) → IfSome old (IsUnder now was is store ending) → IfSome old (IsUnder now None None store ending)
@@ -261,20 +261,20 @@ whatever_written (Some input) now was is store ending h = record {
   ending_is = h.ending_is;
 }
 
-pub told_memory : (ending : Ending) → first_cause ending causes.CannotWrite ≡ causes.OutOfMemory → ending ≡ endings.OutOfMemory
-told_memory endings.Good e = absurd (cc)
-told_memory endings.Refused e = absurd (cc)
-told_memory endings.OutOfMemory e = refl
+pub reported_memory : (ending : Ending) → first_cause ending causes.CannotWrite ≡ causes.OutOfMemory → ending ≡ endings.OutOfMemory
+reported_memory endings.Good e = absurd (cc)
+reported_memory endings.Refused e = absurd (cc)
+reported_memory endings.OutOfMemory e = refl
 
-pub no_failed_tell : (ending : Ending) → first_cause ending causes.CannotWrite ≢ causes.CannotRead
-no_failed_tell endings.Good = λ e. cc
-no_failed_tell endings.Refused = λ e. cc
-no_failed_tell endings.OutOfMemory = λ e. cc
+pub no_failed_report : (ending : Ending) → first_cause ending causes.CannotWrite ≢ causes.CannotRead
+no_failed_report endings.Good = λ e. cc
+no_failed_report endings.Refused = λ e. cc
+no_failed_report endings.OutOfMemory = λ e. cc
 
-pub told_memory_read : (ending : Ending) → first_cause ending causes.CannotRead ≡ causes.OutOfMemory → ending ≡ endings.OutOfMemory
-told_memory_read endings.Good e = absurd (cc)
-told_memory_read endings.Refused e = absurd (cc)
-told_memory_read endings.OutOfMemory e = refl
+pub reported_memory_read : (ending : Ending) → first_cause ending causes.CannotRead ≡ causes.OutOfMemory → ending ≡ endings.OutOfMemory
+reported_memory_read endings.Good e = absurd (cc)
+reported_memory_read endings.Refused e = absurd (cc)
+reported_memory_read endings.OutOfMemory e = refl
 
 pub at_failed_write : (old now left was is : Option (List ℕ)) (store : Shown) (ending : Ending) → ending ≡ endings.OutOfMemory → IfSome old (IsUnder now None None store ending) → IfSome old (λ input. RanOut input left was is)
 at_failed_write None now left was is store ending memory h = tt

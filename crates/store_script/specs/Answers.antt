@@ -11,11 +11,11 @@ use Rattle.store_script.specs.declared.ending.Ending.{Ending}
 use Rattle.store_script.specs.declared.ending.Ending.TheVariants as endings
 
 -- the text of an answer, of a store with this view
-abbrev pub told_text : Shown → Answer → List ℕ
-told_text shown answers.Nothing = []
-told_text shown answers.Bad = codes "bad\n"
-told_text shown (answers.Unmade fault) = refused_text (unmade_text fault)
-told_text shown (answers.Replied reply) = answer_text (reply_seen (reply_of shown) reply)
+abbrev pub reported_text : Shown → Answer → List ℕ
+reported_text shown answers.Nothing = []
+reported_text shown answers.Bad = codes "bad\n"
+reported_text shown (answers.Unmade fault) = refused_text (unmade_text fault)
+reported_text shown (answers.Replied reply) = answer_text (reply_seen (reply_of shown) reply)
 
 -- how a run with this answer ends at best
 abbrev pub reported_ending : Answer → Ending

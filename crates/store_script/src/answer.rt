@@ -5,7 +5,7 @@ ghost use Rattle.std.specs.Io.KnownBytes.{Appends};
 ghost use Rattle.b3_forest.specs.Parts.{planned};
 ghost use Rattle.store_upload.specs.Uploads.{part_refusal};
 ghost use Rattle.store_core.specs.Commands.{plan_in, reply_seen};
-ghost use Rattle.store_script.specs.Answers.{reported_ending, told_text};
+ghost use Rattle.store_script.specs.Answers.{reported_ending, reported_text};
 ghost use Rattle.store_core.specs.Runs.{Step, put};
 ghost use Rattle.store_core.specs.Seen.{reply_of};
 ghost use Rattle.store_script.specs.Lines.{AnswersRead, IsPutLine, PutsRead};
@@ -50,7 +50,7 @@ impl Answer {
 
     /// Writes the answer of a store. Allocates nothing.
     pub fn write<W: Write>(self, store: &Store, writer: &mut W) -> Result<(), Cause>
-        ensures wrote { OnOk result (Appends (W.contents writer.old) (W.contents writer.new) (told_text store.now self)) }
+        ensures wrote { OnOk result (Appends (W.contents writer.old) (W.contents writer.new) (reported_text store.now self)) }
         ensures cause { IfErr result (λ cause. cause ≡ Cause.CannotWrite) }
     {
         match self {
@@ -91,7 +91,7 @@ pub fn answer_read(
     work: &mut Work,
 ) -> Result<Answer, AllocError>
     requires { 0 < count }
-    ensures answered { IfOk result (λ answer. AnswersRead store.old store.new count line.now (told_text store.new answer) (reported_ending answer)) }
+    ensures answered { IfOk result (λ answer. AnswersRead store.old store.new count line.now (reported_text store.new answer) (reported_ending answer)) }
     ensures unchanged { OnErr result (store.new ≡ store.old) }
     // An allocation can fail only for the bytes of a part.
     ensures memory { OnErr result (PutsRead count line.now) }
@@ -119,7 +119,7 @@ fn answer_line(
     line: &[u8],
     work: &mut Work,
 ) -> Result<Answer, AllocError>
-    ensures answered { IfOk result (λ answer. Answered (λ turn. IsTurnOf store.old line.now turn store.new) (told_text store.new answer) (reported_ending answer)) }
+    ensures answered { IfOk result (λ answer. Answered (λ turn. IsTurnOf store.old line.now turn store.new) (reported_text store.new answer) (reported_ending answer)) }
     ensures unchanged { OnErr result (store.new ≡ store.old) }
     ensures memory { OnErr result (IsPutLine line.now) }
 {
@@ -149,7 +149,7 @@ pub fn put_part(
     bytes: Vec<u8>,
     work: &mut Work,
 ) -> Answer
-    ensures { Answered (λ turn. IsTurnOfPut store.old upload offset bytes.items (plan_in store.old.state upload) turn store.new) (told_text store.new result) (reported_ending result) }
+    ensures { Answered (λ turn. IsTurnOfPut store.old upload offset bytes.items (plan_in store.old.state upload) turn store.new) (reported_text store.new result) (reported_ending result) }
 {
     let plan = match store.plan(upload) {
         Ok(plan) => plan,

@@ -3,7 +3,7 @@
 ghost use Rattle.std.specs.Prelude.{◌≡◌, ◌<◌, ◌⊎◌, IfErr, IfOk, IfSome, OnOk, Err, Ok, length};
 ghost use Rattle.std.specs.Io.BufRead.{DropsThrough, take_through};
 ghost use Rattle.std.specs.Io.KnownBytes.{Appends, IsAtEnd};
-ghost use Rattle.store_script.specs.Answers.{reported_ending, told_text};
+ghost use Rattle.store_script.specs.Answers.{reported_ending, reported_text};
 ghost use Rattle.store_script.specs.Lines.{IsReadLine};
 ghost use Rattle.store_script.specs.Script.{Ran, RanOut, RanSome, verdict_ending, widest_start, worse};
 ghost use Rattle.store_script.specs.inner.Script.{ended_as, first_cause};
@@ -66,7 +66,7 @@ fn answer_lines<R: BufRead, W: Write>(
         }
         let answer = answer_read(alloc, store, line.as_slice(), count, work)?;
         ending = worse(ending, answer.ending());
-        tell(writer, store, answer, ending)?;
+        report(writer, store, answer, ending)?;
     }
     Err(first_cause(ending, Cause::CannotRead))
 }
@@ -84,13 +84,13 @@ fn read_line<R: BufRead>(reader: &mut R, line: &mut Vec<u8>, ending: Ending) -> 
 }
 
 // Writes an answer, and flushes. A failure is reported as the first cause, given how the answers end, this one included.
-fn tell<W: Write>(
+fn report<W: Write>(
     writer: &mut W,
     store: &Store,
     answer: Answer,
     ending: Ending,
 ) -> Result<(), Cause>
-    ensures wrote { OnOk result (Appends (W.contents writer.old) (W.contents writer.new) (told_text store.now answer)) }
+    ensures wrote { OnOk result (Appends (W.contents writer.old) (W.contents writer.new) (reported_text store.now answer)) }
     ensures cause { IfErr result (λ cause. cause ≡ first_cause ending Cause.CannotWrite) }
 {
     let cause = first_cause(ending, Cause::CannotWrite);

@@ -76,19 +76,19 @@ of_script old new line (reported_as manner turn) h = (h.0, of_line old new line 
 
 of_question : (manner : Manner) (old new : SessionState) (question : Question) (turn : SessionTurn) → IsLinkedQuestion alone_reach manner old question turn new → IsTurnOfQuestion manner old.shown question turn new.shown
 of_question manner old new question no_memory h = h
-of_question manner old new question (reported_as told turn) h = (h.0, of_step old new (ask question) turn h.1)
+of_question manner old new question (reported_as reported turn) h = (h.0, of_step old new (ask question) turn h.1)
 
 of_ask : (old new : SessionState) (question : Question) (turn : SessionTurn) → IsLinkedAsk alone_reach old question turn new → IsTurnOfQuestion as_script old.shown question turn new.shown
 of_ask old new question no_memory h = absurd h.0
-of_ask old new question (reported_as told turn) h = (h.0, of_step old new (ask question) turn h.1)
+of_ask old new question (reported_as reported turn) h = (h.0, of_step old new (ask question) turn h.1)
 
 of_entries : (range : EntryRange) (old new : SessionState) (turn : SessionTurn) → IsLinkedEntries alone_reach range old turn new → IsTurnOfQuestion (as_entries range) old.shown questions.Journal turn new.shown
 of_entries range old new no_memory h = absurd h.0
-of_entries range old new (reported_as told turn) h = (h.0, of_step old new (ask questions.Journal) turn h.1)
+of_entries range old new (reported_as reported turn) h = (h.0, of_step old new (ask questions.Journal) turn h.1)
 
 of_bytes : (old new : SessionState) (upload offset : ℕ) (bytes : List ℕ) (turn : SessionTurn) → IsLinkedBytes alone_reach old upload offset bytes turn new → IsTurnOfBytes old.shown upload offset bytes turn new.shown
 of_bytes old new upload offset bytes no_memory h = h
-of_bytes old new upload offset bytes (reported_as told turn) h = (h.0, of_put old new upload offset bytes turn h.1)
+of_bytes old new upload offset bytes (reported_as reported turn) h = (h.0, of_put old new upload offset bytes turn h.1)
 
 of_request : (old new : SessionState) (request : Option Request) (whole following : List ℕ) (turn : SessionTurn) (rest : List ℕ) → IsLinkedRequest alone_reach old request whole following turn new rest → IsTurnOfRequest old.shown request whole following turn new.shown rest
 of_request old new None whole following turn rest h = (of_script old new (strip_last 10 whole) turn h.0, h.1)
@@ -110,9 +110,9 @@ abbrev CameTo : Shown → SessionTurn → Shown → Type 0
 CameTo old no_memory new = new ≡ old
 CameTo old (reported_as manner turn) new = Came old turn new
 
-came_told : (old new : Shown) (manner : Manner) (Is : script.Turn → Type 0) (turn : SessionTurn) → ((t : script.Turn) → Is t → Came old t new) → IsReportedAs manner Is turn → CameTo old turn new
-came_told old new manner Is no_memory f h = absurd h
-came_told old new manner Is (reported_as told turn) f h = f turn h.1
+came_reported : (old new : Shown) (manner : Manner) (Is : script.Turn → Type 0) (turn : SessionTurn) → ((t : script.Turn) → Is t → Came old t new) → IsReportedAs manner Is turn → CameTo old turn new
+came_reported old new manner Is no_memory f h = absurd h
+came_reported old new manner Is (reported_as reported turn) f h = f turn h.1
 
 came_script : (old new : Shown) (line : List ℕ) (turn : SessionTurn) → IsTurnOfScriptLine old line turn new → CameTo old turn new
 came_script old new line no_memory h = h.1
@@ -120,10 +120,10 @@ came_script old new line (reported_as manner turn) h = came old new line turn h.
 
 came_request : (old new : Shown) (request : Option Request) (whole following : List ℕ) (turn : SessionTurn) (rest : List ℕ) → IsTurnOfRequest old request whole following turn new rest → CameTo old turn new
 came_request old new None whole following turn rest h = came_script old new (strip_last 10 whole) turn h.0
-came_request old new (Some (Put upload offset len)) whole following turn rest h = came_told old new _ _ turn (λ t is. came_put old new upload offset (take len following) (plan_in old.state upload) t is) h.0
-came_request old new (Some (Fetch wanted)) whole following turn rest h = came_told old new _ _ turn (λ t is. came_takes old new (ask (questions.Fetch wanted.tenant wanted.address)) t is) h.0
-came_request old new (Some (Asks question)) whole following turn rest h = came_told old new _ _ turn (λ t is. came_takes old new (ask question) t is) h.0
-came_request old new (Some (Entries range)) whole following turn rest h = came_told old new _ _ turn (λ t is. came_takes old new (ask questions.Journal) t is) h.0
+came_request old new (Some (Put upload offset len)) whole following turn rest h = came_reported old new _ _ turn (λ t is. came_put old new upload offset (take len following) (plan_in old.state upload) t is) h.0
+came_request old new (Some (Fetch wanted)) whole following turn rest h = came_reported old new _ _ turn (λ t is. came_takes old new (ask (questions.Fetch wanted.tenant wanted.address)) t is) h.0
+came_request old new (Some (Asks question)) whole following turn rest h = came_reported old new _ _ turn (λ t is. came_takes old new (ask question) t is) h.0
+came_request old new (Some (Entries range)) whole following turn rest h = came_reported old new _ _ turn (λ t is. came_takes old new (ask questions.Journal) t is) h.0
 
 script_on : (old mid new : Shown) (manner : Manner) (turn : script.Turn) (turns : List SessionTurn) → Came old turn mid → Run mid (session_calls turns) (session_replies turns) new → Run old (session_calls (reported_as manner turn ∷ turns)) (session_replies (reported_as manner turn ∷ turns)) new
 script_on old mid new manner script.skipped turns h r = subst (λ (s : Shown). Run s (session_calls turns) (session_replies turns) new) h r

@@ -4,7 +4,7 @@ mod Lines
 mod Parts
 pub mod Steps
 mod Puts
-mod Tells
+mod Reports
 mod Serves
 mod Under
 mod Alone

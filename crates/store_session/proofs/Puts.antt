@@ -3,9 +3,9 @@ use Rattle.std.proofs.Common.{◌≡◌, ◌∙◌, ℕ, Bool, true, false, List
 use Rattle.std.specs.Prelude.{IfOk, IfSome, unwrap_or}
 use Rattle.b3_forest.specs.Parts.{ModelPrepared, planned}
 use Rattle.store_books.specs.declared.refusal.Refusal.{Refusal}
-use Rattle.store_core.specs.Runs.{Reply, ask, put, the_plan, told}
+use Rattle.store_core.specs.Runs.{Reply, ask, put, the_plan, as_reply}
 use Rattle.store_core.specs.declared.command.Question.TheVariants as questions
-use Rattle.store_script.specs.Answers.{told_text}
+use Rattle.store_script.specs.Answers.{reported_text}
 use Rattle.store_script.specs.Script.{took, unmade, widest_start}
 use Rattle.store_script.specs.Texts.{answer_text, refused_text, unmade_text}
 use Rattle.store_script.specs.declared.answer.Answer.{Answer}
@@ -15,7 +15,7 @@ use Rattle.store_upload.specs.declared.refusal.PartFault.{PartFault}
 use Rattle.store_upload.specs.declared.refusal.PartFault.TheVariants as faults
 use Rattle.store_session.specs.Access.{advance, at, SessionState, Reach, Took, TookPlan}
 use Rattle.store_session.proofs.Steps.{plus_none}
-use Rattle.store_session.specs.inner.Telling.{Leaves, AnsweredOver, ReceivesOver}
+use Rattle.store_session.specs.inner.Reporting.{Leaves, AnsweredOver, ReceivesOver}
 use Rattle.store_session.specs.Turns.{IsLinkedMade, IsLinkedPlan, IsLinkedPut}
 
 -- what a part that was made for a plan comes to
@@ -76,7 +76,7 @@ no_plan reach was is upload offset bytes refusal p = record {
         (
           p.linked before stood,
           subst (λ (r : Result UploadPlan Refusal). IsLinkedPlan reach (at before p.found) upload offset bytes r (took (ask (questions.Plan upload)) (Err refusal)) (at before p.found)) p.plan_is
-              ((refl, (ap (told the_plan) p.plan_is, refl)), (plus_none before.bytes, plus_none before.calls, sym (append-nil before.own))),
+              ((refl, (ap (as_reply the_plan) p.plan_is, refl)), (plus_none before.bytes, plus_none before.calls, sym (append-nil before.own))),
         ),
       ),
     ),
@@ -91,24 +91,24 @@ leaves reach was is upload plan p = record { leaves = λ before stood. (p.found,
 
 -- they are dropped behind an answer that does not look at them
 pub dropped : {E : Type 0} (r : Result (Option Answer) E) (now left : Option (List ℕ)) (reach : Reach) (was is : SessionState → Type 0) (upload offset len : ℕ) (answer : Answer)
-    → ((bytes : List ℕ) → length bytes ≡ len → PutOver reach was is upload offset bytes (told_text widest_start answer)) → Leaves was is → IfOk r (λ given. IfSome now (λ following. Dropped given answer len following left))
+    → ((bytes : List ℕ) → length bytes ≡ len → PutOver reach was is upload offset bytes (reported_text widest_start answer)) → Leaves was is → IfOk r (λ given. IfSome now (λ following. Dropped given answer len following left))
     → IfOk r (λ given. IfSome now (λ following. ReceivesOver reach was is given upload offset len following left))
 dropped (Err e) now left reach was is upload offset len answer f l h = tt
 dropped (Ok given) None left reach was is upload offset len answer f l h = tt
 dropped (Ok None) (Some following) left reach was is upload offset len answer f l h = (h, l)
 dropped (Ok (Some given)) (Some following) left reach was is upload offset len answer f l h =
-    (h.1, h.2, subst (λ (a : Answer). PutOver reach was is upload offset (take len following) (told_text widest_start a)) (sym h.0) (f (take len following) (length-take-le len following h.1)))
+    (h.1, h.2, subst (λ (a : Answer). PutOver reach was is upload offset (take len following) (reported_text widest_start a)) (sym h.0) (f (take len following) (length-take-le len following h.1)))
 
 pub whole : (now left : Option (List ℕ)) (reach : Reach) (was is : SessionState → Type 0) (upload offset len : ℕ) (bytes : List ℕ) (answer : Answer) (is_whole : Bool) → is_whole ≡ true → IfSome now (λ following. Copied is_whole len following bytes left)
-    → PutOver reach was is upload offset bytes (told_text widest_start answer) → IfSome now (λ following. ReceivesOver reach was is (Some answer) upload offset len following left)
+    → PutOver reach was is upload offset bytes (reported_text widest_start answer) → IfSome now (λ following. ReceivesOver reach was is (Some answer) upload offset len following left)
 whole None left reach was is upload offset len bytes answer is_whole all h p = tt
-whole (Some following) left reach was is upload offset len bytes answer true all h p = (h.0, h.2, subst (λ (bs : List ℕ). PutOver reach was is upload offset bs (told_text widest_start answer)) h.1 p)
+whole (Some following) left reach was is upload offset len bytes answer true all h p = (h.0, h.2, subst (λ (bs : List ℕ). PutOver reach was is upload offset bs (reported_text widest_start answer)) h.1 p)
 whole (Some following) left reach was is upload offset len bytes answer false all h p = absurd (cc)
 
 -- ---- faults
 
-pub fault_told : (made_for : UploadPlan) (offset len n : ℕ) (fault : PartFault) → Some fault ≡ part_refusal made_for offset len → n ≡ len → fault ≡ unwrap_or (part_refusal made_for offset n) faults.NoMemory
-fault_told made_for offset len n fault is same = ap (λ (o : Option PartFault). unwrap_or o faults.NoMemory) (is ∙ ap (part_refusal made_for offset) (sym same))
+pub fault_reported : (made_for : UploadPlan) (offset len n : ℕ) (fault : PartFault) → Some fault ≡ part_refusal made_for offset len → n ≡ len → fault ≡ unwrap_or (part_refusal made_for offset n) faults.NoMemory
+fault_reported made_for offset len n fault is same = ap (λ (o : Option PartFault). unwrap_or o faults.NoMemory) (is ∙ ap (part_refusal made_for offset) (sym same))
 
 pub no_fault : (made_for : UploadPlan) (offset len n : ℕ) → None ≡ part_refusal made_for offset len → n ≡ len → faults.NoMemory ≡ unwrap_or (part_refusal made_for offset n) faults.NoMemory
 no_fault made_for offset len n is same = ap (λ (o : Option PartFault). unwrap_or o faults.NoMemory) (is ∙ ap (part_refusal made_for offset) (sym same))

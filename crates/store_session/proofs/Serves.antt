@@ -2,7 +2,7 @@
 use Rattle.std.proofs.Common.{◌≡◌, ◌∙◌, ℕ, Bool, true, false, List, Ok, Err, Some, None, Option, Result, drop, refl, subst, sym}
 use Rattle.std.specs.Prelude.{IfOk, IfSome}
 use Rattle.std.specs.Io.KnownBytes.{Appends}
-use Rattle.store_script.specs.Answers.{told_text}
+use Rattle.store_script.specs.Answers.{reported_text}
 use Rattle.store_script.specs.Script.{widest_start}
 use Rattle.store_script.specs.declared.answer.Answer.{Answer}
 use Rattle.store_session.specs.inner.Requests.{AsksFor}
@@ -12,11 +12,11 @@ use Rattle.store_session.specs.declared.reading.LineRead.{LineRead}
 use Rattle.store_session.specs.declared.request.Request.{Request}
 use Rattle.store_session.specs.declared.request.Request.TheVariants.{Put}
 use Rattle.store_session.specs.Access.{SessionState, Reach}
-use Rattle.store_session.specs.inner.Telling.{AnswersOver, ReceivesOver, ServesOver, ServesPutOver, ServesReadOver, ServesRequestOver, ReportedOver}
+use Rattle.store_session.specs.inner.Reporting.{AnswersOver, ReceivesOver, ServesOver, ServesPutOver, ServesReadOver, ServesRequestOver, ReportedOver}
 use Rattle.store_session.specs.Turns.{IsLinkedRequest}
 
 pub served_put : (now left w1 w2 : Option (List ℕ)) (reach : Reach) (was is : SessionState → Type 0) (upload offset len : ℕ) (got : Option Answer) (answer : Answer) → got ≡ Some answer → IfSome now (λ following. ReceivesOver reach was is got upload offset len following left)
-    → Appends w1 w2 (told_text widest_start answer) → IfSome now (λ following. ServesPutOver reach was is true upload offset len following left w1 w2)
+    → Appends w1 w2 (reported_text widest_start answer) → IfSome now (λ following. ServesPutOver reach was is true upload offset len following left w1 w2)
 served_put None left w1 w2 reach was is upload offset len got answer same h wrote = tt
 served_put (Some following) left w1 w2 reach was is upload offset len got answer same h wrote =
     let h2 = subst (λ (o : Option Answer). ReceivesOver reach was is o upload offset len following left) same h in

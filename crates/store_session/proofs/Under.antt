@@ -13,7 +13,7 @@ use Rattle.store_session.specs.Requests.{request_in}
 use Rattle.store_session.specs.Session.{SessionTurn, session_turn_text}
 use Rattle.store_session.specs.declared.reading.LineRead.{LineRead}
 use Rattle.store_session.specs.Access.{SessionState, Reach}
-use Rattle.store_session.specs.inner.Telling.{Leaves, ServesOver, ServesReadOver}
+use Rattle.store_session.specs.inner.Reporting.{Leaves, ServesOver, ServesReadOver}
 use Rattle.store_session.specs.Turns.{AreLinkedTurns, IsLinkedFirstLine, ServedAllOver, ServedOver, ServedSomeOver}
 
 -- the lines before the rest were served: what they came to, and what was written

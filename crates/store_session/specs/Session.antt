@@ -66,15 +66,15 @@ journal_text range (the_journal entries) = entries_text (entries_in range entrie
 journal_text range reply = reply_text reply
 
 -- a turn with its reply written like this
-abbrev pub told_by : (Reply → List ℕ) → script.Turn → List ℕ
-told_by text (script.took call (Ok reply)) = text reply
-told_by text turn = script.turn_text turn
+abbrev pub reported_by : (Reply → List ℕ) → script.Turn → List ℕ
+reported_by text (script.took call (Ok reply)) = text reply
+reported_by text turn = script.turn_text turn
 
 abbrev pub session_turn_text : SessionTurn → List ℕ
 session_turn_text no_memory = refused_text (refusal_text refusals.NoMemory)
 session_turn_text (reported_as as_script turn) = script.turn_text turn
-session_turn_text (reported_as (as_range range) turn) = told_by (range_text range) turn
-session_turn_text (reported_as (as_entries range) turn) = told_by (journal_text range) turn
+session_turn_text (reported_as (as_range range) turn) = reported_by (range_text range) turn
+session_turn_text (reported_as (as_entries range) turn) = reported_by (journal_text range) turn
 
 -- ---- one line
 
@@ -90,7 +90,7 @@ IsTurnOfScriptLine old line (reported_as manner turn) new = (manner ≡ as_scrip
 -- a turn with this property is written in this manner
 abbrev pub IsReportedAs : Manner → (script.Turn → Type 0) → SessionTurn → Type 0
 IsReportedAs manner Is no_memory = ⊥
-IsReportedAs manner Is (reported_as told turn) = (told ≡ manner) × Is turn
+IsReportedAs manner Is (reported_as reported turn) = (reported ≡ manner) × Is turn
 
 -- a question, with its answer written in this manner
 abbrev pub IsTurnOfQuestion : Manner → Shown → Question → SessionTurn → Shown → Type 0

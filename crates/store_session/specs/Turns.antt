@@ -87,21 +87,21 @@ IsLinkedScriptLine reach old line (reported_as manner turn) new = (manner ≡ as
 -- a question, with its answer written in a manner
 abbrev pub IsLinkedQuestion : Reach → Manner → SessionState → Question → SessionTurn → SessionState → Type 0
 IsLinkedQuestion reach manner old question no_memory new = ⊥
-IsLinkedQuestion reach manner old question (reported_as told turn) new = (told ≡ manner) × IsLinkedStep reach old (ask question) turn new
+IsLinkedQuestion reach manner old question (reported_as reported turn) new = (reported ≡ manner) × IsLinkedStep reach old (ask question) turn new
 
 -- a question of a script: its reply; or out of memory for the journal, which is copied
 abbrev pub IsLinkedAsk : Reach → SessionState → Question → SessionTurn → SessionState → Type 0
 IsLinkedAsk reach old question no_memory new = reach.lacks × (question ≡ questions.Journal) × (new ≡ old)
-IsLinkedAsk reach old question (reported_as told turn) new = (told ≡ as_script) × IsLinkedStep reach old (ask question) turn new
+IsLinkedAsk reach old question (reported_as reported turn) new = (reported ≡ as_script) × IsLinkedStep reach old (ask question) turn new
 
 -- the journal's entries, for which an allocation may fail
 abbrev pub IsLinkedEntries : Reach → EntryRange → SessionState → SessionTurn → SessionState → Type 0
 IsLinkedEntries reach range old no_memory new = reach.lacks × (new ≡ old)
-IsLinkedEntries reach range old (reported_as told turn) new = (told ≡ as_entries range) × IsLinkedStep reach old (ask questions.Journal) turn new
+IsLinkedEntries reach range old (reported_as reported turn) new = (reported ≡ as_entries range) × IsLinkedStep reach old (ask questions.Journal) turn new
 
 abbrev pub IsLinkedBytes : Reach → SessionState → ℕ → ℕ → List ℕ → SessionTurn → SessionState → Type 0
 IsLinkedBytes reach old upload offset bytes no_memory new = ⊥
-IsLinkedBytes reach old upload offset bytes (reported_as told turn) new = (told ≡ as_script) × IsLinkedPut reach old upload offset bytes turn new
+IsLinkedBytes reach old upload offset bytes (reported_as reported turn) new = (reported ≡ as_script) × IsLinkedPut reach old upload offset bytes turn new
 
 -- the turn of a line with this request, its effect, and the bytes that remain after it
 abbrev pub IsLinkedRequest : Reach → SessionState → Option Request → List ℕ → List ℕ → SessionTurn → SessionState → List ℕ → Type 0

@@ -2,4 +2,4 @@
 pub mod Lines
 pub mod Reads
 pub mod Requests
-pub mod Telling
+pub mod Reporting

@@ -51,12 +51,12 @@ pub trait Access {
         ensures { Took reach (stands self.old) (stands self.new) (ask (questions.Fetch tenant address)) (reply_seen (λ object. the_bytes (arc_value object)) result) };
 
     /// Writes the requested entries of the journal. Returns false, and writes nothing, if there is no memory for a copy of them.
-    fn tell_entries<W: Write>(
+    fn write_entries<W: Write>(
         &mut self,
         alloc: Global,
         writer: &mut W,
         range: EntryRange,
     ) -> Result<bool, Cause>
-        ensures told { IfOk result (λ given. ReportedEntries reach (stands self.old) (stands self.new) given range (W.contents writer.old) (W.contents writer.new)) }
+        ensures reported { IfOk result (λ given. ReportedEntries reach (stands self.old) (stands self.new) given range (W.contents writer.old) (W.contents writer.new)) }
         ensures cause { IfErr result (λ cause. cause ≡ Cause.CannotWrite) };
 }

@@ -3,10 +3,10 @@
 ghost use Rattle.std.specs.Prelude.{◌≡◌, ◌≢◌, ◌<◌, IfErr, OnOk, false, true};
 ghost use Rattle.std.specs.Io.KnownBytes.{Appends};
 ghost use Rattle.store_core.specs.declared.command.Question.TheVariants as questions;
-ghost use Rattle.store_script.specs.Answers.{told_text};
+ghost use Rattle.store_script.specs.Answers.{reported_text};
 ghost use Rattle.store_script.specs.Script.{widest_start};
 ghost use Rattle.store_session.specs.Session.{as_range};
-ghost use Rattle.store_session.specs.inner.Telling.{AnswersOver, GaveEntries, ReportedOver};
+ghost use Rattle.store_session.specs.inner.Reporting.{AnswersOver, GaveEntries, ReportedOver};
 ghost use Rattle.store_session.specs.Turns.{IsLinkedAsk, IsLinkedEntries, IsLinkedQuestion, IsLinkedScriptLine};
 
 use crate::access::Access;
@@ -22,8 +22,8 @@ use store_core::{Limits, Question, Refusal, Store, UploadId};
 use store_script::{Answer, MAX_LINE, ScriptCommand, read_command, without_end};
 
 /// Writes an answer that does not contain the journal, and flushes.
-pub(crate) fn tell<W: Write>(alloc: Global, writer: &mut W, answer: Answer) -> Result<(), Cause>
-    ensures wrote { OnOk result (Appends (W.contents writer.old) (W.contents writer.new) (told_text widest_start answer)) }
+pub(crate) fn report<W: Write>(alloc: Global, writer: &mut W, answer: Answer) -> Result<(), Cause>
+    ensures wrote { OnOk result (Appends (W.contents writer.old) (W.contents writer.new) (reported_text widest_start answer)) }
     ensures cause { IfErr result (λ cause. cause ≡ Cause.CannotWrite) }
 {
     let none = Store::new(alloc, Limits::full());
@@ -48,7 +48,7 @@ pub(crate) fn answer_line<A: Access, W: Write>(
         return refuse(writer, Refusal::NoMemory);
     }
     if read.count > MAX_LINE {
-        return tell(alloc, writer, Answer::Bad);
+        return report(alloc, writer, Answer::Bad);
     }
     answer_kept(alloc, access, writer, without_end(line), work)
 }
@@ -65,14 +65,14 @@ fn answer_kept<A: Access, W: Write>(
     ensures cause { IfErr result (λ cause. cause ≡ Cause.CannotWrite) }
 {
     if line.is_empty() {
-        return tell(alloc, writer, Answer::Nothing);
+        return report(alloc, writer, Answer::Nothing);
     }
     match read_command(alloc, line) {
         Err(_) => refuse(writer, Refusal::NoMemory),
-        Ok(None) => tell(alloc, writer, Answer::Bad),
+        Ok(None) => report(alloc, writer, Answer::Bad),
         Ok(Some(ScriptCommand::Does(command))) => {
             let reply = access.step(command, work);
-            tell(alloc, writer, Answer::Replied(reply))
+            report(alloc, writer, Answer::Replied(reply))
         }
         Ok(Some(ScriptCommand::Asks(question))) => ask_line(alloc, access, writer, question),
         Ok(
@@ -85,7 +85,7 @@ fn answer_kept<A: Access, W: Write>(
             ),
         ) => {
             let answer = put_bytes(alloc, access, UploadId::new(upload), offset, bytes, work);
-            tell(alloc, writer, answer)
+            report(alloc, writer, answer)
         }
     }
 }
@@ -116,7 +116,7 @@ pub(crate) fn ask_line<A: Access, W: Write>(
         return give_entries(alloc, access, writer, whole);
     }
     let reply = access.ask(question);
-    tell(alloc, writer, Answer::Replied(reply))
+    report(alloc, writer, Answer::Replied(reply))
 }
 
 /// Writes the journal's entries from a number on, or that it ran out of memory for their copy.
@@ -126,10 +126,10 @@ pub(crate) fn give_entries<A: Access, W: Write>(
     writer: &mut W,
     range: EntryRange,
 ) -> Result<(), Cause>
-    ensures told { OnOk result (GaveEntries A.reach (A.stands access.old) (A.stands access.new) range (W.contents writer.old) (W.contents writer.new)) }
+    ensures reported { OnOk result (GaveEntries A.reach (A.stands access.old) (A.stands access.new) range (W.contents writer.old) (W.contents writer.new)) }
     ensures cause { IfErr result (λ cause. cause ≡ Cause.CannotWrite) }
 {
-    if access.tell_entries(alloc, writer, range)? {
+    if access.write_entries(alloc, writer, range)? {
         Ok(())
     } else {
         refuse(writer, Refusal::NoMemory)
@@ -143,7 +143,7 @@ pub(crate) fn entries_request<A: Access, W: Write>(
     writer: &mut W,
     range: EntryRange,
 ) -> Result<(), Cause>
-    ensures told { OnOk result (ReportedOver (A.stands access.old) (A.stands access.new) (λ before turn after. IsLinkedEntries A.reach range before turn after) (W.contents writer.old) (W.contents writer.new)) }
+    ensures reported { OnOk result (ReportedOver (A.stands access.old) (A.stands access.new) (λ before turn after. IsLinkedEntries A.reach range before turn after) (W.contents writer.old) (W.contents writer.new)) }
     ensures cause { IfErr result (λ cause. cause ≡ Cause.CannotWrite) }
 {
     give_entries(alloc, access, writer, range)

@@ -3,10 +3,10 @@
 ghost use Rattle.std.specs.Prelude.{◌≡◌, ◌≢◌, ◌<◌, false, true, IfErr, IfOk, IfSome, Err};
 ghost use Rattle.store_session.specs.Session.{ServedAll, ServedSome};
 ghost use Rattle.store_session.specs.Turns.{ServedAllOver, ServedSomeOver};
-ghost use Rattle.store_session.specs.inner.Telling.{ServesPutOver, ServesReadOver, ServesRequestOver};
+ghost use Rattle.store_session.specs.inner.Reporting.{ServesPutOver, ServesReadOver, ServesRequestOver};
 
 use crate::access::Access;
-use crate::answering::{answer_line, ask_line, entries_request, give, tell};
+use crate::answering::{answer_line, ask_line, entries_request, give, report};
 use crate::reading::{LineRead, read_line};
 use crate::receiving::receive;
 use crate::request::{MAX_REQUEST, Request, request_of};
@@ -161,6 +161,6 @@ fn put<A: Access, R: BufRead, W: Write>(
     let Some(answer) = receive(alloc, access, reader, upload, offset, len, work)? else {
         return Ok(false);
     };
-    tell(alloc, writer, answer)?;
+    report(alloc, writer, answer)?;
     Ok(true)
 }

@@ -35,7 +35,7 @@ mod request;
 pub use access::Access;
 pub use edge::{Cause, Verdict};
 pub use engine::{serve, serve_over};
-pub use giving::tell_entries;
+pub use giving::write_entries;
 pub use laws::session_laws;
 pub use own::copied;
 pub use request::EntryRange;

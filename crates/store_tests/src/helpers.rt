@@ -3,7 +3,7 @@
 
 use b3_core::{Runtime, Work};
 use b3_forest::{PartFault, Plan, Prepared};
-use b3_tests::{Answers, cut, is_pattern, number, pattern, told, two_numbers};
+use b3_tests::{Answers, cut, is_pattern, number, pattern, reported, two_numbers};
 use hex::FromHex;
 use std::alloc::{AllocError, Global};
 use std::process::Abort;
@@ -66,12 +66,12 @@ impl Scripted {
             "fetch" => self.fetch(rest),
             "has" => self.has(rest),
             "range" => self.range(first, second, cut(cut(rest).1).1),
-            _ => self.told(word, first, second),
+            _ => self.reported(word, first, second),
         }
     }
 
     // Commands without a result, and questions.
-    fn told(&mut self, word: &str, first: u64, second: u64) -> Result<String, AllocError> {
+    fn reported(&mut self, word: &str, first: u64, second: u64) -> Result<String, AllocError> {
         let (alloc, upload) = (self.alloc, UploadId::new(first));
         match word {
             "as" => self.act_as(first),
@@ -384,14 +384,14 @@ fn forgotten_text(
     answer: Result<Option<Arc<Object>>, Refusal>,
 ) -> Result<String, AllocError> {
     match answer {
-        Ok(Some(gone)) => format!(in alloc; "back {} {}", gone.address(), gone.len()),
+        Ok(Some(removed)) => format!(in alloc; "back {} {}", removed.address(), removed.len()),
         Ok(None) => format!(in alloc; "others hold it"),
         Err(refusal) => format!(in alloc; "{refusal}"),
     }
 }
 
 // The answers to the script.
-fn told_of<R: AllocGlobal + Runtime>(rt: &R, script: &str) -> Result<String, AllocError> {
+fn reported_of<R: AllocGlobal + Runtime>(rt: &R, script: &str) -> Result<String, AllocError> {
     let mut on = Scripted {
         alloc: rt.alloc(),
         store: Store::new(rt.alloc(), Limits::full()),
@@ -400,16 +400,16 @@ fn told_of<R: AllocGlobal + Runtime>(rt: &R, script: &str) -> Result<String, All
         making: Work::new(rt),
         work: Work::new(rt),
     };
-    told(rt.alloc(), &mut on, script)
+    reported(rt.alloc(), &mut on, script)
 }
 
 /// The answers to the script are those in the script, from a store that starts with the widest limits. If an allocation of the test itself
 /// fails, everything is repeated.
 pub(crate) fn holds<R: AllocGlobal + Runtime + Abort>(rt: &R, script: &str) -> Result<(), Fail> {
-    let told = match told_of(rt, script) {
-        Ok(told) => told,
-        Err(_) => told_of(rt, script)?,
+    let reported = match reported_of(rt, script) {
+        Ok(reported) => reported,
+        Err(_) => reported_of(rt, script)?,
     };
-    assert_eq!(rt; told.as_str(), script);
+    assert_eq!(rt; reported.as_str(), script);
     Ok(())
 }

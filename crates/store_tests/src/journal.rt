@@ -96,7 +96,7 @@ fn names_give_back_what_they_are_of(rt: HostRuntime) -> Result<(), Fail> {
 }
 
 #[test]
-fn refusals_are_told(rt: HostRuntime) -> Result<(), Fail> {
+fn refusals_are_reported(rt: HostRuntime) -> Result<(), Fail> {
     let alloc = rt.alloc();
     assert_eq!(rt; read_entry(b"begin 0"), Err(BadText { line: 1 }));
     assert_eq!(rt; read_entry(b"abort 0\n"), Err(BadText { line: 1 }));

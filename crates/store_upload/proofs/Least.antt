@@ -119,5 +119,5 @@ module _ {P : Type 0} (len : P → ℕ) where
 
   pub least_overlap : (u : Upload P) (offset n : ℕ) → IsUpload len u → 0 < n → ReportsOverlap len offset n u.parts
   least_overlap u offset n lawful some =
-      let told = overlap_from (length_of u) 0 offset n u.parts lawful.placed some in
-      record { some = told.some; none = told.none }
+      let reported = overlap_from (length_of u) 0 offset n u.parts lawful.placed some in
+      record { some = reported.some; none = reported.none }

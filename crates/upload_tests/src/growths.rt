@@ -56,14 +56,14 @@ fn uploaded_again<L: Ledgers, R: Threads + Wait + Sync + AllocGlobal + Runtime>(
     workers: u64,
 ) -> (Share<L>, Result<bool, AllocError>) {
     let alloc = rt.alloc();
-    let is_gone = has_objects(alloc, shared.lock(rt).store(), 0);
+    let is_removed = has_objects(alloc, shared.lock(rt).store(), 0);
     let put = share.bytes();
     let tenant = TenantId::new(0);
     let (share, again) = upload_row(rt, alloc, shared, share, &PassAll, tenant, row, 1, workers);
     let is_risen = share.bytes() == put.saturating_add(2049);
     let is_well = is_out_of_memory(fault) && is_risen && again.is_ok();
-    match is_gone {
-        Ok(is_gone) => (share, Ok(is_gone && is_well)),
+    match is_removed {
+        Ok(is_removed) => (share, Ok(is_removed && is_well)),
         Err(AllocError) => (share, Err(AllocError)),
     }
 }

@@ -15,17 +15,17 @@ fn fault_text(alloc: Global, fault: &UploadFault) -> Result<String, AllocError> 
 }
 
 /// The result of an upload that returns whether its bytes were new, and by how much its share rose.
-pub(crate) fn told_text(
+pub(crate) fn reported_text(
     alloc: Global,
     answer: Result<bool, UploadFault>,
     put: Accepted,
 ) -> Result<String, AllocError> {
-    let told = match answer {
+    let reported = match answer {
         Ok(true) => String::from_str(alloc, "new")?,
         Ok(false) => String::from_str(alloc, "known")?,
         Err(fault) => fault_text(alloc, &fault)?,
     };
-    format!(in alloc; "{} {} {}", told.as_str(), put.bytes, put.calls)
+    format!(in alloc; "{} {} {}", reported.as_str(), put.bytes, put.calls)
 }
 
 // The number of entries, and their lines in order.

@@ -121,8 +121,8 @@ fn is_pattern(object: &Object) -> bool {
 }
 
 // Whether an object was returned, with the bytes of the pattern of 2048.
-fn is_back(gone: Option<Arc<Object>>) -> bool {
-    match gone {
+fn is_back(removed: Option<Arc<Object>>) -> bool {
+    match removed {
         Some(object) => is_pattern(&object),
         None => false,
     }

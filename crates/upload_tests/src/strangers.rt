@@ -77,7 +77,7 @@ fn seal_one<L: Ledgers, R: Wait + Runtime>(rt: &R, shared: &Shared<L>, upload: U
 // Forgets an object for tenant 0. Returns whether the object was returned.
 fn forget_one<L: Ledgers, R: Wait>(rt: &R, shared: &Shared<L>, address: Address) -> bool {
     let forgotten = lent_forget(&mut *shared.lock(rt), TenantId::new(0), address);
-    forgotten.is_ok_and(|gone| gone.is_some())
+    forgotten.is_ok_and(|removed| removed.is_some())
 }
 
 /// Begins upload 0, of 2049 bytes, and puts its last byte.
@@ -211,29 +211,29 @@ pub(crate) fn meanwhile<L: Ledgers, R: Threads + Wait + Sync + Runtime>(
 #[derive(Clone, Copy)]
 struct Beside {
     deed: Deed,
-    told: &'static str,
+    reported: &'static str,
     rest: &'static str,
 }
 
 const BESIDE: &[Beside] = &[
     Beside {
         deed: Deed::Put,
-        told: "U1 S9 at 2048 2048 2, accepted 2050 4, objects 0 bytes 0 uploads 1 held 1 parts 1, entries 8",
+        reported: "U1 S9 at 2048 2048 2, accepted 2050 4, objects 0 bytes 0 uploads 1 held 1 parts 1, entries 8",
         rest: "put 1 2048 1 / abort 1",
     },
     Beside {
         deed: Deed::Seal,
-        told: "U1 S7 2048 2, accepted 2050 4, objects 1 bytes 2049 uploads 1 held 1 parts 1, entries 8",
+        reported: "U1 S7 2048 2, accepted 2050 4, objects 1 bytes 2049 uploads 1 held 1 parts 1, entries 8",
         rest: "put 1 2048 1 / seal 1 5f4d72f40d7a5f82b15ca2b2e44b1de3c2ef86c426c95c1af0b6879522563030 new",
     },
     Beside {
         deed: Deed::File,
-        told: "known 2049 3, accepted 4099 5, objects 1 bytes 2049 uploads 1 held 1 parts 1, entries 11",
+        reported: "known 2049 3, accepted 4099 5, objects 1 bytes 2049 uploads 1 held 1 parts 1, entries 11",
         rest: "begin 2 0 2049 / put 2 0 2049 / seal 2 5f4d72f40d7a5f82b15ca2b2e44b1de3c2ef86c426c95c1af0b6879522563030 new / put 1 2048 1 / seal 1 5f4d72f40d7a5f82b15ca2b2e44b1de3c2ef86c426c95c1af0b6879522563030 known",
     },
     Beside {
         deed: Deed::FileAndForget,
-        told: "new 2049 3, accepted 4099 5, objects 1 bytes 2049 uploads 1 held 1 parts 1, entries 12",
+        reported: "new 2049 3, accepted 4099 5, objects 1 bytes 2049 uploads 1 held 1 parts 1, entries 12",
         rest: "begin 2 0 2049 / put 2 0 2049 / seal 2 5f4d72f40d7a5f82b15ca2b2e44b1de3c2ef86c426c95c1af0b6879522563030 new / forget 0 5f4d72f40d7a5f82b15ca2b2e44b1de3c2ef86c426c95c1af0b6879522563030 / put 1 2048 1 / seal 1 5f4d72f40d7a5f82b15ca2b2e44b1de3c2ef86c426c95c1af0b6879522563030 new",
     },
 ];
@@ -244,11 +244,11 @@ fn leaves<R: Threads + Wait + Sync + AllocGlobal + Runtime + Abort>(
     beside: Beside,
     workers: u64,
 ) -> Result<(), Fail> {
-    let (told, rest) = (beside.told, beside.rest);
+    let (reported, rest) = (beside.reported, beside.rest);
     let begun = "tenant 0 6147 / begin 0 0 2049 / put 0 2048 1 / begin 1 0 2049";
     let (one, two) = ("put 1 0 1024", "put 1 1024 1024");
-    let ordered = format!(in rt.alloc(); "{told}: {begun} / {one} / {two} / {rest}")?;
-    let swapped = format!(in rt.alloc(); "{told}: {begun} / {two} / {one} / {rest}")?;
+    let ordered = format!(in rt.alloc(); "{reported}: {begun} / {one} / {two} / {rest}")?;
+    let swapped = format!(in rt.alloc(); "{reported}: {begun} / {two} / {one} / {rest}")?;
     let cut = three_parts(workers);
     let left = left_by(
         rt,
@@ -348,14 +348,14 @@ fn the_same_bytes_are_uploaded_twice(rt: HostRuntime) -> Result<(), Fail> {
             let signal = Signal::new(rt.alloc())?;
             let left = left_by(&rt, Rule::Pass, &signal, Deed::Upload(other), cut)?;
             let left = left.as_str();
-            let is_told = left.starts_with(first.as_str()) || left.starts_with(second.as_str());
+            let is_reported = left.starts_with(first.as_str()) || left.starts_with(second.as_str());
             let begun = if other == 0 {
                 " 0 2049 / "
             } else {
                 " 1 2049 / "
             };
             let are_begun = left.contains(begun) && left.contains(" 1 2049 / ");
-            assert!(rt; is_told && are_begun, "{workers} {other}: {left}");
+            assert!(rt; is_reported && are_begun, "{workers} {other}: {left}");
         }
     }
     Ok(())

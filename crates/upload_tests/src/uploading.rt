@@ -3,7 +3,7 @@
 ghost use Rattle.std.specs.Prelude.{◌≡◌, ◌^◌};
 
 use crate::gates::{Checkpoint, Rule, Signal};
-use crate::reports::{left_text, told_text};
+use crate::reports::{left_text, reported_text};
 use crate::strangers::{Deed, Outcome, begin_neighbour, meanwhile};
 use b3_core::Runtime;
 use b3_tests::pattern;
@@ -106,9 +106,9 @@ fn beside_text<L: Ledgers>(
         Outcome::New => "the stranger new, ",
         Outcome::Known => "the stranger known, ",
     };
-    let told = told_text(alloc, answer, put)?;
+    let reported = reported_text(alloc, answer, put)?;
     let left = left_text(alloc, locked, share)?;
-    Ok(format!(in alloc; "{}, {beside}{}", told.as_str(), left.as_str())?)
+    Ok(format!(in alloc; "{}, {beside}{}", reported.as_str(), left.as_str())?)
 }
 
 /// An upload with a share of one part, and the deed of the stranger, who has all other parts.

@@ -63,7 +63,7 @@ impl<H: HeldParts, O: Content, I: AddressIndex> Books<H, O, I> {
         requires new { object_at O.address self.old (O.address content) ≡ None }
         requires size { IfSome (upload_at self.old number) (λ u. O.size content ≡ length_of u.upload) }
         ensures filed { OnOk result (self.new ≡ with_filed self.old number content) }
-        ensures given { IfOk result (λ gone. IfSome (upload_at self.old number) (λ u. gone ≡ u.upload)) }
+        ensures given { IfOk result (λ freed. IfSome (upload_at self.old number) (λ u. freed ≡ u.upload)) }
         ensures unchanged { OnErr result (self.new ≡ self.old) }
     {
         let Some(begun) = self.uploads.get(&number) else {
@@ -92,7 +92,7 @@ impl<H: HeldParts, O: Content, I: AddressIndex> Books<H, O, I> {
         requires free { file_refusal O.size O.address self.old number address ≡ None }
         requires known { IsSome (object_at O.address self.old address) }
         ensures joined { OnOk result (self.new ≡ with_joined O.address self.old number address) }
-        ensures given { IfOk result (λ gone. IfSome (upload_at self.old number) (λ u. gone ≡ u.upload)) }
+        ensures given { IfOk result (λ freed. IfSome (upload_at self.old number) (λ u. freed ≡ u.upload)) }
         ensures unchanged { OnErr result (self.new ≡ self.old) }
     {
         let Some(begun) = self.uploads.get(&number) else {
@@ -149,21 +149,21 @@ impl<H: HeldParts, O: Content, I: AddressIndex> Books<H, O, I> {
     pub fn forget(&mut self, tenant: u64, address: Address) -> Option<O>
         requires { forget_refusal O.address self.old tenant address ≡ None }
         ensures left { self.new ≡ with_forgotten O.address self.old tenant address }
-        ensures gone { IfSome (object_at O.address self.old address) (λ o. result ≡ (if nat_le (length o.holders) 1 then Some o.content else None)) }
+        ensures freed { IfSome (object_at O.address self.old address) (λ o. result ≡ (if nat_le (length o.holders) 1 then Some o.content else None)) }
     {
         let Some(known) = self.catalog.known(address, tenant) else {
             unreachable!();
         };
-        let gone = self.catalog.drop_holder(address, tenant, known.is_alone);
+        let freed = self.catalog.drop_holder(address, tenant, known.is_alone);
         let used = Change {
             less: known.size,
             more: 0,
         };
         let reserved = Change { less: 0, more: 0 };
         change_sums(&mut self.tenants, tenant, used, reserved);
-        self.object_bytes -= known.gone();
+        self.object_bytes -= known.freed();
         self.accepted += 1;
-        gone
+        freed
     }
 }
 

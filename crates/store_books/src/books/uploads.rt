@@ -142,7 +142,7 @@ impl<H: HeldParts, O: Content, I: AddressIndex> Books<H, O, I> {
     /// Aborts an upload, and returns it.
     pub fn abort(&mut self, number: u64) -> Open<H>
         requires { abort_refusal self.old number ≡ None }
-        ensures gone { self.new ≡ without_upload self.old number }
+        ensures freed { self.new ≡ without_upload self.old number }
         ensures given { IfSome (upload_at self.old number) (λ u. result ≡ u.upload) }
     {
         let Some(begun) = self.uploads.remove(&number) else {

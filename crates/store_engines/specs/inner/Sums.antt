@@ -18,8 +18,8 @@ both Refused second = Refused
 -- ---- one file
 
 -- a name was answered, the text of the answer was written, and the verdict is on it
-pub record IsSumOf {S : Type 0} (gives : S → List ℕ → Result ModelTop FileFault → S → Type 0) (tells : S → List ℕ → Reason → S → Type 0) (length : Option ℕ) (old : S) (name : List ℕ) (new : S) (before after : Option (List ℕ)) (verdict : Verdict) : Type 0 where
+pub record IsSumOf {S : Type 0} (gives : S → List ℕ → Result ModelTop FileFault → S → Type 0) (reports : S → List ℕ → Reason → S → Type 0) (length : Option ℕ) (old : S) (name : List ℕ) (new : S) (before after : Option (List ℕ)) (verdict : Verdict) : Type 0 where
   pub answer : RootAnswer
-  pub answered : IsRootAnswer gives tells old name answer new
+  pub answered : IsRootAnswer gives reports old name answer new
   pub wrote : Appends before after (root_answer_text length name answer)
   pub good : verdict ≡ (if has_root answer then Good else Refused)

@@ -15,5 +15,5 @@ pub returns-in-Err-Failed-clause-summed : goal.returns-in-Err-Failed-clause-summ
 returns-in-Err-Failed-clause-summed g c =
     let reason = c.in-Err-Failed.reason in
     let given : g.S.Sources.gives c.args.sources.now c.args.name.now (Err (Failed reason)) c.root_of.new.self = search rules in
-    let told : g.S.Sources.tells c.root_of.new.self c.args.name.now reason c.tell.new.self = search rules in
-    record { answer = Err reason; answered = (c.root_of.new.self, given, told); wrote = Appends-nil (g.W.Write.contents c.args.writer.now); good = refl }
+    let reported : g.S.Sources.reports c.root_of.new.self c.args.name.now reason c.report.new.self = search rules in
+    record { answer = Err reason; answered = (c.root_of.new.self, given, reported); wrote = Appends-nil (g.W.Write.contents c.args.writer.now); good = refl }

@@ -10,21 +10,21 @@ use Rattle.edge.specs.Output.{WroteSome}
 use Rattle.store_engines.specs.inner.Uploads.{IsUploadReport}
 use Rattle.std.specs.Io.KnownBytes.{Appends}
 use Rattle.store_engines.proofs.Known.{known}
-use Rattle.store_engines.proofs.UploadTexts.{cut_may, is_upload_text, never_bad, no_memory, own_may, told, told_memory, told_some, unopened}
+use Rattle.store_engines.proofs.UploadTexts.{cut_may, is_upload_text, never_bad, no_memory, own_may, reported, reported_memory, reported_some, unopened}
 use Rattle.store_engines.proofs.uploading.upload.Goals as goal
 
 -- ---- no tenant
 
 pub returns-in-Err-clause-refused : goal.returns-in-Err-clause-refused
 returns-in-Err-clause-refused g c =
-    told c.args.options c.refuse.result (kinds.Refused c.in-Err.refusal) _ _ (tt, λ _. unopened as_is 1099511627776 _ _ _ _ _ c.in-Err.refusal refl c.in-Err.ensures.step) c.refuse.ensures.told c.refuse.ensures.memory
+    reported c.args.options c.refuse.result (kinds.Refused c.in-Err.refusal) _ _ (tt, λ _. unopened as_is 1099511627776 _ _ _ _ _ c.in-Err.refusal refl c.in-Err.ensures.step) c.refuse.ensures.reported c.refuse.ensures.memory
 
 pub returns-in-Err-clause-memory : goal.returns-in-Err-clause-memory
-returns-in-Err-clause-memory g c = told_memory c.refuse.result (kinds.Refused c.in-Err.refusal) _ _ c.refuse.ensures.failed c.refuse.ensures.other
+returns-in-Err-clause-memory g c = reported_memory c.refuse.result (kinds.Refused c.in-Err.refusal) _ _ c.refuse.ensures.failed c.refuse.ensures.other
 
 pub returns-in-Err-clause-failed : goal.returns-in-Err-clause-failed
 returns-in-Err-clause-failed g c =
-    told_some c.args.options c.refuse.result (kinds.Refused c.in-Err.refusal) _ _ (g.R.Read.remaining c.args.reader.now) (tt, λ _. unopened as_is 1099511627776 _ _ _ _ _ c.in-Err.refusal refl c.in-Err.ensures.step)
+    reported_some c.args.options c.refuse.result (kinds.Refused c.in-Err.refusal) _ _ (g.R.Read.remaining c.args.reader.now) (tt, λ _. unopened as_is 1099511627776 _ _ _ _ _ c.in-Err.refusal refl c.in-Err.ensures.step)
     c.refuse.ensures.failed c.refuse.ensures.memory
 
 pub returns-in_err-input-clause-memory : goal.returns-in_err-input-clause-memory
@@ -72,20 +72,20 @@ returns-in-Ok-uploaded-clause-written g c = λ _.
 pub returns-in-Err-held-clause-refused : goal.returns-in-Err-held-clause-refused
 returns-in-Err-held-clause-refused g c =
     let never = never_bad c.args.options _ _ c.in-Ok-uploaded.sealed _ _ (c.new-shared.ensures.workers ∙ c.full.ensures.2) c.upload-share.ensures.bad_cut c.in-Ok-uploaded.is in
-    told c.args.options c.refuse-in-Err-held.result c.in-Err-held.kind _ _ (own_may c.args.options c.in-Err-held.kind c.in-Err-held.ensures.own (λ bad. absurd (never bad)))
-    c.refuse-in-Err-held.ensures.told c.refuse-in-Err-held.ensures.memory
+    reported c.args.options c.refuse-in-Err-held.result c.in-Err-held.kind _ _ (own_may c.args.options c.in-Err-held.kind c.in-Err-held.ensures.own (λ bad. absurd (never bad)))
+    c.refuse-in-Err-held.ensures.reported c.refuse-in-Err-held.ensures.memory
 
 pub returns-in-Err-held-clause-memory : goal.returns-in-Err-held-clause-memory
-returns-in-Err-held-clause-memory g c = told_memory c.refuse-in-Err-held.result c.in-Err-held.kind _ _ c.refuse-in-Err-held.ensures.failed c.refuse-in-Err-held.ensures.other
+returns-in-Err-held-clause-memory g c = reported_memory c.refuse-in-Err-held.result c.in-Err-held.kind _ _ c.refuse-in-Err-held.ensures.failed c.refuse-in-Err-held.ensures.other
 
 pub returns-in-Err-held-clause-failed : goal.returns-in-Err-held-clause-failed
 returns-in-Err-held-clause-failed g c =
     let never = never_bad c.args.options _ _ c.in-Ok-uploaded.sealed _ _ (c.new-shared.ensures.workers ∙ c.full.ensures.2) c.upload-share.ensures.bad_cut c.in-Ok-uploaded.is in
-    told_some c.args.options c.refuse-in-Err-held.result c.in-Err-held.kind _ _ (g.R.Read.remaining c.args.reader.now)
+    reported_some c.args.options c.refuse-in-Err-held.result c.in-Err-held.kind _ _ (g.R.Read.remaining c.args.reader.now)
     (own_may c.args.options c.in-Err-held.kind c.in-Err-held.ensures.own (λ bad. absurd (never bad))) c.refuse-in-Err-held.ensures.failed c.refuse-in-Err-held.ensures.memory
 
 pub returns-clause-memory : goal.returns-clause-memory
-returns-clause-memory g c = told_memory c.refuse-in-Err-uploaded.result c.in-Err-uploaded.fault.kind _ _ c.refuse-in-Err-uploaded.ensures.failed c.refuse-in-Err-uploaded.ensures.other
+returns-clause-memory g c = reported_memory c.refuse-in-Err-uploaded.result c.in-Err-uploaded.fault.kind _ _ c.refuse-in-Err-uploaded.ensures.failed c.refuse-in-Err-uploaded.ensures.other
 
 pub returns-clause-refused : goal.returns-clause-refused
 returns-clause-refused g c =
@@ -95,7 +95,7 @@ returns-clause-refused g c =
     let good : kind ≡ kinds.BadCut → IsBadCut o.part_chunks o.workers max_workers = search rules in
     let stopped : kind ≡ kinds.Stopped → ⊥ = search rules in
     let gate : (part code : ℕ) → kind ≡ kinds.GateFault part code → ⊥ = search rules in
-    told o c.refuse-in-Err-uploaded.result kind _ _ (cut_may o kind bad good stopped gate) c.refuse-in-Err-uploaded.ensures.told c.refuse-in-Err-uploaded.ensures.memory
+    reported o c.refuse-in-Err-uploaded.result kind _ _ (cut_may o kind bad good stopped gate) c.refuse-in-Err-uploaded.ensures.reported c.refuse-in-Err-uploaded.ensures.memory
 
 pub returns-clause-failed : goal.returns-clause-failed
 returns-clause-failed g c =
@@ -105,4 +105,4 @@ returns-clause-failed g c =
     let good : kind ≡ kinds.BadCut → IsBadCut o.part_chunks o.workers max_workers = search rules in
     let stopped : kind ≡ kinds.Stopped → ⊥ = search rules in
     let gate : (part code : ℕ) → kind ≡ kinds.GateFault part code → ⊥ = search rules in
-    told_some o c.refuse-in-Err-uploaded.result kind _ _ (g.R.Read.remaining c.args.reader.now) (cut_may o kind bad good stopped gate) c.refuse-in-Err-uploaded.ensures.failed c.refuse-in-Err-uploaded.ensures.memory
+    reported_some o c.refuse-in-Err-uploaded.result kind _ _ (g.R.Read.remaining c.args.reader.now) (cut_may o kind bad good stopped gate) c.refuse-in-Err-uploaded.ensures.failed c.refuse-in-Err-uploaded.ensures.memory

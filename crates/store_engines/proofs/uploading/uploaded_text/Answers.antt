@@ -1,7 +1,7 @@
 use Rattle.std.proofs.Common.{rules, ◌≡◌, ◌∙◌, ap, sym, subst, codes}
 use Rattle.std.proofs.lemmas.Result.{IfOk-weaker}
 use Rattle.b3_check.specs.Lines.{written_line}
-use Rattle.store_core.specs.Carried.{IsCarried, told_of}
+use Rattle.store_core.specs.Carried.{IsCarried, replayed_of}
 use Rattle.store_engines.specs.Audits.{accepted_text}
 use Rattle.store_engines.specs.Uploads.{journal_part}
 use Rattle.store_engines.proofs.UploadTexts.{has_object, in_a_row}
@@ -14,14 +14,14 @@ returns g c =
     let store : c.store.result.now ≡ shown = search rules in
     let carried = subst IsCarried store c.journal.ensures.carried in
     let line : c.in_ok-line.line.items ≡ written_line (record { digest = c.args.address; name = codes "-" }) = search rules in
-    let told : c.as_bytes.result.now ≡ accepted_text share.bytes share.calls = search rules in
+    let reported : c.as_bytes.result.now ≡ accepted_text share.bytes share.calls = search rules in
     let entries : c.journal.result.now ≡ shown.journal = c.journal.ensures.entries ∙ ap (λ s. s.journal) store in
     let journal : c.as_slice.result.now ≡ journal_part c.args.journal shown.journal = search rules in
     IfOk-weaker c.joined.result _ _ (λ text is. record {
-      left = told_of shown.state;
+      left = replayed_of shown.state;
       legal = carried.replayed;
       filed = has_object shown.state c.args.address share.bytes c.requires.filed;
       bytes = sym c.in-Ok.ensures.ok.1.0;
       calls = sym c.in-Ok.ensures.ok.1.1;
-      text_is = is ∙ in_a_row _ _ _ _ _ _ line told journal;
+      text_is = is ∙ in_a_row _ _ _ _ _ _ line reported journal;
     }) c.joined.ensures

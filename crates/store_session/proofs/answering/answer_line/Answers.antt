@@ -1,6 +1,6 @@
 use Rattle.std.proofs.Common.{rules, arith, ◌≡◌, ◌≤◌, ◌<◌, false, true}
 use Rattle.std.specs.Io.BufRead.{strip_last}
-use Rattle.store_session.proofs.Tells.{kept_line, long_line, lost_line, on_ok}
+use Rattle.store_session.proofs.Reports.{kept_line, long_line, lost_line, on_ok}
 use Rattle.store_session.proofs.answering.answer_line.Goals as goal
 
 pub returns-then-not-read-clause-answered : goal.returns-then-not-read-clause-answered
@@ -11,7 +11,7 @@ returns-then-not-read-clause-answered g c =
 pub returns-then-read-gt-MAX_LINE-clause-answered : goal.returns-then-read-gt-MAX_LINE-clause-answered
 returns-then-read-gt-MAX_LINE-clause-answered g c =
     let long : 33554481 < c.args.read.count = omega arith in
-    on_ok c.tell.result (long_line g.A.Access.reach (g.A.Access.stands c.args.access.now) c.args.read c.args.line.now (g.W.Write.contents c.args.writer.now) (g.W.Write.contents c.tell.new.writer) long) c.tell.ensures.wrote
+    on_ok c.report.result (long_line g.A.Access.reach (g.A.Access.stands c.args.access.now) c.args.read c.args.line.now (g.W.Write.contents c.args.writer.now) (g.W.Write.contents c.report.new.writer) long) c.report.ensures.wrote
 
 pub returns-clause-answered : goal.returns-clause-answered
 returns-clause-answered g c =

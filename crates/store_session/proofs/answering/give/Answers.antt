@@ -3,7 +3,7 @@ use Rattle.std.specs.Arc.{arc_value}
 use Rattle.store_core.specs.Runs.{ask, the_bytes}
 use Rattle.store_core.specs.declared.command.Question.TheVariants as questions
 use Rattle.store_session.specs.Access.{Took}
-use Rattle.store_session.proofs.Tells.{fetched, on_ok, unfetched}
+use Rattle.store_session.proofs.Reports.{fetched, on_ok, unfetched}
 use Rattle.store_session.proofs.answering.give.Goals as goal
 
 pub returns-in-Ok-clause-gave : goal.returns-in-Ok-clause-gave

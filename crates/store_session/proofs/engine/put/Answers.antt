@@ -1,6 +1,6 @@
 use Rattle.std.proofs.Common.{rules, ◌≡◌, Some, subst, ℕ}
 use Rattle.std.specs.Prelude.{IfSome}
-use Rattle.store_session.specs.inner.Telling.{ReceivesOver}
+use Rattle.store_session.specs.inner.Reporting.{ReceivesOver}
 use Rattle.store_session.proofs.Serves.{served_put}
 use Rattle.store_session.proofs.engine.put.Goals as goal
 
@@ -15,4 +15,4 @@ returns-clause-served g c =
     let same : got ≡ Some c.in-Some.answer = search rules in
     let upload : c.new-upload.result ≡ c.args.upload = search rules in
     let received = subst (λ (u : ℕ). IfSome now (λ following. ReceivesOver reach was is got u c.args.offset c.args.len following left)) upload c.in_ok-answer.ensures.received in
-    served_put now left (g.W.Write.contents c.args.writer.now) (g.W.Write.contents c.tell.new.writer) reach was is c.args.upload c.args.offset c.args.len got c.in-Some.answer same received c.in_ok-tell.ensures.wrote
+    served_put now left (g.W.Write.contents c.args.writer.now) (g.W.Write.contents c.report.new.writer) reach was is c.args.upload c.args.offset c.args.len got c.in-Some.answer same received c.in_ok-report.ensures.wrote

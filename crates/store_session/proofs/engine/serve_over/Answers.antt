@@ -2,7 +2,7 @@ use Rattle.std.proofs.Common.{rules, ◌≡◌, ◌≤◌, ◌<◌, arith, false
 use Rattle.std.specs.Prelude.{IfSome}
 use Rattle.edge.specs.declared.outcome.Cause.TheVariants as causes
 use Rattle.store_session.specs.Reads.{max_request}
-use Rattle.store_session.specs.inner.Telling.{ServesReadOver}
+use Rattle.store_session.specs.inner.Reporting.{ServesReadOver}
 use Rattle.store_session.specs.Turns.{ServedSomeOver}
 use Rattle.store_session.proofs.Under.{at_end, begun, cut_off, stopped, turned, unended}
 use Rattle.store_session.proofs.engine.serve_over.Goals as goal

@@ -1,11 +1,11 @@
 use Rattle.std.proofs.Common.{rules, ◌≡◌, None, Some, Err, true, length}
-use Rattle.store_script.specs.Answers.{told_text}
+use Rattle.store_script.specs.Answers.{reported_text}
 use Rattle.store_script.specs.Script.{widest_start}
 use Rattle.store_script.specs.Texts.{refused_text, unmade_text}
 use Rattle.store_script.specs.declared.answer.Answer.TheVariants as answers
 use Rattle.store_upload.specs.Uploads.{part_refusal}
 use Rattle.store_upload.specs.declared.refusal.PartFault.TheVariants as faults
-use Rattle.store_session.proofs.Puts.{dropped, leaves, fault_told, no_fault, no_part, no_plan, planned_put, whole}
+use Rattle.store_session.proofs.Puts.{dropped, leaves, fault_reported, no_fault, no_part, no_plan, planned_put, whole}
 use Rattle.store_session.proofs.receiving.receive.Goals as goal
 
 pub returns-in-Err-clause-received : goal.returns-in-Err-clause-received
@@ -23,7 +23,7 @@ returns-in-Some-clause-received g c =
     let mid = g.A.Access.stands c.plan.new.self in
     let is : Some c.in-Some.fault ≡ part_refusal c.in-Ok.plan c.args.offset c.args.len = search rules in
     dropped c.dropped-in-Some.result (g.R.Read.remaining c.args.reader.now) (g.R.Read.remaining c.dropped-in-Some.new.reader) reach was mid c.args.upload c.args.offset c.args.len (answers.Unmade c.in-Some.fault)
-    (λ bytes long. planned_put reach was mid mid c.args.upload c.args.offset c.in-Ok.plan bytes (refused_text (unmade_text c.in-Some.fault)) c.in-Ok.ensures (no_part reach mid c.args.upload c.args.offset c.in-Ok.plan bytes c.in-Some.fault (fault_told c.in-Ok.plan c.args.offset c.args.len (length bytes) c.in-Some.fault is long)))
+    (λ bytes long. planned_put reach was mid mid c.args.upload c.args.offset c.in-Ok.plan bytes (refused_text (unmade_text c.in-Some.fault)) c.in-Ok.ensures (no_part reach mid c.args.upload c.args.offset c.in-Ok.plan bytes c.in-Some.fault (fault_reported c.in-Ok.plan c.args.offset c.args.len (length bytes) c.in-Some.fault is long)))
     (leaves reach was mid c.args.upload c.plan.result c.plan.ensures) c.dropped-in-Some.ensures.dropped
 
 pub returns-in_default-with_capacity-clause-received : goal.returns-in_default-with_capacity-clause-received
@@ -44,4 +44,4 @@ returns-clause-received g c =
     let is = g.A.Access.stands c.put_made.new.access in
     let all : c.in_ok-copy.field-0 ≡ true = search rules in
     whole (g.R.Read.remaining c.args.reader.now) (g.R.Read.remaining c.copy.new.reader) reach was is c.args.upload c.args.offset c.args.len c.copy.new.bytes.items c.put_made.result c.in_ok-copy.field-0 all c.in_ok-copy.ensures.copied
-    (planned_put reach was mid is c.args.upload c.args.offset c.in-Ok.plan c.copy.new.bytes.items (told_text widest_start c.put_made.result) c.in-Ok.ensures c.put_made.ensures)
+    (planned_put reach was mid is c.args.upload c.args.offset c.in-Ok.plan c.copy.new.bytes.items (reported_text widest_start c.put_made.result) c.in-Ok.ensures c.put_made.ensures)

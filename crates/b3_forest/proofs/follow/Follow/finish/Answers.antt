@@ -6,7 +6,7 @@ use Rattle.b3_forest.specs.Lent.{lent_bytes}
 use Rattle.b3_forest.specs.Subtrees.{Keeps}
 use Rattle.b3_forest.specs.Followed.{AllNoted, ModelFollow, IsFirstUnnoted, pieces_noted}
 use Rattle.b3_forest.specs.inner.Subtrees.{AreWhole}
-use Rattle.b3_forest.proofs.Following.{content_is, noted_count, told_all, told_missing}
+use Rattle.b3_forest.proofs.Following.{content_is, noted_count, reported_all, reported_missing}
 use Rattle.b3_forest.proofs.follow.Follow.finish.Goals as goal
 
 pub returns-then-missing-len-clause-missing : goal.returns-then-missing-len-clause-missing
@@ -14,14 +14,14 @@ returns-then-missing-len-clause-missing c =
     let w = c.self.invariant in
     let gap = c.least_missing-missing.ensures.least w.parts (subst (λ n. Keeps n w.parts c.self.inside.subtrees.entries) (sym c.len-len.ensures) w.keeps) in
     subst (λ (f : ModelFollow). IsFirstUnnoted f c.least_missing-missing.result) c.self.view_is
-    (told_missing (lent_bytes c.self.inside.lent) w.parts c.self.inside.subtrees.entries c.least_missing-missing.result c.upload_laws.ensures.missing w.keeps gap (omega (arith, c.if-missing-len.true, c.len-len.ensures)))
+    (reported_missing (lent_bytes c.self.inside.lent) w.parts c.self.inside.subtrees.entries c.least_missing-missing.result c.upload_laws.ensures.missing w.keeps gap (omega (arith, c.if-missing-len.true, c.len-len.ensures)))
 
 pub returns-clause-complete : goal.returns-clause-complete
 returns-clause-complete c =
     let w = c.self.invariant in
     let gap = c.least_missing-missing.ensures.least w.parts (subst (λ n. Keeps n w.parts c.self.inside.subtrees.entries) (sym c.len-len.ensures) w.keeps) in
     subst (λ (f : ModelFollow). AllNoted f) c.self.view_is
-    (told_all (lent_bytes c.self.inside.lent) w.parts c.self.inside.subtrees.entries c.upload_laws.ensures.missing w.keeps (omega (arith, gap, c.if-missing-len.false, c.len-len.ensures)))
+    (reported_all (lent_bytes c.self.inside.lent) w.parts c.self.inside.subtrees.entries c.upload_laws.ensures.missing w.keeps (omega (arith, gap, c.if-missing-len.false, c.len-len.ensures)))
 
 pub top-requires : goal.top-requires
 top-requires c =

@@ -19,9 +19,9 @@ change_sums-requires g c =
     let u = c.in-Some.begun in
     let found = sym c.in-Some.ensures.value in
     let free = ap (λ (x : Books g.row.H-Part.Denot g.row.O.Denot). abort_refusal x c.args.number) c.self.view_is ∙ c.requires in
-    let gone = goes len size address b c.args.number u found c.self.invariant.sound (room b (rw found at free)) in
+    let freed = goes len size address b c.args.number u found c.self.invariant.sound (room b (rw found at free)) in
     let long : c.length.result ≡ length_of u.upload = c.length.ensures.value ∙ ap (λ (x : Upload g.row.H-Part.Denot). length_of x) c.into_upload-upload.ensures in
-    let has = room_for len size address u.tenant none (falls (length_of u.upload)) b (without_upload b c.args.number) old.tenants.items old.catalog.filings old.object_bytes old.held old.parts gone.moves refl c.self.invariant in
+    let has = room_for len size address u.tenant none (falls (length_of u.upload)) b (without_upload b c.args.number) old.tenants.items old.catalog.filings old.object_bytes old.held old.parts freed.moves refl c.self.invariant in
     subst (λ (t : ℕ). HasRoom old.tenants.items t none (falls c.length.result)) (sym c.tenant-tenant.ensures)
     (subst (λ (x : Change). HasRoom old.tenants.items u.tenant none x) (sym (change_is long refl)) has)
 
@@ -35,9 +35,9 @@ overflow_sub-self g c =
     let u = c.in-Some.begun in
     let found = sym c.in-Some.ensures.value in
     let free = ap (λ (x : Books g.row.H-Part.Denot g.row.O.Denot). abort_refusal x c.args.number) c.self.view_is ∙ c.requires in
-    let gone = goes len size address b c.args.number u found c.self.invariant.sound (room b (rw found at free)) in
+    let freed = goes len size address b c.args.number u found c.self.invariant.sound (room b (rw found at free)) in
     let bytes : c.held.result ≡ held_bytes len u.upload.parts = c.held.ensures ∙ ap (λ (x : Upload g.row.H-Part.Denot). held_bytes len x.parts) c.into_upload-upload.ensures in
-    omega (arith, bytes, gone.held, c.self.invariant.held_is)
+    omega (arith, bytes, freed.held, c.self.invariant.held_is)
 
 pub overflow_sub-self-2 : goal.overflow_sub-self-2
 overflow_sub-self-2 g c =
@@ -49,9 +49,9 @@ overflow_sub-self-2 g c =
     let u = c.in-Some.begun in
     let found = sym c.in-Some.ensures.value in
     let free = ap (λ (x : Books g.row.H-Part.Denot g.row.O.Denot). abort_refusal x c.args.number) c.self.view_is ∙ c.requires in
-    let gone = goes len size address b c.args.number u found c.self.invariant.sound (room b (rw found at free)) in
+    let freed = goes len size address b c.args.number u found c.self.invariant.sound (room b (rw found at free)) in
     let many : c.count.result ≡ length u.upload.parts = c.count.ensures ∙ ap (λ (x : Upload g.row.H-Part.Denot). length x.parts) c.into_upload-upload.ensures in
-    omega (arith, many, gone.parts, c.self.invariant.parts_is)
+    omega (arith, many, freed.parts, c.self.invariant.parts_is)
 
 pub invariant_of-self : goal.invariant_of-self
 invariant_of-self g c =
@@ -63,11 +63,11 @@ invariant_of-self g c =
     let u = c.in-Some.begun in
     let found = sym c.in-Some.ensures.value in
     let free = ap (λ (x : Books g.row.H-Part.Denot g.row.O.Denot). abort_refusal x c.args.number) c.self.view_is ∙ c.requires in
-    let gone = goes len size address b c.args.number u found c.self.invariant.sound (room b (rw found at free)) in
+    let freed = goes len size address b c.args.number u found c.self.invariant.sound (room b (rw found at free)) in
     let long : c.length.result ≡ length_of u.upload = c.length.ensures.value ∙ ap (λ (x : Upload g.row.H-Part.Denot). length_of x) c.into_upload-upload.ensures in
     let bytes : c.held.result ≡ held_bytes len u.upload.parts = c.held.ensures ∙ ap (λ (x : Upload g.row.H-Part.Denot). held_bytes len x.parts) c.into_upload-upload.ensures in
     let many : c.count.result ≡ length u.upload.parts = c.count.ensures ∙ ap (λ (x : Upload g.row.H-Part.Denot). length x.parts) c.into_upload-upload.ensures in
     let kept = kept_after len size address u.tenant none (falls (length_of u.upload)) b (without_upload b c.args.number) old.tenants.items old.catalog.filings old.object_bytes old.held old.parts old.catalog.filings old.object_bytes (old.held - c.held.result) (old.parts - c.count.result)
-    gone.moves refl c.self.invariant (omega arith) c.self.invariant.object_bytes_is (omega (arith, bytes, gone.held, c.self.invariant.held_is)) (omega (arith, many, gone.parts, c.self.invariant.parts_is)) in
+    freed.moves refl c.self.invariant (omega arith) c.self.invariant.object_bytes_is (omega (arith, bytes, freed.held, c.self.invariant.held_is)) (omega (arith, many, freed.parts, c.self.invariant.parts_is)) in
     let now = c.change_sums.ensures.sums ∙ ap (λ (t : ℕ). changed_sums old.tenants.items t none (falls c.length.result)) c.tenant-tenant.ensures ∙ ap (changed_sums old.tenants.items u.tenant none) (change_is long refl) in
     kept_as len size address old.limits u.tenant none (falls (length_of u.upload)) old.begun (old.accepted + 1) old.catalog.filings old.object_bytes (old.held - c.held.result) (old.parts - c.count.result) old.tenants.items _ _ _ old.catalog.objects old.catalog.objects now c.remove.ensures.entries refl kept

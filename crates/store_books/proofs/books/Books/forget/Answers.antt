@@ -51,7 +51,7 @@ overflow_sub-self g c =
     let held = is_held (is_held_by t o) None (rw known at all.1) in
     let left = leaves len size address b t at o known c.self.invariant.sound (room b free.1) there held.0 in
     let next = with_left address b t at (Some o) in
-    let bytes : c.gone.result ≡ where_so (nat_le (length o.holders) 1) (size o.content) = c.gone.ensures ∙ ap₂ (λ (x : Bool) (y : ℕ). where_so x y) k.is_alone k.size in
+    let bytes : c.freed.result ≡ where_so (nat_le (length o.holders) 1) (size o.content) = c.freed.ensures ∙ ap₂ (λ (x : Bool) (y : ℕ). where_so x y) k.is_alone k.size in
     omega (arith, bytes, left.bytes, c.self.invariant.object_bytes_is)
 
 pub invariant_of-self : goal.invariant_of-self
@@ -72,11 +72,11 @@ invariant_of-self g c =
     let held = is_held (is_held_by t o) None (rw known at all.1) in
     let left = leaves len size address b t at o known c.self.invariant.sound (room b free.1) there held.0 in
     let next = with_left address b t at (Some o) in
-    let bytes : c.gone.result ≡ where_so (nat_le (length o.holders) 1) (size o.content) = c.gone.ensures ∙ ap₂ (λ (x : Bool) (y : ℕ). where_so x y) k.is_alone k.size in
-    let new = c.drop_holder-gone.ensures.left o known in
+    let bytes : c.freed.result ≡ where_so (nat_le (length o.holders) 1) (size o.content) = c.freed.ensures ∙ ap₂ (λ (x : Bool) (y : ℕ). where_so x y) k.is_alone k.size in
+    let new = c.drop_holder-freed.ensures.left o known in
     let filings = ap (λ (x : ModelCatalog g.row.O.Denot). x.filings) new in
-    let kept = kept_after len size address t (falls (size o.content)) none b next old.tenants.items old.catalog.filings old.object_bytes old.held old.parts c.drop_holder-gone.new.self.filings (old.object_bytes - c.gone.result) old.held old.parts
+    let kept = kept_after len size address t (falls (size o.content)) none b next old.tenants.items old.catalog.filings old.object_bytes old.held old.parts c.drop_holder-freed.new.self.filings (old.object_bytes - c.freed.result) old.held old.parts
     left.moves refl c.self.invariant (omega (arith, filings)) (omega (arith, bytes, left.bytes, c.self.invariant.object_bytes_is)) c.self.invariant.held_is c.self.invariant.parts_is in
     let now = c.change_sums.ensures.sums ∙ ap (λ (n : ℕ). changed_sums old.tenants.items t (falls n) none) k.size in
     let objects = ap (λ (x : ModelCatalog g.row.O.Denot). x.objects) new in
-    kept_as len size address old.limits t (falls (size o.content)) none old.begun (old.accepted + 1) c.drop_holder-gone.new.self.filings (old.object_bytes - c.gone.result) old.held old.parts old.tenants.items _ _ _ next.objects _ now refl objects kept
+    kept_as len size address old.limits t (falls (size o.content)) none old.begun (old.accepted + 1) c.drop_holder-freed.new.self.filings (old.object_bytes - c.freed.result) old.held old.parts old.tenants.items _ _ _ next.objects _ now refl objects kept

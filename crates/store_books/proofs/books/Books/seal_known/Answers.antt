@@ -33,8 +33,8 @@ change_sums-requires g c =
     let next = with_known address b c.args.number at (Some u) (Some o) in
     let more_is : c.more_used.result ≡ more = c.more_used.ensures ∙ ap₂ (λ (x : Bool) (y : ℕ). where_so (not x) y) (k.is_holder ∙ ap (λ (t : ℕ). is_held_by t o) c.tenant-tenant.ensures) k.size in
     let same : c.in-Some-remove.begun ≡ u = some_is c.in-Some-remove.begun u (c.in-Some-remove.ensures.value ∙ found) in
-    let gone : c.into_upload-upload.result ≡ u.upload = c.into_upload-upload.ensures ∙ ap (λ (x : ModelOwnedUpload g.row.H-Part.Denot). x.upload) same in
-    let before : c.length.result ≡ n = c.length.ensures.value ∙ ap (λ (x : Upload g.row.H-Part.Denot). length_of x) gone in
+    let freed : c.into_upload-upload.result ≡ u.upload = c.into_upload-upload.ensures ∙ ap (λ (x : ModelOwnedUpload g.row.H-Part.Denot). x.upload) same in
+    let before : c.length.result ≡ n = c.length.ensures.value ∙ ap (λ (x : Upload g.row.H-Part.Denot). length_of x) freed in
     let has = room_for len size address u.tenant (rises more) (falls n) b next old.tenants.items old.catalog.filings old.object_bytes old.held old.parts joined.moves refl c.self.invariant in
     subst (λ (t : ℕ). HasRoom old.tenants.items t (rises c.more_used.result) (falls c.length.result)) (sym c.tenant-tenant.ensures)
     (subst (λ (x : ℕ). HasRoom old.tenants.items u.tenant (rises x) (falls c.length.result)) (sym more_is)
@@ -61,8 +61,8 @@ overflow_sub-self-2 g c =
     let next = with_known address b c.args.number at (Some u) (Some o) in
     let more_is : c.more_used.result ≡ more = c.more_used.ensures ∙ ap₂ (λ (x : Bool) (y : ℕ). where_so (not x) y) (k.is_holder ∙ ap (λ (t : ℕ). is_held_by t o) c.tenant-tenant.ensures) k.size in
     let same : c.in-Some-remove.begun ≡ u = some_is c.in-Some-remove.begun u (c.in-Some-remove.ensures.value ∙ found) in
-    let gone : c.into_upload-upload.result ≡ u.upload = c.into_upload-upload.ensures ∙ ap (λ (x : ModelOwnedUpload g.row.H-Part.Denot). x.upload) same in
-    let many : c.count.result ≡ length u.upload.parts = c.count.ensures ∙ ap (λ (x : Upload g.row.H-Part.Denot). length x.parts) gone in
+    let freed : c.into_upload-upload.result ≡ u.upload = c.into_upload-upload.ensures ∙ ap (λ (x : ModelOwnedUpload g.row.H-Part.Denot). x.upload) same in
+    let many : c.count.result ≡ length u.upload.parts = c.count.ensures ∙ ap (λ (x : Upload g.row.H-Part.Denot). length x.parts) freed in
     omega (arith, many, joined.parts, c.self.invariant.parts_is)
 
 pub invariant_of-self-2 : goal.invariant_of-self-2
@@ -86,10 +86,10 @@ invariant_of-self-2 g c =
     let next = with_known address b c.args.number at (Some u) (Some o) in
     let more_is : c.more_used.result ≡ more = c.more_used.ensures ∙ ap₂ (λ (x : Bool) (y : ℕ). where_so (not x) y) (k.is_holder ∙ ap (λ (t : ℕ). is_held_by t o) c.tenant-tenant.ensures) k.size in
     let same : c.in-Some-remove.begun ≡ u = some_is c.in-Some-remove.begun u (c.in-Some-remove.ensures.value ∙ found) in
-    let gone : c.into_upload-upload.result ≡ u.upload = c.into_upload-upload.ensures ∙ ap (λ (x : ModelOwnedUpload g.row.H-Part.Denot). x.upload) same in
-    let before : c.length.result ≡ n = c.length.ensures.value ∙ ap (λ (x : Upload g.row.H-Part.Denot). length_of x) gone in
-    let bytes : c.held.result ≡ held_bytes len u.upload.parts = c.held.ensures ∙ ap (λ (x : Upload g.row.H-Part.Denot). held_bytes len x.parts) gone in
-    let many : c.count.result ≡ length u.upload.parts = c.count.ensures ∙ ap (λ (x : Upload g.row.H-Part.Denot). length x.parts) gone in
+    let freed : c.into_upload-upload.result ≡ u.upload = c.into_upload-upload.ensures ∙ ap (λ (x : ModelOwnedUpload g.row.H-Part.Denot). x.upload) same in
+    let before : c.length.result ≡ n = c.length.ensures.value ∙ ap (λ (x : Upload g.row.H-Part.Denot). length_of x) freed in
+    let bytes : c.held.result ≡ held_bytes len u.upload.parts = c.held.ensures ∙ ap (λ (x : Upload g.row.H-Part.Denot). held_bytes len x.parts) freed in
+    let many : c.count.result ≡ length u.upload.parts = c.count.ensures ∙ ap (λ (x : Upload g.row.H-Part.Denot). length x.parts) freed in
     let new = c.in_ok-add_holder.ensures.objects o known in
     let filings = ap (λ (x : ModelCatalog g.row.O.Denot). x.filings) new in
     let kept = kept_after len size address u.tenant (rises more) (falls n) b next old.tenants.items old.catalog.filings old.object_bytes old.held old.parts c.add_holder.new.self.filings old.object_bytes (old.held - c.held.result) (old.parts - c.count.result)

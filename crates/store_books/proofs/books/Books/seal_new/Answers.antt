@@ -54,8 +54,8 @@ overflow_sub-self-2 g c =
     let next = with_new b c.args.number content (Some u) in
     let before : c.length-len.result ≡ n = c.length-len.ensures.value ∙ ap (λ (x : Upload g.row.H-Part.Denot). length_of x) c.upload.ensures in
     let same : c.in-Some-remove.begun ≡ u = some_is c.in-Some-remove.begun u (c.in-Some-remove.ensures.value ∙ found) in
-    let gone : c.into_upload-upload.result ≡ u.upload = c.into_upload-upload.ensures ∙ ap (λ (x : ModelOwnedUpload g.row.H-Part.Denot). x.upload) same in
-    let many : c.count.result ≡ length u.upload.parts = c.count.ensures ∙ ap (λ (x : Upload g.row.H-Part.Denot). length x.parts) gone in
+    let freed : c.into_upload-upload.result ≡ u.upload = c.into_upload-upload.ensures ∙ ap (λ (x : ModelOwnedUpload g.row.H-Part.Denot). x.upload) same in
+    let many : c.count.result ≡ length u.upload.parts = c.count.ensures ∙ ap (λ (x : Upload g.row.H-Part.Denot). length x.parts) freed in
     omega (arith, many, filed.parts, c.self.invariant.parts_is)
 
 pub invariant_of-self-2 : goal.invariant_of-self-2
@@ -78,9 +78,9 @@ invariant_of-self-2 g c =
     let next = with_new b c.args.number content (Some u) in
     let before : c.length-len.result ≡ n = c.length-len.ensures.value ∙ ap (λ (x : Upload g.row.H-Part.Denot). length_of x) c.upload.ensures in
     let same : c.in-Some-remove.begun ≡ u = some_is c.in-Some-remove.begun u (c.in-Some-remove.ensures.value ∙ found) in
-    let gone : c.into_upload-upload.result ≡ u.upload = c.into_upload-upload.ensures ∙ ap (λ (x : ModelOwnedUpload g.row.H-Part.Denot). x.upload) same in
-    let bytes : c.held.result ≡ held_bytes len u.upload.parts = c.held.ensures ∙ ap (λ (x : Upload g.row.H-Part.Denot). held_bytes len x.parts) gone in
-    let many : c.count.result ≡ length u.upload.parts = c.count.ensures ∙ ap (λ (x : Upload g.row.H-Part.Denot). length x.parts) gone in
+    let freed : c.into_upload-upload.result ≡ u.upload = c.into_upload-upload.ensures ∙ ap (λ (x : ModelOwnedUpload g.row.H-Part.Denot). x.upload) same in
+    let bytes : c.held.result ≡ held_bytes len u.upload.parts = c.held.ensures ∙ ap (λ (x : Upload g.row.H-Part.Denot). held_bytes len x.parts) freed in
+    let many : c.count.result ≡ length u.upload.parts = c.count.ensures ∙ ap (λ (x : Upload g.row.H-Part.Denot). length x.parts) freed in
     let new = c.in_ok-file_last.ensures.filed in
     let filings = ap (λ (x : ModelCatalog g.row.O.Denot). x.filings) new in
     let kept = kept_after len size address u.tenant (rises n) (falls n) b next old.tenants.items old.catalog.filings old.object_bytes old.held old.parts c.file_last.new.self.filings (old.object_bytes + c.length-len.result) (old.held - c.held.result) (old.parts - c.count.result)

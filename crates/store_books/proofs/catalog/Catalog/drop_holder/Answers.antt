@@ -39,8 +39,8 @@ returns-then-is_alone-clause-left g c = λ o is.
     catalog_less address all.filings all.filed c.remove-then-is_alone.new.self (g.I.AddressIndex.number_of all.numbers) c.args.self.now c.self.invariant.0 c.self.view_is c.args.address c.in-Some.number (sym c.in-Some.ensures) c.remove-then-is_alone.ensures.entries o
     ∙ ap (λ (hs : List ℕ). record c.args.self.now { objects = with_holders address c.args.self.now.objects c.args.address o hs }) (sym (alone_without c.args.tenant o.holders (sym held.1 ∙ c.if-is_alone.true) held.0))
 
-pub returns-then-is_alone-clause-gone : goal.returns-then-is_alone-clause-gone
-returns-then-is_alone-clause-gone g c = λ o is.
+pub returns-then-is_alone-clause-freed : goal.returns-then-is_alone-clause-freed
+returns-then-is_alone-clause-freed g c = λ o is.
     let all = c.self.inside in
     let address = g.O.Content.address in
     let a = c.args.address in
@@ -60,7 +60,7 @@ invariant_of-self-2 g c =
     let o = there.0 in
     let writes = c.leave_at.ensures.left (a, o) there.1 in (
       catalogued_after g.O.Content.address all.filings all.filed n (g.I.AddressIndex.number_of all.numbers) a k o (without_holder c.args.tenant o.holders) number there.1 writes c.self.invariant.0,
-      holdings_without all.filed n all.held c.remove-was.new.self c.args.tenant k a c.remove-was.ensures.ordered c.self.invariant.1 o there.1 (c.leave_at.ensures.gone (a, o) there.1) c.remove-was.ensures.updates.0 (writes.3 (is_there there.1)).0,
+      holdings_without all.filed n all.held c.remove-was.new.self c.args.tenant k a c.remove-was.ensures.ordered c.self.invariant.1 o there.1 (c.leave_at.ensures.freed (a, o) there.1) c.remove-was.ensures.updates.0 (writes.3 (is_there there.1)).0,
     )
 
 pub returns-clause-left : goal.returns-clause-left

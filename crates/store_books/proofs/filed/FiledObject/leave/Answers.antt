@@ -9,8 +9,8 @@ use Rattle.store_books.proofs.filed.FiledObject.leave.Goals as goal
 pub invariant_of-self : goal.invariant_of-self
 invariant_of-self g c = subst (IsRisingFrom 0) (sym c.leave.ensures) (rising_without 0 c.args.tenant c.self.inside.holders.items c.self.invariant)
 
-pub returns-clause-gone : goal.returns-clause-gone
-returns-clause-gone g c =
+pub returns-clause-freed : goal.returns-clause-freed
+returns-clause-freed g c =
     let t = c.args.tenant in
     let hs = c.self.inside.holders.items in
     subst (λ (f : List ℕ × Filed g.row.O.Denot). has t (without_holder t f.1.holders) ≡ false) c.self.view_is (has_without t t 0 hs c.self.invariant ∙ rw (eq-eqb t t refl) (and_false (has t hs)))

@@ -5,7 +5,7 @@ use Rattle.std.specs.Io.KnownBytes.{Appends}
 use Rattle.store_books.specs.Refusals.{refusal_text}
 use Rattle.store_books.specs.declared.refusal.Refusal.TheVariants as refusals
 use Rattle.store_core.specs.Model.{Shown}
-use Rattle.store_script.specs.Answers.{told_text}
+use Rattle.store_script.specs.Answers.{reported_text}
 use Rattle.store_script.specs.Script.{Turn, turn_text, widest_start}
 use Rattle.store_script.specs.Texts.{refused_text}
 use Rattle.store_script.specs.declared.answer.Answer.{Answer}
@@ -65,4 +65,4 @@ ServesPutOver reach was is false upload offset len following left old new = (len
 abbrev pub ReceivesOver : Reach → (SessionState → Type 0) → (SessionState → Type 0) → Option Answer → ℕ → ℕ → ℕ → List ℕ → Option (List ℕ) → Type 0
 ReceivesOver reach was is None upload offset len following left = (length following < len) × Leaves was is
 ReceivesOver reach was is (Some answer) upload offset len following left =
-    (len ≤ length following) × (left ≡ Some (drop len following)) × AnsweredOver was is (λ before turn after. IsLinkedPut reach before upload offset (take len following) turn after) (told_text widest_start answer)
+    (len ≤ length following) × (left ≡ Some (drop len following)) × AnsweredOver was is (λ before turn after. IsLinkedPut reach before upload offset (take len following) turn after) (reported_text widest_start answer)

@@ -25,7 +25,7 @@ use Rattle.store_session.specs.declared.request.EntryRange.{EntryRange}
 use Rattle.store_session.specs.declared.request.Range.{Range}
 use Rattle.store_session.specs.Access.{advance, at, SessionState, Reach, ReportedEntries, Took}
 use Rattle.store_session.proofs.Steps.{plus_none}
-use Rattle.store_session.specs.inner.Telling.{AnsweredOver, AnswersOver, GaveEntries, ReportedOver, gave_none, gave_these}
+use Rattle.store_session.specs.inner.Reporting.{AnsweredOver, AnswersOver, GaveEntries, ReportedOver, gave_none, gave_these}
 use Rattle.store_session.specs.Turns.{IsLinkedAsk, IsLinkedCommand, IsLinkedEntries, IsLinkedLine, IsLinkedPut, IsLinkedQuestion, IsLinkedScriptLine}
 
 -- a line of a script, told so
@@ -141,21 +141,21 @@ given_entries reach was is range w1 w2 (gave_none lacks k wrote) = record { turn
 pub given_journal : (reach : Reach) (was is : SessionState → Type 0) (question : Question) (w1 w2 : Option (List ℕ)) → question ≡ questions.Journal → GaveEntries reach was is (record { from = 0; count = None }) w1 w2 → ReportedOver was is (λ before turn after. IsLinkedAsk reach before question turn after) w1 w2
 given_journal reach was is question w1 w2 is_read (gave_these these) =
     let t = these.took in
-    let told : ReportedOver was is (λ before turn after. IsLinkedAsk reach before questions.Journal turn after) w1 w2 = record {
+    let reported : ReportedOver was is (λ before turn after. IsLinkedAsk reach before questions.Journal turn after) w1 w2 = record {
       turn = reported_as as_script (took (ask questions.Journal) (Ok (the_journal t.found.journal)));
       goes = λ before stood. (at before t.found, (t.stands before stood, (refl, (t.found, (t.linked before stood, ((refl, (refl, refl)), (plus_none before.bytes, plus_none before.calls, sym (append-nil before.own))))))));
       wrote = subst (λ (es : List Entry). Appends w1 w2 (entries_text es)) t.entries_are these.wrote;
     } in
-    subst (λ (q : Question). ReportedOver was is (λ before turn after. IsLinkedAsk reach before q turn after) w1 w2) (sym is_read) told
+    subst (λ (q : Question). ReportedOver was is (λ before turn after. IsLinkedAsk reach before q turn after) w1 w2) (sym is_read) reported
 given_journal reach was is question w1 w2 is_read (gave_none lacks k wrote) = record { turn = no_memory; goes = λ before stood. (before, (k.kept before stood, (lacks, is_read, refl))); wrote = wrote }
 
-pub told_these : (given : Bool) (reach : Reach) (was is : SessionState → Type 0) (range : EntryRange) (w1 w2 : Option (List ℕ)) → given ≡ true → ReportedEntries reach was is given range w1 w2 → GaveEntries reach was is range w1 w2
-told_these true reach was is range w1 w2 is_read h = gave_these h
-told_these false reach was is range w1 w2 is_read h = absurd (cc)
+pub reported_these : (given : Bool) (reach : Reach) (was is : SessionState → Type 0) (range : EntryRange) (w1 w2 : Option (List ℕ)) → given ≡ true → ReportedEntries reach was is given range w1 w2 → GaveEntries reach was is range w1 w2
+reported_these true reach was is range w1 w2 is_read h = gave_these h
+reported_these false reach was is range w1 w2 is_read h = absurd (cc)
 
-pub told_none : (given : Bool) (reach : Reach) (was is : SessionState → Type 0) (range : EntryRange) (w1 w2 w3 : Option (List ℕ)) → given ≡ false → ReportedEntries reach was is given range w1 w2 → Appends w2 w3 (refused_text (refusal_text refusals.NoMemory)) → GaveEntries reach was is range w1 w3
-told_none true reach was is range w1 w2 w3 is_read h wrote = absurd (cc)
-told_none false reach was is range w1 w2 w3 is_read h wrote = gave_none h.0 h.1 (subst (λ (w : Option (List ℕ)). Appends w w3 (refused_text (refusal_text refusals.NoMemory))) h.2 wrote)
+pub reported_none : (given : Bool) (reach : Reach) (was is : SessionState → Type 0) (range : EntryRange) (w1 w2 w3 : Option (List ℕ)) → given ≡ false → ReportedEntries reach was is given range w1 w2 → Appends w2 w3 (refused_text (refusal_text refusals.NoMemory)) → GaveEntries reach was is range w1 w3
+reported_none true reach was is range w1 w2 w3 is_read h wrote = absurd (cc)
+reported_none false reach was is range w1 w2 w3 is_read h wrote = gave_none h.0 h.1 (subst (λ (w : Option (List ℕ)). Appends w w3 (refused_text (refusal_text refusals.NoMemory))) h.2 wrote)
 
 pub on_ok : {A E P Q : Type 0} (r : Result A E) → (P → Q) → OnOk r P → OnOk r Q
 on_ok (Ok a) f h = f h
