@@ -1,5 +1,5 @@
 pub mod Chain
-pub mod CutOffs
+pub mod Truncations
 pub mod Cuts
 pub mod Escapes
 pub mod Grammar

@@ -10,12 +10,12 @@ use Rattle.b3_check.specs.declared.file.NumberedLine.{NumberedLine}
 use Rattle.b3_check.specs.declared.report.Counts.{Counts}
 use Rattle.b3_check.specs.declared.report.Found.TheVariants.{Bad, Good, Missing, Unreadable}
 use Rattle.b3_check.specs.declared.report.Shown.{Shown}
-use Rattle.edge.specs.Output.{IsCutOff}
+use Rattle.edge.specs.Output.{IsTruncated}
 use Rattle.b3_check.specs.Reports.{Answer, IsBroken, IsEnded, IsReport, Verdict, with_verdicts, with_verdict, counts_of, lines_text, shown_counts, shown_line}
 use Rattle.b3_check.specs.inner.Reports.{AreAtMost, IsLineAsked, IsLineEnded}
 use Rattle.b3_check.specs.Reports.Verdict.{faulty, named}
 use Rattle.b3_check.proofs.Chain.{IsReport-push}
-use Rattle.b3_check.proofs.CutOffs.{cut_in_first, cut_in_second}
+use Rattle.b3_check.proofs.Truncations.{truncated_first, truncated_second}
 
 -- ---- counts
 
@@ -80,8 +80,8 @@ ended_at gives shown old mid new lines i line counts before grown last CannotWri
       verdicts = all;
       all = append_assoc (take i lines) (line ∷ []) (drop (i + 1) lines) ∙ parted lines i line lt is;
       asked = IsReport-push gives old mid new (take i lines) h.0 line e.0 h.1 e.1;
-      went = cut_in_first before last (lines_text shown all) text
-          (subst (IsCutOff before last) (sym (lines_push shown h.0 e.0)) (cut_in_second before grown last (lines_text shown h.0) (shown_line shown e.0) h.4 e.2));
+      went = truncated_first before last (lines_text shown all) text
+          (subst (IsTruncated before last) (sym (lines_push shown h.0 e.0)) (truncated_second before grown last (lines_text shown h.0) (shown_line shown e.0) h.4 e.2));
     }
 ended_at gives shown old mid new lines i line counts before grown last OutOfMemory lt is h e = record {
   front = take i lines;
@@ -97,12 +97,12 @@ ended_at gives shown old mid new lines i line counts before grown last OutOfMemo
 
 -- a write of the counts failed, behind all lines
 pub broken_behind : {S : Type 0} (gives : S → List ℕ → Answer → S → Type 0) (shown : Shown) (old new : S) (lines : List NumberedLine) (i : ℕ) (counts : Counts) (before grown last : Option (List ℕ))
-    → length lines ≤ i → IsUpTo gives shown old lines i new counts before grown → IsCutOff grown last (shown_counts shown counts) → IsBroken gives shown old lines new before last
+    → length lines ≤ i → IsUpTo gives shown old lines i new counts before grown → IsTruncated grown last (shown_counts shown counts) → IsBroken gives shown old lines new before last
 broken_behind gives shown old new lines i counts before grown last le h cut = record {
   front = take i lines;
   back = [];
   verdicts = h.0;
   all = append-nil (take i lines) ∙ take_all i lines le;
   asked = h.1;
-  went = cut_in_second before grown last (lines_text shown h.0) (shown_counts shown (counts_of h.0)) h.4 (subst (λ (k : Counts). IsCutOff grown last (shown_counts shown k)) h.2 cut);
+  went = truncated_second before grown last (lines_text shown h.0) (shown_counts shown (counts_of h.0)) h.4 (subst (λ (k : Counts). IsTruncated grown last (shown_counts shown k)) h.2 cut);
 }

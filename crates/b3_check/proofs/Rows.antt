@@ -97,9 +97,9 @@ other_escape : line_at (backslash ∷ (digits ++ codes "  a\\q")) ≡ fails BadE
 unfolding on_literals
 other_escape = refl
 
-cut_escape : line_at (backslash ∷ (digits ++ codes "  a\\\r")) ≡ fails BadEscape
+truncated_escape : line_at (backslash ∷ (digits ++ codes "  a\\\r")) ≡ fails BadEscape
 unfolding on_literals
-cut_escape = refl
+truncated_escape = refl
 
 escape_before_nul : line_at (backslash ∷ (digits ++ (codes "  \\q" ++ 0 ∷ []))) ≡ fails BadEscape
 unfolding on_literals

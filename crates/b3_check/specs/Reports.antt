@@ -19,7 +19,7 @@ use Rattle.std.specs.Io.KnownBytes.{Appends}
 use Rattle.b3_check.specs.Faults.{code_of}
 use Rattle.edge.specs.Lines.{newline}
 use Rattle.b3_check.specs.Names.{escaped, mark_of}
-use Rattle.edge.specs.Output.{IsCutOff}
+use Rattle.edge.specs.Output.{IsTruncated}
 
 -- ---- verdicts
 
@@ -155,7 +155,7 @@ pub record IsBroken {S : Type 0} (gives : S → List ℕ → Answer → S → Ty
   pub verdicts : List Verdict
   pub all : front ++ back ≡ lines
   pub asked : IsReport gives old front verdicts new
-  pub went : IsCutOff before after (report_text shown verdicts)
+  pub went : IsTruncated before after (report_text shown verdicts)
 
 -- A lookup ended it: the chain covers the lines before, whose verdicts were written, and the lookup for the next line was out of memory.
 pub record EndsForMemory {S : Type 0} (gives : S → List ℕ → Answer → S → Type 0) (shown : Shown) (old : S) (lines : List NumberedLine) (new : S) (before after : Option (List ℕ)) : Type 0 where

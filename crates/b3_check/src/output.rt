@@ -3,7 +3,7 @@
 ghost use Rattle.std.specs.Prelude.{OnErr, OnOk};
 ghost use Rattle.std.specs.Io.KnownBytes.{Appends};
 ghost use Rattle.std.specs.List.{flat_map};
-ghost use Rattle.edge.specs.Output.{IsCutOff};
+ghost use Rattle.edge.specs.Output.{IsTruncated};
 
 use edge::write_whole;
 use std::io;
@@ -12,7 +12,7 @@ use std::io::Write;
 /// Writes pieces, one after the other.
 pub(crate) fn write_pieces<W: Write>(writer: &mut W, pieces: &[&[u8]]) -> io::Result<()>
     ensures written { OnOk result (Appends (W.contents writer.old) (W.contents writer.new) (flat_map (λ piece. piece.now) pieces.now)) }
-    ensures failed { OnErr result (IsCutOff (W.contents writer.old) (W.contents writer.new) (flat_map (λ piece. piece.now) pieces.now)) }
+    ensures failed { OnErr result (IsTruncated (W.contents writer.old) (W.contents writer.new) (flat_map (λ piece. piece.now) pieces.now)) }
 {
     for piece in pieces {
         write_whole(writer, piece)?;

@@ -2,7 +2,7 @@
 
 ghost use Rattle.std.specs.Prelude.{◌≡◌, ◌↔◌, ◌+◌, ◌-◌, ◌^◌, ℕ, List, OnErr, OnOk, IsTrue};
 ghost use Rattle.std.specs.Io.KnownBytes.{Appends};
-ghost use Rattle.edge.specs.Output.{IsCutOff};
+ghost use Rattle.edge.specs.Output.{IsTruncated};
 ghost use Rattle.b3_check.specs.Reports.{Verdict, with_verdict, counts_text, fault_line, shown_counts, shown_line, shows, verdict_text};
 ghost use Rattle.b3_check.specs.inner.Reports.{AreAtMost};
 ghost use Rattle.b3_check.specs.Reports.Verdict.{faulty, named};
@@ -92,7 +92,7 @@ pub(crate) fn write_found<W: Write>(
     writer: &mut W,
 ) -> io::Result<()>
     ensures written { OnOk result (Appends (W.contents writer.old) (W.contents writer.new) (shown_line shown (named found name.now))) }
-    ensures failed { OnErr result (IsCutOff (W.contents writer.old) (W.contents writer.new) (shown_line shown (named found name.now))) }
+    ensures failed { OnErr result (IsTruncated (W.contents writer.old) (W.contents writer.new) (shown_line shown (named found name.now))) }
 {
     if shows_found(shown, found) {
         write_found_line(found, name, writer)
@@ -104,7 +104,7 @@ pub(crate) fn write_found<W: Write>(
 // Writes the line for a name.
 fn write_found_line<W: Write>(found: Found, name: &Name, writer: &mut W) -> io::Result<()>
     ensures written { OnOk result (Appends (W.contents writer.old) (W.contents writer.new) (verdict_text (named found name.now))) }
-    ensures failed { OnErr result (IsCutOff (W.contents writer.old) (W.contents writer.new) (verdict_text (named found name.now))) }
+    ensures failed { OnErr result (IsTruncated (W.contents writer.old) (W.contents writer.new) (verdict_text (named found name.now))) }
 {
     match found {
         Found::Good => write_named(b"good", b" ", name, writer),
@@ -133,7 +133,7 @@ pub(crate) fn write_fault<W: Write>(
     writer: &mut W,
 ) -> io::Result<()>
     ensures written { OnOk result (Appends (W.contents writer.old) (W.contents writer.new) (shown_line shown (faulty line fault))) }
-    ensures failed { OnErr result (IsCutOff (W.contents writer.old) (W.contents writer.new) (shown_line shown (faulty line fault))) }
+    ensures failed { OnErr result (IsTruncated (W.contents writer.old) (W.contents writer.new) (shown_line shown (faulty line fault))) }
 {
     match shown {
         Shown::All | Shown::AllButGood => write_fault_line(line, fault, writer),
@@ -144,7 +144,7 @@ pub(crate) fn write_fault<W: Write>(
 // Writes the line for a fault.
 fn write_fault_line<W: Write>(line: u64, fault: Fault, writer: &mut W) -> io::Result<()>
     ensures written { OnOk result (Appends (W.contents writer.old) (W.contents writer.new) (fault_line line fault)) }
-    ensures failed { OnErr result (IsCutOff (W.contents writer.old) (W.contents writer.new) (fault_line line fault)) }
+    ensures failed { OnErr result (IsTruncated (W.contents writer.old) (W.contents writer.new) (fault_line line fault)) }
 {
     let mut number = Buffer::new();
     let number = number.format(line).as_bytes();
@@ -155,7 +155,7 @@ fn write_fault_line<W: Write>(line: u64, fault: Fault, writer: &mut W) -> io::Re
 /// Writes the line of the counts, if it is shown.
 pub(crate) fn write_counts<W: Write>(shown: Shown, counts: Counts, writer: &mut W) -> io::Result<()>
     ensures written { OnOk result (Appends (W.contents writer.old) (W.contents writer.new) (shown_counts shown counts)) }
-    ensures failed { OnErr result (IsCutOff (W.contents writer.old) (W.contents writer.new) (shown_counts shown counts)) }
+    ensures failed { OnErr result (IsTruncated (W.contents writer.old) (W.contents writer.new) (shown_counts shown counts)) }
 {
     match shown {
         Shown::All | Shown::AllButGood => write_counts_line(counts, writer),
@@ -166,7 +166,7 @@ pub(crate) fn write_counts<W: Write>(shown: Shown, counts: Counts, writer: &mut 
 // Writes the line of the counts.
 fn write_counts_line<W: Write>(counts: Counts, writer: &mut W) -> io::Result<()>
     ensures written { OnOk result (Appends (W.contents writer.old) (W.contents writer.new) (counts_text counts)) }
-    ensures failed { OnErr result (IsCutOff (W.contents writer.old) (W.contents writer.new) (counts_text counts)) }
+    ensures failed { OnErr result (IsTruncated (W.contents writer.old) (W.contents writer.new) (counts_text counts)) }
 {
     let mut good = Buffer::new();
     let mut bad = Buffer::new();

@@ -6,7 +6,7 @@ ghost use Rattle.hex.specs.Hex.{IsBytes, encode_lower};
 ghost use Rattle.b3_check.specs.Files.{all_good, file_at};
 ghost use Rattle.b3_check.specs.Lines.{IsLawful, written_line, written_lines};
 ghost use Rattle.b3_check.specs.Names.{IsName, escaped, mark_of, needs_escapes, unit_of};
-ghost use Rattle.edge.specs.Output.{IsCutOff};
+ghost use Rattle.edge.specs.Output.{IsTruncated};
 ghost use Rattle.b3_check.specs.Reports.{named_text};
 
 use crate::line::Line;
@@ -37,7 +37,7 @@ impl Line {
 pub fn write<W: Write>(lines: &[Line], writer: &mut W) -> io::Result<()>
     ensures written { OnOk result (Appends (W.contents writer.old) (W.contents writer.new) (written_lines lines.now)) }
     // What was written before an error is a prefix of the lines.
-    ensures failed { OnErr result (IsCutOff (W.contents writer.old) (W.contents writer.new) (written_lines lines.now)) }
+    ensures failed { OnErr result (IsTruncated (W.contents writer.old) (W.contents writer.new) (written_lines lines.now)) }
     // Reading what is written returns the same lines.
     ensures read_back { OnOk result (file_at (written_lines lines.now) ≡ all_good 1 lines.now) }
 {
@@ -49,7 +49,7 @@ pub fn write<W: Write>(lines: &[Line], writer: &mut W) -> io::Result<()>
 
 fn write_line<W: Write>(line: &Line, writer: &mut W) -> io::Result<()>
     ensures written { OnOk result (Appends (W.contents writer.old) (W.contents writer.new) (written_line line.now)) }
-    ensures failed { OnErr result (IsCutOff (W.contents writer.old) (W.contents writer.new) (written_line line.now)) }
+    ensures failed { OnErr result (IsTruncated (W.contents writer.old) (W.contents writer.new) (written_line line.now)) }
     ensures lawful { IsLawful line.now }
 {
     let digits = digits_of(&line.digest);
@@ -75,7 +75,7 @@ pub(crate) fn write_named<'a, W: Write>(
     writer: &mut W,
 ) -> io::Result<()>
     ensures written { OnOk result (Appends (W.contents writer.old) (W.contents writer.new) (named_text (what.now ++ gap.now) name.now)) }
-    ensures failed { OnErr result (IsCutOff (W.contents writer.old) (W.contents writer.new) (named_text (what.now ++ gap.now) name.now)) }
+    ensures failed { OnErr result (IsTruncated (W.contents writer.old) (W.contents writer.new) (named_text (what.now ++ gap.now) name.now)) }
     ensures named { IsName name.now }
 {
     let name = name.as_bytes();
@@ -102,7 +102,7 @@ fn needs_escapes(name: &[u8]) -> bool
 // Writes a name: literally if it needs no escapes, otherwise byte by byte.
 fn write_escaped<W: Write>(name: &[u8], writer: &mut W) -> io::Result<()>
     ensures written { OnOk result (Appends (W.contents writer.old) (W.contents writer.new) (escaped name.now)) }
-    ensures failed { OnErr result (IsCutOff (W.contents writer.old) (W.contents writer.new) (escaped name.now)) }
+    ensures failed { OnErr result (IsTruncated (W.contents writer.old) (W.contents writer.new) (escaped name.now)) }
 {
     if needs_escapes(name) {
         write_units(name, writer)
@@ -113,7 +113,7 @@ fn write_escaped<W: Write>(name: &[u8], writer: &mut W) -> io::Result<()>
 
 fn write_units<W: Write>(name: &[u8], writer: &mut W) -> io::Result<()>
     ensures written { OnOk result (Appends (W.contents writer.old) (W.contents writer.new) (escaped name.now)) }
-    ensures failed { OnErr result (IsCutOff (W.contents writer.old) (W.contents writer.new) (escaped name.now)) }
+    ensures failed { OnErr result (IsTruncated (W.contents writer.old) (W.contents writer.new) (escaped name.now)) }
 {
     for &byte in name {
         write_unit(byte, writer)?;
@@ -123,7 +123,7 @@ fn write_units<W: Write>(name: &[u8], writer: &mut W) -> io::Result<()>
 
 fn write_unit<W: Write>(byte: u8, writer: &mut W) -> io::Result<()>
     ensures written { OnOk result (Appends (W.contents writer.old) (W.contents writer.new) (unit_of byte)) }
-    ensures failed { OnErr result (IsCutOff (W.contents writer.old) (W.contents writer.new) (unit_of byte)) }
+    ensures failed { OnErr result (IsTruncated (W.contents writer.old) (W.contents writer.new) (unit_of byte)) }
 {
     match byte {
         b'\\' => write_whole(writer, b"\\\\"),

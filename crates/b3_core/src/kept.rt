@@ -10,7 +10,7 @@ ghost use Rattle.b3_core.specs.Work.{NeverFalls, counted, hash_work};
 use crate::compression::CHUNK_LEN;
 use crate::mode::Mode;
 use crate::node::Top;
-use crate::places::{Stack, Subtree, Tail};
+use crate::places::{Stack, StackNode, Tail};
 use crate::wide::wide_top;
 use crate::work::Work;
 
@@ -70,7 +70,7 @@ impl Kept {
             let level = self.next_level(rest.len() / CHUNK_LEN);
             let (front, following) = rest.split_at(CHUNK_LEN << level);
             let top = wide_top(mode, front, self.number(), work);
-            self.put(mode, Subtree { level, top }, work);
+            self.put(mode, StackNode { level, top }, work);
             rest = following;
         }
         self.tail.extend(rest);
@@ -92,7 +92,7 @@ impl Kept {
         if self.tail.is_full() {
             let top = Top::of_chunk(mode, self.tail.as_slice(), self.number(), work);
             self.tail.clear();
-            self.put(mode, Subtree { level: 0, top }, work);
+            self.put(mode, StackNode { level: 0, top }, work);
         }
         rest
     }
@@ -131,7 +131,7 @@ impl Kept {
             (kept_work (kept_of mode.now self.new).subtrees) work.old work.new }
         ensures never_falls { NeverFalls work.old work.new }
     {
-        self.put(mode, Subtree { level, top: *top }, work);
+        self.put(mode, StackNode { level, top: *top }, work);
     }
 
     // The level of the largest subtree of at most `chunks` chunks that is no higher than the last one.
@@ -148,7 +148,7 @@ impl Kept {
     }
 
     // Appends a whole subtree.
-    fn put(&mut self, mode: &Mode, next: Subtree, work: &mut Work)
+    fn put(&mut self, mode: &Mode, next: StackNode, work: &mut Work)
         requires { next.0 < 64 }
         ensures tail { self.new.tail ≡ self.old.tail }
         ensures whole { self.old.whole + chunk_len * 2 ^ next.0 < 2 ^ 64 → self.new.whole ≡ self.old.whole + chunk_len * 2 ^ next.0 }
@@ -190,7 +190,7 @@ impl Kept {
 }
 
 // Appends a whole subtree. Two subtrees of one level merge into one of the next level.
-fn push(mode: &Mode, subtrees: &mut Stack, next: Subtree, work: &mut Work)
+fn push(mode: &Mode, subtrees: &mut Stack, next: StackNode, work: &mut Work)
     ensures nodes { (x : List ℕ) → IsNext mode.now (reverse (nodes_of subtrees.old)) next x → length x < 2 ^ 64
         → AreSubtrees mode.now (reverse (nodes_of subtrees.new)) x }
     ensures from { (x : List ℕ) → IsNext mode.now (reverse (nodes_of subtrees.old)) next x → length x < 2 ^ 64
@@ -207,14 +207,14 @@ fn push(mode: &Mode, subtrees: &mut Stack, next: Subtree, work: &mut Work)
         }
         let top = Top::parent(mode, &last.top, &next.top, work);
         let level = next.level.saturating_add(1);
-        next = Subtree { level, top };
+        next = StackNode { level, top };
         subtrees.pop();
     }
     subtrees.push(next);
 }
 
 // The node over `subtrees` followed by `following`.
-fn joined(mode: &Mode, subtrees: &[Subtree], following: Top, work: &mut Work) -> Top
+fn joined(mode: &Mode, subtrees: &[StackNode], following: Top, work: &mut Work) -> Top
     ensures node { result ≡ joined mode.now (reverse subtrees.now) following }
     ensures count { work.new ≡ counted work.old (2 * length subtrees.now) }
 {

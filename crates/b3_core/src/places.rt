@@ -15,12 +15,12 @@ pub(crate) const LEVELS: usize = 54;
 /// The node over 2^level whole chunks.
 #[derive(Clone, Copy)]
 #[repr(C)]
-pub(crate) struct Subtree {
+pub(crate) struct StackNode {
     pub(crate) level: u32,
     pub(crate) top: Top,
 }
 
-impl Model for Subtree {
+impl Model for StackNode {
     ghost use Rattle.std.specs.Prelude.{ℕ};
     ghost use Rattle.b3_core.specs.Tree.{ModelTop};
 
@@ -35,7 +35,7 @@ impl Model for Subtree {
 #[derive(Clone, Copy)]
 #[repr(C)]
 pub(crate) struct Stack {
-    places: [Subtree; LEVELS],
+    places: [StackNode; LEVELS],
     len: u32,
 }
 
@@ -46,7 +46,7 @@ impl Stack {
         ensures nodes { nodes_of result ≡ [] }
         ensures fits { result.len ≤ max_levels }
     {
-        let blank = Subtree {
+        let blank = StackNode {
             level: 0,
             top: Top::of_children(&Mode::hash(), [0; 8], [0; 8]),
         };
@@ -74,7 +74,7 @@ impl Stack {
 
     /// The nodes.
     #[tactic(auto, unfolding(crate::specs::Kept::nodes_of))]
-    pub(crate) fn as_slice(&self) -> &[Subtree]
+    pub(crate) fn as_slice(&self) -> &[StackNode]
         ensures value { result.now ≡ nodes_of self.now }
         ensures fits { length result.now ≤ max_levels }
     {
@@ -92,7 +92,7 @@ impl Stack {
     }
 
     /// Appends a node, if there is room.
-    pub(crate) fn push(&mut self, next: Subtree)
+    pub(crate) fn push(&mut self, next: StackNode)
         ensures nodes { length (nodes_of self.old) < max_levels → reverse (nodes_of self.new) ≡ next ∷ reverse (nodes_of self.old) }
         ensures fits { self.old.len ≤ max_levels → self.new.len ≤ max_levels }
     {

@@ -3,7 +3,7 @@ use Rattle.std.proofs.Common.{◌≡◌, ℕ, ◌+◌, ◌<◌, ◌≤◌, List,
 use Rattle.std.specs.Prelude.{◌≢◌, ◌==◌, Bool, if◌then◌else◌, max, not, option_map}
 use Rattle.std.proofs.lemmas.Bool.{cases_lt}
 use Rattle.std.proofs.lemmas.Bool.Decides.{nat_tests}
-use Rattle.store_upload.specs.Uploads.{ArePlaced, IsComplete, MayTake, Upload, UploadPlan, end_of, finish_refusal, first_gap, first_missing, last_end, length_of, max_bytes, place_refusal, same_plan}
+use Rattle.store_upload.specs.Uploads.{ArePlaced, IsComplete, MayTake, ModelUpload, UploadPlan, end_of, finish_refusal, first_gap, first_missing, last_end, length_of, max_bytes, place_refusal, same_plan}
 use Rattle.std.specs.BTreeMap.{is_at}
 use Rattle.std.specs.Map.{lookup}
 use Rattle.std.specs.Option.{option_or}
@@ -127,11 +127,11 @@ same_plan_is p q same =
     same_kind false true same = cc
 
 -- a part that is not refused was made for the upload's plan, and may go where it is
-pub record IsAllowed (u : Upload (List ℕ)) (p : ModelPrepared) : Type 0 where
+pub record IsAllowed (u : ModelUpload (List ℕ)) (p : ModelPrepared) : Type 0 where
   pub plan : p.plan ≡ u.plan
   pub free : place_refusal length u p.part.offset (length p.part.bytes) ≡ None
 
-pub allowed : (u : Upload (List ℕ)) (p : ModelPrepared) → None ≡ add_refusal u p → IsAllowed u p
+pub allowed : (u : ModelUpload (List ℕ)) (p : ModelPrepared) → None ≡ add_refusal u p → IsAllowed u p
 allowed u p free = elim (bool_cases (same_plan p.plan u.plan)) [
   | inr other ↦ let wrong : add_refusal u p ≡ Some WrongPlan = rw other refl in let bad = free ∙ wrong in cc
   | inl same ↦ record { plan = same_plan_is p.plan u.plan same; free = sym (rw same refl) ∙ sym free }
@@ -142,7 +142,7 @@ no_overlap_of None l none = refl
 no_overlap_of (Some at) l none = cc
 
 -- the merges are no more than the pieces before and those of the part
-pub merges_most : (u : Upload (List ℕ)) (p : ModelPrepared) → ArePlaced length (length_of u) 0 u.parts → 0 < length p.part.bytes → None ≡ add_refusal u p
+pub merges_most : (u : ModelUpload (List ℕ)) (p : ModelPrepared) → ArePlaced length (length_of u) 0 u.parts → 0 < length p.part.bytes → None ≡ add_refusal u p
     → pieces_held (with_part p.part u.parts) ≤ pieces_held u.parts + piece_count (chunks_of p.part)
 merges_most u p placed some free =
     let apart = no_overlap_of (overlap_at p.part u.parts) (past_last u p.part) (allowed u p free).free in
@@ -173,7 +173,7 @@ all_held n ps placed all =
     let high = last_within n 0 ps placed in
     record { gap = omega (arith, low, high, all); end = omega (arith, low, high, all) }
 
-pub complete_is : (u : Upload (List ℕ)) → None ≡ finish_refusal length u → IsComplete length u
+pub complete_is : (u : ModelUpload (List ℕ)) → None ≡ finish_refusal length u → IsComplete length u
 complete_is u free = by u.end refl free
   where
     by : (e : Option ℕ) → u.end ≡ e → None ≡ finish_refusal length u → IsComplete length u
@@ -186,7 +186,7 @@ complete_is u free = by u.end refl free
         none_of None none = refl
         none_of (Some m) none = cc
 
-pub complete_all : (u : Upload (List ℕ)) → ArePlaced length (length_of u) 0 u.parts → None ≡ finish_refusal length u → IsAll (length_of u) u.parts
+pub complete_all : (u : ModelUpload (List ℕ)) → ArePlaced length (length_of u) 0 u.parts → None ≡ finish_refusal length u → IsAll (length_of u) u.parts
 complete_all u placed free =
     let none = (complete_is u free).1 in
     let n = length_of u in

@@ -9,7 +9,7 @@ use Rattle.b3_forest.specs.Followed.{AllNoted, ArePartsOf, ModelFollow, Follows,
 use Rattle.b3_forest.specs.Subtrees.{HasChunk, Keeps, Subtrees, subtree_at}
 use Rattle.b3_forest.specs.inner.Subtrees.{HaveRoom, is_held}
 use Rattle.store_upload.specs.Laws.{IsFirstMissing, IsFirstOverlap, IsHeldAt, LeastMissing, LeastOverlap}
-use Rattle.store_upload.specs.Uploads.{ArePlaced, Fits, IsUpload, Upload, UploadPlan, closed_plan, end_of, first_gap, first_missing}
+use Rattle.store_upload.specs.Uploads.{ArePlaced, Fits, IsUpload, ModelUpload, UploadPlan, closed_plan, end_of, first_gap, first_missing}
 use Rattle.b3_forest.specs.Parts.{HeldPart, Part, ModelPrepared, chunk_in, chunks_of, held_as}
 use Rattle.b3_forest.specs.Pieces.{is_full, piece_count, pieces_of, root_level}
 use Rattle.b3_forest.specs.Uploads.{content_of, merges_of, with_part}
@@ -114,7 +114,7 @@ abbrev pub Overlap : Type 0
 Overlap = LeastOverlap (λ (x : List ℕ). length x)
 
 -- an upload of n bytes that holds these parts
-abbrev pub upload_of : ℕ → List HeldPart → Upload (List ℕ)
+abbrev pub upload_of : ℕ → List HeldPart → ModelUpload (List ℕ)
 upload_of n ps = record { plan = closed_plan n; end = Some n; parts = ps }
 
 is_upload : (n : ℕ) (ps : List HeldPart) (es : Subtrees) → Keeps n ps es → IsUpload length (upload_of n ps)
@@ -122,7 +122,7 @@ is_upload n ps es keeps = record { most = keeps.most; within = omega arith; plac
 
 pub reported_missing : (b : List ℕ) (ps : List HeldPart) (es : Subtrees) (m : ℕ) → Missing → Keeps (length b) ps es → m ≡ first_gap length 0 ps → m < length b → IsFirstUnnoted (followed b es) m
 reported_missing b ps es m law keeps is below =
-    let u : Upload (List ℕ) = upload_of (length b) ps in
+    let u : ModelUpload (List ℕ) = upload_of (length b) ps in
     let low : first_gap length 0 ps < length b = omega (arith, is, below) in
     let test : nat_lt (first_gap length 0 ps) (length b) ≡ true = grind (arith, nat_tests, low) in
     let some : first_missing length u ≡ Some (first_gap length 0 ps) = rw test refl in
@@ -136,7 +136,7 @@ reported_missing b ps es m law keeps is below =
 
 pub reported_all : (b : List ℕ) (ps : List HeldPart) (es : Subtrees) → Missing → Keeps (length b) ps es → length b ≤ first_gap length 0 ps → AllNoted (followed b es)
 reported_all b ps es law keeps all i low =
-    let u : Upload (List ℕ) = upload_of (length b) ps in
+    let u : ModelUpload (List ℕ) = upload_of (length b) ps in
     let test : nat_lt (first_gap length 0 ps) (length b) ≡ false = grind (arith, nat_tests, all) in
     let none : first_missing length u ≡ None = rw test refl in
     let held = subst (λ o. IfNone o ((j : ℕ) → j < length b → IsHeldAt length ps j)) none (law u (is_upload (length b) ps es keeps)).none in

@@ -4,7 +4,7 @@ use Rattle.b3_core.specs.Tree.{chunk_len}
 use Rattle.b3_forest.specs.Subtrees.{Keeps, Subtrees}
 use Rattle.b3_forest.specs.Parts.{HeldPart, Part, ModelPrepared, chunks_of}
 use Rattle.store_upload.specs.Laws.{IsHeldAt}
-use Rattle.store_upload.specs.Uploads.{IsUpload, Upload, closed_plan, length_of}
+use Rattle.store_upload.specs.Uploads.{IsUpload, ModelUpload, closed_plan, length_of}
 use Rattle.b3_forest.specs.Pieces.{piece_count}
 use Rattle.b3_forest.specs.Uploads.{pieces_held}
 use Rattle.b3_forest.specs.declared.refusal.NoteFault.{NoteFault}
@@ -34,7 +34,7 @@ pieces_noted f = piece_count (noted_chunk f)
 
 -- it is the number of pieces of an upload that holds the same offsets
 abbrev pub NotedAsHeld : Type 0
-NotedAsHeld = (f : ModelFollow) (u : Upload (List ℕ)) → IsUpload length u → length_of u ≡ length f.bytes → ((i : ℕ) → IsNoted f i ↔ IsHeldAt length u.parts i)
+NotedAsHeld = (f : ModelFollow) (u : ModelUpload (List ℕ)) → IsUpload length u → length_of u ≡ length f.bytes → ((i : ℕ) → IsNoted f i ↔ IsHeldAt length u.parts i)
     → pieces_noted f ≡ pieces_held u.parts
 
 -- offset i is in the part

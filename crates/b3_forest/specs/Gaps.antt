@@ -1,6 +1,6 @@
 -- The gaps of an upload.
 use Rattle.std.specs.Prelude.{ℕ, ◌-◌, nat_lt, true, false, List, [], ◌∷◌, ◌++◌, length}
-use Rattle.store_upload.specs.Uploads.{Upload, end_of, length_of}
+use Rattle.store_upload.specs.Uploads.{ModelUpload, end_of, length_of}
 use Rattle.b3_forest.specs.Parts.{HeldPart}
 use Rattle.b3_forest.specs.declared.gap.Gap.{Gap}
 
@@ -14,5 +14,5 @@ gaps_from n a [] = gap_between a n
 gaps_from n a (p ∷ ps) = gap_between a p.0 ++ gaps_from n (end_of length p) ps
 
 -- the gaps of an upload
-abbrev pub gaps_of : Upload (List ℕ) → List Gap
+abbrev pub gaps_of : ModelUpload (List ℕ) → List Gap
 gaps_of u = gaps_from (length_of u) 0 u.parts

@@ -2,7 +2,7 @@
 use Rattle.std.specs.Prelude.{ℕ, List, ◌++◌, codes, length}
 use Rattle.std.specs.Fmt.{decimal}
 use Rattle.store_upload.specs.Texts.{add_fault_text, part_fault_text}
-use Rattle.store_upload.specs.Uploads.{Upload, held_bytes, length_of}
+use Rattle.store_upload.specs.Uploads.{ModelUpload, held_bytes, length_of}
 use Rattle.b3_forest.specs.Parts.{HeldPart, Part}
 use Rattle.store_upload.specs.declared.refusal.PartFault.{PartFault}
 use Rattle.store_upload.specs.declared.refusal.AddFault.{AddFault}
@@ -47,7 +47,7 @@ abbrev pub add_refused_text : AddFault → Part → List ℕ
 add_refused_text fault p = codes "AddRefused { fault: " ++ (add_fault_text fault ++ (codes ", part: " ++ (prepared_text p ++ codes " }")))
 
 -- a forest: the numbers of bytes and parts that it holds, and its length
-abbrev pub forest_text : Upload (List ℕ) → List ℕ
+abbrev pub forest_text : ModelUpload (List ℕ) → List ℕ
 forest_text u = codes "Forest { parts: " ++ (decimal (length u.parts) ++ (codes ", held: " ++ (decimal (held_bytes length u.parts) ++ (codes ", length: " ++ (decimal (length_of u) ++ codes " }")))))
 
 -- a follower of borrowed bytes: their number

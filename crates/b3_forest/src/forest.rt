@@ -21,20 +21,20 @@ use std::alloc::{AllocError, Global};
 use std::collections::btree_map::Iter;
 use std::fmt;
 use std::marker::Model;
-use store_upload::{AddFault, FinishFault, FixFault, Open, Plan};
+use store_upload::{AddFault, FinishFault, FixFault, Plan, Upload};
 
 /// The parts that an upload holds. It keeps their bytes by offset and the pieces of all of them. Neighbouring pieces that are the halves of
 /// one aligned range are merged, so a run of held chunks has at most two pieces of each width.
 #[derive(Drop)]
 pub struct Forest {
-    open: Open<HashedParts>,
+    open: Upload<HashedParts>,
 }
 
 impl Model for Forest {
     ghost use Rattle.std.specs.Prelude.{ℕ, List};
-    ghost use Rattle.store_upload.specs.Uploads.{Upload};
+    ghost use Rattle.store_upload.specs.Uploads.{ModelUpload};
 
-    ghost Value = { Upload (List ℕ) };
+    ghost Value = { ModelUpload (List ℕ) };
 
     ghost view = { λ f. f.open };
 }
@@ -45,12 +45,12 @@ impl Forest {
         ensures { result ≡ new_upload plan }
     {
         Forest {
-            open: Open::new(alloc, plan),
+            open: Upload::new(alloc, plan),
         }
     }
 
     /// The forest of an open upload.
-    pub fn of(upload: Open<HashedParts>) -> Forest
+    pub fn of(upload: Upload<HashedParts>) -> Forest
         ensures { result ≡ upload }
     {
         Forest { open: upload }
@@ -210,7 +210,7 @@ impl Forest {
 }
 
 /// The top of the tree over the whole content of a complete upload. It makes two compressions for each piece after the first.
-pub fn top_of(upload: &Open<HashedParts>, work: &mut Work) -> Top
+pub fn top_of(upload: &Upload<HashedParts>, work: &mut Work) -> Top
     requires { finish_refusal length upload.now ≡ None }
     ensures top { result ≡ tree_top (content_of upload.now.parts) 0 hash_mode }
     ensures len { length (content_of upload.now.parts) ≡ length_of upload.now }

@@ -13,7 +13,7 @@
 //! it hashes no bytes. `Forest::finish` returns the top of the tree over the whole content, however it was split and in whatever order the
 //! parts came. `Forest::gaps` lists what is missing. Parts are kept in an ordered map: adding one takes logarithmic time at any offset.
 //!
-//! The rules of an upload (where parts may be, what is missing and where it ends) are those of `store_upload`: a `Forest` is an `Open`
+//! The rules of an upload (where parts may be, what is missing and where it ends) are those of `store_upload`: a `Forest` is an `Upload`
 //! upload that holds its parts as `HashedParts`, which know only about bytes and pieces.
 //!
 //! A `Follow` does the same for borrowed bytes: it notes parts of them, and returns their top, without copies. `Lent` bytes are in one

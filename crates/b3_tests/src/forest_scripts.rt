@@ -160,7 +160,10 @@ impl Upload {
             Err(refused) => {
                 let is_back = is_part(&refused.part, &plan, offset, size);
                 let is_reported = reported == Some(refused.fault);
-                format!(in self.alloc; "{:?} by {count} back {is_back} {is_reported}", refused.fault)
+                format!(in self.alloc;
+                    "{:?} by {count} back {is_back} {is_reported}",
+                    refused.fault
+                )
             }
         }
     }

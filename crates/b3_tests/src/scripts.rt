@@ -17,7 +17,11 @@ pub fn reported<A: Answers>(alloc: Global, on: &mut A, script: &str) -> Result<S
     Ok(reported)
 }
 
-fn reported_line<A: Answers>(alloc: Global, on: &mut A, command: &str) -> Result<String, AllocError> {
+fn reported_line<A: Answers>(
+    alloc: Global,
+    on: &mut A,
+    command: &str,
+) -> Result<String, AllocError> {
     let answer = on.answer(command)?;
     let answer = answer.as_str();
     format!(in alloc; "{command} > {answer}\n")

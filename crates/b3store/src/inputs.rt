@@ -5,8 +5,8 @@ ghost use Rattle.b3_check.specs.Names.{IsName};
 ghost use Rattle.store_command_line.specs.Ranges.{IsSumInRange};
 
 use crate::extent::{Extent, Metered};
-use crate::standard::{StandardError, StandardInput, standard_output};
 use crate::reporting::{misused, opened, status, stopped};
+use crate::standard::{StandardError, StandardInput, standard_output};
 use b3_check::Name;
 use b3_core::{Runtime, Work};
 use edge::SumMode;

@@ -6,15 +6,16 @@ ghost use Rattle.store_command_line.specs.Ranges.{InRange};
 mod extent;
 mod inputs;
 mod progress;
+mod reporting;
 mod sessions;
 mod standard;
-mod reporting;
 
 use b3_core::{Runtime, Work};
 use edge::UploadOptions;
 use extent::Extent;
 use inputs::{check_status, sum_status};
 use progress::with_progress;
+use reporting::{GOOD, USAGE, status, stopped};
 use sessions::serve_status;
 use standard::{StandardInput, standard_output, standard_streams};
 use std::io::{BufReader, BufWriter, ErrorKind, IsTerminal};
@@ -28,7 +29,6 @@ use store_engines::{ALL_PARTS, Cause, Verdict, audit, migrate, upload};
 use store_history::UnnamedHistory;
 use store_script::run;
 use store_session::serve;
-use reporting::{GOOD, USAGE, status, stopped};
 
 // The arguments of the command line. The system's arguments may be any bytes; those that are not UTF-8 are a usage fault.
 fn words_of(rt: &HostRuntime) -> Result<Vec<String>, Fault> {

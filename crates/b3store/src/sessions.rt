@@ -4,8 +4,8 @@
 ghost use Rattle.std.specs.Prelude.{◌≡◌};
 ghost use Rattle.store_ledger.specs.Shares.{all_parts};
 
-use crate::standard::{AT_A_TIME, LastingFailure, standard_streams};
 use crate::reporting::{misused, status, unopened};
+use crate::standard::{AT_A_TIME, LastingFailure, standard_streams};
 use b3_core::Work;
 use edge::{Cause, Verdict, number, read_line};
 use std::alloc::{AllocError, Global};

@@ -2,7 +2,7 @@
 use Rattle.std.proofs.Common.{◌∙◌, ℕ, List, [], ◌++◌, Option, append_assoc, ap, arith, drop, length-append, refl, sym, take, take-append-drop}
 use Rattle.std.specs.Io.KnownBytes.{Appends, Keeps}
 use Rattle.std.proofs.KnownBytes.{Appends-kept, Appends-nil, Appends-trans}
-use Rattle.edge.specs.Output.{AllBut, IsCutOff}
+use Rattle.edge.specs.Output.{AllBut, IsTruncated}
 
 pub AllBut-none : (a : Option (List ℕ)) (text : List ℕ) → AllBut a a text text
 AllBut-none a text = record { front = []; is = refl; went = Appends-nil a }
@@ -18,8 +18,8 @@ pub AllBut-kept : (old mid new : Option (List ℕ)) (text rest : List ℕ) → A
 AllBut-kept old mid new text rest h same = record { front = h.front; is = h.is; went = Appends-kept old mid new h.front h.went same }
 
 -- a text was cut off in a part of it, before which all went out
-pub cut_between : (old mid new : Option (List ℕ)) (done part following : List ℕ) → Appends old mid done → IsCutOff mid new part → IsCutOff old new (done ++ (part ++ following))
-cut_between old mid new done part following was h = record {
+pub split_between : (old mid new : Option (List ℕ)) (done part following : List ℕ) → Appends old mid done → IsTruncated mid new part → IsTruncated old new (done ++ (part ++ following))
+split_between old mid new done part following was h = record {
   rest = h.rest ++ following;
   some = omega (arith, length-append h.rest following, h.some);
   front = record {

@@ -19,9 +19,9 @@ three_fields first second third = first ++ (space ∷ (second ++ (space ∷ thir
 -- ---- reading
 
 -- the bytes before the first of these, and those after it
-abbrev pub cut_at : ℕ → List ℕ → Option (List ℕ × List ℕ)
-cut_at mark [] = None
-cut_at mark (b ∷ bytes) = if b == mark then Some ([], bytes) else option_map (λ x. (b ∷ x.0, x.1)) (cut_at mark bytes)
+abbrev pub split_at : ℕ → List ℕ → Option (List ℕ × List ℕ)
+split_at mark [] = None
+split_at mark (b ∷ bytes) = if b == mark then Some ([], bytes) else option_map (λ x. (b ∷ x.0, x.1)) (split_at mark bytes)
 
 -- the number with these digits: in decimal, without leading zeros, below 2^64
 abbrev pub number_at : List ℕ → Option ℕ
@@ -35,14 +35,14 @@ None >>= f = None
 
 abbrev pub two_numbers_at : List ℕ → Option (ℕ × ℕ)
 two_numbers_at fields = do
-  cut ← cut_at space fields
+  cut ← split_at space fields
   first ← number_at cut.0
   second ← number_at cut.1
   Some (first, second)
 
 abbrev pub three_numbers_at : List ℕ → Option (ℕ × ℕ × ℕ)
 three_numbers_at fields = do
-  cut ← cut_at space fields
+  cut ← split_at space fields
   first ← number_at cut.0
   others ← two_numbers_at cut.1
   Some (first, others.0, others.1)

@@ -9,7 +9,7 @@ pub record AllBut (old new : Option (List ℕ)) (text rest : List ℕ) : Type 0 
   pub went : Appends old new front
 
 -- a proper prefix of the text was written
-pub record IsCutOff (old new : Option (List ℕ)) (text : List ℕ) : Type 0 where
+pub record IsTruncated (old new : Option (List ℕ)) (text : List ℕ) : Type 0 where
   pub rest : List ℕ
   pub some : 0 < length rest
   pub front : AllBut old new text rest

@@ -5,7 +5,7 @@
 ghost use Rattle.std.specs.Prelude.{◌≡◌, ◌*◌, ◌%◌, ◌<◌, ◌≤◌, ◌⊎◌, IfErr, IfOk, IfSome, IsTrue, OnErr, OnOk, Err, Ok, length, slice_index};
 ghost use Rattle.std.specs.Io.KnownBytes.{Appends};
 ghost use Rattle.hex.specs.Hex.{decode_of, decode_pairs, encode_lower, hex_digit_value, is_hex_digit, lower_digits};
-ghost use Rattle.edge.specs.Output.{IsCutOff};
+ghost use Rattle.edge.specs.Output.{IsTruncated};
 ghost use Rattle.hex.specs.declared.error.FromHexError.TheVariants.{OddLength, OutOfMemory};
 
 use crate::outcome::Cause;
@@ -91,7 +91,7 @@ fn digit(value: u8) -> u8
 pub fn write_encoded<W: Write>(writer: &mut W, bytes: &[u8], room: &mut [u8]) -> Result<(), Cause>
     requires { 2 ≤ length room.old }
     ensures written { OnOk result (Appends (W.contents writer.old) (W.contents writer.new) (encode_lower bytes.now)) }
-    ensures failed { OnErr result (IsCutOff (W.contents writer.old) (W.contents writer.new) (encode_lower bytes.now)) }
+    ensures failed { OnErr result (IsTruncated (W.contents writer.old) (W.contents writer.new) (encode_lower bytes.now)) }
     ensures cause { IfErr result (λ cause. cause ≡ Cause.CannotWrite) }
 {
     let mut rest = bytes;
@@ -107,7 +107,7 @@ pub fn write_encoded<W: Write>(writer: &mut W, bytes: &[u8], room: &mut [u8]) ->
 fn write_piece<W: Write>(writer: &mut W, bytes: &[u8], room: &mut [u8]) -> Result<(), Cause>
     requires { 2 * length bytes.now ≤ length room.old }
     ensures written { OnOk result (Appends (W.contents writer.old) (W.contents writer.new) (encode_lower bytes.now)) }
-    ensures failed { OnErr result (IsCutOff (W.contents writer.old) (W.contents writer.new) (encode_lower bytes.now)) }
+    ensures failed { OnErr result (IsTruncated (W.contents writer.old) (W.contents writer.new) (encode_lower bytes.now)) }
     ensures cause { IfErr result (λ cause. cause ≡ Cause.CannotWrite) }
     ensures room { length room.new ≡ length room.old }
 {

@@ -5,7 +5,7 @@
 //! - `SumMode` and `UploadOptions` are what a command line asks of an engine.
 //! - `read_line` reads a line up to a maximum length; `first_line` splits one off bytes in memory. Each line ends with a newline, which may
 //!   be missing on the last line (`specs/Lines.antt`).
-//! - `cut_at`, `number`, `two_numbers` and `three_numbers` read fields separated by one space (`specs/Fields.antt`).
+//! - `split_at`, `number`, `two_numbers` and `three_numbers` read fields separated by one space (`specs/Fields.antt`).
 //! - `decode` turns hexadecimal digits into bytes, as the crate `hex` defines it; `write_encoded` writes the digits of bytes.
 #![tactic(auto)]
 
@@ -17,7 +17,7 @@ mod outcome;
 mod streams;
 
 pub use digits::{decode, write_encoded};
-pub use fields::{cut_at, number, three_numbers, two_numbers};
+pub use fields::{number, split_at, three_numbers, two_numbers};
 pub use lines::{first_line, len_through, read_line};
 pub use options::{SumMode, UploadOptions};
 pub use outcome::{Cause, Verdict};

@@ -2,7 +2,7 @@
 
 ghost use Rattle.std.specs.Prelude.{◌≡◌, [], OnErr, OnOk, IfErr};
 ghost use Rattle.std.specs.Io.KnownBytes.{Appends, Keeps};
-ghost use Rattle.edge.specs.Output.{IsCutOff, WroteSome};
+ghost use Rattle.edge.specs.Output.{IsTruncated, WroteSome};
 
 use crate::outcome::Cause;
 use std::io;
@@ -21,7 +21,7 @@ pub fn write_all<W: Write>(writer: &mut W, bytes: &[u8]) -> Result<(), Cause>
 /// Writes all of `bytes`, without flushing, as more follow. After a failed write a prefix of them was written.
 pub fn write_bytes<W: Write>(writer: &mut W, bytes: &[u8]) -> Result<(), Cause>
     ensures written { OnOk result (Appends (W.contents writer.old) (W.contents writer.new) bytes.now) }
-    ensures failed { OnErr result (IsCutOff (W.contents writer.old) (W.contents writer.new) bytes.now) }
+    ensures failed { OnErr result (IsTruncated (W.contents writer.old) (W.contents writer.new) bytes.now) }
     ensures cause { IfErr result (λ cause. cause ≡ Cause.CannotWrite) }
 {
     write_whole(writer, bytes).map_err(|_| Cause::CannotWrite)
@@ -31,7 +31,7 @@ pub fn write_bytes<W: Write>(writer: &mut W, bytes: &[u8]) -> Result<(), Cause>
 /// `WriteZero` if it accepted nothing, or `Interrupted` if it was interrupted 2^64-1 times.
 pub fn write_whole<W: Write>(writer: &mut W, bytes: &[u8]) -> io::Result<()>
     ensures written { OnOk result (Appends (W.contents writer.old) (W.contents writer.new) bytes.now) }
-    ensures failed { OnErr result (IsCutOff (W.contents writer.old) (W.contents writer.new) bytes.now) }
+    ensures failed { OnErr result (IsTruncated (W.contents writer.old) (W.contents writer.new) bytes.now) }
 {
     let mut rest = bytes;
     for _ in 0..u64::MAX {

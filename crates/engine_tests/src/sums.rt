@@ -38,7 +38,11 @@ fn summed<R: AllocGlobal + Runtime>(
         &mut writer,
         &mut work,
     );
-    let AbcSources { calls, reported, .. } = sources;
+    let AbcSources {
+        calls,
+        reported,
+        ..
+    } = sources;
     let ByteWriter { taken, .. } = writer;
     Ok((ended, taken, calls, reported))
 }

@@ -10,7 +10,7 @@ use Rattle.std.proofs.lemmas.Map.{keys-set_value}
 use Rattle.std.proofs.lemmas.Map.Entries.{sum_by-remove_entry, sum_by-set_value}
 use Rattle.store_books.specs.declared.refusal.Refusal.TheVariants.{JournalFull, NoTenant, TooLong}
 use Rattle.store_books.specs.declared.tenant.Change.{Change}
-use Rattle.store_books.specs.Books.{AreSound, ModelOwnedUpload, Books, IsOwnedUpload, IsRisingFrom, held_bytes_of, in_use, is_absent, is_full, is_number, limit_of, parts_of, reserved_by, reserved_of, upload_at}
+use Rattle.store_books.specs.Books.{AreSound, ModelOwnedUpload, ModelBooks, IsOwnedUpload, IsRisingFrom, held_bytes_of, in_use, is_absent, is_full, is_number, limit_of, parts_of, reserved_by, reserved_of, upload_at}
 use Rattle.store_books.specs.Commands.{add_refused, begin_refusal, fix_refused, full_refusal, with_begun, with_upload, without_upload}
 use Rattle.store_upload.specs.Uploads.{Fits, IsUpload, UploadPlan, first_end, fix_refusal, fixed_at, held_bytes, length_of, max_bytes, new_upload, place_refusal, with_more}
 use Rattle.store_upload.proofs.Ends.{fixed_within, fixes, grown, nothing_held}
@@ -39,8 +39,8 @@ pub none_mapped : {X Y : Type 0} (f : X → Y) (o : Option X) → option_map f o
 none_mapped f None h = refl
 none_mapped f (Some x) h = absurd (not_some (f x) (sym h))
 
-pub room : {P O : Type 0} (b : Books P O) → full_refusal b ≡ None → b.accepted < b.entries
-room b h = leb-false b.entries b.accepted (passed (is_full b) JournalFull None h).0
+pub room : {P O : Type 0} (b : ModelBooks P O) → full_refusal b ≡ None → b.accepted < b.max_entries
+room b h = leb-false b.max_entries b.accepted (passed (is_full b) JournalFull None h).0
 
 -- ---- changes of a sum
 
@@ -107,12 +107,12 @@ no_longer_than plan = by plan.is_open
     by false = refl
 
 module _ {P O : Type 0} (len : P → ℕ) (size : O → ℕ) (address : O → List ℕ) where
-  pub record Begins (b : Books P O) (tenant : ℕ) (plan : UploadPlan) : Type 0 where
+  pub record Begins (b : ModelBooks P O) (tenant : ℕ) (plan : UploadPlan) : Type 0 where
     pub moves : Moves len size address tenant none (rises plan.bound) b (with_begun b tenant plan)
     pub held : held_bytes_of len (with_begun b tenant plan) ≡ held_bytes_of len b
     pub parts : parts_of (with_begun b tenant plan) ≡ parts_of b
 
-  pub begins : (b : Books P O) (tenant : ℕ) (plan : UploadPlan) → begin_refusal size b tenant plan.bound ≡ None → AreSound len size address b → Begins b tenant plan
+  pub begins : (b : ModelBooks P O) (tenant : ℕ) (plan : UploadPlan) → begin_refusal size b tenant plan.bound ≡ None → AreSound len size address b → Begins b tenant plan
   begins b tenant plan free sound =
       let there = passed (is_absent b tenant) NoTenant _ free in
       let short = passed (nat_lt max_bytes plan.bound) TooLong _ there.1 in
@@ -124,19 +124,19 @@ module _ {P O : Type 0} (len : P → ℕ) (size : O → ℕ) (address : O → Li
       let own = reserved_mine u in
       let held = more (λ (v : ModelOwnedUpload P). held_bytes len v.upload.parts) b.uploads b.begun u in
       let parts = more (λ (v : ModelOwnedUpload P). length v.upload.parts) b.uploads b.begun u in
-      let among : IsOwnedUpload len (length b.limits) (b.begun + 1) (b.begun, u) = record {
+      let among : IsOwnedUpload len (length b.tenant_limits) (b.begun + 1) (b.begun, u) = record {
         number = omega arith;
-        tenant = leb-false (length b.limits) tenant there.0;
+        tenant = leb-false (length b.tenant_limits) tenant there.0;
         upload = nothing_held len plan [] (ltb-false max_bytes plan.bound short.0) refl;
       } in
       record {
         moves = record {
           tenants = refl;
           entries = refl;
-          limits = refl;
+          tenant_limits = refl;
           accepted = refl;
           room = room b fits.1;
-          there = leb-false (length b.limits) tenant there.0;
+          there = leb-false (length b.tenant_limits) tenant there.0;
           uses = refl;
           use_low = omega arith;
           reserves = omega (arith, mine, own, bound);
@@ -145,10 +145,10 @@ module _ {P O : Type 0} (len : P → ℕ) (size : O → ℕ) (address : O → Li
           others_reserve = λ q apart. let other = reserved_others q u apart in let sum = more (reserved_by q) b.uploads b.begun u in omega (arith, other, sum);
           fits = omega (arith, mine, own, bound, within);
           begun = omega arith;
-          uploads = all_push (IsOwnedUpload len (length b.limits) (b.begun + 1)) b.uploads (b.begun, u)
-              (all_weaker (IsOwnedUpload len (length b.limits) b.begun) (IsOwnedUpload len (length b.limits) (b.begun + 1)) b.uploads (λ e is. record { number = omega (arith, is.number); tenant = is.tenant; upload = is.upload }) sound.uploads) among;
+          uploads = all_push (IsOwnedUpload len (length b.tenant_limits) (b.begun + 1)) b.uploads (b.begun, u)
+              (all_weaker (IsOwnedUpload len (length b.tenant_limits) b.begun) (IsOwnedUpload len (length b.tenant_limits) (b.begun + 1)) b.uploads (λ e is. record { number = omega (arith, is.number); tenant = is.tenant; upload = is.upload }) sound.uploads) among;
           sorted = subst (IsRisingFrom 0) (sym (keys_push b.uploads (b.begun, u)))
-              (rising_push 0 b.begun (keys_of b.uploads) (omega arith) (all_keys b.begun b.uploads (all_weaker (IsOwnedUpload len (length b.limits) b.begun) (λ e. e.0 < b.begun) b.uploads (λ e is. is.number) sound.uploads)) sound.sorted);
+              (rising_push 0 b.begun (keys_of b.uploads) (omega arith) (all_keys b.begun b.uploads (all_weaker (IsOwnedUpload len (length b.tenant_limits) b.begun) (λ e. e.0 < b.begun) b.uploads (λ e is. is.number) sound.uploads)) sound.sorted);
           objects = sound.objects;
           apart = sound.apart;
           stored = omega (arith, held);
@@ -160,19 +160,19 @@ module _ {P O : Type 0} (len : P → ℕ) (size : O → ℕ) (address : O → Li
 
   -- ---- an upload is replaced by a lawful one that is no longer
 
-  pub record Replaces (b : Books P O) (number : ℕ) (u w : ModelOwnedUpload P) : Type 0 where
+  pub record Replaces (b : ModelBooks P O) (number : ℕ) (u w : ModelOwnedUpload P) : Type 0 where
     pub moves : Moves len size address u.tenant none (record { less = length_of u.upload; more = length_of w.upload }) b (with_upload b number w)
     pub held : held_bytes_of len (with_upload b number w) + held_bytes len u.upload.parts ≡ held_bytes_of len b + held_bytes len w.upload.parts
     pub parts : parts_of (with_upload b number w) + length u.upload.parts ≡ parts_of b + length w.upload.parts
 
-  pub found_among : (b : Books P O) (number : ℕ) (u : ModelOwnedUpload P) → upload_at b number ≡ Some u → AreSound len size address b → (u.tenant < length b.limits) × IsUpload len u.upload
+  pub found_among : (b : ModelBooks P O) (number : ℕ) (u : ModelOwnedUpload P) → upload_at b number ≡ Some u → AreSound len size address b → (u.tenant < length b.tenant_limits) × IsUpload len u.upload
   found_among b number u found sound =
-      all_found (IsOwnedUpload len (length b.limits) b.begun) (λ v. (v.tenant < length b.limits) × IsUpload len v.upload) (is_number number) b.uploads u (λ k x is. (is.tenant, is.upload)) found sound.uploads
+      all_found (IsOwnedUpload len (length b.tenant_limits) b.begun) (λ v. (v.tenant < length b.tenant_limits) × IsUpload len v.upload) (is_number number) b.uploads u (λ k x is. (is.tenant, is.upload)) found sound.uploads
 
-  reserved_within : (b : Books P O) (number : ℕ) (u : ModelOwnedUpload P) → upload_at b number ≡ Some u → length_of u.upload ≤ reserved_of b u.tenant
+  reserved_within : (b : ModelBooks P O) (number : ℕ) (u : ModelOwnedUpload P) → upload_at b number ≡ Some u → length_of u.upload ≤ reserved_of b u.tenant
   reserved_within b number u found = let sum = less (reserved_by u.tenant) number b.uploads u found in let own = reserved_mine u in omega (arith, sum, own)
 
-  pub replaces : (b : Books P O) (number : ℕ) (u w : ModelOwnedUpload P) → upload_at b number ≡ Some u → AreSound len size address b → b.accepted < b.entries → w.tenant ≡ u.tenant → IsUpload len w.upload → length_of w.upload ≤ length_of u.upload
+  pub replaces : (b : ModelBooks P O) (number : ℕ) (u w : ModelOwnedUpload P) → upload_at b number ≡ Some u → AreSound len size address b → b.accepted < b.max_entries → w.tenant ≡ u.tenant → IsUpload len w.upload → length_of w.upload ≤ length_of u.upload
       → held_bytes len w.upload.parts ≤ held_bytes len u.upload.parts + 2 ^ 24 → length w.upload.parts ≤ length u.upload.parts + 1 → Replaces b number u w
   replaces b number u w found sound room tenant lawful no_longer bytes count =
       let was = found_among b number u found sound in
@@ -187,7 +187,7 @@ module _ {P O : Type 0} (len : P → ℕ) (size : O → ℕ) (address : O → Li
         moves = record {
           tenants = refl;
           entries = refl;
-          limits = refl;
+          tenant_limits = refl;
           accepted = refl;
           room = room;
           there = there;
@@ -203,7 +203,7 @@ module _ {P O : Type 0} (len : P → ℕ) (size : O → ℕ) (address : O → Li
               omega (arith, before, after, sum);
           fits = omega (arith, within, reserved, own, now, no_longer);
           begun = omega arith;
-          uploads = all_set (IsOwnedUpload len (length b.limits) b.begun) (is_number number) b.uploads u w (λ k is. record { number = is.number; tenant = omega (arith, tenant, there); upload = lawful }) found sound.uploads;
+          uploads = all_set (IsOwnedUpload len (length b.tenant_limits) b.begun) (is_number number) b.uploads u w (λ k is. record { number = is.number; tenant = omega (arith, tenant, there); upload = lawful }) found sound.uploads;
           sorted = subst (IsRisingFrom 0) (sym (keys-set_value (is_number number) b.uploads w)) sound.sorted;
           objects = sound.objects;
           apart = sound.apart;
@@ -215,12 +215,12 @@ module _ {P O : Type 0} (len : P → ℕ) (size : O → ℕ) (address : O → Li
       }
 
   -- a part is put
-  pub record Puts (b : Books P O) (number offset : ℕ) (part : P) (u : ModelOwnedUpload P) : Type 0 where
+  pub record Puts (b : ModelBooks P O) (number offset : ℕ) (part : P) (u : ModelOwnedUpload P) : Type 0 where
     pub replaced : Replaces b number u (record u { upload = with_more len u.upload offset part })
     pub held : held_bytes_of len (with_upload b number (record u { upload = with_more len u.upload offset part })) ≡ held_bytes_of len b + len part
     pub parts : parts_of (with_upload b number (record u { upload = with_more len u.upload offset part })) ≡ parts_of b + 1
 
-  pub puts : (b : Books P O) (number offset : ℕ) (part : P) (u : ModelOwnedUpload P) → upload_at b number ≡ Some u → AreSound len size address b → Fits u.upload.plan offset (len part)
+  pub puts : (b : ModelBooks P O) (number offset : ℕ) (part : P) (u : ModelOwnedUpload P) → upload_at b number ≡ Some u → AreSound len size address b → Fits u.upload.plan offset (len part)
       → option_or (option_map add_refused (place_refusal len u.upload offset (len part))) (full_refusal b) ≡ None → Puts b number offset part u
   puts b number offset part u found sound fits free =
       let both = neither add_refused (place_refusal len u.upload offset (len part)) (full_refusal b) free in
@@ -232,7 +232,7 @@ module _ {P O : Type 0} (len : P → ℕ) (size : O → ℕ) (address : O → Li
       record { replaced = put; held = omega (arith, put.held, grow.bytes); parts = omega (arith, put.parts, grow.count) }
 
   -- an end is fixed
-  pub ends : (b : Books P O) (number n : ℕ) (u : ModelOwnedUpload P) → upload_at b number ≡ Some u → AreSound len size address b → option_or (option_map fix_refused (fix_refusal len u.upload n)) (full_refusal b) ≡ None
+  pub ends : (b : ModelBooks P O) (number n : ℕ) (u : ModelOwnedUpload P) → upload_at b number ≡ Some u → AreSound len size address b → option_or (option_map fix_refused (fix_refusal len u.upload n)) (full_refusal b) ≡ None
       → Replaces b number u (record u { upload = fixed_at u.upload n })
   ends b number n u found sound free =
       let both = neither fix_refused (fix_refusal len u.upload n) (full_refusal b) free in
@@ -242,12 +242,12 @@ module _ {P O : Type 0} (len : P → ℕ) (size : O → ℕ) (address : O → Li
 
   -- ---- an upload goes
 
-  pub record Goes (b : Books P O) (number : ℕ) (u : ModelOwnedUpload P) : Type 0 where
+  pub record Goes (b : ModelBooks P O) (number : ℕ) (u : ModelOwnedUpload P) : Type 0 where
     pub moves : Moves len size address u.tenant none (falls (length_of u.upload)) b (without_upload b number)
     pub held : held_bytes_of len (without_upload b number) + held_bytes len u.upload.parts ≡ held_bytes_of len b
     pub parts : parts_of (without_upload b number) + length u.upload.parts ≡ parts_of b
 
-  pub goes : (b : Books P O) (number : ℕ) (u : ModelOwnedUpload P) → upload_at b number ≡ Some u → AreSound len size address b → b.accepted < b.entries → Goes b number u
+  pub goes : (b : ModelBooks P O) (number : ℕ) (u : ModelOwnedUpload P) → upload_at b number ≡ Some u → AreSound len size address b → b.accepted < b.max_entries → Goes b number u
   goes b number u found sound room =
       let was = found_among b number u found sound in
       let there = was.0 in
@@ -260,7 +260,7 @@ module _ {P O : Type 0} (len : P → ℕ) (size : O → ℕ) (address : O → Li
         moves = record {
           tenants = refl;
           entries = refl;
-          limits = refl;
+          tenant_limits = refl;
           accepted = refl;
           room = room;
           there = there;
@@ -272,7 +272,7 @@ module _ {P O : Type 0} (len : P → ℕ) (size : O → ℕ) (address : O → Li
           others_reserve = λ q apart. let other = reserved_others q u apart in let sum = less (reserved_by q) number b.uploads u found in omega (arith, other, sum);
           fits = omega (arith, within, reserved, own);
           begun = omega arith;
-          uploads = all_removed (IsOwnedUpload len (length b.limits) b.begun) (is_number number) b.uploads sound.uploads;
+          uploads = all_removed (IsOwnedUpload len (length b.tenant_limits) b.begun) (is_number number) b.uploads sound.uploads;
           sorted = rising_removed (is_number number) 0 b.uploads sound.sorted;
           objects = sound.objects;
           apart = sound.apart;

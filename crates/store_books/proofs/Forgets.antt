@@ -19,8 +19,8 @@ use Rattle.store_upload.specs.declared.refusal.FixFault.{FixFault}
 use Rattle.store_upload.specs.declared.refusal.AddFault.TheVariants.{Overlap, PastLast}
 use Rattle.store_upload.specs.declared.refusal.FinishFault.TheVariants.{Incomplete, NotFixed}
 use Rattle.store_upload.specs.declared.refusal.FixFault.TheVariants as fix
-use Rattle.store_upload.specs.Uploads.{Upload, finish_refusal, first_gap, fix_refusal, held_bytes, is_ragged, last_end, length_of, max_bytes, new_upload, overlap_at, overlaps, place_refusal, with_more}
-use Rattle.store_books.specs.Books.{ModelOwnedUpload, Books, Filed, addressed, in_use, is_absent, is_held_by, is_number, limit_of, max_limit, object_among, object_at, reserved_by, reserved_of, totals_of, upload_at, use_by, use_of}
+use Rattle.store_upload.specs.Uploads.{ModelUpload, finish_refusal, first_gap, fix_refusal, held_bytes, is_ragged, last_end, length_of, max_bytes, new_upload, overlap_at, overlaps, place_refusal, with_more}
+use Rattle.store_books.specs.Books.{ModelOwnedUpload, ModelBooks, Filed, addressed, in_use, is_absent, is_held_by, is_number, limit_of, max_limit, object_among, object_at, reserved_by, reserved_of, totals_of, upload_at, use_by, use_of}
 use Rattle.store_books.specs.Commands.{add_refused, finish_refused, fix_refused, full_refusal, join_refusal, with_begun, with_end, with_holder, with_holders, with_known, with_left, with_new, with_part, without_holder}
 use Rattle.store_books.specs.Forgetting.{Forgets, SeesCommands, SeesRefusals, bare, bare_begun, bare_object, bare_upload, label_of}
 use Rattle.store_books.specs.Bare.{Bare, as_it_is, label_address, label_len}
@@ -74,29 +74,29 @@ module _ {P : Type 0} (len : P → ℕ) where
         | inr apart ↦ rw (ne_eqb p.0 a apart, first_gap) refl
       ]
 
-  abbrev place_by : Upload P → ℕ → ℕ → Option ℕ → ℕ → Option AddFault
+  abbrev place_by : ModelUpload P → ℕ → ℕ → Option ℕ → ℕ → Option AddFault
   place_by u offset n over last =
       option_or (option_map Overlap over) (option_map PastLast (if (is_some u.end && nat_lt (unwrap_or u.end last) (offset + n)) || (is_ragged n && nat_lt (offset + n) (unwrap_or u.end last)) then Some (unwrap_or u.end last) else None))
 
-  pub place_same : (u : Upload P) (offset n : ℕ) → place_refusal as_it_is (bare_upload len u) offset n ≡ place_refusal len u offset n
+  pub place_same : (u : ModelUpload P) (offset n : ℕ) → place_refusal as_it_is (bare_upload len u) offset n ≡ place_refusal len u offset n
   place_same u offset n = ap₂ (place_by u offset n) (overlap_same offset n u.parts) (ends_same u.parts)
 
-  pub more_same : (u : Upload P) (offset : ℕ) (part : P) → bare_upload len (with_more len u offset part) ≡ with_more as_it_is (bare_upload len u) offset (len part)
+  pub more_same : (u : ModelUpload P) (offset : ℕ) (part : P) → bare_upload len (with_more len u offset part) ≡ with_more as_it_is (bare_upload len u) offset (len part)
   more_same u offset part = ap (λ (ps : List (ℕ × ℕ)). record (with_more as_it_is (bare_upload len u) offset (len part)) { parts = ps }) (inserted_seen len u.parts offset part)
 
-  abbrev fix_by : Upload P → ℕ → ℕ → Option FixFault
+  abbrev fix_by : ModelUpload P → ℕ → ℕ → Option FixFault
   fix_by u n last =
       if nat_lt u.plan.bound n then Some fix.TooLong
       else if (if is_some u.end then not (n == unwrap_or u.end last) else nat_lt n (unwrap_or u.end last)) then Some (fix.PastLast (unwrap_or u.end last))
       else None
 
-  pub fix_same : (u : Upload P) (n : ℕ) → fix_refusal as_it_is (bare_upload len u) n ≡ fix_refusal len u n
+  pub fix_same : (u : ModelUpload P) (n : ℕ) → fix_refusal as_it_is (bare_upload len u) n ≡ fix_refusal len u n
   fix_same u n = ap (fix_by u n) (ends_same u.parts)
 
-  abbrev finish_by : Upload P → ℕ → Option FinishFault
+  abbrev finish_by : ModelUpload P → ℕ → Option FinishFault
   finish_by u gap = if is_some u.end then option_map Incomplete (if nat_lt gap (length_of u) then Some gap else None) else Some NotFixed
 
-  pub finish_same : (u : Upload P) → finish_refusal as_it_is (bare_upload len u) ≡ finish_refusal len u
+  pub finish_same : (u : ModelUpload P) → finish_refusal as_it_is (bare_upload len u) ≡ finish_refusal len u
   finish_same u = ap (finish_by u) (gap_same 0 u.parts)
 
 -- ---- books
@@ -128,45 +128,45 @@ module _ {O : Type 0} (size : O → ℕ) (address : O → List ℕ) where
       ∙ ap (λ (es : List (List ℕ × Filed ObjectLabel)). values_of (set_value (bytes_eq at) es (bare_object size address w))) (sym (addressed_seen os))
 
 module _ {P O : Type 0} (len : P → ℕ) (size : O → ℕ) (address : O → List ℕ) where
-  reserved_same : (b : Books P O) (t : ℕ) → reserved_of (bare len size address b) t ≡ reserved_of b t
+  reserved_same : (b : ModelBooks P O) (t : ℕ) → reserved_of (bare len size address b) t ≡ reserved_of b t
   reserved_same b t = sum_values_seen (bare_begun len) (reserved_by t) (reserved_by t) (λ u. refl) b.uploads
 
-  used_same : (b : Books P O) (t : ℕ) → use_of label_len (bare len size address b) t ≡ use_of size b t
+  used_same : (b : ModelBooks P O) (t : ℕ) → use_of label_len (bare len size address b) t ≡ use_of size b t
   used_same b t = sum_list_seen (bare_object size address) (use_by label_len t) (use_by size t) (λ o. refl) b.objects
 
-  in_use_same : (b : Books P O) (t : ℕ) → in_use label_len (bare len size address b) t ≡ in_use size b t
+  in_use_same : (b : ModelBooks P O) (t : ℕ) → in_use label_len (bare len size address b) t ≡ in_use size b t
   in_use_same b t = ap₂ (λ (x y : ℕ). x + y) (used_same b t) (reserved_same b t)
 
-  pub upload_same : (b : Books P O) (number : ℕ) → upload_at (bare len size address b) number ≡ option_map (bare_begun len) (upload_at b number)
+  pub upload_same : (b : ModelBooks P O) (number : ℕ) → upload_at (bare len size address b) number ≡ option_map (bare_begun len) (upload_at b number)
   upload_same b number = lookup-map_values (bare_begun len) (is_number number) b.uploads
 
-  pub object_same : (b : Books P O) (at : List ℕ) → object_at label_address (bare len size address b) at ≡ option_map (bare_object size address) (object_at address b at)
+  pub object_same : (b : ModelBooks P O) (at : List ℕ) → object_at label_address (bare len size address b) at ≡ option_map (bare_object size address) (object_at address b at)
   object_same b at = among_seen size address b.objects at
 
-  abbrev limit_by : Books P O → ℕ → ℕ → ℕ → Option Refusal
+  abbrev limit_by : ModelBooks P O → ℕ → ℕ → ℕ → Option Refusal
   limit_by b t limit used = if is_absent b t then Some NoTenant else if nat_lt max_limit limit then Some LimitTooLarge else if nat_lt limit used then Some (BelowUse used) else full_refusal b
 
-  abbrev begin_by : Books P O → ℕ → ℕ → ℕ → Option Refusal
+  abbrev begin_by : ModelBooks P O → ℕ → ℕ → ℕ → Option Refusal
   begin_by b t n used =
       if is_absent b t then Some NoTenant else if nat_lt max_bytes n then Some TooLong else if nat_lt (limit_of b t) (used + n) then Some (OverQuota (limit_of b t - used)) else full_refusal b
 
-  abbrev join_by : Books P O → ModelOwnedUpload P → Filed O → ℕ → Option Refusal
+  abbrev join_by : ModelBooks P O → ModelOwnedUpload P → Filed O → ℕ → Option Refusal
   join_by b u o used =
       if not (is_held_by u.tenant o) && nat_lt (length_of u.upload + (limit_of b u.tenant - used)) (size o.content) then Some (OverQuota (limit_of b u.tenant - used)) else full_refusal b
 
-  join_same : (b : Books P O) (u : ModelOwnedUpload P) (f : Option (Filed O)) → join_refusal label_len label_address (bare len size address b) (bare_begun len u) (option_map (bare_object size address) f) ≡ join_refusal size address b u f
+  join_same : (b : ModelBooks P O) (u : ModelOwnedUpload P) (f : Option (Filed O)) → join_refusal label_len label_address (bare len size address b) (bare_begun len u) (option_map (bare_object size address) f) ≡ join_refusal size address b u f
   join_same b u None = refl
   join_same b u (Some o) = ap (join_by b u o) (in_use_same b u.tenant)
 
-  held_same : (b : Books P O) (t : ℕ) (f : Option (Filed O)) → option_map_or (λ (o : Filed ObjectLabel). if is_held_by t o then None else Some NotHeld) (option_map (bare_object size address) f) (Some NotHeld)
+  held_same : (b : ModelBooks P O) (t : ℕ) (f : Option (Filed O)) → option_map_or (λ (o : Filed ObjectLabel). if is_held_by t o then None else Some NotHeld) (option_map (bare_object size address) f) (Some NotHeld)
       ≡ option_map_or (λ (o : Filed O). if is_held_by t o then None else Some NotHeld) f (Some NotHeld)
   held_same b t None = refl
   held_same b t (Some o) = refl
 
-  abbrev held_by : Books P O → ℕ → Option Refusal → Option Refusal
+  abbrev held_by : ModelBooks P O → ℕ → Option Refusal → Option Refusal
   held_by b t rest = option_or (if is_absent b t then Some NoTenant else rest) (full_refusal b)
 
-  sees_refusals : (b : Books P O) → SeesRefusals len size address b
+  sees_refusals : (b : ModelBooks P O) → SeesRefusals len size address b
   sees_refusals b = record {
     tenant = λ limit. refl;
     limit = λ t limit. ap (limit_by b t limit) (in_use_same b t);
@@ -201,46 +201,46 @@ module _ {P O : Type 0} (len : P → ℕ) (size : O → ℕ) (address : O → Li
 
   -- ---- what commands leave
 
-  abbrev with_uploads : Books P O → List (ℕ × ModelOwnedUpload ℕ) → Bare
+  abbrev with_uploads : ModelBooks P O → List (ℕ × ModelOwnedUpload ℕ) → Bare
   with_uploads b us = record (bare len size address b) { uploads = us; accepted = b.accepted + 1 }
 
-  set_same : (b : Books P O) (number : ℕ) (w : ModelOwnedUpload P) → seen (bare_begun len) (set_value (is_number number) b.uploads w) ≡ set_value (is_number number) (seen (bare_begun len) b.uploads) (bare_begun len w)
+  set_same : (b : ModelBooks P O) (number : ℕ) (w : ModelOwnedUpload P) → seen (bare_begun len) (set_value (is_number number) b.uploads w) ≡ set_value (is_number number) (seen (bare_begun len) b.uploads) (bare_begun len w)
   set_same b number w = sym (set_seen (bare_begun len) (is_number number) b.uploads w)
 
-  removed_same : (b : Books P O) (number : ℕ) → seen (bare_begun len) (remove_entry (is_number number) b.uploads) ≡ remove_entry (is_number number) (seen (bare_begun len) b.uploads)
+  removed_same : (b : ModelBooks P O) (number : ℕ) → seen (bare_begun len) (remove_entry (is_number number) b.uploads) ≡ remove_entry (is_number number) (seen (bare_begun len) b.uploads)
   removed_same b number = sym (removed_seen (bare_begun len) (is_number number) b.uploads)
 
-  part_same : (b : Books P O) (number offset : ℕ) (part : P) (o : Option (ModelOwnedUpload P)) → bare len size address (with_part len b number offset part o) ≡ with_part as_it_is (bare len size address b) number offset (len part) (option_map (bare_begun len) o)
+  part_same : (b : ModelBooks P O) (number offset : ℕ) (part : P) (o : Option (ModelOwnedUpload P)) → bare len size address (with_part len b number offset part o) ≡ with_part as_it_is (bare len size address b) number offset (len part) (option_map (bare_begun len) o)
   part_same b number offset part None = refl
   part_same b number offset part (Some u) =
-      let with : Upload ℕ → ModelOwnedUpload ℕ = λ x. record { tenant = u.tenant; upload = x } in
-      ap (with_uploads b) (set_same b number (record u { upload = with_more len u.upload offset part }) ∙ ap (λ (x : Upload ℕ). set_value (is_number number) (seen (bare_begun len) b.uploads) (with x)) (more_same len u.upload offset part))
+      let with : ModelUpload ℕ → ModelOwnedUpload ℕ = λ x. record { tenant = u.tenant; upload = x } in
+      ap (with_uploads b) (set_same b number (record u { upload = with_more len u.upload offset part }) ∙ ap (λ (x : ModelUpload ℕ). set_value (is_number number) (seen (bare_begun len) b.uploads) (with x)) (more_same len u.upload offset part))
 
-  end_same : (b : Books P O) (number n : ℕ) (o : Option (ModelOwnedUpload P)) → bare len size address (with_end b number n o) ≡ with_end (bare len size address b) number n (option_map (bare_begun len) o)
+  end_same : (b : ModelBooks P O) (number n : ℕ) (o : Option (ModelOwnedUpload P)) → bare len size address (with_end b number n o) ≡ with_end (bare len size address b) number n (option_map (bare_begun len) o)
   end_same b number n None = refl
   end_same b number n (Some u) = ap (with_uploads b) (set_same b number _)
 
-  abbrev with_both : Books P O → List (ℕ × ModelOwnedUpload ℕ) → List (Filed ObjectLabel) → Bare
+  abbrev with_both : ModelBooks P O → List (ℕ × ModelOwnedUpload ℕ) → List (Filed ObjectLabel) → Bare
   with_both b us os = record (bare len size address b) { uploads = us; objects = os; accepted = b.accepted + 1 }
 
-  new_same : (b : Books P O) (number : ℕ) (content : O) (o : Option (ModelOwnedUpload P)) → bare len size address (with_new b number content o) ≡ with_new (bare len size address b) number (label_of size address content) (option_map (bare_begun len) o)
+  new_same : (b : ModelBooks P O) (number : ℕ) (content : O) (o : Option (ModelOwnedUpload P)) → bare len size address (with_new b number content o) ≡ with_new (bare len size address b) number (label_of size address content) (option_map (bare_begun len) o)
   new_same b number content None = refl
   new_same b number content (Some u) = ap₂ (with_both b) (removed_same b number) (map-append (bare_object size address) b.objects (record { content = content; holders = u.tenant ∷ [] } ∷ []))
 
-  known_same : (b : Books P O) (number : ℕ) (at : List ℕ) (o : Option (ModelOwnedUpload P)) (f : Option (Filed O))
+  known_same : (b : ModelBooks P O) (number : ℕ) (at : List ℕ) (o : Option (ModelOwnedUpload P)) (f : Option (Filed O))
       → bare len size address (with_known address b number at o f) ≡ with_known label_address (bare len size address b) number at (option_map (bare_begun len) o) (option_map (bare_object size address) f)
   known_same b number at None f = refl
   known_same b number at (Some u) None = refl
   known_same b number at (Some u) (Some object) = ap₂ (with_both b) (removed_same b number) (holders_seen size address b.objects at object (with_holder u.tenant object.holders))
 
-  abbrev with_objects : Books P O → List (Filed ObjectLabel) → Bare
+  abbrev with_objects : ModelBooks P O → List (Filed ObjectLabel) → Bare
   with_objects b os = record (bare len size address b) { objects = os; accepted = b.accepted + 1 }
 
-  left_same : (b : Books P O) (t : ℕ) (at : List ℕ) (f : Option (Filed O)) → bare len size address (with_left address b t at f) ≡ with_left label_address (bare len size address b) t at (option_map (bare_object size address) f)
+  left_same : (b : ModelBooks P O) (t : ℕ) (at : List ℕ) (f : Option (Filed O)) → bare len size address (with_left address b t at f) ≡ with_left label_address (bare len size address b) t at (option_map (bare_object size address) f)
   left_same b t at None = refl
   left_same b t at (Some object) = ap (with_objects b) (holders_seen size address b.objects at object (without_holder t object.holders))
 
-  sees_commands : (b : Books P O) → SeesCommands len size address b
+  sees_commands : (b : ModelBooks P O) → SeesCommands len size address b
   sees_commands b = record {
     tenant = λ limit. refl;
     limit = λ t limit. refl;
@@ -258,7 +258,7 @@ module _ {P O : Type 0} (len : P → ℕ) (size : O → ℕ) (address : O → Li
   held_bytes_same : (ps : List (ℕ × P)) → held_bytes as_it_is (spans len ps) ≡ held_bytes len ps
   held_bytes_same ps = sum_values_seen len as_it_is len (λ p. refl) ps
 
-  sees_totals : (b : Books P O) → totals_of as_it_is label_len (bare len size address b) ≡ totals_of len size b
+  sees_totals : (b : ModelBooks P O) → totals_of as_it_is label_len (bare len size address b) ≡ totals_of len size b
   sees_totals b = λ i. record {
     objects = length-map {B = Filed ObjectLabel} b.objects (bare_object size address) i;
     object_bytes = sum_list_seen (bare_object size address) (λ (o : Filed ObjectLabel). label_len o.content) (λ (o : Filed O). size o.content) (λ o. refl) b.objects i;

@@ -10,7 +10,7 @@ use Rattle.std.proofs.lemmas.List.{map-append}
 use Rattle.std.proofs.lemmas.List.Sums.{sum_by-cons}
 use Rattle.store_books.specs.declared.refusal.Refusal.TheVariants.{LimitTooLarge, TenantsFull}
 use Rattle.store_books.specs.declared.tenant.Tenant.{Tenant}
-use Rattle.store_books.specs.Books.{AreSound, ModelOwnedUpload, Books, Filed, IsOwnedUpload, IsFiledAmong, max_limit, reserved_by, reserved_of, use_by, use_of}
+use Rattle.store_books.specs.Books.{AreSound, ModelOwnedUpload, ModelBooks, Filed, IsOwnedUpload, IsFiledAmong, max_limit, reserved_by, reserved_of, use_by, use_of}
 use Rattle.store_books.specs.Commands.{tenant_refusal, with_tenant}
 use Rattle.store_books.specs.Kept.{AreKept, IsSummed, limits_of, no_tenant, tenant_at}
 use Rattle.store_upload.specs.Uploads.{length_of}
@@ -35,28 +35,28 @@ nothing_used size n (o ∷ os) h =
     sum_by-cons (use_by size n) o os ∙ ap₂ (λ (x y : ℕ). x + y) (ap (λ (t : Bool). cond t (size o.content) 0) (not_among n o.holders h.0.tenants)) (nothing_used size n os h.1)
 
 module _ {P O : Type 0} (len : P → ℕ) (size : O → ℕ) (address : O → List ℕ) where
-  pub all_tenants : (b : Books P O) (limit : ℕ) → tenant_refusal b limit ≡ None → AreSound len size address b → AreSound len size address (with_tenant b limit)
+  pub all_tenants : (b : ModelBooks P O) (limit : ℕ) → tenant_refusal b limit ≡ None → AreSound len size address b → AreSound len size address (with_tenant b limit)
   all_tenants b limit free old =
-      let full = passed (nat_le b.tenants (length b.limits)) TenantsFull _ free in
+      let full = passed (nat_le b.max_tenants (length b.tenant_limits)) TenantsFull _ free in
       let large = passed (nat_lt max_limit limit) LimitTooLarge _ full.1 in
       let room = room b large.1 in
-      let few = leb-false b.tenants (length b.limits) full.0 in
+      let few = leb-false b.max_tenants (length b.tenant_limits) full.0 in
       let most = ltb-false max_limit limit large.0 in
-      let count = length-append b.limits (limit ∷ []) in
-      let n = length b.limits in
-      let last : (k : ℕ) → n ≤ k → k < length (b.limits ++ limit ∷ []) → k ≡ n = λ k low high. omega (arith, low, high, count) in
+      let count = length-append b.tenant_limits (limit ∷ []) in
+      let n = length b.tenant_limits in
+      let last : (k : ℕ) → n ≤ k → k < length (b.tenant_limits ++ limit ∷ []) → k ≡ n = λ k low high. omega (arith, low, high, count) in
       record {
         few_tenants = old.few_tenants;
         few_entries = old.few_entries;
         tenants = omega (arith, count, few);
         accepted = omega (arith, room);
         begun = omega (arith, old.begun);
-        uploads = all_weaker (IsOwnedUpload len n b.begun) (IsOwnedUpload len (length (b.limits ++ limit ∷ [])) b.begun) b.uploads (λ e is. record { number = is.number; tenant = omega (arith, is.tenant, count); upload = is.upload }) old.uploads;
+        uploads = all_weaker (IsOwnedUpload len n b.begun) (IsOwnedUpload len (length (b.tenant_limits ++ limit ∷ [])) b.begun) b.uploads (λ e is. record { number = is.number; tenant = omega (arith, is.tenant, count); upload = is.upload }) old.uploads;
         sorted = old.sorted;
-        objects = all_weaker (IsFiledAmong n) (IsFiledAmong (length (b.limits ++ limit ∷ []))) b.objects (λ o is. record { tenants = all_weaker (λ h. h < n) (λ h. h < length (b.limits ++ limit ∷ [])) o.holders (λ h low. omega (arith, low, count)) is.tenants; rising = is.rising }) old.objects;
+        objects = all_weaker (IsFiledAmong n) (IsFiledAmong (length (b.tenant_limits ++ limit ∷ []))) b.objects (λ o is. record { tenants = all_weaker (λ h. h < n) (λ h. h < length (b.tenant_limits ++ limit ∷ [])) o.holders (λ h low. omega (arith, low, count)) is.tenants; rising = is.rising }) old.objects;
         apart = old.apart;
         within = λ k there. elim (cases_lt k n) [
-          | inl before ↦ let is = get_or-append b.limits (limit ∷ []) 0 k before in let within = old.within k before in omega (arith, is, within)
+          | inl before ↦ let is = get_or-append b.tenant_limits (limit ∷ []) 0 k before in let within = old.within k before in omega (arith, is, within)
           | inr following ↦
               let is = last k following there in
               let used = ap (λ (q : ℕ). use_of size b q) is ∙ nothing_used size n b.objects old.objects in
@@ -64,24 +64,24 @@ module _ {P O : Type 0} (len : P → ℕ) (size : O → ℕ) (address : O → Li
               omega (arith, used, reserved)
         ];
         limited = λ k there. elim (cases_lt k n) [
-          | inl before ↦ let is = get_or-append b.limits (limit ∷ []) 0 k before in let limited = old.limited k before in omega (arith, is, limited)
-          | inr following ↦ let is = ap (λ (q : ℕ). get_or (b.limits ++ limit ∷ []) q 0) (last k following there) ∙ get_or-append_seam b.limits limit [] 0 in omega (arith, is, most)
+          | inl before ↦ let is = get_or-append b.tenant_limits (limit ∷ []) 0 k before in let limited = old.limited k before in omega (arith, is, limited)
+          | inr following ↦ let is = ap (λ (q : ℕ). get_or (b.tenant_limits ++ limit ∷ []) q 0) (last k following there) ∙ get_or-append_seam b.tenant_limits limit [] 0 in omega (arith, is, most)
         ];
         stored = omega (arith, old.stored);
         parts = omega (arith, old.parts);
       }
 
   -- the books with a tenant more, as the code keeps them
-  pub tenant_kept : (b : Books P O) (tenants now : List Tenant) (limit filings object_bytes held parts : ℕ) → b.limits ≡ limits_of tenants → tenant_refusal b limit ≡ None → AreKept len size address b tenants filings object_bytes held parts
-      → now ≡ tenants ++ record { limit = limit; used = 0; reserved = 0 } ∷ [] → AreKept len size address (record b { limits = limits_of now; accepted = b.accepted + 1 }) now filings object_bytes held parts
+  pub tenant_kept : (b : ModelBooks P O) (tenants now : List Tenant) (limit filings object_bytes held parts : ℕ) → b.tenant_limits ≡ limits_of tenants → tenant_refusal b limit ≡ None → AreKept len size address b tenants filings object_bytes held parts
+      → now ≡ tenants ++ record { limit = limit; used = 0; reserved = 0 } ∷ [] → AreKept len size address (record b { tenant_limits = limits_of now; accepted = b.accepted + 1 }) now filings object_bytes held parts
   tenant_kept b tenants now limit filings object_bytes held parts limits free kept is =
       let fresh : Tenant = record { limit = limit; used = 0; reserved = 0 } in
       let count = length-append tenants (fresh ∷ []) in
       let same = ap (λ (ns : List ℕ). length ns) limits ∙ count_is tenants in
-      let all : limits_of now ≡ b.limits ++ limit ∷ [] = ap limits_of is ∙ map-append (λ (t : Tenant). t.limit) tenants (fresh ∷ []) ∙ ap (λ (ns : List ℕ). ns ++ limit ∷ []) (sym limits) in
+      let all : limits_of now ≡ b.tenant_limits ++ limit ∷ [] = ap limits_of is ∙ map-append (λ (t : Tenant). t.limit) tenants (fresh ∷ []) ∙ ap (λ (ns : List ℕ). ns ++ limit ∷ []) (sym limits) in
       let n = length tenants in
-      let used : use_of size b n ≡ 0 = ap (λ (q : ℕ). use_of size b q) (sym same) ∙ nothing_used size (length b.limits) b.objects kept.sound.objects in
-      let reserved : reserved_of b n ≡ 0 = ap (λ (q : ℕ). reserved_of b q) (sym same) ∙ nothing_reserved len (length b.limits) b.begun b.uploads kept.sound.uploads in
+      let used : use_of size b n ≡ 0 = ap (λ (q : ℕ). use_of size b q) (sym same) ∙ nothing_used size (length b.tenant_limits) b.objects kept.sound.objects in
+      let reserved : reserved_of b n ≡ 0 = ap (λ (q : ℕ). reserved_of b q) (sym same) ∙ nothing_reserved len (length b.tenant_limits) b.begun b.uploads kept.sound.uploads in
       let sums : (k : ℕ) → k < length (tenants ++ fresh ∷ []) → IsSummed size (with_tenant b limit) k (tenant_at (tenants ++ fresh ∷ []) k) = λ k there. elim (cases_lt k n) [
         | inl before ↦ let old = kept.sums k before in subst (λ (t : Tenant). IsSummed size (with_tenant b limit) k t) (sym (get_or-append tenants (fresh ∷ []) no_tenant k before)) (record { used = old.used; reserved = old.reserved })
         | inr following ↦
@@ -89,7 +89,7 @@ module _ {P O : Type 0} (len : P → ℕ) (size : O → ℕ) (address : O → Li
             subst (λ (q : ℕ). IsSummed size (with_tenant b limit) q (tenant_at (tenants ++ fresh ∷ []) q)) (sym last)
             (subst (λ (t : Tenant). IsSummed size (with_tenant b limit) n t) (sym (get_or-append_seam tenants fresh [] no_tenant)) (record { used = sym used; reserved = sym reserved }))
       ] in
-      subst (λ (ns : List ℕ). AreKept len size address (record b { limits = ns; accepted = b.accepted + 1 }) now filings object_bytes held parts) (sym all)
+      subst (λ (ns : List ℕ). AreKept len size address (record b { tenant_limits = ns; accepted = b.accepted + 1 }) now filings object_bytes held parts) (sym all)
       (subst (λ (ts : List Tenant). AreKept len size address (with_tenant b limit) ts filings object_bytes held parts) (sym is) (record {
         sound = all_tenants b limit free kept.sound;
         sums = sums;

@@ -8,7 +8,7 @@ use Rattle.std.proofs.lemmas.Bool.{cases_Bool, eq-eqb, ltb-false, ne_eqb}
 use Rattle.std.proofs.lemmas.List.Sums.{sum_by_push}
 use Rattle.store_books.specs.declared.refusal.Refusal.{Refusal}
 use Rattle.store_books.specs.declared.refusal.Refusal.TheVariants.{NotHeld}
-use Rattle.store_books.specs.Books.{AreSound, ModelOwnedUpload, Books, Filed, IsFiledAmong, IsRisingFrom, addressed, free_of, is_held_by, object_among, object_at, object_bytes_of, upload_at, use_by, use_of, held_bytes_of, parts_of}
+use Rattle.store_books.specs.Books.{AreSound, ModelOwnedUpload, ModelBooks, Filed, IsFiledAmong, IsRisingFrom, addressed, free_of, is_held_by, object_among, object_at, object_bytes_of, upload_at, use_by, use_of, held_bytes_of, parts_of}
 use Rattle.store_books.specs.Commands.{is_over, with_holder, with_holders, with_known, with_left, with_new, without_holder}
 use Rattle.store_upload.specs.Uploads.{finish_refusal, held_bytes, length_of}
 use Rattle.store_upload.proofs.Complete.{whole_is}
@@ -81,13 +81,13 @@ module _ {O : Type 0} (address : O → List ℕ) where
 module _ {P O : Type 0} (len : P → ℕ) (size : O → ℕ) (address : O → List ℕ) where
   -- ---- a complete upload is filed
 
-  pub record Files (b : Books P O) (number : ℕ) (content : O) (u : ModelOwnedUpload P) : Type 0 where
+  pub record Files (b : ModelBooks P O) (number : ℕ) (content : O) (u : ModelOwnedUpload P) : Type 0 where
     pub moves : Moves len size address u.tenant (rises (length_of u.upload)) (falls (length_of u.upload)) b (with_new b number content (Some u))
     pub bytes : object_bytes_of size (with_new b number content (Some u)) ≡ object_bytes_of size b + length_of u.upload
     pub held : held_bytes_of len (with_new b number content (Some u)) + held_bytes len u.upload.parts ≡ held_bytes_of len b
     pub parts : parts_of (with_new b number content (Some u)) + length u.upload.parts ≡ parts_of b
 
-  pub files : (b : Books P O) (number : ℕ) (content : O) (u : ModelOwnedUpload P) → upload_at b number ≡ Some u → AreSound len size address b → b.accepted < b.entries → finish_refusal len u.upload ≡ None → object_at address b (address content) ≡ None
+  pub files : (b : ModelBooks P O) (number : ℕ) (content : O) (u : ModelOwnedUpload P) → upload_at b number ≡ Some u → AreSound len size address b → b.accepted < b.max_entries → finish_refusal len u.upload ≡ None → object_at address b (address content) ≡ None
       → size content ≡ length_of u.upload → Files b number content u
   files b number content u found sound room ready absent long =
       let was = found_among len size address b number u found sound in
@@ -104,7 +104,7 @@ module _ {P O : Type 0} (len : P → ℕ) (size : O → ℕ) (address : O → Li
         moves = record {
           tenants = refl;
           entries = refl;
-          limits = refl;
+          tenant_limits = refl;
           accepted = refl;
           room = room;
           there = there;
@@ -121,7 +121,7 @@ module _ {P O : Type 0} (len : P → ℕ) (size : O → ℕ) (address : O → Li
           begun = m.begun;
           uploads = m.uploads;
           sorted = m.sorted;
-          objects = all_push (IsFiledAmong (length b.limits)) b.objects o sound.objects (record { tenants = (there, tt); rising = (omega arith, tt) });
+          objects = all_push (IsFiledAmong (length b.tenant_limits)) b.objects o sound.objects (record { tenants = (there, tt); rising = (omega arith, tt) });
           apart = apart_filed address b.objects o sound.apart absent;
           stored = omega (arith, bytes, long, freed.held, whole.held);
           parts = m.parts;
@@ -137,7 +137,7 @@ module _ {P O : Type 0} (len : P → ℕ) (size : O → ℕ) (address : O → Li
   abbrev pub more_by : ModelOwnedUpload P → Filed O → ℕ
   more_by u o = where_so (not (is_held_by u.tenant o)) (size o.content)
 
-  pub record Joins (b : Books P O) (number : ℕ) (at : List ℕ) (u : ModelOwnedUpload P) (o : Filed O) : Type 0 where
+  pub record Joins (b : ModelBooks P O) (number : ℕ) (at : List ℕ) (u : ModelOwnedUpload P) (o : Filed O) : Type 0 where
     pub moves : Moves len size address u.tenant (rises (more_by u o)) (falls (length_of u.upload)) b (with_known address b number at (Some u) (Some o))
     pub bytes : object_bytes_of size (with_known address b number at (Some u) (Some o)) ≡ object_bytes_of size b
     pub held : held_bytes_of len (with_known address b number at (Some u) (Some o)) + held_bytes len u.upload.parts ≡ held_bytes_of len b
@@ -151,7 +151,7 @@ module _ {P O : Type 0} (len : P → ℕ) (size : O → ℕ) (address : O → Li
   more_fits true n most over = omega arith
   more_fits false n most over = ltb-false most n over
 
-  pub joins : (b : Books P O) (number : ℕ) (at : List ℕ) (u : ModelOwnedUpload P) (o : Filed O) → upload_at b number ≡ Some u → object_at address b at ≡ Some o → AreSound len size address b → b.accepted < b.entries → is_over size address b u o ≡ false → Joins b number at u o
+  pub joins : (b : ModelBooks P O) (number : ℕ) (at : List ℕ) (u : ModelOwnedUpload P) (o : Filed O) → upload_at b number ≡ Some u → object_at address b at ≡ Some o → AreSound len size address b → b.accepted < b.max_entries → is_over size address b u o ≡ false → Joins b number at u o
   joins b number at u o found known sound room over =
       let was = found_among len size address b number u found sound in
       let there = was.0 in
@@ -159,7 +159,7 @@ module _ {P O : Type 0} (len : P → ℕ) (size : O → ℕ) (address : O → Li
       let m = freed.moves in
       let t = u.tenant in
       let holders = with_holder t o.holders in
-      let filed = object_found address (IsFiledAmong (length b.limits)) b.objects at o known sound.objects in
+      let filed = object_found address (IsFiledAmong (length b.tenant_limits)) b.objects at o known sound.objects in
       let within = sound.within t there in
       let uses = sum_with address (use_by size t) b.objects at o holders known in
       let now = weight_use size t o holders ∙ ap (λ (x : Bool). where_so x (size o.content)) (has_own t o.holders) in
@@ -171,7 +171,7 @@ module _ {P O : Type 0} (len : P → ℕ) (size : O → ℕ) (address : O → Li
         moves = record {
           tenants = refl;
           entries = refl;
-          limits = refl;
+          tenant_limits = refl;
           accepted = refl;
           room = room;
           there = there;
@@ -188,7 +188,7 @@ module _ {P O : Type 0} (len : P → ℕ) (size : O → ℕ) (address : O → Li
           begun = m.begun;
           uploads = m.uploads;
           sorted = m.sorted;
-          objects = all_with address (IsFiledAmong (length b.limits)) b.objects at o holders known sound.objects (record { tenants = below_with (length b.limits) t o.holders there filed.tenants; rising = rising_with 0 t o.holders (omega arith) filed.rising });
+          objects = all_with address (IsFiledAmong (length b.tenant_limits)) b.objects at o holders known sound.objects (record { tenants = below_with (length b.tenant_limits) t o.holders there filed.tenants; rising = rising_with 0 t o.holders (omega arith) filed.rising });
           apart = apart_with address b.objects at o holders known sound.apart;
           stored = omega (arith, bytes, same, freed.held);
           parts = m.parts;
@@ -200,7 +200,7 @@ module _ {P O : Type 0} (len : P → ℕ) (size : O → ℕ) (address : O → Li
 
   -- ---- a tenant holds an object no longer
 
-  pub record Leaves (b : Books P O) (t : ℕ) (at : List ℕ) (o : Filed O) : Type 0 where
+  pub record Leaves (b : ModelBooks P O) (t : ℕ) (at : List ℕ) (o : Filed O) : Type 0 where
     pub moves : Moves len size address t (falls (size o.content)) none b (with_left address b t at (Some o))
     pub bytes : object_bytes_of size (with_left address b t at (Some o)) + where_so (nat_le (length o.holders) 1) (size o.content) ≡ object_bytes_of size b
 
@@ -216,10 +216,10 @@ module _ {P O : Type 0} (len : P → ℕ) (size : O → ℕ) (address : O → Li
         omega (arith, stays, none)
   ]
 
-  pub leaves : (b : Books P O) (t : ℕ) (at : List ℕ) (o : Filed O) → object_at address b at ≡ Some o → AreSound len size address b → b.accepted < b.entries → t < length b.limits → is_held_by t o ≡ true → Leaves b t at o
+  pub leaves : (b : ModelBooks P O) (t : ℕ) (at : List ℕ) (o : Filed O) → object_at address b at ≡ Some o → AreSound len size address b → b.accepted < b.max_entries → t < length b.tenant_limits → is_held_by t o ≡ true → Leaves b t at o
   leaves b t at o known sound room there held =
       let holders = without_holder t o.holders in
-      let filed = object_found address (IsFiledAmong (length b.limits)) b.objects at o known sound.objects in
+      let filed = object_found address (IsFiledAmong (length b.tenant_limits)) b.objects at o known sound.objects in
       let within = sound.within t there in
       let uses = sum_with address (use_by size t) b.objects at o holders known in
       let mine : use_by size t o ≡ size o.content = rw held refl in
@@ -230,7 +230,7 @@ module _ {P O : Type 0} (len : P → ℕ) (size : O → ℕ) (address : O → Li
         moves = record {
           tenants = refl;
           entries = refl;
-          limits = refl;
+          tenant_limits = refl;
           accepted = refl;
           room = room;
           there = there;
@@ -247,7 +247,7 @@ module _ {P O : Type 0} (len : P → ℕ) (size : O → ℕ) (address : O → Li
           begun = omega arith;
           uploads = sound.uploads;
           sorted = sound.sorted;
-          objects = all_with address (IsFiledAmong (length b.limits)) b.objects at o holders known sound.objects (record { tenants = below_without (length b.limits) t o.holders filed.tenants; rising = rising_without 0 t o.holders filed.rising });
+          objects = all_with address (IsFiledAmong (length b.tenant_limits)) b.objects at o holders known sound.objects (record { tenants = below_without (length b.tenant_limits) t o.holders filed.tenants; rising = rising_without 0 t o.holders filed.rising });
           apart = apart_with address b.objects at o holders known sound.apart;
           stored = omega (arith, bytes, left);
           parts = omega arith;

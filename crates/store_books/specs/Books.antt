@@ -7,7 +7,7 @@ use Rattle.std.specs.Map.{keys_of, lookup, values_of}
 use Rattle.std.specs.Ordering.{nat_cmp}
 use Rattle.std.specs.Str.{bytes_eq}
 use Rattle.store_books.specs.declared.totals.Totals.{Totals}
-use Rattle.store_upload.specs.Uploads.{IsUpload, Upload, held_bytes, length_of, max_part_bytes}
+use Rattle.store_upload.specs.Uploads.{IsUpload, ModelUpload, held_bytes, length_of, max_part_bytes}
 
 -- the maximum limit of a tenant in bytes, and the maximum numbers of tenants, entries, and workers of an upload
 abbrev pub max_limit : ℕ
@@ -25,20 +25,20 @@ max_workers = 16
 -- an open upload, and the tenant that began it
 pub record ModelOwnedUpload (P : Type 0) : Type 0 where
   pub tenant : ℕ
-  pub upload : Upload P
+  pub upload : ModelUpload P
 
 -- an object, and the tenants that hold it, by number
 pub record Filed (O : Type 0) : Type 0 where
   pub content : O
   pub holders : List ℕ
 
-pub record Books (P O : Type 0) : Type 0 where
+pub record ModelBooks (P O : Type 0) : Type 0 where
   -- the maximum numbers of tenants, entries, and workers of an upload
-  pub tenants : ℕ
-  pub entries : ℕ
-  pub workers : ℕ
-  -- the tenants' limits
-  pub limits : List ℕ
+  pub max_tenants : ℕ
+  pub max_entries : ℕ
+  pub max_workers : ℕ
+  -- the tenants' limits, by number
+  pub tenant_limits : List ℕ
   -- the number of uploads begun
   pub begun : ℕ
   -- the open uploads with their numbers, by number
@@ -49,8 +49,8 @@ pub record Books (P O : Type 0) : Type 0 where
   pub accepted : ℕ
 
 -- empty books
-abbrev pub empty_books : {P O : Type 0} → ℕ → ℕ → ℕ → Books P O
-empty_books tenants entries workers = record { tenants = tenants; entries = entries; workers = workers; limits = []; begun = 0; uploads = []; objects = []; accepted = 0 }
+abbrev pub empty_books : {P O : Type 0} → ℕ → ℕ → ℕ → ModelBooks P O
+empty_books tenants entries workers = record { max_tenants = tenants; max_entries = entries; max_workers = workers; tenant_limits = []; begun = 0; uploads = []; objects = []; accepted = 0 }
 
 -- the test of an upload's number
 abbrev pub is_number : ℕ → ℕ → Bool
@@ -67,47 +67,47 @@ abbrev pub use_by : {O : Type 0} → (O → ℕ) → ℕ → Filed O → ℕ
 use_by size tenant o = if is_held_by tenant o then size o.content else 0
 
 module _ {P O : Type 0} where
-  abbrev pub upload_at : Books P O → ℕ → Option (ModelOwnedUpload P)
+  abbrev pub upload_at : ModelBooks P O → ℕ → Option (ModelOwnedUpload P)
   upload_at b number = lookup (is_number number) b.uploads
 
-  abbrev pub limit_of : Books P O → ℕ → ℕ
-  limit_of b tenant = slice_index_or b.limits tenant 0
+  abbrev pub limit_of : ModelBooks P O → ℕ → ℕ
+  limit_of b tenant = slice_index_or b.tenant_limits tenant 0
 
-  abbrev pub is_absent : Books P O → ℕ → Bool
-  is_absent b tenant = nat_le (length b.limits) tenant
+  abbrev pub is_absent : ModelBooks P O → ℕ → Bool
+  is_absent b tenant = nat_le (length b.tenant_limits) tenant
 
-  abbrev pub is_full : Books P O → Bool
-  is_full b = nat_le b.entries b.accepted
+  abbrev pub is_full : ModelBooks P O → Bool
+  is_full b = nat_le b.max_entries b.accepted
 
   -- the sum of the lengths of the tenant's open uploads
-  abbrev pub reserved_of : Books P O → ℕ → ℕ
+  abbrev pub reserved_of : ModelBooks P O → ℕ → ℕ
   reserved_of b tenant = sum_by (reserved_by tenant) (values_of b.uploads)
 
   -- the number of parts that open uploads hold
-  abbrev pub parts_of : Books P O → ℕ
+  abbrev pub parts_of : ModelBooks P O → ℕ
   parts_of b = sum_by (λ u. length u.upload.parts) (values_of b.uploads)
 
 module _ {P O : Type 0} (size : O → ℕ) where
   -- the sum of the lengths of the objects that the tenant holds
-  abbrev pub use_of : Books P O → ℕ → ℕ
+  abbrev pub use_of : ModelBooks P O → ℕ → ℕ
   use_of b tenant = sum_by (use_by size tenant) b.objects
 
-  abbrev pub in_use : Books P O → ℕ → ℕ
+  abbrev pub in_use : ModelBooks P O → ℕ → ℕ
   in_use b tenant = use_of b tenant + reserved_of b tenant
 
   -- the limit minus use and reservation
-  abbrev pub free_of : Books P O → ℕ → ℕ
+  abbrev pub free_of : ModelBooks P O → ℕ → ℕ
   free_of b tenant = limit_of b tenant - in_use b tenant
 
-  abbrev pub object_bytes_of : Books P O → ℕ
+  abbrev pub object_bytes_of : ModelBooks P O → ℕ
   object_bytes_of b = sum_by (λ o. size o.content) b.objects
 
 module _ {P O : Type 0} (len : P → ℕ) where
-  abbrev pub held_bytes_of : Books P O → ℕ
+  abbrev pub held_bytes_of : ModelBooks P O → ℕ
   held_bytes_of b = sum_by (λ u. held_bytes len u.upload.parts) (values_of b.uploads)
 
 module _ {P O : Type 0} (len : P → ℕ) (size : O → ℕ) where
-  abbrev pub totals_of : Books P O → Totals
+  abbrev pub totals_of : ModelBooks P O → Totals
   totals_of b = record {
     objects = length b.objects;
     object_bytes = object_bytes_of size b;
@@ -130,7 +130,7 @@ module _ {O : Type 0} (address : O → List ℕ) where
   object_among objects at = lookup (bytes_eq at) (addressed objects)
 
 module _ {P O : Type 0} (address : O → List ℕ) where
-  abbrev pub object_at : Books P O → List ℕ → Option (Filed O)
+  abbrev pub object_at : ModelBooks P O → List ℕ → Option (Filed O)
   object_at b at = object_among address b.objects at
 
 -- ---- invariants of books
@@ -156,20 +156,20 @@ abbrev pub AreDistinct : List (List ℕ) → Type 0
 AreDistinct [] = Unit {0}
 AreDistinct (a ∷ others) = AllByRecursion (λ b. bytes_eq b a ≡ false) others × AreDistinct others
 
-pub record AreSound {P O : Type 0} (len : P → ℕ) (size : O → ℕ) (address : O → List ℕ) (b : Books P O) : Type 0 where
-  pub few_tenants : b.tenants ≤ max_tenants
-  pub few_entries : b.entries ≤ max_entries
-  pub tenants : length b.limits ≤ b.tenants
-  pub accepted : b.accepted ≤ b.entries
+pub record AreSound {P O : Type 0} (len : P → ℕ) (size : O → ℕ) (address : O → List ℕ) (b : ModelBooks P O) : Type 0 where
+  pub few_tenants : b.max_tenants ≤ max_tenants
+  pub few_entries : b.max_entries ≤ max_entries
+  pub tenants : length b.tenant_limits ≤ b.max_tenants
+  pub accepted : b.accepted ≤ b.max_entries
   pub begun : b.begun ≤ b.accepted
-  pub uploads : AllByRecursion (IsOwnedUpload len (length b.limits) b.begun) b.uploads
+  pub uploads : AllByRecursion (IsOwnedUpload len (length b.tenant_limits) b.begun) b.uploads
   -- each number occurs once, in order
   pub sorted : IsRisingFrom 0 (keys_of b.uploads)
-  pub objects : AllByRecursion (IsFiledAmong (length b.limits)) b.objects
+  pub objects : AllByRecursion (IsFiledAmong (length b.tenant_limits)) b.objects
   pub apart : AreDistinct (addresses address b.objects)
   -- use and reservation are within the limit, which is at most `max_limit`
-  pub within : (n : ℕ) → n < length b.limits → in_use size b n ≤ limit_of b n
-  pub limited : (n : ℕ) → n < length b.limits → limit_of b n ≤ max_limit
+  pub within : (n : ℕ) → n < length b.tenant_limits → in_use size b n ≤ limit_of b n
+  pub limited : (n : ℕ) → n < length b.tenant_limits → limit_of b n ≤ max_limit
   -- no more is stored than was put
   pub stored : object_bytes_of size b + held_bytes_of len b ≤ max_part_bytes * b.accepted
   pub parts : parts_of b ≤ b.accepted

@@ -1,13 +1,13 @@
 -- Books reduced to lengths and labels: of parts their lengths remain, of objects their addresses and their lengths.
 use Rattle.std.specs.Prelude.{◌≡◌, ℕ, List, map}
 use Rattle.store_books.specs.declared.content.ObjectLabel.{ObjectLabel}
-use Rattle.store_books.specs.Books.{ModelOwnedUpload, Books, Filed, totals_of}
+use Rattle.store_books.specs.Books.{ModelOwnedUpload, ModelBooks, Filed, totals_of}
 use Rattle.store_books.specs.Commands.{abort_refusal, begin_refusal, end_refusal, file_refusal, forget_refusal, limit_refusal, put_refusal, ready_refusal, tenant_refusal, with_begun, with_filed, with_fixed, with_forgotten, with_joined, with_limit, with_put, with_tenant, without_upload}
 use Rattle.store_books.specs.Bare.{Bare, as_it_is, label_address, label_len}
-use Rattle.store_upload.specs.Uploads.{Upload, UploadPlan}
+use Rattle.store_upload.specs.Uploads.{ModelUpload, UploadPlan}
 
 module _ {P : Type 0} (len : P → ℕ) where
-  abbrev pub bare_upload : Upload P → Upload ℕ
+  abbrev pub bare_upload : ModelUpload P → ModelUpload ℕ
   bare_upload u = record { plan = u.plan; end = u.end; parts = map (λ p. (p.0, len p.1)) u.parts }
 
   abbrev pub bare_begun : ModelOwnedUpload P → ModelOwnedUpload ℕ
@@ -21,12 +21,12 @@ module _ {O : Type 0} (size : O → ℕ) (address : O → List ℕ) where
   bare_object o = record { content = label_of o.content; holders = o.holders }
 
 module _ {P O : Type 0} (len : P → ℕ) (size : O → ℕ) (address : O → List ℕ) where
-  abbrev pub bare : Books P O → Bare
+  abbrev pub bare : ModelBooks P O → Bare
   bare b = record {
-    tenants = b.tenants;
-    entries = b.entries;
-    workers = b.workers;
-    limits = b.limits;
+    max_tenants = b.max_tenants;
+    max_entries = b.max_entries;
+    max_workers = b.max_workers;
+    tenant_limits = b.tenant_limits;
     begun = b.begun;
     uploads = map (λ e. (e.0, bare_begun len e.1)) b.uploads;
     objects = map (bare_object size address) b.objects;
@@ -34,7 +34,7 @@ module _ {P O : Type 0} (len : P → ℕ) (size : O → ℕ) (address : O → Li
   }
 
   -- each refusal can be determined without parts and objects
-  pub record SeesRefusals (b : Books P O) : Type 0 where
+  pub record SeesRefusals (b : ModelBooks P O) : Type 0 where
     pub tenant : (limit : ℕ) → tenant_refusal (bare b) limit ≡ tenant_refusal b limit
     pub limit : (tenant limit : ℕ) → limit_refusal label_len (bare b) tenant limit ≡ limit_refusal size b tenant limit
     pub begin : (tenant bound : ℕ) → begin_refusal label_len (bare b) tenant bound ≡ begin_refusal size b tenant bound
@@ -46,7 +46,7 @@ module _ {P O : Type 0} (len : P → ℕ) (size : O → ℕ) (address : O → Li
     pub forget : (tenant : ℕ) (at : List ℕ) → forget_refusal label_address (bare b) tenant at ≡ forget_refusal address b tenant at
 
   -- and so can the result of each command
-  pub record SeesCommands (b : Books P O) : Type 0 where
+  pub record SeesCommands (b : ModelBooks P O) : Type 0 where
     pub tenant : (limit : ℕ) → bare (with_tenant b limit) ≡ with_tenant (bare b) limit
     pub limit : (tenant limit : ℕ) → bare (with_limit b tenant limit) ≡ with_limit (bare b) tenant limit
     pub begin : (tenant : ℕ) (plan : UploadPlan) → bare (with_begun b tenant plan) ≡ with_begun (bare b) tenant plan
@@ -59,6 +59,6 @@ module _ {P O : Type 0} (len : P → ℕ) (size : O → ℕ) (address : O → Li
 
   -- refusals, results and totals can be determined without parts and objects
   pub record Forgets : Type 0 where
-    pub refusals : (b : Books P O) → SeesRefusals b
-    pub commands : (b : Books P O) → SeesCommands b
-    pub totals : (b : Books P O) → totals_of as_it_is label_len (bare b) ≡ totals_of len size b
+    pub refusals : (b : ModelBooks P O) → SeesRefusals b
+    pub commands : (b : ModelBooks P O) → SeesCommands b
+    pub totals : (b : ModelBooks P O) → totals_of as_it_is label_len (bare b) ≡ totals_of len size b

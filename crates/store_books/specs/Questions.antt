@@ -5,20 +5,20 @@ use Rattle.store_books.specs.declared.books.UploadStatus.{UploadStatus}
 use Rattle.store_books.specs.declared.books.Usage.{Usage}
 use Rattle.store_books.specs.declared.refusal.Refusal.{Refusal}
 use Rattle.store_books.specs.declared.refusal.Refusal.TheVariants.{NoTenant}
-use Rattle.store_books.specs.Books.{ModelOwnedUpload, Books, Filed, is_absent, is_held_by, limit_of, reserved_of, use_of}
+use Rattle.store_books.specs.Books.{ModelOwnedUpload, ModelBooks, Filed, is_absent, is_held_by, limit_of, reserved_of, use_of}
 use Rattle.store_upload.specs.Uploads.{held_bytes}
 
 module _ {P O : Type 0} (size : O → ℕ) where
   -- a tenant's use, reservation and limit
-  abbrev pub usage_of : Books P O → ℕ → Usage
+  abbrev pub usage_of : ModelBooks P O → ℕ → Usage
   usage_of b tenant = record { used = use_of size b tenant; reserved = reserved_of b tenant; limit = limit_of b tenant }
 
-  abbrev pub usage_in : Books P O → ℕ → Result Usage Refusal
+  abbrev pub usage_in : ModelBooks P O → ℕ → Result Usage Refusal
   usage_in b tenant = if is_absent b tenant then Err NoTenant else Ok (usage_of b tenant)
 
   -- those of all tenants, by number
-  abbrev pub usages_of : Books P O → List Usage
-  usages_of b = map (usage_of b) (range_with_len 0 (length b.limits))
+  abbrev pub usages_of : ModelBooks P O → List Usage
+  usages_of b = map (usage_of b) (range_with_len 0 (length b.tenant_limits))
 
 module _ {P : Type 0} (len : P → ℕ) where
   -- what is reported about an open upload

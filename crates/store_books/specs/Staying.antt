@@ -1,12 +1,12 @@
 -- The invariants of books hold after each command that is not refused.
 use Rattle.std.specs.Prelude.{◌≡◌, ℕ, List, None, Some}
-use Rattle.store_books.specs.Books.{AreSound, ModelOwnedUpload, Books, object_at, upload_at}
+use Rattle.store_books.specs.Books.{AreSound, ModelOwnedUpload, ModelBooks, object_at, upload_at}
 use Rattle.store_books.specs.Commands.{abort_refusal, begin_refusal, end_refusal, file_refusal, forget_refusal, limit_refusal, put_refusal, ready_refusal, tenant_refusal, with_begun, with_filed, with_fixed, with_forgotten, with_joined, with_limit, with_put, with_tenant, without_upload}
 use Rattle.store_upload.specs.Uploads.{Fits, UploadPlan, length_of}
 
 module _ {P O : Type 0} (len : P → ℕ) (size : O → ℕ) (address : O → List ℕ) where
   -- each command that is not refused keeps sound books sound
-  pub record StaysSound (b : Books P O) : Type 0 where
+  pub record StaysSound (b : ModelBooks P O) : Type 0 where
     pub tenant : (limit : ℕ) → tenant_refusal b limit ≡ None → AreSound len size address (with_tenant b limit)
     pub limit : (tenant limit : ℕ) → limit_refusal size b tenant limit ≡ None → AreSound len size address (with_limit b tenant limit)
     pub begin : (tenant : ℕ) (plan : UploadPlan) → begin_refusal size b tenant plan.bound ≡ None → AreSound len size address (with_begun b tenant plan)
@@ -19,4 +19,4 @@ module _ {P O : Type 0} (len : P → ℕ) (size : O → ℕ) (address : O → Li
     pub forget : (tenant : ℕ) (at : List ℕ) → forget_refusal address b tenant at ≡ None → AreSound len size address (with_forgotten address b tenant at)
 
   abbrev pub StaySound : Type 0
-  StaySound = (b : Books P O) → AreSound len size address b → StaysSound b
+  StaySound = (b : ModelBooks P O) → AreSound len size address b → StaysSound b

@@ -9,13 +9,13 @@ ghost use Rattle.store_upload.specs.Uploads.{Fits, IsUpload, fix_refusal, fixed_
 use std::alloc::AllocError;
 use std::collections::BTreeMap;
 use std::marker::Model;
-use store_upload::{HeldParts, Open};
+use store_upload::{HeldParts, Upload};
 
 /// An upload that is not closed yet, and the tenant that began it.
 #[derive(Drop)]
 pub struct OwnedUpload<H: HeldParts> {
     tenant: u64,
-    upload: Open<H>,
+    upload: Upload<H>,
 }
 
 impl<H: HeldParts> Model for OwnedUpload<H> {
@@ -28,7 +28,7 @@ impl<H: HeldParts> Model for OwnedUpload<H> {
 
 impl<H: HeldParts> OwnedUpload<H> {
     /// An upload of `tenant`.
-    pub(crate) fn new(tenant: u64, upload: Open<H>) -> OwnedUpload<H>
+    pub(crate) fn new(tenant: u64, upload: Upload<H>) -> OwnedUpload<H>
         ensures { result ≡ record { tenant = tenant; upload = upload } }
     {
         OwnedUpload { tenant, upload }
@@ -42,14 +42,14 @@ impl<H: HeldParts> OwnedUpload<H> {
     }
 
     /// The open upload.
-    pub fn upload(&self) -> &Open<H>
+    pub fn upload(&self) -> &Upload<H>
         ensures { result.now ≡ self.now.upload }
     {
         &self.upload
     }
 
     /// Returns the upload.
-    pub(crate) fn into_upload(self) -> Open<H>
+    pub(crate) fn into_upload(self) -> Upload<H>
         ensures { result ≡ self.upload }
     {
         let OwnedUpload { upload, .. } = self;

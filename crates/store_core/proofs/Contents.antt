@@ -13,9 +13,9 @@ use Rattle.store_books.specs.Books.{AreSound, upload_at}
 use Rattle.store_books.specs.Commands.{finish_refused, ready_refusal}
 use Rattle.store_books.proofs.Commands.{found_among, none_mapped}
 use Rattle.store_core.specs.Commands.{content_in, opened}
-use Rattle.store_core.specs.Model.{AreJoined, ModelStore}
-use Rattle.store_core.specs.inner.Model.{ModelUpload, content}
-use Rattle.store_upload.specs.Uploads.{ArePlaced, Upload, end_of, finish_refusal, first_gap, length_of}
+use Rattle.store_core.specs.Model.{AreJoined, ModelStoreBooks}
+use Rattle.store_core.specs.inner.Model.{ModelStoreUpload, content}
+use Rattle.store_upload.specs.Uploads.{ArePlaced, ModelUpload, end_of, finish_refusal, first_gap, length_of}
 use Rattle.store_upload.proofs.Complete.{gap_here, gap_stops}
 
 pub top_is : (x : List ℕ) → output_of (tree_top x 0 hash_mode) 0 32 ≡ hash_of x
@@ -35,11 +35,11 @@ joined_from n a (p ∷ ps) low placed all = elim (cases_eq p.0 a) [
 ]
 
 -- the content of a complete upload is as long as it, and its parts are joined
-pub record IsContent (u : Upload (List ℕ)) : Type 0 where
+pub record IsContent (u : ModelUpload (List ℕ)) : Type 0 where
   pub long : length (content_of u.parts) ≡ length_of u
   pub joined : AreJoined 0 u.parts
 
-pub content_is : (u : Upload (List ℕ)) → ArePlaced length (length_of u) 0 u.parts → finish_refusal length u ≡ None → IsContent u
+pub content_is : (u : ModelUpload (List ℕ)) → ArePlaced length (length_of u) 0 u.parts → finish_refusal length u ≡ None → IsContent u
 content_is u placed none =
     let all = complete_all u placed (sym none) in
     let gap : length_of u ≤ first_gap length 0 u.parts = omega (arith, all.gap, all.end) in
@@ -47,23 +47,23 @@ content_is u placed none =
     record { long = omega (arith, whole); joined = joined_from (length_of u) 0 u.parts (omega arith) placed gap }
 
 -- an upload that is ready
-pub is_ready : (s : ModelStore) (number : ℕ) (u : ModelUpload) → upload_at s number ≡ Some u → ready_refusal length s number ≡ None → finish_refusal length u.upload ≡ None
+pub is_ready : (s : ModelStoreBooks) (number : ℕ) (u : ModelStoreUpload) → upload_at s number ≡ Some u → ready_refusal length s number ≡ None → finish_refusal length u.upload ≡ None
 is_ready s number u found ready = none_mapped finish_refused (finish_refusal length u.upload) (rw found at ready)
 
-pub opened_is : (s : ModelStore) (number : ℕ) (u : ModelUpload) → upload_at s number ≡ Some u → opened s number ≡ u.upload
+pub opened_is : (s : ModelStoreBooks) (number : ℕ) (u : ModelStoreUpload) → upload_at s number ≡ Some u → opened s number ≡ u.upload
 opened_is s number u found = rw found refl
 
 -- the content of an upload that is ready is as long as it
-pub long_content : (s : ModelStore) (number : ℕ) → AreSound length length hash_of s → ready_refusal length s number ≡ None → (u : ModelUpload) → upload_at s number ≡ Some u → length (content u) ≡ length_of u.upload
+pub long_content : (s : ModelStoreBooks) (number : ℕ) → AreSound length length hash_of s → ready_refusal length s number ≡ None → (u : ModelStoreUpload) → upload_at s number ≡ Some u → length (content u) ≡ length_of u.upload
 long_content s number sound ready u found = (content_is u.upload (found_among length length hash_of s number u found sound).1.placed (is_ready s number u found ready)).long
 
 -- and so is the content of the one of that number
-pub long_found : (s : ModelStore) (number : ℕ) → AreSound length length hash_of s → ready_refusal length s number ≡ None → (u : ModelUpload) → upload_at s number ≡ Some u → length (content_in s number) ≡ length_of u.upload
-long_found s number sound ready u found = ap (λ (v : Upload (List ℕ)). length (content_of v.parts)) (opened_is s number u found) ∙ long_content s number sound ready u found
+pub long_found : (s : ModelStoreBooks) (number : ℕ) → AreSound length length hash_of s → ready_refusal length s number ≡ None → (u : ModelStoreUpload) → upload_at s number ≡ Some u → length (content_in s number) ≡ length_of u.upload
+long_found s number sound ready u found = ap (λ (v : ModelUpload (List ℕ)). length (content_of v.parts)) (opened_is s number u found) ∙ long_content s number sound ready u found
 
-pub long_opened : (s : ModelStore) (number : ℕ) → AreSound length length hash_of s → ready_refusal length s number ≡ None → IfSome (upload_at s number) (λ u. length (content_in s number) ≡ length_of u.upload)
+pub long_opened : (s : ModelStoreBooks) (number : ℕ) → AreSound length length hash_of s → ready_refusal length s number ≡ None → IfSome (upload_at s number) (λ u. length (content_in s number) ≡ length_of u.upload)
 long_opened s number sound ready = by (upload_at s number) refl
   where
-    by : (found : Option ModelUpload) → upload_at s number ≡ found → IfSome found (λ (u : ModelUpload). length (content_in s number) ≡ length_of u.upload)
+    by : (found : Option ModelStoreUpload) → upload_at s number ≡ found → IfSome found (λ (u : ModelStoreUpload). length (content_in s number) ≡ length_of u.upload)
     by None is = tt
     by (Some u) is = long_found s number sound ready u is

@@ -6,7 +6,7 @@ use Rattle.std.proofs.lemmas.Bool.{leb-false, lt-leb}
 use Rattle.store_books.specs.declared.content.ObjectLabel.{ObjectLabel}
 use Rattle.store_books.specs.declared.refusal.Refusal.{Refusal}
 use Rattle.store_books.specs.declared.refusal.Refusal.TheVariants.{BelowUse, LimitTooLarge, NoTenant, NoUpload, OverQuota, TenantsFull, TooLong}
-use Rattle.store_books.specs.Books.{ModelOwnedUpload, Books, Filed, free_of, in_use, is_absent, limit_of, max_entries, max_limit, max_tenants, object_at, upload_at}
+use Rattle.store_books.specs.Books.{ModelOwnedUpload, ModelBooks, Filed, free_of, in_use, is_absent, limit_of, max_entries, max_limit, max_tenants, object_at, upload_at}
 use Rattle.store_books.specs.Commands.{abort_refusal, add_refused, begin_refusal, end_refusal, file_refusal, fix_refused, forget_refusal, full_refusal, holding_refusal, join_refusal, limit_refusal, put_refusal, tenant_refusal, with_end, with_fixed, with_forgotten, with_joined, with_known, with_left, with_new, with_filed, with_part, with_put}
 use Rattle.store_books.specs.Bare.{Bare, as_it_is, label_address, label_len}
 use Rattle.store_upload.specs.Uploads.{fix_refusal, max_bytes, place_refusal}
@@ -31,9 +31,9 @@ last_on rest other go (Some x) free = go x free
 -- ---- refusals
 
 -- books within the widest limits
-pub record IsWithin {P O : Type 0} (b : Books P O) : Type 0 where
-  pub tenants : b.tenants ≤ max_tenants
-  pub entries : b.entries ≤ max_entries
+pub record IsWithin {P O : Type 0} (b : ModelBooks P O) : Type 0 where
+  pub tenants : b.max_tenants ≤ max_tenants
+  pub entries : b.max_entries ≤ max_entries
 
 module _ (b : Bare) (within : IsWithin b) where
   wide_full : full_refusal b ≡ None → full_refusal (widest b) ≡ None
@@ -41,10 +41,10 @@ module _ (b : Bare) (within : IsWithin b) where
 
   pub wide_tenant : (limit : ℕ) → tenant_refusal b limit ≡ None → tenant_refusal (widest b) limit ≡ None
   wide_tenant limit free =
-      let first = passed (nat_le b.tenants (length b.limits)) TenantsFull _ free in
-      let few = leb-false b.tenants (length b.limits) first.0 in
+      let first = passed (nat_le b.max_tenants (length b.tenant_limits)) TenantsFull _ free in
+      let few = leb-false b.max_tenants (length b.tenant_limits) first.0 in
       let most = within.tenants in
-      rw (lt-leb max_tenants (length b.limits) (omega (arith, few, most))) (last _ _ (full_refusal b) (full_refusal (widest b)) wide_full first.1)
+      rw (lt-leb max_tenants (length b.tenant_limits) (omega (arith, few, most))) (last _ _ (full_refusal b) (full_refusal (widest b)) wide_full first.1)
 
   pub wide_limit : (tenant limit : ℕ) → limit_refusal label_len b tenant limit ≡ None → limit_refusal label_len (widest b) tenant limit ≡ None
   wide_limit tenant limit =

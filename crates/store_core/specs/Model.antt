@@ -2,7 +2,7 @@
 -- sum: an object's address is the hash of its bytes.
 use Rattle.std.specs.Prelude.{◌≡◌, ◌<◌, ℕ, List, [], ◌∷◌, length}
 use Rattle.b3_forest.specs.Parts.{HeldPart}
-use Rattle.store_books.specs.Books.{Books, Filed, empty_books}
+use Rattle.store_books.specs.Books.{ModelBooks, Filed, empty_books}
 use Rattle.store_books.specs.declared.limits.Limits.{Limits}
 use Rattle.store_journal.specs.declared.entry.Entry.{Entry}
 use Rattle.store_upload.specs.Uploads.{end_of}
@@ -10,16 +10,16 @@ use Rattle.store_upload.specs.Uploads.{end_of}
 abbrev pub ModelObject : Type 0
 ModelObject = Filed (List ℕ)
 
-abbrev pub ModelStore : Type 0
-ModelStore = Books (List ℕ) (List ℕ)
+abbrev pub ModelStoreBooks : Type 0
+ModelStoreBooks = ModelBooks (List ℕ) (List ℕ)
 
 -- a store and its journal
-pub record Shown : Type 0 where
-  pub state : ModelStore
+pub record ModelStore : Type 0 where
+  pub state : ModelStoreBooks
   pub journal : List Entry
 
 -- an empty store
-abbrev pub start : Limits → Shown
+abbrev pub start : Limits → ModelStore
 start l = record { state = empty_books l.tenants l.entries l.workers; journal = [] }
 
 -- parts with bytes, the first at offset a, and each other one where the one before it ends

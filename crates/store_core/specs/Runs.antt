@@ -14,7 +14,7 @@ use Rattle.store_core.specs.declared.command.Question.TheVariants as questions
 use Rattle.store_core.specs.declared.store.Held.{Held}
 use Rattle.store_core.specs.Carried.{HasTotals, IsCarried}
 use Rattle.store_core.specs.Commands.{Acceptance, StepsAs, ModelSealed, AnswersAs, abort_in, as_is, begin_in, begin_open_in, fetch_in, fix_in, forget_in, holds_in, list_in, open_tenant_in, plan_in, put_in, seal_as_in, seal_in, seal_work_in, set_limit_in, tenants_in, uploads_in}
-use Rattle.store_core.specs.Model.{ModelStore, Shown}
+use Rattle.store_core.specs.Model.{ModelStoreBooks, ModelStore}
 use Rattle.store_journal.specs.declared.entry.Entry.{Entry}
 use Rattle.store_upload.specs.Uploads.{Fits, UploadPlan}
 
@@ -57,20 +57,20 @@ abbrev pub FitsItsPlan : ModelPrepared → Type 0
 FitsItsPlan p = Fits p.plan p.part.offset (length p.part.bytes)
 
 -- The answer to a question; if it allocates, it may run out of memory.
-abbrev pub Answers : Shown → Question → Result Reply Refusal → Type 0
-Answers shown (questions.Fetch tenant address) reply = AnswersAs as_is (as_reply the_bytes (fetch_in shown.state tenant address)) reply
-Answers shown (questions.Usage tenant) reply = reply ≡ as_reply the_usage (usage_in length shown.state tenant)
-Answers shown (questions.Plan upload) reply = reply ≡ as_reply the_plan (plan_in shown.state upload)
-Answers shown (questions.List tenant) reply = AnswersAs as_is (as_reply the_list (list_in shown.state tenant)) reply
-Answers shown (questions.Holds tenant address) reply = reply ≡ as_reply the_length (holds_in shown.state tenant address)
-Answers shown (questions.Uploads tenant) reply = AnswersAs as_is (as_reply the_uploads (uploads_in shown.state tenant)) reply
-Answers shown questions.Tenants reply = AnswersAs as_is (Ok (the_tenants (tenants_in shown.state))) reply
-Answers shown questions.Totals reply = reply ≡ Ok (the_totals (totals_of length length shown.state))
-Answers shown questions.Journal reply = reply ≡ Ok (the_journal shown.journal)
+abbrev pub Answers : ModelStore → Question → Result Reply Refusal → Type 0
+Answers store (questions.Fetch tenant address) reply = AnswersAs as_is (as_reply the_bytes (fetch_in store.state tenant address)) reply
+Answers store (questions.Usage tenant) reply = reply ≡ as_reply the_usage (usage_in length store.state tenant)
+Answers store (questions.Plan upload) reply = reply ≡ as_reply the_plan (plan_in store.state upload)
+Answers store (questions.List tenant) reply = AnswersAs as_is (as_reply the_list (list_in store.state tenant)) reply
+Answers store (questions.Holds tenant address) reply = reply ≡ as_reply the_length (holds_in store.state tenant address)
+Answers store (questions.Uploads tenant) reply = AnswersAs as_is (as_reply the_uploads (uploads_in store.state tenant)) reply
+Answers store questions.Tenants reply = AnswersAs as_is (Ok (the_tenants (tenants_in store.state))) reply
+Answers store questions.Totals reply = reply ≡ Ok (the_totals (totals_of length length store.state))
+Answers store questions.Journal reply = reply ≡ Ok (the_journal store.journal)
 
 -- One step: the reply and the effect are the model's. An accepted command adds its entry to the journal; a refused command and a question
 -- leave store and journal unchanged. A step that allocates may run out of memory.
-abbrev pub Step : Shown → Call → Result Reply Refusal → Shown → Type 0
+abbrev pub Step : ModelStore → Call → Result Reply Refusal → ModelStore → Type 0
 Step old (change (commands.OpenTenant limit)) reply new = StepsAs as_is (replied opened_tenant (open_tenant_in old.state limit)) old reply new
 Step old (change (commands.SetLimit tenant limit)) reply new = StepsAs as_is (replied (λ _. done) (set_limit_in old.state tenant limit)) old reply new
 Step old (change (commands.Begin tenant len)) reply new = StepsAs as_is (replied (λ r. begun_upload r.0 r.1) (begin_in old.state tenant len)) old reply new
@@ -84,19 +84,19 @@ Step old (put upload part) reply new = FitsItsPlan part × StepsAs as_is (replie
 Step old (ask question) reply new = Answers old question reply × (new ≡ old)
 
 -- the compressions of a command: those of a seal, otherwise none
-abbrev pub step_work : ModelStore → Command → ℕ
+abbrev pub step_work : ModelStoreBooks → Command → ℕ
 step_work s (commands.Seal upload) = seal_work_in s upload
 step_work s (commands.SealAs upload address) = seal_work_in s upload
 step_work s _ = 0
 
 -- Steps along a list of calls, with their replies in order. The journal grows by exactly the entries of the acceptances, in order.
-abbrev pub Run : Shown → List Call → List (Result Reply Refusal) → Shown → Type 0
+abbrev pub Run : ModelStore → List Call → List (Result Reply Refusal) → ModelStore → Type 0
 Run old [] [] new = new ≡ old
 Run old [] (reply ∷ replies) new = ⊥
 Run old (call ∷ calls) [] new = ⊥
-Run old (call ∷ calls) (reply ∷ replies) new = (then : Shown) × Step old call reply then × Run then calls replies new
+Run old (call ∷ calls) (reply ∷ replies) new = (then : ModelStore) × Step old call reply then × Run then calls replies new
 
 -- the invariant of a store holds along every run: objects are stored at their hashes, the totals are the sums, and the journal replays to
 -- what the store keeps
 abbrev pub RunsCarry : Type 0
-RunsCarry = (old new : Shown) (calls : List Call) (replies : List (Result Reply Refusal)) → IsCarried old → Run old calls replies new → IsCarried new × HasTotals new
+RunsCarry = (old new : ModelStore) (calls : List Call) (replies : List (Result Reply Refusal)) → IsCarried old → Run old calls replies new → IsCarried new × HasTotals new

@@ -13,7 +13,7 @@ use Rattle.store_books.proofs.Commands.{passed}
 use Rattle.store_books.proofs.Forgets.{object_same}
 use Rattle.store_core.specs.Carried.{replayed_of}
 use Rattle.store_core.specs.Commands.{Acceptance, StepsAs, AnswersAs, fetch_in, unless}
-use Rattle.store_core.specs.Model.{ModelObject, ModelStore, Shown}
+use Rattle.store_core.specs.Model.{ModelObject, ModelStoreBooks, ModelStore}
 use Rattle.store_upload.proofs.Places.{not_some}
 use Rattle.store_ledger.specs.declared.holding.Holding.{Holding}
 use Rattle.store_shared.specs.Cuts.{IsBadCut, cut_of}
@@ -68,7 +68,7 @@ reported_some o r kind old new (Some input) may wrote memory is = go (is_memory 
     go false e = (failed_text kind, inr (kind, may, e, refl), rw is at wrote)
 
 -- the store opens its tenant, whose limit is none too large, or is full
-pub unopened : {R M : Type 0} (seen : R → M) (limit : ℕ) (a : Acceptance M) (old new : Shown) (full many : Bool) (refusal : Refusal) → nat_lt max_limit limit ≡ false
+pub unopened : {R M : Type 0} (seen : R → M) (limit : ℕ) (a : Acceptance M) (old new : ModelStore) (full many : Bool) (refusal : Refusal) → nat_lt max_limit limit ≡ false
     → StepsAs seen (unless (if many then Some TenantsFull else if nat_lt max_limit limit then Some LimitTooLarge else if full then Some JournalFull else None) a) old (Err refusal) new → IsUnopened (kinds.Refused refusal)
 unopened seen limit a old new full many refusal low step = go many (nat_lt max_limit limit) full low step
   where
@@ -105,21 +105,21 @@ cut_may o kinds.StrangePart bad good stopped gate = (tt, λ b. let e = bad b in 
 -- ---- an upload that was filed
 
 -- what is told of a store whose upload was filed is a text of its input
-pub is_upload_text : (o : UploadOptions) (input text address : List ℕ) (share : Holding) (shown : Shown) → address ≡ hash_of input → share.bytes ≡ length input → share.calls ≡ length (cut_of input o.part_chunks)
-    → IsUploadReport o.journal address share shown text → IsUploadText o input text
-is_upload_text o input text address share shown hash bytes calls reported = record {
-  entries = shown.journal;
+pub is_upload_text : (o : UploadOptions) (input text address : List ℕ) (share : Holding) (store : ModelStore) → address ≡ hash_of input → share.bytes ≡ length input → share.calls ≡ length (cut_of input o.part_chunks)
+    → IsUploadReport o.journal address share store text → IsUploadText o input text
+is_upload_text o input text address share store hash bytes calls reported = record {
+  entries = store.journal;
   journal = record { left = reported.left; legal = reported.legal; filed = subst (λ (a : List ℕ). HasObject reported.left a (length input)) hash (subst (HasObject reported.left address) bytes reported.filed); bytes = reported.bytes ∙ bytes; calls = reported.calls ∙ calls };
-  is = reported.text_is ∙ ap (λ (a : List ℕ). uploaded_text o.journal a share.bytes share.calls shown.journal) hash
-      ∙ ap₂ (λ (n m : ℕ). uploaded_text o.journal (hash_of input) n m shown.journal) bytes calls;
+  is = reported.text_is ∙ ap (λ (a : List ℕ). uploaded_text o.journal a share.bytes share.calls store.journal) hash
+      ∙ ap₂ (λ (n m : ℕ). uploaded_text o.journal (hash_of input) n m store.journal) bytes calls;
 }
 
 -- what is filed is left by the journal
-pub has_object : (s : ModelStore) (address : List ℕ) (n : ℕ) → IsFiled s address n → HasObject (replayed_of s) address n
+pub has_object : (s : ModelStoreBooks) (address : List ℕ) (n : ℕ) → IsFiled s address n → HasObject (replayed_of s) address n
 has_object s address n filed = (bare_object length hash_of filed.0, object_same length length hash_of s address ∙ ap (option_map (bare_object length hash_of)) filed.1, filed.2)
 
 -- what is fetched is filed
-pub fetched_is : {R : Type 0} (seen : R → List ℕ) (s : ModelStore) (tenant : ℕ) (address : List ℕ) (reply : R) (n : ℕ) → AnswersAs seen (fetch_in s tenant address) (Ok reply) → length (seen reply) ≡ n → IsFiled s address n
+pub fetched_is : {R : Type 0} (seen : R → List ℕ) (s : ModelStoreBooks) (tenant : ℕ) (address : List ℕ) (reply : R) (n : ℕ) → AnswersAs seen (fetch_in s tenant address) (Ok reply) → length (seen reply) ≡ n → IsFiled s address n
 fetched_is seen s tenant address reply n reported long = by (holding_refusal hash_of s tenant address) refl reported
   where
     found : (known : Option ModelObject) → object_at hash_of s address ≡ known → option_map_or (λ (o : ModelObject). if is_held_by tenant o then None else Some NotHeld) known (Some NotHeld) ≡ None

@@ -21,7 +21,7 @@ const STRETCH: usize = 1024;
 
 /// A name, and the root of its file, if that is known.
 #[derive(Drop)]
-pub(crate) struct Known {
+pub(crate) struct NamedRoot {
     pub(crate) name: Vec<u8>,
     pub(crate) root: Option<Top>,
 }
@@ -69,7 +69,7 @@ pub(crate) fn small_root(
 }
 
 // Hashes the small files among the named ones, one after the other.
-fn hash_each(rt: &HostRuntime, mode: &Mode, names: &mut [Known], work: &mut Work)
+fn hash_each(rt: &HostRuntime, mode: &Mode, names: &mut [NamedRoot], work: &mut Work)
     ensures { All (IsKnown mode.now) names.new }
 {
     let mut room = Vec::new(rt.alloc());
@@ -79,14 +79,20 @@ fn hash_each(rt: &HostRuntime, mode: &Mode, names: &mut [Known], work: &mut Work
 }
 
 // Hashes a small file.
-fn hash_known(rt: &HostRuntime, mode: &Mode, known: &mut Known, room: &mut Vec<u8>, work: &mut Work)
+fn hash_known(
+    rt: &HostRuntime,
+    mode: &Mode,
+    known: &mut NamedRoot,
+    room: &mut Vec<u8>,
+    work: &mut Work,
+)
     ensures { IsKnown mode.now known.new }
 {
     known.root = small_root(rt, mode, known.name.as_slice(), room, work);
 }
 
 // Hashes the small files among the named ones on this thread.
-fn hash_run(rt: HostRuntime, mode: Mode, names: Vec<Known>, work: Work) -> Vec<Known>
+fn hash_run(rt: HostRuntime, mode: Mode, names: Vec<NamedRoot>, work: Work) -> Vec<NamedRoot>
     ensures { All (IsKnown mode) result.items }
 {
     let mut known = names;
@@ -99,20 +105,20 @@ fn hash_run(rt: HostRuntime, mode: Mode, names: Vec<Known>, work: Work) -> Vec<K
 #[derive(Drop)]
 struct KnownIn(Mode);
 
-impl Promise<Vec<Known>> for KnownIn {
+impl Promise<Vec<NamedRoot>> for KnownIn {
     ghost kept_by = { λ p r. All (IsKnown p.0) r.items };
 }
 
-type Handle = PromisedHandle<Vec<Known>, KnownIn>;
+type Handle = PromisedHandle<Vec<NamedRoot>, KnownIn>;
 
 // Hashes the small files among the named ones on a new thread, or on this one if none can be started.
 fn start<T: Threads>(
     rt: &HostRuntime,
     starter: &T,
     mode: Mode,
-    names: Vec<Known>,
+    names: Vec<NamedRoot>,
     work: Work,
-) -> Result<Handle, Vec<Known>>
+) -> Result<Handle, Vec<NamedRoot>>
     ensures started { IfOk result (λ h. h.promise.0 ≡ mode) }
     ensures here { IfErr result (λ known. All (IsKnown mode) known.items) }
 {
@@ -128,7 +134,7 @@ fn start<T: Threads>(
 }
 
 // What is known of some names, followed by what is known of others; the others are dropped if an allocation fails.
-fn joined(first: Vec<Known>, others: Vec<Known>) -> Vec<Known>
+fn joined(first: Vec<NamedRoot>, others: Vec<NamedRoot>) -> Vec<NamedRoot>
     ensures { (mode : ModelMode) → All (IsKnown mode) first.items → All (IsKnown mode) others.items → All (IsKnown mode) result.items }
 {
     let mut all = first;
@@ -144,8 +150,8 @@ pub(crate) fn hash_runs<T: Threads>(
     starter: &T,
     mode: Mode,
     size: usize,
-    names: Vec<Known>,
-) -> Vec<Known>
+    names: Vec<NamedRoot>,
+) -> Vec<NamedRoot>
     requires { 0 < size }
     ensures { All (IsKnown mode) result.items }
 {
@@ -165,14 +171,14 @@ pub(crate) fn hash_runs<T: Threads>(
 }
 
 // Adds a name with an unknown root.
-fn push_name(known: &mut Vec<Known>, alloc: Global, name: &[u8]) -> Result<(), AllocError> {
+fn push_name(known: &mut Vec<NamedRoot>, alloc: Global, name: &[u8]) -> Result<(), AllocError> {
     let name = Vec::from_slice(alloc, name)?;
-    known.push(Known { name, root: None })?;
+    known.push(NamedRoot { name, root: None })?;
     Ok(())
 }
 
 /// The next names, up to 1024, with unknown roots.
-pub(crate) fn next_names(alloc: Global, names: &[Name]) -> Result<Vec<Known>, AllocError> {
+pub(crate) fn next_names(alloc: Global, names: &[Name]) -> Result<Vec<NamedRoot>, AllocError> {
     let mut known = Vec::new(alloc);
     for name in &names[..names.len().min(STRETCH)] {
         push_name(&mut known, alloc, name.as_bytes())?;
@@ -184,7 +190,7 @@ pub(crate) fn next_names(alloc: Global, names: &[Name]) -> Result<Vec<Known>, Al
 pub(crate) fn names_of_lines(
     alloc: Global,
     lines: &[NumberedLine],
-) -> Result<Vec<Known>, AllocError> {
+) -> Result<Vec<NamedRoot>, AllocError> {
     let mut known = Vec::new(alloc);
     for line in &lines[..lines.len().min(STRETCH)] {
         if let Ok(line) = &line.line {

@@ -9,7 +9,7 @@ ghost use Rattle.store_engines.specs.Sums.{IsRootOfFile, IsRootOfLeft, IsRootOfS
 ghost use Rattle.store_engines.specs.declared.sources.FileFault.TheVariants.{Failed, NoMemory};
 ghost use Rattle.store_engines.specs.declared.sources.Reason.TheVariants.{IsFolder, Missing, NoPermission, NotUtf8};
 
-use crate::ahead::{Known, hash_runs, names_of_lines, next_names, small_root};
+use crate::ahead::{NamedRoot, hash_runs, names_of_lines, next_names, small_root};
 use crate::sources::{FileFault, Reason, Sources, Standing};
 use crate::summing::mode_of;
 use b3_check::{Name, NameFault, Names, NumberedLine};
@@ -168,7 +168,7 @@ impl<T: Threads + Runtime> FileHasher<'_, T> {
 pub struct SystemFiles<'a, T> {
     hasher: FileHasher<'a, T>,
     workers: usize,
-    known: Vec<Known>,
+    known: Vec<NamedRoot>,
     next: usize,
 }
 
@@ -229,7 +229,7 @@ impl<'a, T: Threads + Runtime> SystemFiles<'a, T> {
     }
 
     // Hashes files ahead, and replaces what was known by the result.
-    fn look_up(&mut self, names: Vec<Known>)
+    fn look_up(&mut self, names: Vec<NamedRoot>)
         ensures { self.new ≡ self.old }
     {
         let size = names.len().div_ceil(self.workers.max(1)).max(1);
@@ -330,7 +330,11 @@ impl<'a, T, I: Standing + Drop, E: Write + Drop> SystemInputs<'a, T, I, E> {
     pub fn new(files: SystemFiles<'a, T>, input: I, reported: E) -> SystemInputs<'a, T, I, E>
         ensures { result.files ≡ files.entry }
     {
-        SystemInputs { files, input, reported }
+        SystemInputs {
+            files,
+            input,
+            reported,
+        }
     }
 }
 

@@ -24,7 +24,7 @@ use Rattle.store_books.proofs.Forgets.{object_same, upload_same}
 use Rattle.store_upload.proofs.Places.{not_some}
 use Rattle.b3_core.specs.Modes.{hash_of}
 use Rattle.store_core.specs.Carried.{replayed_of}
-use Rattle.store_core.specs.Model.{ModelStore}
+use Rattle.store_core.specs.Model.{ModelStoreBooks}
 use Rattle.store_lease.specs.Laws.{IsHeld, SealedIsHeld, forgets}
 use Rattle.store_lease.proofs.Lookups.{front_by, last_by, removed_apart, set_apart, set_here}
 use Rattle.store_lease.proofs.Replayed.{all_keep, first_legal, replay_on}
@@ -200,7 +200,7 @@ seal_holds b number at new u found legal = by new ((and_parts _ (says_filing new
 -- ---- stores
 
 -- what is held among labels is held among objects
-unlabelled : (s : ModelStore) (tenant : ℕ) (at : List ℕ) → Holds (replayed_of s) tenant at → IsHeld hash_of s tenant at
+unlabelled : (s : ModelStoreBooks) (tenant : ℕ) (at : List ℕ) → Holds (replayed_of s) tenant at → IsHeld hash_of s tenant at
 unlabelled s tenant at was = by (object_at hash_of s at) refl
   where
     by : (o : Option (Filed (List ℕ))) → object_at hash_of s at ≡ o → IsHeld hash_of s tenant at

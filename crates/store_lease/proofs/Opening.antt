@@ -17,7 +17,7 @@ use Rattle.store_core.specs.Carried.{replayed_of}
 use Rattle.store_journal.specs.declared.entry.Entry.{Entry}
 use Rattle.store_journal.specs.declared.entry.Entry.TheVariants.{Abort, Begin, Fix, Forget, Limit, Open, Put, Seal, Tenant}
 use Rattle.store_journal.specs.Replay.{after, nothing, replay_from, replay_of, upload_length}
-use Rattle.store_upload.specs.Uploads.{Upload, closed_plan, fixed_at, open_plan, with_more}
+use Rattle.store_upload.specs.Uploads.{ModelUpload, closed_plan, fixed_at, open_plan, with_more}
 use Rattle.store_upload.proofs.Places.{not_some}
 use Rattle.b3_core.specs.Modes.{hash_of}
 use Rattle.store_lease.specs.Laws.{IsOpen, StaysOpen, closes, has_part}

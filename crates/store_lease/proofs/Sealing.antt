@@ -6,7 +6,7 @@ use Rattle.store_books.specs.Books.{object_at}
 use Rattle.store_books.specs.Commands.{file_refusal, ready_refusal}
 use Rattle.store_books.specs.declared.refusal.Refusal.{Refusal}
 use Rattle.store_core.specs.Commands.{Acceptance, ModelSealed, StepsAs, address_in, and_then, as_is, filed_in, seal_in, sealed_by, unless}
-use Rattle.store_core.specs.Model.{ModelObject, ModelStore, Shown}
+use Rattle.store_core.specs.Model.{ModelObject, ModelStoreBooks, ModelStore}
 use Rattle.store_core.specs.Runs.{Reply, now_sealed, replied}
 use Rattle.store_journal.specs.declared.entry.Entry.{Entry}
 use Rattle.store_journal.specs.declared.entry.Entry.TheVariants.{Seal}
@@ -18,7 +18,7 @@ abbrev IsSealEntry : ℕ → Result (Acceptance ModelSealed) Refusal → Type 0
 IsSealEntry number (Ok a) = a.entry ≡ Seal number a.reply.address a.reply.new
 IsSealEntry number (Err refusal) = Unit {0}
 
-unless_entry : (s : ModelStore) (number : ℕ) (refusal : Option Refusal) (known : Option ModelObject) → IsSealEntry number (unless refusal (sealed_by s number known))
+unless_entry : (s : ModelStoreBooks) (number : ℕ) (refusal : Option Refusal) (known : Option ModelObject) → IsSealEntry number (unless refusal (sealed_by s number known))
 unless_entry s number None None = refl
 unless_entry s number None (Some object) = refl
 unless_entry s number (Some refusal) known = tt
@@ -27,7 +27,7 @@ then_entry : (number : ℕ) (refusal : Option Refusal) (rest : Result (Acceptanc
 then_entry number None rest is = is
 then_entry number (Some refusal) rest is = tt
 
-seal_entry : (s : ModelStore) (number : ℕ) → IsSealEntry number (seal_in s number)
+seal_entry : (s : ModelStoreBooks) (number : ℕ) → IsSealEntry number (seal_in s number)
 seal_entry s number =
     then_entry number (ready_refusal length s number) (filed_in s number) (unless_entry s number (file_refusal length hash_of s number (address_in s number)) (object_at hash_of s (address_in s number)))
 
@@ -38,12 +38,12 @@ sealed_is x y same = ap sealed_or same
     sealed_or (now_sealed z) = z
     sealed_or _ = x
 
-reported_entry : (number : ℕ) (m : Result (Acceptance ModelSealed) Refusal) (old new : Shown) (sealed : ModelSealed) → IsSealEntry number m → StepsAs as_is (replied now_sealed m) old (Ok (now_sealed sealed)) new
+reported_entry : (number : ℕ) (m : Result (Acceptance ModelSealed) Refusal) (old new : ModelStore) (sealed : ModelSealed) → IsSealEntry number m → StepsAs as_is (replied now_sealed m) old (Ok (now_sealed sealed)) new
     → new.journal ≡ old.journal ++ Seal number sealed.address sealed.new ∷ []
 reported_entry number (Ok a) old new sealed is step =
     let same : sealed ≡ a.reply = sealed_is sealed a.reply step.0 in
     let entry : a.entry ≡ Seal number sealed.address sealed.new = is ∙ ap (λ (m : ModelSealed). Seal number m.address m.new) (sym same) in
-    ap (λ (s : Shown). s.journal) step.1 ∙ ap (λ (e : Entry). old.journal ++ e ∷ []) entry
+    ap (λ (s : ModelStore). s.journal) step.1 ∙ ap (λ (e : Entry). old.journal ++ e ∷ []) entry
 reported_entry number (Err refusal) old new sealed is step = absurd step
 
 pub reported_is_held : ReportedIsHeld

@@ -3,7 +3,7 @@ use Rattle.std.specs.Prelude.{◌≡◌, ◌++◌, Result}
 use mathlib.Core.List.{IsPrefix}
 use Rattle.store_books.specs.declared.refusal.Refusal.{Refusal}
 use Rattle.store_core.specs.Carried.{IsCarried}
-use Rattle.store_core.specs.Model.{Shown}
+use Rattle.store_core.specs.Model.{ModelStore}
 use Rattle.store_core.specs.Runs.{Call, Reply, Step}
 use Rattle.store_history.specs.Histories.{ModelFront}
 use Rattle.store_session.specs.Access.{took_numbers}
@@ -11,8 +11,8 @@ use Rattle.store_session.specs.Access.{took_numbers}
 -- A client whose front was `before` took a step from a lawful store whose journal continues what the front had seen. Afterwards the front
 -- has seen the journal as the step left it, and the entry of an accepted command is its own.
 pub record TookLawful (before now : ModelFront) (call : Call) (reply : Result Reply Refusal) : Type 0 where
-  pub found : Shown
-  pub left : Shown
+  pub found : ModelStore
+  pub left : ModelStore
   pub law : IsCarried found
   pub since : IsPrefix before.seen found.journal
   pub step : Step found call reply left

@@ -4,14 +4,14 @@ use Rattle.std.specs.Prelude.{◌&&◌, ◌==◌, Bool, Option, IfOk, OnErr, unw
 use Rattle.std.specs.Io.BufRead.{strip_last}
 use Rattle.std.proofs.lemmas.List.{length-take, take_all}
 use Rattle.b3_forest.specs.Parts.{ModelPrepared, planned}
-use Rattle.edge.specs.Fields.{cut_at, space}
-use Rattle.edge.proofs.FieldTexts.{cut_found}
+use Rattle.edge.specs.Fields.{split_at, space}
+use Rattle.edge.proofs.FieldTexts.{split_found}
 use Rattle.store_upload.specs.Uploads.{UploadPlan, part_refusal}
 use Rattle.store_upload.specs.declared.refusal.PartFault.{PartFault}
 use Rattle.store_upload.specs.declared.refusal.PartFault.TheVariants as faults
 use Rattle.store_books.specs.declared.refusal.Refusal.{Refusal}
 use Rattle.store_core.specs.Commands.{plan_in, reply_seen}
-use Rattle.store_core.specs.Model.{Shown}
+use Rattle.store_core.specs.Model.{ModelStore}
 use Rattle.store_core.specs.Seen.{reply_of}
 use Rattle.store_core.specs.declared.reply.Reply.{Reply as CodeReply}
 use Rattle.store_core.specs.declared.command.Command.{Command}
@@ -46,20 +46,20 @@ seen_ending : {R M : Type 0} (seen : R → M) (reply : Result R Refusal) → rep
 seen_ending seen (Ok reply) = refl
 seen_ending seen (Err refusal) = refl
 
-pub says : (shown : Shown) (reply : Result CodeReply Refusal) → Says (reply_seen (reply_of shown) reply) (reported_text shown (answers.Replied reply)) (reported_ending (answers.Replied reply))
-says shown reply = (refl, seen_ending (reply_of shown) reply)
+pub says : (store : ModelStore) (reply : Result CodeReply Refusal) → Says (reply_seen (reply_of store) reply) (reported_text store (answers.Replied reply)) (reported_ending (answers.Replied reply))
+says store reply = (refl, seen_ending (reply_of store) reply)
 
 -- ---- a part
 
 -- a part's turn, whose upload and bytes are these
-abbrev pub PutTurn : Shown → ℕ → ℕ → List ℕ → Shown → Turn → Type 0
+abbrev pub PutTurn : ModelStore → ℕ → ℕ → List ℕ → ModelStore → Turn → Type 0
 PutTurn old upload offset bytes new turn = IsTurnOfPut old upload offset bytes (plan_in old.state upload) turn new
 
-by_plan : (old new : Shown) (upload offset : ℕ) (bytes : List ℕ) (turn : Turn) (planned : Result UploadPlan Refusal) → planned ≡ plan_in old.state upload → IsTurnOfPut old upload offset bytes planned turn new → PutTurn old upload offset bytes new turn
+by_plan : (old new : ModelStore) (upload offset : ℕ) (bytes : List ℕ) (turn : Turn) (planned : Result UploadPlan Refusal) → planned ≡ plan_in old.state upload → IsTurnOfPut old upload offset bytes planned turn new → PutTurn old upload offset bytes new turn
 by_plan old new upload offset bytes turn planned is h = subst (λ r. IsTurnOfPut old upload offset bytes r turn new) is h
 
 -- S7
-pub no_plan : (old : Shown) (upload offset : ℕ) (bytes : List ℕ) (refusal : Refusal) (text : List ℕ) (ending : Ending) → Err refusal ≡ plan_in old.state upload → Says (Err refusal) text ending → Answered (PutTurn old upload offset bytes old) text ending
+pub no_plan : (old : ModelStore) (upload offset : ℕ) (bytes : List ℕ) (refusal : Refusal) (text : List ℕ) (ending : Ending) → Err refusal ≡ plan_in old.state upload → Says (Err refusal) text ending → Answered (PutTurn old upload offset bytes old) text ending
 no_plan old upload offset bytes refusal text ending is says = record {
   turn = took (ask (Plan upload)) (Err refusal);
   is = by_plan old old upload offset bytes (took (ask (Plan upload)) (Err refusal)) (Err refusal) is (refl, (ap (as_reply the_plan) is, refl));
@@ -67,12 +67,12 @@ no_plan old upload offset bytes refusal text ending is says = record {
   ending_is = says.1;
 }
 
-fault_is : (old : Shown) (upload : ℕ) (part : ModelPrepared) (refused : Option PartFault) (fault : PartFault) → fault ≡ unwrap_or refused faults.NoMemory → IsTurnOfMade old upload part refused (unmade fault) old
+fault_is : (old : ModelStore) (upload : ℕ) (part : ModelPrepared) (refused : Option PartFault) (fault : PartFault) → fault ≡ unwrap_or refused faults.NoMemory → IsTurnOfMade old upload part refused (unmade fault) old
 fault_is old upload part (Some first) fault is = (ap unmade is, refl)
 fault_is old upload part None fault is = (is, refl)
 
 -- F2 to F6, or want of memory
-pub no_part : (old : Shown) (upload offset : ℕ) (made_for : UploadPlan) (bytes : List ℕ) (fault : PartFault) (text : List ℕ) (ending : Ending) → Ok made_for ≡ plan_in old.state upload → fault ≡ unwrap_or (part_refusal made_for offset (length bytes)) faults.NoMemory
+pub no_part : (old : ModelStore) (upload offset : ℕ) (made_for : UploadPlan) (bytes : List ℕ) (fault : PartFault) (text : List ℕ) (ending : Ending) → Ok made_for ≡ plan_in old.state upload → fault ≡ unwrap_or (part_refusal made_for offset (length bytes)) faults.NoMemory
     → SaysFault fault text ending → Answered (PutTurn old upload offset bytes old) text ending
 no_part old upload offset made_for bytes fault text ending is refused says = record {
   turn = unmade fault;
@@ -82,7 +82,7 @@ no_part old upload offset made_for bytes fault text ending is refused says = rec
 }
 
 -- the step
-pub made : (old new : Shown) (upload offset : ℕ) (made_for : UploadPlan) (bytes : List ℕ) (part : ModelPrepared) (reply : Result Reply Refusal) (text : List ℕ) (ending : Ending) → Ok made_for ≡ plan_in old.state upload → part_refusal made_for offset (length bytes) ≡ None
+pub made : (old new : ModelStore) (upload offset : ℕ) (made_for : UploadPlan) (bytes : List ℕ) (part : ModelPrepared) (reply : Result Reply Refusal) (text : List ℕ) (ending : Ending) → Ok made_for ≡ plan_in old.state upload → part_refusal made_for offset (length bytes) ≡ None
     → part ≡ planned made_for offset bytes → Step old (put upload part) reply new → Says reply text ending → Answered (PutTurn old upload offset bytes new) text ending
 made old new upload offset made_for bytes part reply text ending is fits part_is step says = record {
   turn = took (put upload (planned made_for offset bytes)) reply;
@@ -95,21 +95,21 @@ made old new upload offset made_for bytes part reply text ending is fits part_is
 
 -- ---- a line
 
-abbrev pub LineTurn : Shown → List ℕ → Shown → Turn → Type 0
+abbrev pub LineTurn : ModelStore → List ℕ → ModelStore → Turn → Type 0
 LineTurn old line new turn = IsTurnOf old line turn new
 
-plays : (old new : Shown) (line : List ℕ) (turn : Turn) (command : Option ScriptCommand) → 0 < length line → command ≡ command_at line → IsTurnOfCommand old command turn new → IsTurnOf old line turn new
+plays : (old new : ModelStore) (line : List ℕ) (turn : Turn) (command : Option ScriptCommand) → 0 < length line → command ≡ command_at line → IsTurnOfCommand old command turn new → IsTurnOf old line turn new
 plays old new [] turn command some is h = absurd (omega (arith, some))
 plays old new (b ∷ line) turn command some is h = subst (λ o. IsTurnOfCommand old o turn new) is h
 
-pub nothing : (old : Shown) (line text : List ℕ) (ending : Ending) → length line ≡ 0 → text ≡ [] → ending ≡ endings.Good → Answered (LineTurn old line old) text ending
+pub nothing : (old : ModelStore) (line text : List ℕ) (ending : Ending) → length line ≡ 0 → text ≡ [] → ending ≡ endings.Good → Answered (LineTurn old line old) text ending
 nothing old [] text ending none text_is ending_is = record { turn = skipped; is = (refl, refl); text_is = text_is; ending_is = ending_is }
 nothing old (b ∷ line) text ending none text_is ending_is = absurd (omega (arith, none))
 
-pub no_command : (old : Shown) (line text : List ℕ) (ending : Ending) → 0 < length line → None ≡ command_at line → SaysBad text ending → Answered (LineTurn old line old) text ending
+pub no_command : (old : ModelStore) (line text : List ℕ) (ending : Ending) → 0 < length line → None ≡ command_at line → SaysBad text ending → Answered (LineTurn old line old) text ending
 no_command old line text ending some is says = record { turn = bad; is = plays old old line bad None some is (refl, refl); text_is = says.0; ending_is = says.1 }
 
-pub done : (old new : Shown) (line text : List ℕ) (ending : Ending) (command : Command) (reply : Result Reply Refusal) → 0 < length line → Some (does command) ≡ command_at line → Step old (change command) reply new → Says reply text ending → Answered (LineTurn old line new) text ending
+pub done : (old new : ModelStore) (line text : List ℕ) (ending : Ending) (command : Command) (reply : Result Reply Refusal) → 0 < length line → Some (does command) ≡ command_at line → Step old (change command) reply new → Says reply text ending → Answered (LineTurn old line new) text ending
 done old new line text ending command reply some is step says = record {
   turn = took (change command) reply;
   is = plays old new line (took (change command) reply) (Some (does command)) some is (refl, step);
@@ -117,7 +117,7 @@ done old new line text ending command reply some is step says = record {
   ending_is = says.1;
 }
 
-pub asked : (old : Shown) (line text : List ℕ) (ending : Ending) (question : Question) (reply : Result Reply Refusal) → 0 < length line → Some (asks question) ≡ command_at line → Answers old question reply → Says reply text ending → Answered (LineTurn old line old) text ending
+pub asked : (old : ModelStore) (line text : List ℕ) (ending : Ending) (question : Question) (reply : Result Reply Refusal) → 0 < length line → Some (asks question) ≡ command_at line → Answers old question reply → Says reply text ending → Answered (LineTurn old line old) text ending
 asked old line text ending question reply some is answers says = record {
   turn = took (ask question) reply;
   is = plays old old line (took (ask question) reply) (Some (asks question)) some is (refl, (answers, refl));
@@ -125,7 +125,7 @@ asked old line text ending question reply some is answers says = record {
   ending_is = says.1;
 }
 
-pub put_asked : (old new : Shown) (line text : List ℕ) (ending : Ending) (upload offset : ℕ) (bytes : List ℕ) → 0 < length line → Some (puts upload offset bytes) ≡ command_at line → Answered (PutTurn old upload offset bytes new) text ending → Answered (LineTurn old line new) text ending
+pub put_asked : (old new : ModelStore) (line text : List ℕ) (ending : Ending) (upload offset : ℕ) (bytes : List ℕ) → 0 < length line → Some (puts upload offset bytes) ≡ command_at line → Answered (PutTurn old upload offset bytes new) text ending → Answered (LineTurn old line new) text ending
 put_asked old new line text ending upload offset bytes some is h = record {
   turn = h.turn;
   is = plays old new line h.turn (Some (puts upload offset bytes)) some is h.is;
@@ -143,7 +143,7 @@ strip_shorter xs = go (nat_lt 0 (length xs) && slice_index xs (length xs - 1) ==
     go false = omega arith
 
 -- a longer line is no command
-pub long_line : (old : Shown) (count : ℕ) (kept : List ℕ) → 33554481 < count → AnswersRead old old count kept (reported_text old answers.Bad) (reported_ending answers.Bad)
+pub long_line : (old : ModelStore) (count : ℕ) (kept : List ℕ) → 33554481 < count → AnswersRead old old count kept (reported_text old answers.Bad) (reported_ending answers.Bad)
 long_line old count kept long = record {
   answers = λ whole read.
       let line = strip_last 10 whole in
@@ -152,7 +152,7 @@ long_line old count kept long = record {
 }
 
 -- any other is kept whole
-pub short_line : {E : Type 0} (r : Result Answer E) (old new : Shown) (count : ℕ) (kept line : List ℕ) → count ≤ 33554481 → line ≡ strip_last 10 kept → IfOk r (λ a. Answered (LineTurn old line new) (reported_text new a) (reported_ending a))
+pub short_line : {E : Type 0} (r : Result Answer E) (old new : ModelStore) (count : ℕ) (kept line : List ℕ) → count ≤ 33554481 → line ≡ strip_last 10 kept → IfOk r (λ a. Answered (LineTurn old line new) (reported_text new a) (reported_ending a))
     → IfOk r (λ a. AnswersRead old new count kept (reported_text new a) (reported_ending a))
 short_line (Err e) old new count kept line short is h = tt
 short_line (Ok a) old new count kept line short is h = record {
@@ -163,8 +163,8 @@ short_line (Ok a) old new count kept line short is h = record {
 
 -- ---- want of memory
 
-pub put_line : (line kind fields : List ℕ) → Some (kind, fields) ≡ cut_at space line → kind ≡ codes "put" → IsPutLine line
-put_line line kind fields cut is = (fields, sym (cut_found space line (kind, fields) (sym cut)) ∙ ap (λ (k : List ℕ). k ++ space ∷ fields) is)
+pub put_line : (line kind fields : List ℕ) → Some (kind, fields) ≡ split_at space line → kind ≡ codes "put" → IsPutLine line
+put_line line kind fields cut is = (fields, sym (split_found space line (kind, fields) (sym cut)) ∙ ap (λ (k : List ℕ). k ++ space ∷ fields) is)
 
 pub always : {A E P : Type 0} (r : Result A E) → P → OnErr r P
 always (Ok a) p = tt

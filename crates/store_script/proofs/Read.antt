@@ -7,15 +7,15 @@ use Rattle.std.proofs.lemmas.Bool.{leb-true, le-leb}
 use Rattle.std.proofs.lemmas.Slice.Eq.{bytes_eq-Decides}
 use Rattle.hex.specs.Hex.{decode_of, decode_sized}
 use Rattle.hex.specs.declared.error.FromHexError.{FromHexError}
-use Rattle.edge.specs.Fields.{cut_at, number_at, space, three_fields, two_fields, two_numbers_at}
+use Rattle.edge.specs.Fields.{split_at, number_at, space, three_fields, two_fields, two_numbers_at}
 use Rattle.store_core.specs.declared.command.Command.{Command}
 use Rattle.store_core.specs.declared.command.Command.TheVariants as commands
 use Rattle.store_core.specs.declared.command.Question.{Question}
 use Rattle.store_core.specs.declared.command.Question.TheVariants as questions
-use Rattle.edge.proofs.FieldTexts.{cut_again, cut_found, decimal_spaceless, number_again, two_again, two_found}
+use Rattle.edge.proofs.FieldTexts.{split_again, split_found, decimal_spaceless, number_again, two_again, two_found}
 use Rattle.edge.proofs.Steps.{bind_is, bind_some, chosen, none_some, some_is}
 use Rattle.edge.proofs.Numbers.{read_back}
-use Rattle.store_script.specs.Grammar.{ScriptCommand, abort_command, address_of_digits, asks, asks_of_kind, does, begin_command, begin_open_command, part_bytes_at, bytes_of_kind, colon, command_at, cut_line_at, decoded, digits_at, fetch_command, fix_command, forget_command, held_at, list_command, max_digits, max_pattern, open_tenant_command, pattern_at, pattern_of, puts, puts_at, seal_as_command, seal_command, set_limit_command, usage_command, word_command}
+use Rattle.store_script.specs.Grammar.{ScriptCommand, abort_command, address_of_digits, asks, asks_of_kind, does, begin_command, begin_open_command, part_bytes_at, bytes_of_kind, colon, command_at, split_line_at, decoded, digits_at, fetch_command, fix_command, forget_command, held_at, list_command, max_digits, max_pattern, open_tenant_command, pattern_at, pattern_of, puts, puts_at, seal_as_command, seal_command, set_limit_command, usage_command, word_command}
 use Rattle.store_script.specs.Spelling.{SpellsQuestion, SpellsCommand, IsPart, IsSpelled}
 
 -- ---- fields
@@ -38,17 +38,17 @@ IsHeld fields x = (digits : List ℕ) × (fields ≡ two_fields (decimal x.0) di
 
 held_found : (fields : List ℕ) (x : ℕ × List ℕ) → held_at fields ≡ Some x → IsHeld fields x
 held_found fields x h =
-    let cut = bind_some (cut_at space fields) _ x h in
+    let cut = bind_some (split_at space fields) _ x h in
     let number = bind_some (number_at cut.0.0) _ x cut.2 in
     let address = bind_some (address_of_digits cut.0.1) _ x number.2 in
     let is : (number.0, address.0) ≡ x = some_is _ _ address.2 in
     let read = read_back cut.0.0 number.0 number.1 in
-    let text : fields ≡ two_fields (decimal number.0) cut.0.1 = sym (cut_found space fields cut.0 cut.1) ∙ ap (λ (w : List ℕ). w ++ space ∷ cut.0.1) (sym read.0) in
+    let text : fields ≡ two_fields (decimal number.0) cut.0.1 = sym (split_found space fields cut.0 cut.1) ∙ ap (λ (w : List ℕ). w ++ space ∷ cut.0.1) (sym read.0) in
     subst (IsHeld fields) is (cut.0.1, text, read.1, address_found cut.0.1 address.0 address.1)
 
 held_again : (number : ℕ) (digits address : List ℕ) → number < 2 ^ 64 → decode_sized digits 32 ≡ Ok address → held_at (two_fields (decimal number) digits) ≡ Some (number, address)
 held_again number digits address lt read =
-    bind_is (cut_at space (two_fields (decimal number) digits)) _ (decimal number, digits) (cut_again space (decimal number) digits (decimal_spaceless number lt))
+    bind_is (split_at space (two_fields (decimal number) digits)) _ (decimal number, digits) (split_again space (decimal number) digits (decimal_spaceless number lt))
     ∙ bind_is (number_at (decimal number)) _ number (number_again number lt) ∙ bind_is (address_of_digits digits) _ address (address_again digits address read)
 
 -- ---- commands of one number, of two, and of a number and an address
@@ -191,38 +191,38 @@ kind_found offset kind digits bytes h =
 
 bytes_found : (offset : ℕ) (field bytes : List ℕ) → part_bytes_at offset field ≡ Some bytes → IsPart offset field bytes
 bytes_found offset field bytes h =
-    let cut = bind_some (cut_at colon field) _ bytes h in
-    subst (λ (w : List ℕ). IsPart offset w bytes) (cut_found colon field cut.0 cut.1) (kind_found offset cut.0.0 cut.0.1 bytes cut.2)
+    let cut = bind_some (split_at colon field) _ bytes h in
+    subst (λ (w : List ℕ). IsPart offset w bytes) (split_found colon field cut.0 cut.1) (kind_found offset cut.0.0 cut.0.1 bytes cut.2)
 
 puts_text : (a b u o field others fields : List ℕ) → a ++ space ∷ others ≡ fields → b ++ space ∷ field ≡ others → u ≡ a → o ≡ b → codes "put " ++ fields ≡ codes "put " ++ three_fields u o field
 puts_text a b u o field others fields first second eu eo = rw (eu, eo, second, first) refl
 
 puts_found : (fields : List ℕ) (command : ScriptCommand) → puts_at fields ≡ Some command → IsSpelled (codes "put " ++ fields) command
 puts_found fields command h =
-    let cut = bind_some (cut_at space fields) _ command h in
+    let cut = bind_some (split_at space fields) _ command h in
     let upload = bind_some (number_at cut.0.0) _ command cut.2 in
-    let others = bind_some (cut_at space cut.0.1) _ command upload.2 in
+    let others = bind_some (split_at space cut.0.1) _ command upload.2 in
     let offset = bind_some (number_at others.0.0) _ command others.2 in
     let bytes = bind_some (part_bytes_at offset.0 others.0.1) _ command offset.2 in
     let u = read_back cut.0.0 upload.0 upload.1 in
     let o = read_back others.0.0 offset.0 offset.1 in
-    let text = puts_text cut.0.0 others.0.0 (decimal upload.0) (decimal offset.0) others.0.1 cut.0.1 fields (cut_found space fields cut.0 cut.1) (cut_found space cut.0.1 others.0 others.1) u.0 o.0 in
+    let text = puts_text cut.0.0 others.0.0 (decimal upload.0) (decimal offset.0) others.0.1 cut.0.1 fields (split_found space fields cut.0 cut.1) (split_found space cut.0.1 others.0 others.1) u.0 o.0 in
     subst (IsSpelled (codes "put " ++ fields)) (some_is _ _ bytes.2) (others.0.1, text, u.1, o.1, bytes_found offset.0 others.0.1 bytes.0 bytes.1)
 
 -- ---- a line
 
-line_found : (line : List ℕ) (cut : Option (List ℕ × List ℕ)) (command : ScriptCommand) → cut_at space line ≡ cut → cut_line_at line cut ≡ Some command → IsSpelled line command
-unfolding cut_line_at
+line_found : (line : List ℕ) (cut : Option (List ℕ × List ℕ)) (command : ScriptCommand) → split_at space line ≡ cut → split_line_at line cut ≡ Some command → IsSpelled line command
+unfolding split_line_at
 line_found line None command is h = word_found line command h
 line_found line (Some cut) command is h =
-    let whole = cut_found space line cut is in
+    let whole = split_found space line cut is in
     subst (λ (w : List ℕ). IsSpelled w command) whole (elim (chosen (bytes_eq cut.0 (codes "put")) (puts_at cut.1) _ (Some command) h) [
       | inl p ↦ subst (λ (w : List ℕ). IsSpelled (w ++ space ∷ cut.1) command) (sym ((bytes_eq-Decides cut.0 (codes "put")).0 p.0)) (puts_found cut.1 command p.1)
       | inr p ↦ asks_found cut.0 cut.1 command p.1
     ])
 
 pub found : (line : List ℕ) (command : ScriptCommand) → command_at line ≡ Some command → IsSpelled line command
-found line command h = line_found line (cut_at space line) command refl h
+found line command h = line_found line (split_at space line) command refl h
 
 -- ---- what is spelled so is read
 
@@ -238,13 +238,13 @@ bytes_again offset field bytes (inr h) =
 
 puts_again : (upload offset : ℕ) (field bytes : List ℕ) → upload < 2 ^ 64 → offset < 2 ^ 64 → IsPart offset field bytes → puts_at (three_fields (decimal upload) (decimal offset) field) ≡ Some (puts upload offset bytes)
 puts_again upload offset field bytes u o part =
-    bind_is (cut_at space (three_fields (decimal upload) (decimal offset) field)) _ (decimal upload, two_fields (decimal offset) field) (cut_again space (decimal upload) (two_fields (decimal offset) field) (decimal_spaceless upload u))
+    bind_is (split_at space (three_fields (decimal upload) (decimal offset) field)) _ (decimal upload, two_fields (decimal offset) field) (split_again space (decimal upload) (two_fields (decimal offset) field) (decimal_spaceless upload u))
     ∙ bind_is (number_at (decimal upload)) _ upload (number_again upload u)
-    ∙ bind_is (cut_at space (two_fields (decimal offset) field)) _ (decimal offset, field) (cut_again space (decimal offset) field (decimal_spaceless offset o))
+    ∙ bind_is (split_at space (two_fields (decimal offset) field)) _ (decimal offset, field) (split_again space (decimal offset) field (decimal_spaceless offset o))
     ∙ bind_is (number_at (decimal offset)) _ offset (number_again offset o) ∙ bind_is (part_bytes_at offset field) _ bytes (bytes_again offset field bytes part)
 
 done_again : (line : List ℕ) (command : Command) → SpellsCommand line command → command_at line ≡ Some (does command)
-unfolding cut_line_at asks_of_kind
+unfolding split_line_at asks_of_kind
 done_again line (commands.OpenTenant n) h = ap command_at h.0 ∙ bind_is (number_at (decimal n)) _ n (number_again n h.1)
 done_again line (commands.SetLimit a b) h = ap command_at h.0 ∙ bind_is (two_numbers_at (two_fields (decimal a) (decimal b))) _ (a, b) (two_again a b h.1 h.2)
 done_again line (commands.Begin a b) h = ap command_at h.0 ∙ bind_is (two_numbers_at (two_fields (decimal a) (decimal b))) _ (a, b) (two_again a b h.1 h.2)
@@ -256,7 +256,7 @@ done_again line (commands.Abort n) h = ap command_at h.0 ∙ bind_is (number_at 
 done_again line (commands.Forget n a) h = ap command_at h.1 ∙ bind_is (held_at (two_fields (decimal n) h.0)) _ (n, a) (held_again n h.0 a h.2 h.3)
 
 asked_again : (line : List ℕ) (question : Question) → SpellsQuestion line question → command_at line ≡ Some (asks question)
-unfolding cut_line_at asks_of_kind
+unfolding split_line_at asks_of_kind
 asked_again line (questions.Fetch n a) h = ap command_at h.1 ∙ bind_is (held_at (two_fields (decimal n) h.0)) _ (n, a) (held_again n h.0 a h.2 h.3)
 asked_again line (questions.Usage n) h = ap command_at h.0 ∙ bind_is (number_at (decimal n)) _ n (number_again n h.1)
 asked_again line (questions.List n) h = ap command_at h.0 ∙ bind_is (number_at (decimal n)) _ n (number_again n h.1)
@@ -265,7 +265,7 @@ asked_again line questions.Journal h = ap command_at h
 asked_again line _ h = absurd h
 
 pub again : (line : List ℕ) (command : ScriptCommand) → IsSpelled line command → command_at line ≡ Some command
-unfolding cut_line_at
+unfolding split_line_at
 again line (does command) h = done_again line command h
 again line (asks question) h = asked_again line question h
 again line (puts upload offset bytes) h = ap command_at h.1 ∙ puts_again upload offset h.0 bytes h.2 h.3 h.4

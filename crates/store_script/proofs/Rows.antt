@@ -10,13 +10,13 @@ use Rattle.edge.specs.Lines.{lines_of}
 use Rattle.store_core.specs.declared.command.Command.TheVariants as commands
 use Rattle.store_core.specs.declared.command.Question.TheVariants as questions
 use Rattle.store_core.specs.Runs.{ask, now_held, now_sealed, opened_tenant, the_bytes, the_list}
-use Rattle.store_script.specs.Grammar.{ScriptCommand, address_of_digits, asks, asks_of_kind, bytes_of_kind, command_at, cut_line_at, does, pattern_of, puts}
+use Rattle.store_script.specs.Grammar.{ScriptCommand, address_of_digits, asks, asks_of_kind, bytes_of_kind, command_at, split_line_at, does, pattern_of, puts}
 use Rattle.store_script.specs.Script.{bad, ending_of, skipped, took, turn_text, unmade}
 use Rattle.store_script.specs.Texts.{answer_text}
 use Rattle.store_script.specs.declared.ending.Ending.TheVariants as endings
 
 unfoldable on_literals : ⊤
-unfolding hex_on_literals digits lines_of address_of_digits asks_of_kind bytes_of_kind cut_line_at pattern_of
+unfolding hex_on_literals digits lines_of address_of_digits asks_of_kind bytes_of_kind split_line_at pattern_of
 on_literals = tt
 
 -- ---- lines

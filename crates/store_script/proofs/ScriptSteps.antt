@@ -16,7 +16,7 @@ use Rattle.store_core.specs.Commands.{plan_in}
 use Rattle.edge.specs.Lines.{lines_of}
 use Rattle.edge.proofs.FirstLines.{lines_next, none_left, nothing_is}
 use Rattle.edge.proofs.Joining.{appends_more, appends_none}
-use Rattle.store_core.specs.Model.{Shown, start}
+use Rattle.store_core.specs.Model.{ModelStore, start}
 use Rattle.store_core.specs.declared.command.Question.TheVariants.{Plan}
 use Rattle.store_core.specs.Runs.{Call, Run, Step, ask, change}
 use Rattle.store_script.specs.Grammar.{ScriptCommand, asks, command_at, does, puts}
@@ -32,8 +32,8 @@ use Rattle.store_core.proofs.Runs.{runs_carry}
 
 -- ---- a line more
 
-more_play : (old mid new : Shown) (front : List (List ℕ)) (turns : List Turn) (line : List ℕ) (turn : Turn) → AreTurnsOf old front turns mid → IsTurnOf mid line turn new → AreTurnsOf old (front ++ line ∷ []) (turns ++ turn ∷ []) new
-more_play old mid new [] [] line turn h p = (new, subst (λ (s : Shown). IsTurnOf s line turn new) h p, refl)
+more_play : (old mid new : ModelStore) (front : List (List ℕ)) (turns : List Turn) (line : List ℕ) (turn : Turn) → AreTurnsOf old front turns mid → IsTurnOf mid line turn new → AreTurnsOf old (front ++ line ∷ []) (turns ++ turn ∷ []) new
+more_play old mid new [] [] line turn h p = (new, subst (λ (s : ModelStore). IsTurnOf s line turn new) h p, refl)
 more_play old mid new [] (t ∷ turns) line turn h p = absurd h
 more_play old mid new (l ∷ front) [] line turn h p = absurd h
 more_play old mid new (l ∷ front) (t ∷ turns) line turn h p = (h.0, h.1, more_play h.0 mid new front turns line turn h.2 p)
@@ -62,49 +62,49 @@ text_more turns turn = flat_map-append turn_text turns (turn ∷ []) ∙ ap (λ 
 -- ---- the steps are a run
 
 -- a step, or nothing
-abbrev pub Came : Shown → Turn → Shown → Type 0
+abbrev pub Came : ModelStore → Turn → ModelStore → Type 0
 Came old skipped new = new ≡ old
 Came old bad new = new ≡ old
 Came old (unmade fault) new = new ≡ old
 Came old (took call reply) new = Step old call reply new
 
-pub came_takes : (old new : Shown) (call : Call) (turn : Turn) → IsTurnOfStep old call turn new → Came old turn new
+pub came_takes : (old new : ModelStore) (call : Call) (turn : Turn) → IsTurnOfStep old call turn new → Came old turn new
 came_takes old new call skipped h = absurd h
 came_takes old new call bad h = absurd h
 came_takes old new call (unmade fault) h = absurd h
 came_takes old new call (took asked reply) h = subst (λ (c : Call). Step old c reply new) (sym h.0) h.1
 
-came_puts : (old new : Shown) (upload : ℕ) (part : ModelPrepared) (turn : Turn) → IsTurnOfPart old upload part turn new → Came old turn new
+came_puts : (old new : ModelStore) (upload : ℕ) (part : ModelPrepared) (turn : Turn) → IsTurnOfPart old upload part turn new → Came old turn new
 came_puts old new upload part skipped h = absurd h
 came_puts old new upload part bad h = absurd h
 came_puts old new upload part (unmade fault) h = h.1
 came_puts old new upload part (took asked reply) h = subst (λ (c : Call). Step old c reply new) (sym h.0) h.1
 
-came_makes : (old new : Shown) (upload : ℕ) (part : ModelPrepared) (refused : Option PartFault) (turn : Turn) → IsTurnOfMade old upload part refused turn new → Came old turn new
+came_makes : (old new : ModelStore) (upload : ℕ) (part : ModelPrepared) (refused : Option PartFault) (turn : Turn) → IsTurnOfMade old upload part refused turn new → Came old turn new
 came_makes old new upload part (Some fault) turn h = subst (λ (t : Turn). Came old t new) (sym h.0) h.1
 came_makes old new upload part None turn h = came_puts old new upload part turn h
 
-pub came_put : (old new : Shown) (upload offset : ℕ) (bytes : List ℕ) (made_by : Result UploadPlan Refusal) (turn : Turn) → IsTurnOfPut old upload offset bytes made_by turn new → Came old turn new
+pub came_put : (old new : ModelStore) (upload offset : ℕ) (bytes : List ℕ) (made_by : Result UploadPlan Refusal) (turn : Turn) → IsTurnOfPut old upload offset bytes made_by turn new → Came old turn new
 came_put old new upload offset bytes (Err refusal) turn h = came_takes old new (ask (Plan upload)) turn h
 came_put old new upload offset bytes (Ok made_for) turn h = came_makes old new upload (planned made_for offset bytes) (part_refusal made_for offset (length bytes)) turn h
 
-came_does : (old new : Shown) (command : Option ScriptCommand) (turn : Turn) → IsTurnOfCommand old command turn new → Came old turn new
+came_does : (old new : ModelStore) (command : Option ScriptCommand) (turn : Turn) → IsTurnOfCommand old command turn new → Came old turn new
 came_does old new None turn h = subst (λ (t : Turn). Came old t new) (sym h.0) h.1
 came_does old new (Some (does command)) turn h = came_takes old new (change command) turn h
 came_does old new (Some (asks question)) turn h = came_takes old new (ask question) turn h
 came_does old new (Some (puts upload offset bytes)) turn h = came_put old new upload offset bytes (plan_in old.state upload) turn h
 
-pub came : (old new : Shown) (line : List ℕ) (turn : Turn) → IsTurnOf old line turn new → Came old turn new
+pub came : (old new : ModelStore) (line : List ℕ) (turn : Turn) → IsTurnOf old line turn new → Came old turn new
 came old new [] turn h = subst (λ (t : Turn). Came old t new) (sym h.0) h.1
 came old new (b ∷ line) turn h = came_does old new (command_at (b ∷ line)) turn h
 
-run_on : (old mid new : Shown) (turn : Turn) (turns : List Turn) → Came old turn mid → Run mid (calls_of turns) (replies_of turns) new → Run old (calls_of (turn ∷ turns)) (replies_of (turn ∷ turns)) new
-run_on old mid new skipped turns h r = subst (λ (s : Shown). Run s (calls_of turns) (replies_of turns) new) h r
-run_on old mid new bad turns h r = subst (λ (s : Shown). Run s (calls_of turns) (replies_of turns) new) h r
-run_on old mid new (unmade fault) turns h r = subst (λ (s : Shown). Run s (calls_of turns) (replies_of turns) new) h r
+run_on : (old mid new : ModelStore) (turn : Turn) (turns : List Turn) → Came old turn mid → Run mid (calls_of turns) (replies_of turns) new → Run old (calls_of (turn ∷ turns)) (replies_of (turn ∷ turns)) new
+run_on old mid new skipped turns h r = subst (λ (s : ModelStore). Run s (calls_of turns) (replies_of turns) new) h r
+run_on old mid new bad turns h r = subst (λ (s : ModelStore). Run s (calls_of turns) (replies_of turns) new) h r
+run_on old mid new (unmade fault) turns h r = subst (λ (s : ModelStore). Run s (calls_of turns) (replies_of turns) new) h r
 run_on old mid new (took call reply) turns h r = (mid, h, r)
 
-runs : (old new : Shown) (lines : List (List ℕ)) (turns : List Turn) → AreTurnsOf old lines turns new → Run old (calls_of turns) (replies_of turns) new
+runs : (old new : ModelStore) (lines : List (List ℕ)) (turns : List Turn) → AreTurnsOf old lines turns new → Run old (calls_of turns) (replies_of turns) new
 runs old new [] [] h = h
 runs old new [] (turn ∷ turns) h = absurd h
 runs old new (line ∷ lines) [] h = absurd h
@@ -113,7 +113,7 @@ runs old new (line ∷ lines) (turn ∷ turns) h = run_on old h.0 new turn turns
 -- ---- a run under way
 
 -- the lines before the rest were answered: what they came to, what was written, and the ending so far
-pub record IsUnder (now was is : Option (List ℕ)) (store : Shown) (ending : Ending) (input : List ℕ) : Type 0 where
+pub record IsUnder (now was is : Option (List ℕ)) (store : ModelStore) (ending : Ending) (input : List ℕ) : Type 0 where
   pub rest : List ℕ
   pub left : now ≡ Some rest
   pub front : List (List ℕ)
@@ -123,7 +123,7 @@ pub record IsUnder (now was is : Option (List ℕ)) (store : Shown) (ending : En
   pub wrote : Appends was is (flat_map turn_text turns)
   pub ending_is : ending ≡ ending_of turns
 
-pub begun : (old was : Option (List ℕ)) (store : Shown) → store ≡ widest_start → IfSome old (IsUnder old was was store endings.Good)
+pub begun : (old was : Option (List ℕ)) (store : ModelStore) → store ≡ widest_start → IfSome old (IsUnder old was was store endings.Good)
 begun None was store is = tt
 begun (Some input) was store is = record {
   rest = input;
@@ -136,7 +136,7 @@ begun (Some input) was store is = record {
   ending_is = refl;
 }
 
-are_answered : (front : List (List ℕ)) (turns : List Turn) (store : Shown) (ending : Ending) → AreTurnsOf widest_start front turns store → ending ≡ ending_of turns → AreAnswered front (flat_map turn_text turns) ending
+are_answered : (front : List (List ℕ)) (turns : List Turn) (store : ModelStore) (ending : Ending) → AreTurnsOf widest_start front turns store → ending ≡ ending_of turns → AreAnswered front (flat_map turn_text turns) ending
 are_answered front turns store ending plays is = record {
   turns = turns;
   end = store;
@@ -147,7 +147,7 @@ are_answered front turns store ending plays is = record {
   ending_is = is;
 }
 
-pub at_end : (old now was is : Option (List ℕ)) (store : Shown) (ending : Ending) → IfSome old (IsUnder now was is store ending) → IsAtEnd now → IfSome old (λ input. Ran input was is ending)
+pub at_end : (old now was is : Option (List ℕ)) (store : ModelStore) (ending : Ending) → IfSome old (IsUnder now was is store ending) → IsAtEnd now → IfSome old (λ input. Ran input was is ending)
 at_end None now was is store ending h e = tt
 at_end (Some input) now was is store ending h e =
     let none : IsAtEnd (Some h.rest) = subst IsAtEnd h.left e in
@@ -159,7 +159,7 @@ at_end (Some input) now was is store ending h e =
     }
 
 -- at the end the reader stays there
-pub ended_reader : (old now then was is : Option (List ℕ)) (store : Shown) (ending : Ending) → IfSome old (IsUnder now was is store ending) → IsAtEnd now → DropsThrough now then 10 → IfSome old (λ _. IsAtEnd then)
+pub ended_reader : (old now then was is : Option (List ℕ)) (store : ModelStore) (ending : Ending) → IfSome old (IsUnder now was is store ending) → IsAtEnd now → DropsThrough now then 10 → IfSome old (λ _. IsAtEnd then)
 ended_reader None now then was is store ending h none drops = tt
 ended_reader (Some input) now then was is store ending h none drops =
     let rest : then ≡ Some (drop_through 10 h.rest) = subst (λ (o : Option (List ℕ)). DropsThrough o then 10) h.left drops in
@@ -191,7 +191,7 @@ if_ended endings.Refused Holds h = h
 if_ended endings.OutOfMemory Holds h = tt
 
 -- stopped behind a beginning of its lines
-abbrev script_begun : (now was is : Option (List ℕ)) (store : Shown) (ending : Ending) (input : List ℕ) (h : IsUnder now was is store ending input) → IsScriptBegun input (flat_map turn_text h.turns) ending
+abbrev script_begun : (now was is : Option (List ℕ)) (store : ModelStore) (ending : Ending) (input : List ℕ) (h : IsUnder now was is store ending input) → IsScriptBegun input (flat_map turn_text h.turns) ending
 script_begun now was is store ending input h = record {
   front = h.front;
   back = lines_of h.rest;
@@ -203,7 +203,7 @@ script_begun now was is store ending input h = record {
 pub has_memory : (ending : Ending) (cause : Cause) → (ending ≡ endings.OutOfMemory → cause ≡ causes.OutOfMemory) → cause ≡ causes.CannotRead → ending ≢ endings.OutOfMemory
 has_memory ending cause reported is = λ memory. let other = reported memory in absurd (cc)
 
-pub at_stop : (old now was is : Option (List ℕ)) (store : Shown) (ending : Ending) → ending ≢ endings.OutOfMemory → IfSome old (IsUnder now was is store ending) → IfSome old (λ input. RanSome input was is)
+pub at_stop : (old now was is : Option (List ℕ)) (store : ModelStore) (ending : Ending) → ending ≢ endings.OutOfMemory → IfSome old (IsUnder now was is store ending) → IfSome old (λ input. RanSome input was is)
 at_stop None now was is store ending memory h = tt
 at_stop (Some input) now was is store ending memory h = record {
   output = flat_map turn_text h.turns;
@@ -217,7 +217,7 @@ some_left : (input : List ℕ) → 0 < length input → lines_of input ≢ []
 some_left input some = λ none. let nothing = ap length (nothing_is input none) in absurd (omega (arith, nothing, some))
 
 -- a line is left, or an answer told want of memory
-pub at_refusal : (old now left was is : Option (List ℕ)) (store : Shown) (ending : Ending) → IfSome now (λ input. (0 < length input) ⊎ (ending ≡ endings.OutOfMemory)) → IfSome old (IsUnder now was is store ending) → IfSome old (λ input. RanOut input left was is)
+pub at_refusal : (old now left was is : Option (List ℕ)) (store : ModelStore) (ending : Ending) → IfSome now (λ input. (0 < length input) ⊎ (ending ≡ endings.OutOfMemory)) → IfSome old (IsUnder now was is store ending) → IfSome old (λ input. RanOut input left was is)
 at_refusal None now left was is store ending some h = tt
 at_refusal (Some input) now left was is store ending some h =
     let rest = subst (λ (o : Option (List ℕ)). IfSome o (λ input. (0 < length input) ⊎ (ending ≡ endings.OutOfMemory))) h.left some in
@@ -248,7 +248,7 @@ reported_left None ending memory = tt
 reported_left (Some input) ending memory = inr memory
 
 -- of a failed write the writer tells nothing
-pub whatever_written : (old now was is : Option (List ℕ)) (store : Shown) (ending : Ending) → IfSome old (IsUnder now was is store ending) → IfSome old (IsUnder now None None store ending)
+pub whatever_written : (old now was is : Option (List ℕ)) (store : ModelStore) (ending : Ending) → IfSome old (IsUnder now was is store ending) → IfSome old (IsUnder now None None store ending)
 whatever_written None now was is store ending h = tt
 whatever_written (Some input) now was is store ending h = record {
   rest = h.rest;
@@ -276,14 +276,14 @@ reported_memory_read endings.Good e = absurd (cc)
 reported_memory_read endings.Refused e = absurd (cc)
 reported_memory_read endings.OutOfMemory e = refl
 
-pub at_failed_write : (old now left was is : Option (List ℕ)) (store : Shown) (ending : Ending) → ending ≡ endings.OutOfMemory → IfSome old (IsUnder now None None store ending) → IfSome old (λ input. RanOut input left was is)
+pub at_failed_write : (old now left was is : Option (List ℕ)) (store : ModelStore) (ending : Ending) → ending ≡ endings.OutOfMemory → IfSome old (IsUnder now None None store ending) → IfSome old (λ input. RanOut input left was is)
 at_failed_write None now left was is store ending memory h = tt
 at_failed_write (Some input) now left was is store ending memory h =
     failed_write (flat_map turn_text h.turns) (subst (λ (e : Ending). IsScriptBegun input (flat_map turn_text h.turns) e) memory (script_begun now None None store ending input h))
 
 -- ---- a line more of a run
 
-pub turned : (old now then was is after : Option (List ℕ)) (store next : Shown) (ending said : Ending) (count : ℕ) (kept text : List ℕ) → IfSome old (IsUnder now was is store ending) → IfSome now (λ xs. IsReadLine (take_through 10 xs) count kept)
+pub turned : (old now then was is after : Option (List ℕ)) (store next : ModelStore) (ending said : Ending) (count : ℕ) (kept text : List ℕ) → IfSome old (IsUnder now was is store ending) → IfSome now (λ xs. IsReadLine (take_through 10 xs) count kept)
     → DropsThrough now then 10 → 0 < count → AnswersRead store next count kept text said → Appends is after text → IfSome old (IsUnder then was after next (worse ending said))
 turned None now then was is after store next ending said count kept text h read rest some answered wrote = tt
 turned (Some input) now then was is after store next ending said count kept text h read rest some answered wrote =

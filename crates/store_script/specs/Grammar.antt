@@ -3,7 +3,7 @@ use Rattle.std.specs.Prelude.{ℕ, zero, suc, ◌+◌, ◌%◌, List, [], ◌∷
 use Rattle.std.specs.Str.{bytes_eq}
 use Rattle.hex.specs.Hex.{decode_of, decode_sized}
 use Rattle.hex.specs.declared.error.FromHexError.{FromHexError}
-use Rattle.edge.specs.Fields.{◌>>=◌, cut_at, number_at, space, two_numbers_at}
+use Rattle.edge.specs.Fields.{◌>>=◌, split_at, number_at, space, two_numbers_at}
 use Rattle.store_core.specs.declared.command.Command.{Command}
 use Rattle.store_core.specs.declared.command.Command.TheVariants as commands
 use Rattle.store_core.specs.declared.command.Question.{Question}
@@ -29,7 +29,7 @@ address_of_digits digits = decoded (decode_sized digits 32)
 -- a tenant and an address
 abbrev pub held_at : List ℕ → Option (ℕ × List ℕ)
 held_at fields = do
-  cut ← cut_at space fields
+  cut ← split_at space fields
   number ← number_at cut.0
   address ← address_of_digits cut.1
   Some (number, address)
@@ -70,14 +70,14 @@ bytes_of_kind offset kind digits =
 
 abbrev pub part_bytes_at : ℕ → List ℕ → Option (List ℕ)
 part_bytes_at offset field = do
-  cut ← cut_at colon field
+  cut ← split_at colon field
   bytes_of_kind offset cut.0 cut.1
 
 abbrev pub puts_at : List ℕ → Option ScriptCommand
 puts_at fields = do
-  cut ← cut_at space fields
+  cut ← split_at space fields
   upload ← number_at cut.0
-  others ← cut_at space cut.1
+  others ← split_at space cut.1
   offset ← number_at others.0
   bytes ← part_bytes_at offset others.1
   Some (puts upload offset bytes)
@@ -167,10 +167,10 @@ abbrev pub word_command : List ℕ → Option ScriptCommand
 word_command word = if bytes_eq word (codes "stat") then Some (asks questions.Totals) else if bytes_eq word (codes "journal") then Some (asks questions.Journal) else None
 
 -- the command of a line that is split after its first word
-unfoldable pub cut_line_at : List ℕ → Option (List ℕ × List ℕ) → Option ScriptCommand
-cut_line_at line None = word_command line
-cut_line_at line (Some cut) = if bytes_eq cut.0 (codes "put") then puts_at cut.1 else asks_of_kind cut.0 cut.1
+unfoldable pub split_line_at : List ℕ → Option (List ℕ × List ℕ) → Option ScriptCommand
+split_line_at line None = word_command line
+split_line_at line (Some cut) = if bytes_eq cut.0 (codes "put") then puts_at cut.1 else asks_of_kind cut.0 cut.1
 
 -- the command of a line without its newline, unless the line is outside the grammar
 abbrev pub command_at : List ℕ → Option ScriptCommand
-command_at line = cut_line_at line (cut_at space line)
+command_at line = split_line_at line (split_at space line)

@@ -2,7 +2,7 @@
 use Rattle.std.specs.Prelude.{◌≡◌, ℕ, List, ◌++◌, codes, length, take}
 use Rattle.std.specs.Io.Iter.{u64_saturate}
 use Rattle.std.specs.Io.BufRead.{strip_last}
-use Rattle.store_core.specs.Model.{Shown}
+use Rattle.store_core.specs.Model.{ModelStore}
 use Rattle.store_script.specs.Script.{Answered, IsTurnOf}
 use Rattle.store_script.specs.declared.ending.Ending.{Ending}
 
@@ -19,7 +19,7 @@ abbrev pub IsPutLine : List ℕ → Type 0
 IsPutLine line = (fields : List ℕ) × (line ≡ codes "put " ++ fields)
 
 -- the answer to the line that was read
-pub record AnswersRead (old new : Shown) (count : ℕ) (kept text : List ℕ) (ending : Ending) : Type 0 where
+pub record AnswersRead (old new : ModelStore) (count : ℕ) (kept text : List ℕ) (ending : Ending) : Type 0 where
   pub answers : (whole : List ℕ) → IsReadLine whole count kept → Answered (λ turn. IsTurnOf old (strip_last 10 whole) turn new) text ending
 
 -- the line that was read starts so

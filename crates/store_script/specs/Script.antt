@@ -12,7 +12,7 @@ use Rattle.store_core.specs.Carried.{IsCarried}
 use Rattle.store_core.specs.Commands.{plan_in}
 use Rattle.edge.specs.Lines.{lines_of}
 use Rattle.store_books.specs.Books.{empty_books, max_entries, max_tenants, max_workers}
-use Rattle.store_core.specs.Model.{Shown}
+use Rattle.store_core.specs.Model.{ModelStore}
 use Rattle.store_core.specs.declared.command.Question.TheVariants.{Plan}
 use Rattle.store_core.specs.Runs.{Call, Reply, Run, Step, ask, change, put}
 use Rattle.store_script.specs.Grammar.{ScriptCommand, asks, command_at, does, puts}
@@ -59,34 +59,34 @@ turn_ending (unmade fault) = fault_ending fault
 turn_ending (took call reply) = reply_ending reply
 
 -- exactly this step
-abbrev pub IsTurnOfStep : Shown → Call → Turn → Shown → Type 0
+abbrev pub IsTurnOfStep : ModelStore → Call → Turn → ModelStore → Type 0
 IsTurnOfStep old call (took asked reply) new = (asked ≡ call) × Step old call reply new
 IsTurnOfStep old call _ new = ⊥
 
 -- a part without a fault is put, unless an allocation fails when it is made
-abbrev pub IsTurnOfPart : Shown → ℕ → ModelPrepared → Turn → Shown → Type 0
+abbrev pub IsTurnOfPart : ModelStore → ℕ → ModelPrepared → Turn → ModelStore → Type 0
 IsTurnOfPart old upload part (unmade fault) new = (fault ≡ faults.NoMemory) × (new ≡ old)
 IsTurnOfPart old upload part (took asked reply) new = (asked ≡ put upload part) × Step old (put upload part) reply new
 IsTurnOfPart old upload part _ new = ⊥
 
 -- a part that is refused is not put
-abbrev pub IsTurnOfMade : Shown → ℕ → ModelPrepared → Option PartFault → Turn → Shown → Type 0
+abbrev pub IsTurnOfMade : ModelStore → ℕ → ModelPrepared → Option PartFault → Turn → ModelStore → Type 0
 IsTurnOfMade old upload part (Some fault) turn new = (turn ≡ unmade fault) × (new ≡ old)
 IsTurnOfMade old upload part None turn new = IsTurnOfPart old upload part turn new
 
 -- the upload's plan is asked for first
-abbrev pub IsTurnOfPut : Shown → ℕ → ℕ → List ℕ → Result UploadPlan Refusal → Turn → Shown → Type 0
+abbrev pub IsTurnOfPut : ModelStore → ℕ → ℕ → List ℕ → Result UploadPlan Refusal → Turn → ModelStore → Type 0
 IsTurnOfPut old upload offset bytes (Err refusal) turn new = IsTurnOfStep old (ask (Plan upload)) turn new
 IsTurnOfPut old upload offset bytes (Ok made_for) turn new = IsTurnOfMade old upload (planned made_for offset bytes) (part_refusal made_for offset (length bytes)) turn new
 
-abbrev pub IsTurnOfCommand : Shown → Option ScriptCommand → Turn → Shown → Type 0
+abbrev pub IsTurnOfCommand : ModelStore → Option ScriptCommand → Turn → ModelStore → Type 0
 IsTurnOfCommand old None turn new = (turn ≡ bad) × (new ≡ old)
 IsTurnOfCommand old (Some (does command)) turn new = IsTurnOfStep old (change command) turn new
 IsTurnOfCommand old (Some (asks question)) turn new = IsTurnOfStep old (ask question) turn new
 IsTurnOfCommand old (Some (puts upload offset bytes)) turn new = IsTurnOfPut old upload offset bytes (plan_in old.state upload) turn new
 
 -- the turn of a line in a store, and the resulting store
-abbrev pub IsTurnOf : Shown → List ℕ → Turn → Shown → Type 0
+abbrev pub IsTurnOf : ModelStore → List ℕ → Turn → ModelStore → Type 0
 IsTurnOf old [] turn new = (turn ≡ skipped) × (new ≡ old)
 IsTurnOf old (b ∷ line) turn new = IsTurnOfCommand old (command_at (b ∷ line)) turn new
 
@@ -100,11 +100,11 @@ pub record Answered (Is : Turn → Type 0) (text : List ℕ) (ending : Ending) :
 -- ---- a script
 
 -- lines in order, each with its turn
-abbrev pub AreTurnsOf : Shown → List (List ℕ) → List Turn → Shown → Type 0
+abbrev pub AreTurnsOf : ModelStore → List (List ℕ) → List Turn → ModelStore → Type 0
 AreTurnsOf old [] [] new = new ≡ old
 AreTurnsOf old [] (turn ∷ turns) new = ⊥
 AreTurnsOf old (line ∷ lines) [] new = ⊥
-AreTurnsOf old (line ∷ lines) (turn ∷ turns) new = (then : Shown) × IsTurnOf old line turn then × AreTurnsOf then lines turns new
+AreTurnsOf old (line ∷ lines) (turn ∷ turns) new = (then : ModelStore) × IsTurnOf old line turn then × AreTurnsOf then lines turns new
 
 -- the steps among turns, and their replies
 abbrev pub calls_of : List Turn → List Call
@@ -135,14 +135,14 @@ verdict_ending verdicts.Good = endings.Good
 verdict_ending verdicts.Refused = endings.Refused
 
 -- an empty store with the widest limits
-abbrev pub widest_start : Shown
+abbrev pub widest_start : ModelStore
 widest_start = record { state = empty_books max_tenants max_entries max_workers; journal = [] }
 
 -- Lines were answered in order, from the empty store: their turns, and the text of their answers. The steps among them are a run of the
 -- store, and the invariant of a store holds after it.
 pub record AreAnswered (lines : List (List ℕ)) (output : List ℕ) (ending : Ending) : Type 0 where
   pub turns : List Turn
-  pub end : Shown
+  pub end : ModelStore
   pub plays : AreTurnsOf widest_start lines turns end
   pub run : Run widest_start (calls_of turns) (replies_of turns) end
   pub law : IsCarried end

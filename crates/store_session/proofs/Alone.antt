@@ -9,7 +9,7 @@ use Rattle.edge.specs.declared.outcome.Verdict.TheVariants as verdicts
 use Rattle.store_books.specs.Books.{max_entries, max_tenants, max_workers}
 use Rattle.store_books.specs.declared.refusal.Refusal.{Refusal}
 use Rattle.store_core.specs.Commands.{plan_in}
-use Rattle.store_core.specs.Model.{Shown}
+use Rattle.store_core.specs.Model.{ModelStore}
 use Rattle.store_core.specs.Runs.{Call, Run, ask, change, put}
 use Rattle.store_core.specs.declared.command.Question.{Question}
 use Rattle.store_core.specs.declared.command.Question.TheVariants as questions
@@ -31,37 +31,37 @@ use Rattle.store_session.specs.Turns.{AreLinkedTurns, EndsOver, IsLinkedAsk, IsL
 
 -- ---- turns
 
-same : {old new : SessionState} → new ≡ old → new.shown ≡ old.shown
-same h = ap (λ (s : SessionState). s.shown) h
+same : {old new : SessionState} → new ≡ old → new.store ≡ old.store
+same h = ap (λ (s : SessionState). s.store) h
 
-of_step : (old new : SessionState) (call : Call) (turn : script.Turn) → IsLinkedStep alone_reach old call turn new → script.IsTurnOfStep old.shown call turn new.shown
-of_step old new call turn h = subst (λ (s : Shown). script.IsTurnOfStep s call turn new.shown) h.1.0 h.1.1.0
+of_step : (old new : SessionState) (call : Call) (turn : script.Turn) → IsLinkedStep alone_reach old call turn new → script.IsTurnOfStep old.store call turn new.store
+of_step old new call turn h = subst (λ (s : ModelStore). script.IsTurnOfStep s call turn new.store) h.1.0 h.1.1.0
 
-of_part : (old new : SessionState) (upload : ℕ) (part : ModelPrepared) (turn : script.Turn) → IsLinkedPart alone_reach old upload part turn new → script.IsTurnOfPart old.shown upload part turn new.shown
+of_part : (old new : SessionState) (upload : ℕ) (part : ModelPrepared) (turn : script.Turn) → IsLinkedPart alone_reach old upload part turn new → script.IsTurnOfPart old.store upload part turn new.store
 of_part old new upload part script.skipped h = h
 of_part old new upload part script.bad h = h
 of_part old new upload part (script.unmade fault) h = (h.0, same h.1)
 of_part old new upload part (script.took asked reply) h = of_step old new (put upload part) (script.took asked reply) h
 
-of_made : (old new : SessionState) (upload : ℕ) (part : ModelPrepared) (refused : Option PartFault) (turn : script.Turn) → IsLinkedMade alone_reach old upload part refused turn new → script.IsTurnOfMade old.shown upload part refused turn new.shown
+of_made : (old new : SessionState) (upload : ℕ) (part : ModelPrepared) (refused : Option PartFault) (turn : script.Turn) → IsLinkedMade alone_reach old upload part refused turn new → script.IsTurnOfMade old.store upload part refused turn new.store
 of_made old new upload part (Some fault) turn h = (h.0, same h.1)
 of_made old new upload part None turn h = of_part old new upload part turn h
 
-of_plan : (old new : SessionState) (upload offset : ℕ) (bytes : List ℕ) (plan : Result UploadPlan Refusal) (turn : script.Turn) → IsLinkedPlan alone_reach old upload offset bytes plan turn new → script.IsTurnOfPut old.shown upload offset bytes plan turn new.shown
+of_plan : (old new : SessionState) (upload offset : ℕ) (bytes : List ℕ) (plan : Result UploadPlan Refusal) (turn : script.Turn) → IsLinkedPlan alone_reach old upload offset bytes plan turn new → script.IsTurnOfPut old.store upload offset bytes plan turn new.store
 of_plan old new upload offset bytes (Err refusal) turn h = h.0
 of_plan old new upload offset bytes (Ok plan) turn h = of_made old new upload (planned plan offset bytes) (part_refusal plan offset (length bytes)) turn h
 
-of_put : (old new : SessionState) (upload offset : ℕ) (bytes : List ℕ) (turn : script.Turn) → IsLinkedPut alone_reach old upload offset bytes turn new → script.IsTurnOfPut old.shown upload offset bytes (plan_in old.shown.state upload) turn new.shown
+of_put : (old new : SessionState) (upload offset : ℕ) (bytes : List ℕ) (turn : script.Turn) → IsLinkedPut alone_reach old upload offset bytes turn new → script.IsTurnOfPut old.store upload offset bytes (plan_in old.store.state upload) turn new.store
 of_put old new upload offset bytes turn h =
-    of_plan old new upload offset bytes (plan_in old.shown.state upload) turn (subst (λ (s : Shown). IsLinkedPlan alone_reach (at old s) upload offset bytes (plan_in s.state upload) turn new) h.1.0 h.1.1)
+    of_plan old new upload offset bytes (plan_in old.store.state upload) turn (subst (λ (s : ModelStore). IsLinkedPlan alone_reach (at old s) upload offset bytes (plan_in s.state upload) turn new) h.1.0 h.1.1)
 
-of_command : (old new : SessionState) (command : Option ScriptCommand) (turn : script.Turn) → IsLinkedCommand alone_reach old command turn new → script.IsTurnOfCommand old.shown command turn new.shown
+of_command : (old new : SessionState) (command : Option ScriptCommand) (turn : script.Turn) → IsLinkedCommand alone_reach old command turn new → script.IsTurnOfCommand old.store command turn new.store
 of_command old new None turn h = (h.0, same h.1)
 of_command old new (Some (does command)) turn h = of_step old new (change command) turn h
 of_command old new (Some (asks question)) turn h = of_step old new (ask question) turn h
 of_command old new (Some (puts upload offset bytes)) turn h = of_put old new upload offset bytes turn h
 
-of_line : (old new : SessionState) (line : List ℕ) (turn : script.Turn) → IsLinkedLine alone_reach old line turn new → script.IsTurnOf old.shown line turn new.shown
+of_line : (old new : SessionState) (line : List ℕ) (turn : script.Turn) → IsLinkedLine alone_reach old line turn new → script.IsTurnOf old.store line turn new.store
 of_line old new [] turn h = (h.0, same h.1)
 of_line old new (b ∷ line) turn h = of_command old new (command_at (b ∷ line)) turn h
 
@@ -70,76 +70,76 @@ of_lack line (inl long) = inl long
 of_lack line (inr (inl puts_it)) = inr puts_it
 of_lack line (inr (inr lacks)) = absurd lacks.0
 
-of_script : (old new : SessionState) (line : List ℕ) (turn : SessionTurn) → IsLinkedScriptLine alone_reach old line turn new → IsTurnOfScriptLine old.shown line turn new.shown
+of_script : (old new : SessionState) (line : List ℕ) (turn : SessionTurn) → IsLinkedScriptLine alone_reach old line turn new → IsTurnOfScriptLine old.store line turn new.store
 of_script old new line no_memory h = (of_lack line h.0, same h.1)
 of_script old new line (reported_as manner turn) h = (h.0, of_line old new line turn h.1)
 
-of_question : (manner : Manner) (old new : SessionState) (question : Question) (turn : SessionTurn) → IsLinkedQuestion alone_reach manner old question turn new → IsTurnOfQuestion manner old.shown question turn new.shown
+of_question : (manner : Manner) (old new : SessionState) (question : Question) (turn : SessionTurn) → IsLinkedQuestion alone_reach manner old question turn new → IsTurnOfQuestion manner old.store question turn new.store
 of_question manner old new question no_memory h = h
 of_question manner old new question (reported_as reported turn) h = (h.0, of_step old new (ask question) turn h.1)
 
-of_ask : (old new : SessionState) (question : Question) (turn : SessionTurn) → IsLinkedAsk alone_reach old question turn new → IsTurnOfQuestion as_script old.shown question turn new.shown
+of_ask : (old new : SessionState) (question : Question) (turn : SessionTurn) → IsLinkedAsk alone_reach old question turn new → IsTurnOfQuestion as_script old.store question turn new.store
 of_ask old new question no_memory h = absurd h.0
 of_ask old new question (reported_as reported turn) h = (h.0, of_step old new (ask question) turn h.1)
 
-of_entries : (range : EntryRange) (old new : SessionState) (turn : SessionTurn) → IsLinkedEntries alone_reach range old turn new → IsTurnOfQuestion (as_entries range) old.shown questions.Journal turn new.shown
+of_entries : (range : EntryRange) (old new : SessionState) (turn : SessionTurn) → IsLinkedEntries alone_reach range old turn new → IsTurnOfQuestion (as_entries range) old.store questions.Journal turn new.store
 of_entries range old new no_memory h = absurd h.0
 of_entries range old new (reported_as reported turn) h = (h.0, of_step old new (ask questions.Journal) turn h.1)
 
-of_bytes : (old new : SessionState) (upload offset : ℕ) (bytes : List ℕ) (turn : SessionTurn) → IsLinkedBytes alone_reach old upload offset bytes turn new → IsTurnOfBytes old.shown upload offset bytes turn new.shown
+of_bytes : (old new : SessionState) (upload offset : ℕ) (bytes : List ℕ) (turn : SessionTurn) → IsLinkedBytes alone_reach old upload offset bytes turn new → IsTurnOfBytes old.store upload offset bytes turn new.store
 of_bytes old new upload offset bytes no_memory h = h
 of_bytes old new upload offset bytes (reported_as reported turn) h = (h.0, of_put old new upload offset bytes turn h.1)
 
-of_request : (old new : SessionState) (request : Option Request) (whole following : List ℕ) (turn : SessionTurn) (rest : List ℕ) → IsLinkedRequest alone_reach old request whole following turn new rest → IsTurnOfRequest old.shown request whole following turn new.shown rest
+of_request : (old new : SessionState) (request : Option Request) (whole following : List ℕ) (turn : SessionTurn) (rest : List ℕ) → IsLinkedRequest alone_reach old request whole following turn new rest → IsTurnOfRequest old.store request whole following turn new.store rest
 of_request old new None whole following turn rest h = (of_script old new (strip_last 10 whole) turn h.0, h.1)
 of_request old new (Some (Put upload offset len)) whole following turn rest h = (of_bytes old new upload offset (take len following) turn h.0, h.1, h.2)
 of_request old new (Some (Fetch wanted)) whole following turn rest h = (of_question _ old new (questions.Fetch wanted.tenant wanted.address) turn h.0, h.1)
 of_request old new (Some (Asks question)) whole following turn rest h = (of_ask old new question turn h.0, h.1)
 of_request old new (Some (Entries range)) whole following turn rest h = (of_entries range old new turn h.0, h.1)
 
-of_first : (old new : SessionState) (input : List ℕ) (turn : SessionTurn) (rest : List ℕ) → IsLinkedFirstLine alone_reach old input turn new rest → IsTurnOfFirstLine old.shown input turn new.shown rest
+of_first : (old new : SessionState) (input : List ℕ) (turn : SessionTurn) (rest : List ℕ) → IsLinkedFirstLine alone_reach old input turn new rest → IsTurnOfFirstLine old.store input turn new.store rest
 of_first old new input turn rest h = (h.0, of_request old new (request_in (take_through 10 input)) (take_through 10 input) (drop_through 10 input) turn rest h.2)
 
-pub of_turns : (old new : SessionState) (input rest : List ℕ) (turns : List SessionTurn) → AreLinkedTurns alone_reach old input turns new rest → AreSessionTurns old.shown input turns new.shown rest
+pub of_turns : (old new : SessionState) (input rest : List ℕ) (turns : List SessionTurn) → AreLinkedTurns alone_reach old input turns new rest → AreSessionTurns old.store input turns new.store rest
 of_turns old new input rest [] h = (same h.0, h.1)
-of_turns old new input rest (turn ∷ turns) h = (h.0.shown, h.1, of_first old h.0 input turn h.1 h.2, of_turns h.0 new h.1 rest turns h.3)
+of_turns old new input rest (turn ∷ turns) h = (h.0.store, h.1, of_first old h.0 input turn h.1 h.2, of_turns h.0 new h.1 rest turns h.3)
 
 -- ---- the steps are a run (as in store_session's proofs, which are its own)
 
-abbrev CameTo : Shown → SessionTurn → Shown → Type 0
+abbrev CameTo : ModelStore → SessionTurn → ModelStore → Type 0
 CameTo old no_memory new = new ≡ old
 CameTo old (reported_as manner turn) new = Came old turn new
 
-came_reported : (old new : Shown) (manner : Manner) (Is : script.Turn → Type 0) (turn : SessionTurn) → ((t : script.Turn) → Is t → Came old t new) → IsReportedAs manner Is turn → CameTo old turn new
+came_reported : (old new : ModelStore) (manner : Manner) (Is : script.Turn → Type 0) (turn : SessionTurn) → ((t : script.Turn) → Is t → Came old t new) → IsReportedAs manner Is turn → CameTo old turn new
 came_reported old new manner Is no_memory f h = absurd h
 came_reported old new manner Is (reported_as reported turn) f h = f turn h.1
 
-came_script : (old new : Shown) (line : List ℕ) (turn : SessionTurn) → IsTurnOfScriptLine old line turn new → CameTo old turn new
+came_script : (old new : ModelStore) (line : List ℕ) (turn : SessionTurn) → IsTurnOfScriptLine old line turn new → CameTo old turn new
 came_script old new line no_memory h = h.1
 came_script old new line (reported_as manner turn) h = came old new line turn h.1
 
-came_request : (old new : Shown) (request : Option Request) (whole following : List ℕ) (turn : SessionTurn) (rest : List ℕ) → IsTurnOfRequest old request whole following turn new rest → CameTo old turn new
+came_request : (old new : ModelStore) (request : Option Request) (whole following : List ℕ) (turn : SessionTurn) (rest : List ℕ) → IsTurnOfRequest old request whole following turn new rest → CameTo old turn new
 came_request old new None whole following turn rest h = came_script old new (strip_last 10 whole) turn h.0
 came_request old new (Some (Put upload offset len)) whole following turn rest h = came_reported old new _ _ turn (λ t is. came_put old new upload offset (take len following) (plan_in old.state upload) t is) h.0
 came_request old new (Some (Fetch wanted)) whole following turn rest h = came_reported old new _ _ turn (λ t is. came_takes old new (ask (questions.Fetch wanted.tenant wanted.address)) t is) h.0
 came_request old new (Some (Asks question)) whole following turn rest h = came_reported old new _ _ turn (λ t is. came_takes old new (ask question) t is) h.0
 came_request old new (Some (Entries range)) whole following turn rest h = came_reported old new _ _ turn (λ t is. came_takes old new (ask questions.Journal) t is) h.0
 
-script_on : (old mid new : Shown) (manner : Manner) (turn : script.Turn) (turns : List SessionTurn) → Came old turn mid → Run mid (session_calls turns) (session_replies turns) new → Run old (session_calls (reported_as manner turn ∷ turns)) (session_replies (reported_as manner turn ∷ turns)) new
-script_on old mid new manner script.skipped turns h r = subst (λ (s : Shown). Run s (session_calls turns) (session_replies turns) new) h r
-script_on old mid new manner script.bad turns h r = subst (λ (s : Shown). Run s (session_calls turns) (session_replies turns) new) h r
-script_on old mid new manner (script.unmade fault) turns h r = subst (λ (s : Shown). Run s (session_calls turns) (session_replies turns) new) h r
+script_on : (old mid new : ModelStore) (manner : Manner) (turn : script.Turn) (turns : List SessionTurn) → Came old turn mid → Run mid (session_calls turns) (session_replies turns) new → Run old (session_calls (reported_as manner turn ∷ turns)) (session_replies (reported_as manner turn ∷ turns)) new
+script_on old mid new manner script.skipped turns h r = subst (λ (s : ModelStore). Run s (session_calls turns) (session_replies turns) new) h r
+script_on old mid new manner script.bad turns h r = subst (λ (s : ModelStore). Run s (session_calls turns) (session_replies turns) new) h r
+script_on old mid new manner (script.unmade fault) turns h r = subst (λ (s : ModelStore). Run s (session_calls turns) (session_replies turns) new) h r
 script_on old mid new manner (script.took call reply) turns h r = (mid, h, r)
 
-run_on : (old mid new : Shown) (turn : SessionTurn) (turns : List SessionTurn) → CameTo old turn mid → Run mid (session_calls turns) (session_replies turns) new → Run old (session_calls (turn ∷ turns)) (session_replies (turn ∷ turns)) new
-run_on old mid new no_memory turns h r = subst (λ (s : Shown). Run s (session_calls turns) (session_replies turns) new) h r
+run_on : (old mid new : ModelStore) (turn : SessionTurn) (turns : List SessionTurn) → CameTo old turn mid → Run mid (session_calls turns) (session_replies turns) new → Run old (session_calls (turn ∷ turns)) (session_replies (turn ∷ turns)) new
+run_on old mid new no_memory turns h r = subst (λ (s : ModelStore). Run s (session_calls turns) (session_replies turns) new) h r
 run_on old mid new (reported_as manner turn) turns h r = script_on old mid new manner turn turns h r
 
-runs : (old new : Shown) (input rest : List ℕ) (turns : List SessionTurn) → AreSessionTurns old input turns new rest → Run old (session_calls turns) (session_replies turns) new
+runs : (old new : ModelStore) (input rest : List ℕ) (turns : List SessionTurn) → AreSessionTurns old input turns new rest → Run old (session_calls turns) (session_replies turns) new
 runs old new input rest [] h = h.0
 runs old new input rest (turn ∷ turns) h = run_on old h.0 new turn turns (came_request old h.0 (request_in (take_through 10 input)) (take_through 10 input) (drop_through 10 input) turn h.1 h.2.1) (runs h.0 new h.1 rest turns h.3)
 
-are_served : (end : Shown) (input output rest : List ℕ) (turns : List SessionTurn) → AreSessionTurns widest_start input turns end rest → output ≡ flat_map session_turn_text turns → AreServed input output rest
+are_served : (end : ModelStore) (input output rest : List ℕ) (turns : List SessionTurn) → AreSessionTurns widest_start input turns end rest → output ≡ flat_map session_turn_text turns → AreServed input output rest
 are_served end input output rest turns plays text =
     let run = runs widest_start end input rest turns plays in
     record {
@@ -158,27 +158,27 @@ of_ends verdicts.Good rest h = h
 of_ends verdicts.Refused rest (inl h) = h
 of_ends verdicts.Refused rest (inr h) = absurd (let impossible = h.0 in cc)
 
-pub all_served : {E : Type 0} (r : Result Verdict E) (old w1 w2 : Option (List ℕ)) (store : Shown) (left : SessionState → Type 0) → store ≡ widest_start → IfOk r (λ verdict. IfSome old (λ input. ServedAllOver alone_reach (alone_stands store) left input w1 w2 verdict))
+pub all_served : {E : Type 0} (r : Result Verdict E) (old w1 w2 : Option (List ℕ)) (store : ModelStore) (left : SessionState → Type 0) → store ≡ widest_start → IfOk r (λ verdict. IfSome old (λ input. ServedAllOver alone_reach (alone_stands store) left input w1 w2 verdict))
     → IfOk r (λ verdict. IfSome old (λ input. ServedAll input w1 w2 verdict))
 all_served (Err e) old w1 w2 store left is h = tt
 all_served (Ok verdict) None w1 w2 store left is h = tt
 all_served (Ok verdict) (Some input) w1 w2 store left is h =
-    let p = h.answered.plays (record { shown = widest_start; bytes = 0; calls = 0; own = [] }) (sym is) in
+    let p = h.answered.plays (record { store = widest_start; bytes = 0; calls = 0; own = [] }) (sym is) in
     record {
       output = h.output;
       rest = h.rest;
-      answered = are_served p.0.shown input h.output h.rest h.answered.turns (of_turns (record { shown = widest_start; bytes = 0; calls = 0; own = [] }) p.0 input h.rest h.answered.turns p.1.0) h.answered.text_is;
+      answered = are_served p.0.store input h.output h.rest h.answered.turns (of_turns (record { store = widest_start; bytes = 0; calls = 0; own = [] }) p.0 input h.rest h.answered.turns p.1.0) h.answered.text_is;
       ends = of_ends verdict h.rest h.ends;
       wrote = h.wrote;
     }
 
-pub some_served : (old w1 w2 : Option (List ℕ)) (store : Shown) → store ≡ widest_start → IfSome old (λ input. ServedSomeOver alone_reach (alone_stands store) input w1 w2) → IfSome old (λ input. ServedSome input w1 w2)
+pub some_served : (old w1 w2 : Option (List ℕ)) (store : ModelStore) → store ≡ widest_start → IfSome old (λ input. ServedSomeOver alone_reach (alone_stands store) input w1 w2) → IfSome old (λ input. ServedSome input w1 w2)
 some_served None w1 w2 store is h = tt
 some_served (Some input) w1 w2 store is h =
-    let p = h.answered.plays (record { shown = widest_start; bytes = 0; calls = 0; own = [] }) (sym is) in
+    let p = h.answered.plays (record { store = widest_start; bytes = 0; calls = 0; own = [] }) (sym is) in
     record {
       output = h.output;
       rest = h.rest;
-      answered = are_served p.0.shown input h.output h.rest h.answered.turns (of_turns (record { shown = widest_start; bytes = 0; calls = 0; own = [] }) p.0 input h.rest h.answered.turns p.1.0) h.answered.text_is;
+      answered = are_served p.0.store input h.output h.rest h.answered.turns (of_turns (record { store = widest_start; bytes = 0; calls = 0; own = [] }) p.0 input h.rest h.answered.turns p.1.0) h.answered.text_is;
       wrote = h.wrote;
     }

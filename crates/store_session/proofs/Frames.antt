@@ -1,13 +1,13 @@
 -- What lines take of an input.
 use Rattle.std.proofs.Common.{◌≡◌, ◌∙◌, ◌∷◌, [], ℕ, List, Some, None, Option, arith, length, subst, sym}
 use Rattle.std.specs.Io.BufRead.{drop_through, take_through}
-use Rattle.store_core.specs.Model.{Shown}
+use Rattle.store_core.specs.Model.{ModelStore}
 use Rattle.store_session.specs.Requests.{request_in}
 use Rattle.store_session.specs.Session.{AreSessionTurns, IsTurnOfRequest, SessionTurn}
 use Rattle.store_session.specs.declared.request.Request.{Request}
 use Rattle.store_session.specs.declared.request.Request.TheVariants.{Asks, Entries, Fetch, Put}
 
-one_rest : (old new old2 new2 : Shown) (request : Option Request) (whole following : List ℕ) (turn turn2 : SessionTurn) (rest rest2 : List ℕ)
+one_rest : (old new old2 new2 : ModelStore) (request : Option Request) (whole following : List ℕ) (turn turn2 : SessionTurn) (rest rest2 : List ℕ)
     → IsTurnOfRequest old request whole following turn new rest → IsTurnOfRequest old2 request whole following turn2 new2 rest2 → rest ≡ rest2
 one_rest old new old2 new2 None whole following turn turn2 rest rest2 h k = h.1 ∙ sym k.1
 one_rest old new old2 new2 (Some (Put upload offset len)) whole following turn turn2 rest rest2 h k = h.2 ∙ sym k.2
@@ -15,7 +15,7 @@ one_rest old new old2 new2 (Some (Fetch wanted)) whole following turn turn2 rest
 one_rest old new old2 new2 (Some (Asks question)) whole following turn turn2 rest rest2 h k = h.1 ∙ sym k.1
 one_rest old new old2 new2 (Some (Entries range)) whole following turn turn2 rest rest2 h k = h.1 ∙ sym k.1
 
-pub frames : (old new old2 new2 : Shown) (input : List ℕ) (turns turns2 : List SessionTurn) (rest rest2 : List ℕ)
+pub frames : (old new old2 new2 : ModelStore) (input : List ℕ) (turns turns2 : List SessionTurn) (rest rest2 : List ℕ)
     → AreSessionTurns old input turns new rest → AreSessionTurns old2 input turns2 new2 rest2 → length turns ≡ length turns2 → rest ≡ rest2
 frames old new old2 new2 input [] [] rest rest2 h k same = h.1 ∙ sym k.1
 frames old new old2 new2 input [] (u ∷ us) rest rest2 h k same = absurd (omega arith)

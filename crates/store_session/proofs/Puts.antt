@@ -32,12 +32,12 @@ made reach was is upload offset plan bytes part reply fits part_is took_it =
     let t = subst (λ (p : ModelPrepared). Took reach was is (put upload p) reply) part_is took_it in
     record {
       turn = took call reply;
-      goes = λ before stood. (
+      goes = λ before session. (
         advance before t.found call reply t.left,
         (
-          t.stands before stood,
+          t.stands before session,
           subst (λ (o : Option PartFault). IsLinkedMade reach before upload (planned plan offset bytes) o (took call reply) (advance before t.found call reply t.left)) (sym fits)
-              (t.found, (t.linked before stood, ((refl, t.step), (refl, refl, refl)))),
+              (t.found, (t.linked before session, ((refl, t.step), (refl, refl, refl)))),
         ),
       );
       text_is = refl;
@@ -51,30 +51,30 @@ pub no_part : (reach : Reach) (was : SessionState → Type 0) (upload offset : �
     → MadeOver reach was was upload offset plan bytes (refused_text (unmade_text fault))
 no_part reach was upload offset plan bytes fault is = record {
   turn = unmade fault;
-  goes = λ before stood. (before, (stood, fault_is reach before upload (planned plan offset bytes) (part_refusal plan offset (length bytes)) fault is));
+  goes = λ before session. (before, (session, fault_is reach before upload (planned plan offset bytes) (part_refusal plan offset (length bytes)) fault is));
   text_is = refl;
 }
 
 pub planned_put : (reach : Reach) (was mid is : SessionState → Type 0) (upload offset : ℕ) (plan : UploadPlan) (bytes text : List ℕ) → TookPlan reach was mid upload (Ok plan) → MadeOver reach mid is upload offset plan bytes text → PutOver reach was is upload offset bytes text
 planned_put reach was mid is upload offset plan bytes text p a = record {
   turn = a.turn;
-  goes = λ before stood.
-      let g = a.goes (at before p.found) (p.stands before stood) in
-      (g.0, (g.1.0, (p.found, (p.linked before stood, subst (λ (r : Result UploadPlan Refusal). IsLinkedPlan reach (at before p.found) upload offset bytes r a.turn g.0) p.plan_is g.1.1))));
+  goes = λ before session.
+      let g = a.goes (at before p.found) (p.stands before session) in
+      (g.0, (g.1.0, (p.found, (p.linked before session, subst (λ (r : Result UploadPlan Refusal). IsLinkedPlan reach (at before p.found) upload offset bytes r a.turn g.0) p.plan_is g.1.1))));
   text_is = a.text_is;
 }
 
 pub no_plan : (reach : Reach) (was is : SessionState → Type 0) (upload offset : ℕ) (bytes : List ℕ) (refusal : Refusal) → TookPlan reach was is upload (Err refusal) → PutOver reach was is upload offset bytes (answer_text (Err refusal))
 no_plan reach was is upload offset bytes refusal p = record {
   turn = took (ask (questions.Plan upload)) (Err refusal);
-  goes = λ before stood. (
+  goes = λ before session. (
     at before p.found,
     (
-      p.stands before stood,
+      p.stands before session,
       (
         p.found,
         (
-          p.linked before stood,
+          p.linked before session,
           subst (λ (r : Result UploadPlan Refusal). IsLinkedPlan reach (at before p.found) upload offset bytes r (took (ask (questions.Plan upload)) (Err refusal)) (at before p.found)) p.plan_is
               ((refl, (ap (as_reply the_plan) p.plan_is, refl)), (plus_none before.bytes, plus_none before.calls, sym (append-nil before.own))),
         ),
@@ -85,7 +85,7 @@ no_plan reach was is upload offset bytes refusal p = record {
 }
 
 pub leaves : (reach : Reach) (was is : SessionState → Type 0) (upload : ℕ) (plan : Result UploadPlan Refusal) → TookPlan reach was is upload plan → Leaves was is
-leaves reach was is upload plan p = record { leaves = λ before stood. (p.found, p.stands before stood) }
+leaves reach was is upload plan p = record { leaves = λ before session. (p.found, p.stands before session) }
 
 -- ---- the bytes behind a line
 
@@ -113,8 +113,8 @@ fault_reported made_for offset len n fault is same = ap (λ (o : Option PartFaul
 pub no_fault : (made_for : UploadPlan) (offset len n : ℕ) → None ≡ part_refusal made_for offset len → n ≡ len → faults.NoMemory ≡ unwrap_or (part_refusal made_for offset n) faults.NoMemory
 no_fault made_for offset len n is same = ap (λ (o : Option PartFault). unwrap_or o faults.NoMemory) (is ∙ ap (part_refusal made_for offset) (sym same))
 
-pub cut_off : (now left : Option (List ℕ)) (reach : Reach) (was is : SessionState → Type 0) (upload offset len : ℕ) (bytes : List ℕ) (is_whole : Bool) → is_whole ≡ false → IfSome now (λ following. Copied is_whole len following bytes left) → Leaves was is
+pub truncated : (now left : Option (List ℕ)) (reach : Reach) (was is : SessionState → Type 0) (upload offset len : ℕ) (bytes : List ℕ) (is_whole : Bool) → is_whole ≡ false → IfSome now (λ following. Copied is_whole len following bytes left) → Leaves was is
     → IfSome now (λ following. ReceivesOver reach was is None upload offset len following left)
-cut_off None left reach was is upload offset len bytes is_whole cut h l = tt
-cut_off (Some following) left reach was is upload offset len bytes true cut h l = absurd (cc)
-cut_off (Some following) left reach was is upload offset len bytes false cut h l = (h, l)
+truncated None left reach was is upload offset len bytes is_whole cut h l = tt
+truncated (Some following) left reach was is upload offset len bytes true cut h l = absurd (cc)
+truncated (Some following) left reach was is upload offset len bytes false cut h l = (h, l)

@@ -37,22 +37,22 @@ plays reach old new [] turn command some is h = absurd (omega (arith, some))
 plays reach old new (b ∷ line) turn command some is h = subst (λ o. IsLinkedCommand reach old o turn new) is h
 
 pub nothing : (reach : Reach) (was : SessionState → Type 0) (line : List ℕ) (w1 w2 : Option (List ℕ)) → length line ≡ 0 → Appends w1 w2 [] → LineOver reach was was line w1 w2
-nothing reach was [] w1 w2 none wrote = record { turn = reported_as as_script skipped; goes = λ before stood. (before, (stood, (refl, (refl, refl)))); wrote = wrote }
+nothing reach was [] w1 w2 none wrote = record { turn = reported_as as_script skipped; goes = λ before session. (before, (session, (refl, (refl, refl)))); wrote = wrote }
 nothing reach was (b ∷ line) w1 w2 none wrote = absurd (omega (arith, none))
 
 pub no_command : (reach : Reach) (was : SessionState → Type 0) (line : List ℕ) (w1 w2 : Option (List ℕ)) → 0 < length line → None ≡ command_at line → Appends w1 w2 (codes "bad\n") → LineOver reach was was line w1 w2
-no_command reach was line w1 w2 some is wrote = record { turn = reported_as as_script bad; goes = λ before stood. (before, (stood, (refl, plays reach before before line bad None some is (refl, refl)))); wrote = wrote }
+no_command reach was line w1 w2 some is wrote = record { turn = reported_as as_script bad; goes = λ before session. (before, (session, (refl, plays reach before before line bad None some is (refl, refl)))); wrote = wrote }
 
 pub lost_part : (reach : Reach) (was : SessionState → Type 0) (line : List ℕ) (w1 w2 : Option (List ℕ)) → IsPutLine line → Appends w1 w2 (session_turn_text no_memory) → LineOver reach was was line w1 w2
-lost_part reach was line w1 w2 is wrote = record { turn = no_memory; goes = λ before stood. (before, (stood, (inr (inl is), refl))); wrote = wrote }
+lost_part reach was line w1 w2 is wrote = record { turn = no_memory; goes = λ before session. (before, (session, (inr (inl is), refl))); wrote = wrote }
 
 pub done : (reach : Reach) (was is : SessionState → Type 0) (line : List ℕ) (w1 w2 : Option (List ℕ)) (command : Command) (reply : Result Reply Refusal) → 0 < length line → Some (does command) ≡ command_at line → Took reach was is (change command) reply → Appends w1 w2 (answer_text reply)
     → LineOver reach was is line w1 w2
 done reach was is line w1 w2 command reply some is_read t wrote = record {
   turn = reported_as as_script (took (change command) reply);
-  goes = λ before stood.
+  goes = λ before session.
       let new = advance before t.found (change command) reply t.left in
-      (new, (t.stands before stood, (refl, plays reach before new line (took (change command) reply) (Some (does command)) some is_read (t.found, (t.linked before stood, ((refl, t.step), (refl, refl, refl)))))));
+      (new, (t.stands before session, (refl, plays reach before new line (took (change command) reply) (Some (does command)) some is_read (t.found, (t.linked before session, ((refl, t.step), (refl, refl, refl)))))));
   wrote = wrote;
 }
 
@@ -64,7 +64,7 @@ pub asked : (reach : Reach) (was is : SessionState → Type 0) (line : List ℕ)
     → ReportedOver was is (λ before turn after. IsLinkedAsk reach before question turn after) w1 w2 → LineOver reach was is line w1 w2
 asked reach was is line w1 w2 question some is_read t = record {
   turn = t.turn;
-  goes = λ before stood. let g = t.goes before stood in (g.0, (g.1.0, asked_turn reach before g.0 line question t.turn some is_read g.1.1));
+  goes = λ before session. let g = t.goes before session in (g.0, (g.1.0, asked_turn reach before g.0 line question t.turn some is_read g.1.1));
   wrote = t.wrote;
 }
 
@@ -72,7 +72,7 @@ pub put_line : (reach : Reach) (was is : SessionState → Type 0) (line text : L
     → AnsweredOver was is (λ before turn after. IsLinkedPut reach before upload offset bytes turn after) text → Appends w1 w2 text → LineOver reach was is line w1 w2
 put_line reach was is line text w1 w2 upload offset bytes some is_read a wrote = record {
   turn = reported_as as_script a.turn;
-  goes = λ before stood. let g = a.goes before stood in (g.0, (g.1.0, (refl, plays reach before g.0 line a.turn (Some (puts upload offset bytes)) some is_read g.1.1)));
+  goes = λ before session. let g = a.goes before session in (g.0, (g.1.0, (refl, plays reach before g.0 line a.turn (Some (puts upload offset bytes)) some is_read g.1.1)));
   wrote = subst (λ (t : List ℕ). Appends w1 w2 t) a.text_is wrote;
 }
 
@@ -82,7 +82,7 @@ pub lost_line : (reach : Reach) (was : SessionState → Type 0) (read : LineRead
 lost_line reach was read kept w1 w2 lost wrote = record {
   answers = λ whole h.
       let long : max_request ≤ length (strip_last 10 whole) = omega (arith, h.long lost, strip_shorter whole) in
-      record { turn = no_memory; goes = λ before stood. (before, (stood, (inl long, refl))); wrote = wrote };
+      record { turn = no_memory; goes = λ before session. (before, (session, (inl long, refl))); wrote = wrote };
 }
 
 pub long_line : (reach : Reach) (was : SessionState → Type 0) (read : LineRead) (kept : List ℕ) (w1 w2 : Option (List ℕ)) → 33554481 < read.count → Appends w1 w2 (codes "bad\n") → AnswersOver reach was was read kept w1 w2
@@ -106,7 +106,7 @@ pub replied : (reach : Reach) (was is : SessionState → Type 0) (question : Que
     → ReportedOver was is (λ before turn after. IsLinkedAsk reach before question turn after) w1 w2
 replied reach was is question reply w1 w2 t wrote = record {
   turn = reported_as as_script (took (ask question) reply);
-  goes = λ before stood. (advance before t.found (ask question) reply t.left, (t.stands before stood, (refl, (t.found, (t.linked before stood, ((refl, t.step), (refl, refl, refl)))))));
+  goes = λ before session. (advance before t.found (ask question) reply t.left, (t.stands before session, (refl, (t.found, (t.linked before session, ((refl, t.step), (refl, refl, refl)))))));
   wrote = wrote;
 }
 
@@ -114,7 +114,7 @@ pub fetched : (reach : Reach) (was is : SessionState → Type 0) (tenant : ℕ) 
     → ReportedOver was is (λ before turn after. IsLinkedQuestion reach (as_range range) before (questions.Fetch tenant address) turn after) w1 w2
 fetched reach was is tenant address bytes range w1 w2 t wrote = record {
   turn = reported_as (as_range range) (took (ask (questions.Fetch tenant address)) (Ok (the_bytes bytes)));
-  goes = λ before stood. (advance before t.found (ask (questions.Fetch tenant address)) (Ok (the_bytes bytes)) t.left, (t.stands before stood, (refl, (t.found, (t.linked before stood, ((refl, t.step), (refl, refl, refl)))))));
+  goes = λ before session. (advance before t.found (ask (questions.Fetch tenant address)) (Ok (the_bytes bytes)) t.left, (t.stands before session, (refl, (t.found, (t.linked before session, ((refl, t.step), (refl, refl, refl)))))));
   wrote = wrote;
 }
 
@@ -122,7 +122,7 @@ pub unfetched : (reach : Reach) (was is : SessionState → Type 0) (tenant : ℕ
     → ReportedOver was is (λ before turn after. IsLinkedQuestion reach (as_range range) before (questions.Fetch tenant address) turn after) w1 w2
 unfetched reach was is tenant address refusal range w1 w2 t wrote = record {
   turn = reported_as (as_range range) (took (ask (questions.Fetch tenant address)) (Err refusal));
-  goes = λ before stood. (advance before t.found (ask (questions.Fetch tenant address)) (Err refusal) t.left, (t.stands before stood, (refl, (t.found, (t.linked before stood, ((refl, t.step), (refl, refl, refl)))))));
+  goes = λ before session. (advance before t.found (ask (questions.Fetch tenant address)) (Err refusal) t.left, (t.stands before session, (refl, (t.found, (t.linked before session, ((refl, t.step), (refl, refl, refl)))))));
   wrote = wrote;
 }
 
@@ -133,21 +133,21 @@ given_entries reach was is range w1 w2 (gave_these these) =
     let t = these.took in
     record {
       turn = reported_as (as_entries range) (took (ask questions.Journal) (Ok (the_journal t.found.journal)));
-      goes = λ before stood. (at before t.found, (t.stands before stood, (refl, (t.found, (t.linked before stood, ((refl, (refl, refl)), (plus_none before.bytes, plus_none before.calls, sym (append-nil before.own))))))));
+      goes = λ before session. (at before t.found, (t.stands before session, (refl, (t.found, (t.linked before session, ((refl, (refl, refl)), (plus_none before.bytes, plus_none before.calls, sym (append-nil before.own))))))));
       wrote = subst (λ (es : List Entry). Appends w1 w2 (entries_text es)) t.entries_are these.wrote;
     }
-given_entries reach was is range w1 w2 (gave_none lacks k wrote) = record { turn = no_memory; goes = λ before stood. (before, (k.kept before stood, (lacks, refl))); wrote = wrote }
+given_entries reach was is range w1 w2 (gave_none lacks k wrote) = record { turn = no_memory; goes = λ before session. (before, (k.kept before session, (lacks, refl))); wrote = wrote }
 
 pub given_journal : (reach : Reach) (was is : SessionState → Type 0) (question : Question) (w1 w2 : Option (List ℕ)) → question ≡ questions.Journal → GaveEntries reach was is (record { from = 0; count = None }) w1 w2 → ReportedOver was is (λ before turn after. IsLinkedAsk reach before question turn after) w1 w2
 given_journal reach was is question w1 w2 is_read (gave_these these) =
     let t = these.took in
     let reported : ReportedOver was is (λ before turn after. IsLinkedAsk reach before questions.Journal turn after) w1 w2 = record {
       turn = reported_as as_script (took (ask questions.Journal) (Ok (the_journal t.found.journal)));
-      goes = λ before stood. (at before t.found, (t.stands before stood, (refl, (t.found, (t.linked before stood, ((refl, (refl, refl)), (plus_none before.bytes, plus_none before.calls, sym (append-nil before.own))))))));
+      goes = λ before session. (at before t.found, (t.stands before session, (refl, (t.found, (t.linked before session, ((refl, (refl, refl)), (plus_none before.bytes, plus_none before.calls, sym (append-nil before.own))))))));
       wrote = subst (λ (es : List Entry). Appends w1 w2 (entries_text es)) t.entries_are these.wrote;
     } in
     subst (λ (q : Question). ReportedOver was is (λ before turn after. IsLinkedAsk reach before q turn after) w1 w2) (sym is_read) reported
-given_journal reach was is question w1 w2 is_read (gave_none lacks k wrote) = record { turn = no_memory; goes = λ before stood. (before, (k.kept before stood, (lacks, is_read, refl))); wrote = wrote }
+given_journal reach was is question w1 w2 is_read (gave_none lacks k wrote) = record { turn = no_memory; goes = λ before session. (before, (k.kept before session, (lacks, is_read, refl))); wrote = wrote }
 
 pub reported_these : (given : Bool) (reach : Reach) (was is : SessionState → Type 0) (range : EntryRange) (w1 w2 : Option (List ℕ)) → given ≡ true → ReportedEntries reach was is given range w1 w2 → GaveEntries reach was is range w1 w2
 reported_these true reach was is range w1 w2 is_read h = gave_these h

@@ -25,7 +25,7 @@ served_put (Some following) left w1 w2 reach was is upload offset len got answer
       h2.1,
       record {
         turn = reported_as as_script a.turn;
-        goes = λ before stood. let g = a.goes before stood in (g.0, (g.1.0, (refl, g.1.1)));
+        goes = λ before session. let g = a.goes before session in (g.0, (g.1.0, (refl, g.1.1)));
         wrote = subst (λ (t : List ℕ). Appends w1 w2 t) a.text_is wrote;
       },
     )
@@ -42,8 +42,8 @@ served_script (Some following) w1 w2 reach was is read kept request same asks h 
           refl,
           record {
             turn = t.turn;
-            goes = λ before stood.
-                let g = t.goes before stood in
+            goes = λ before session.
+                let g = t.goes before session in
                 (g.0, (g.1.0, subst (λ (q : Option Request). IsLinkedRequest reach before q whole following t.turn g.0 following) none (g.1.1, refl)));
             wrote = t.wrote;
           },
@@ -74,7 +74,7 @@ served_by (Some following) w1 w2 reach was is request Is does t = record {
       refl,
       record {
         turn = t.turn;
-        goes = λ before stood. let g = t.goes before stood in (g.0, (g.1.0, does whole following before t.turn g.0 g.1.1));
+        goes = λ before session. let g = t.goes before session in (g.0, (g.1.0, does whole following before t.turn g.0 g.1.1));
         wrote = t.wrote;
       },
     ),
@@ -89,7 +89,7 @@ served_whole true following left w1 w2 reach was is upload offset len h whole = 
     h.1,
     record {
       turn = h.2.turn;
-      goes = λ before stood. let g = h.2.goes before stood in (g.0, (g.1.0, (g.1.1, h.0, refl)));
+      goes = λ before session. let g = h.2.goes before session in (g.0, (g.1.0, (g.1.1, h.0, refl)));
       wrote = h.2.wrote;
     },
   ),

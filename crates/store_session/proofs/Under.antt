@@ -35,26 +35,26 @@ text_more turns turn = flat_map-append session_turn_text turns (turn ∷ []) ∙
 
 pub begun : (reach : Reach) (was : SessionState → Type 0) (old w : Option (List ℕ)) → IfSome old (IsUnder reach was was old w w)
 begun reach was None w = tt
-begun reach was (Some input) w = record { rest = input; left = refl; turns = []; plays = λ start stood. (start, (stood, (refl, refl))); wrote = Appends-nil w }
+begun reach was (Some input) w = record { rest = input; left = refl; turns = []; plays = λ start session. (start, (session, (refl, refl))); wrote = Appends-nil w }
 
 answered : (reach : Reach) (was is : SessionState → Type 0) (now w1 w2 : Option (List ℕ)) (input : List ℕ) (h : IsUnder reach was is now w1 w2 input) → ServedOver reach was is input (flat_map session_turn_text h.turns) h.rest
 answered reach was is now w1 w2 input h = record {
   turns = h.turns;
-  plays = λ start stood. let p = h.plays start stood in (p.0, (p.1.1, (p.0.shown, p.1.0)));
+  plays = λ start session. let p = h.plays start session in (p.0, (p.1.1, (p.0.store, p.1.0)));
   text_is = refl;
 }
 
 answered_so_far : (reach : Reach) (was is : SessionState → Type 0) (now w1 w2 : Option (List ℕ)) (input : List ℕ) (h : IsUnder reach was is now w1 w2 input) → ServedOver reach was (λ _. Unit {0}) input (flat_map session_turn_text h.turns) h.rest
 answered_so_far reach was is now w1 w2 input h = record {
   turns = h.turns;
-  plays = λ start stood. let p = h.plays start stood in (p.0, (p.1.1, (p.0.shown, tt)));
+  plays = λ start session. let p = h.plays start session in (p.0, (p.1.1, (p.0.store, tt)));
   text_is = refl;
 }
 
 answered_cut : (reach : Reach) (was mid is : SessionState → Type 0) (now w1 w2 : Option (List ℕ)) (input : List ℕ) (h : IsUnder reach was mid now w1 w2 input) → Leaves mid is → ServedOver reach was is input (flat_map session_turn_text h.turns) h.rest
 answered_cut reach was mid is now w1 w2 input h l = record {
   turns = h.turns;
-  plays = λ start stood. let p = h.plays start stood in (p.0, (p.1.1, l.leaves p.0 p.1.0));
+  plays = λ start session. let p = h.plays start session in (p.0, (p.1.1, l.leaves p.0 p.1.0));
   text_is = refl;
 }
 
@@ -96,10 +96,10 @@ served_now reach was is now then left w1 w2 rest read kept is_whole at r drops s
     let served2 = subst (λ (o : Option (List ℕ)). IfSome o (λ following. ServesReadOver reach was is is_whole read kept following left w1 w2)) then_is served in
     served2.serves (take_through 10 rest) read2
 
-pub cut_off : (reach : Reach) (was mid is : SessionState → Type 0) (old now then left w1 w2 w3 : Option (List ℕ)) (read : LineRead) (kept : List ℕ) (is_whole : Bool) → is_whole ≡ false → IfSome old (IsUnder reach was mid now w1 w2)
+pub truncated : (reach : Reach) (was mid is : SessionState → Type 0) (old now then left w1 w2 w3 : Option (List ℕ)) (read : LineRead) (kept : List ℕ) (is_whole : Bool) → is_whole ≡ false → IfSome old (IsUnder reach was mid now w1 w2)
     → IfSome now (λ left. IsLineRead (take_through 10 left) read kept) → DropsThrough now then 10 → IfSome then (λ following. ServesReadOver reach mid is is_whole read kept following left w2 w3) → IfSome old (λ input. ServedAllOver reach was is input w1 w3 verdicts.Refused)
-cut_off reach was mid is None now then left w1 w2 w3 read kept is_whole none h r drops served = tt
-cut_off reach was mid is (Some input) now then left w1 w2 w3 read kept is_whole none h r drops served =
+truncated reach was mid is None now then left w1 w2 w3 read kept is_whole none h r drops served = tt
+truncated reach was mid is (Some input) now then left w1 w2 w3 read kept is_whole none h r drops served =
     let whole = take_through 10 h.rest in
     let following = drop_through 10 h.rest in
     let served1 = served_now reach mid is now then left w2 w3 h.rest read kept is_whole h.left r drops served in
@@ -128,8 +128,8 @@ turned reach was mid is (Some input) now then left w1 w2 w3 read kept is_whole a
       rest = rest;
       left = served2.1.0;
       turns = h.turns ++ t.turn ∷ [];
-      plays = λ start stood.
-          let p = h.plays start stood in
+      plays = λ start session.
+          let p = h.plays start session in
           let g = t.goes p.0 p.1.0 in
           (g.0, (g.1.0, more_play reach start p.0 g.0 input h.rest rest h.turns t.turn p.1.1 (some_left h.rest read kept read2 some, (λ needs. read2.ended (ended needs)), g.1.1)));
       wrote = subst (λ (x : List ℕ). Appends w1 w3 x) (sym (text_more h.turns t.turn)) (Appends-trans w1 w2 w3 (flat_map session_turn_text h.turns) (session_turn_text t.turn) h.wrote t.wrote);

@@ -3,7 +3,7 @@ use Rattle.std.specs.Prelude.{◌≡◌, ◌+◌, ◌++◌, ◌∷◌, [], ℕ, 
 use Rattle.std.specs.Io.KnownBytes.{Appends}
 use Rattle.store_books.specs.declared.refusal.Refusal.{Refusal}
 use Rattle.store_core.specs.Commands.{plan_in}
-use Rattle.store_core.specs.Model.{Shown}
+use Rattle.store_core.specs.Model.{ModelStore}
 use Rattle.store_core.specs.Runs.{Call, Reply, Step, ask, change, put}
 use Rattle.store_core.specs.Seen.{reply_of}
 use Rattle.store_core.specs.declared.reply.Reply.{Reply as CodeReply}
@@ -21,21 +21,21 @@ reply_alone reply = reply_of widest_start reply
 -- A session's access to its store: what a call may find after what the last one left, whether memory may be lacking for the journal's copy,
 -- and whether each of its lines must end with a newline, including the last.
 pub record Reach : Type 1 where
-  pub links : Shown → Shown → Type 0
+  pub links : ModelStore → ModelStore → Type 0
   pub lacks : Type 0
   pub needs_newline : Bool
 
 -- A state that a session may have left: the view of the store, the numbers of accepted bytes and calls of the session's own parts, and the
 -- numbers that the entries of its own accepted commands have in the journal.
 pub record SessionState : Type 0 where
-  pub shown : Shown
+  pub store : ModelStore
   pub bytes : ℕ
   pub calls : ℕ
   pub own : List ℕ
 
 -- the same account with another state of the store
-abbrev pub at : SessionState → Shown → SessionState
-at stood found = record { shown = found; bytes = stood.bytes; calls = stood.calls; own = stood.own }
+abbrev pub at : SessionState → ModelStore → SessionState
+at session found = record { store = found; bytes = session.bytes; calls = session.calls; own = session.own }
 
 -- what a step adds to the account: the bytes of an accepted part, and one call
 abbrev pub took_bytes : Call → Result Reply Refusal → ℕ
@@ -51,16 +51,16 @@ took_calls (put upload part) (Ok reply) = 1
 took_calls (put upload part) (Err refusal) = 0
 
 -- and the number of its entry, if it was accepted: as many entries were there before
-abbrev pub took_numbers : Shown → Call → Result Reply Refusal → List ℕ
+abbrev pub took_numbers : ModelStore → Call → Result Reply Refusal → List ℕ
 took_numbers found (change command) (Ok reply) = length found.journal ∷ []
 took_numbers found (change command) (Err refusal) = []
 took_numbers found (ask question) reply = []
 took_numbers found (put upload part) (Ok reply) = length found.journal ∷ []
 took_numbers found (put upload part) (Err refusal) = []
 
-abbrev pub advance : SessionState → Shown → Call → Result Reply Refusal → Shown → SessionState
+abbrev pub advance : SessionState → ModelStore → Call → Result Reply Refusal → ModelStore → SessionState
 advance before found call reply left = record {
-  shown = left;
+  store = left;
   bytes = before.bytes + took_bytes call reply;
   calls = before.calls + took_calls call reply;
   own = before.own ++ took_numbers found call reply;
@@ -69,23 +69,23 @@ advance before found call reply left = record {
 -- A call took one step of the model: from a state that was found, which is linked to each one that may have been left before, to one that
 -- is left, with what it added to the account.
 pub record Took (reach : Reach) (was is : SessionState → Type 0) (call : Call) (reply : Result Reply Refusal) : Type 0 where
-  pub found : Shown
-  pub left : Shown
-  pub linked : (before : SessionState) → was before → reach.links before.shown found
+  pub found : ModelStore
+  pub left : ModelStore
+  pub linked : (before : SessionState) → was before → reach.links before.store found
   pub step : Step found call reply left
   pub stands : (before : SessionState) → was before → is (advance before found call reply left)
 
 -- the same for a request of a plan
 pub record TookPlan (reach : Reach) (was is : SessionState → Type 0) (upload : ℕ) (plan : Result UploadPlan Refusal) : Type 0 where
-  pub found : Shown
-  pub linked : (before : SessionState) → was before → reach.links before.shown found
+  pub found : ModelStore
+  pub linked : (before : SessionState) → was before → reach.links before.store found
   pub plan_is : plan ≡ plan_in found.state upload
   pub stands : (before : SessionState) → was before → is (at before found)
 
 -- the same for a request of entries of the journal
 pub record TookEntries (reach : Reach) (was is : SessionState → Type 0) (range : EntryRange) (entries : List Entry) : Type 0 where
-  pub found : Shown
-  pub linked : (before : SessionState) → was before → reach.links before.shown found
+  pub found : ModelStore
+  pub linked : (before : SessionState) → was before → reach.links before.store found
   pub entries_are : entries ≡ entries_in range found.journal
   pub stands : (before : SessionState) → was before → is (at before found)
 
@@ -110,5 +110,5 @@ ReportedEntries reach was is false range old new = reach.lacks × Kept was is ×
 abbrev pub alone_reach : Reach
 alone_reach = record { links = λ left found. found ≡ left; lacks = ⊥; needs_newline = false }
 
-abbrev pub alone_stands : Shown → SessionState → Type 0
-alone_stands store stood = stood.shown ≡ store
+abbrev pub alone_stands : ModelStore → SessionState → Type 0
+alone_stands store session = session.store ≡ store

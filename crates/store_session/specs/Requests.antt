@@ -2,7 +2,7 @@
 use Rattle.std.specs.Prelude.{ℕ, List, Option, Some, None, if◌then◌else◌, codes, length, nat_lt}
 use Rattle.std.specs.Io.BufRead.{strip_last}
 use Rattle.std.specs.Str.{bytes_eq}
-use Rattle.edge.specs.Fields.{◌>>=◌, cut_at, number_at, space, three_numbers_at, two_numbers_at}
+use Rattle.edge.specs.Fields.{◌>>=◌, split_at, number_at, space, three_numbers_at, two_numbers_at}
 use Rattle.store_script.specs.Grammar.{address_of_digits, held_at}
 use Rattle.store_core.specs.declared.command.Question.TheVariants.{Holds, Tenants, Uploads}
 use Rattle.store_session.specs.Reads.{max_request}
@@ -26,9 +26,9 @@ fetch_of tenant field (Some cut) = do
 
 abbrev pub fetch_at : List ℕ → Option Request
 fetch_at fields = do
-  cut ← cut_at space fields
+  cut ← split_at space fields
   tenant ← number_at cut.0
-  fetch_of tenant cut.1 (cut_at space cut.1)
+  fetch_of tenant cut.1 (split_at space cut.1)
 
 abbrev pub holds_at : List ℕ → Option Request
 holds_at fields = do
@@ -51,7 +51,7 @@ entries_of fields (Some cut) = do
   Some (Entries (record { from = from; count = Some count }))
 
 abbrev pub entries_at : List ℕ → Option Request
-entries_at fields = entries_of fields (cut_at space fields)
+entries_at fields = entries_of fields (split_at space fields)
 
 -- the request of a word and the fields after it
 unfoldable pub request_of_kind : List ℕ → List ℕ → Option Request
@@ -64,13 +64,13 @@ request_of_kind kind fields =
     else None
 
 -- the request of a line that is split after its first word
-abbrev pub cut_request_at : List ℕ → Option (List ℕ × List ℕ) → Option Request
-cut_request_at line None = if bytes_eq line (codes "tenants") then Some (Asks Tenants) else None
-cut_request_at line (Some cut) = request_of_kind cut.0 cut.1
+abbrev pub split_request_at : List ℕ → Option (List ℕ × List ℕ) → Option Request
+split_request_at line None = if bytes_eq line (codes "tenants") then Some (Asks Tenants) else None
+split_request_at line (Some cut) = request_of_kind cut.0 cut.1
 
 -- the request of a line without its newline
 abbrev pub request_at : List ℕ → Option Request
-request_at line = cut_request_at line (cut_at space line)
+request_at line = split_request_at line (split_at space line)
 
 -- the request of a line with its newline, which may be missing on the last line; none for a line of a script
 abbrev pub request_in : List ℕ → Option Request

@@ -11,7 +11,7 @@ use Rattle.store_books.specs.declared.refusal.Refusal.{Refusal}
 use Rattle.store_books.specs.declared.refusal.Refusal.TheVariants as refusals
 use Rattle.store_core.specs.Carried.{IsCarried}
 use Rattle.store_core.specs.Commands.{plan_in}
-use Rattle.store_core.specs.Model.{Shown}
+use Rattle.store_core.specs.Model.{ModelStore}
 use Rattle.store_core.specs.Runs.{Call, Reply, Run, ask, the_bytes, the_journal}
 use Rattle.store_core.specs.declared.command.Question.{Question}
 use Rattle.store_core.specs.declared.command.Question.TheVariants as questions
@@ -83,7 +83,7 @@ abbrev pub MayTakeMemory : List ℕ → Type 0
 MayTakeMemory line = (max_request ≤ length line) ⊎ IsPutLine line
 
 -- a line of a script has the turn that it has there, unless an allocation fails for it
-abbrev pub IsTurnOfScriptLine : Shown → List ℕ → SessionTurn → Shown → Type 0
+abbrev pub IsTurnOfScriptLine : ModelStore → List ℕ → SessionTurn → ModelStore → Type 0
 IsTurnOfScriptLine old line no_memory new = MayTakeMemory line × (new ≡ old)
 IsTurnOfScriptLine old line (reported_as manner turn) new = (manner ≡ as_script) × script.IsTurnOf old line turn new
 
@@ -93,15 +93,15 @@ IsReportedAs manner Is no_memory = ⊥
 IsReportedAs manner Is (reported_as reported turn) = (reported ≡ manner) × Is turn
 
 -- a question, with its answer written in this manner
-abbrev pub IsTurnOfQuestion : Manner → Shown → Question → SessionTurn → Shown → Type 0
+abbrev pub IsTurnOfQuestion : Manner → ModelStore → Question → SessionTurn → ModelStore → Type 0
 IsTurnOfQuestion manner old question turn new = IsReportedAs manner (λ t. script.IsTurnOfStep old (ask question) t new) turn
 
 -- a part's bytes are put as a script puts them
-abbrev pub IsTurnOfBytes : Shown → ℕ → ℕ → List ℕ → SessionTurn → Shown → Type 0
+abbrev pub IsTurnOfBytes : ModelStore → ℕ → ℕ → List ℕ → SessionTurn → ModelStore → Type 0
 IsTurnOfBytes old upload offset bytes turn new = IsReportedAs as_script (λ t. IsTurnOfPut old upload offset bytes (plan_in old.state upload) t new) turn
 
 -- The turn of a line with this request, its effect, and the bytes that remain after it. A part takes its bytes, whatever its turn.
-abbrev pub IsTurnOfRequest : Shown → Option Request → List ℕ → List ℕ → SessionTurn → Shown → List ℕ → Type 0
+abbrev pub IsTurnOfRequest : ModelStore → Option Request → List ℕ → List ℕ → SessionTurn → ModelStore → List ℕ → Type 0
 IsTurnOfRequest old None whole following turn new rest = IsTurnOfScriptLine old (strip_last 10 whole) turn new × (rest ≡ following)
 IsTurnOfRequest old (Some (Put upload offset len)) whole following turn new rest = IsTurnOfBytes old upload offset (take len following) turn new × (len ≤ length following) × (rest ≡ drop len following)
 IsTurnOfRequest old (Some (Fetch wanted)) whole following turn new rest = IsTurnOfQuestion (as_range wanted.range) old (questions.Fetch wanted.tenant wanted.address) turn new × (rest ≡ following)
@@ -114,15 +114,15 @@ IsShort (Some (Put upload offset len)) following = length following < len
 IsShort _ following = ⊥
 
 -- the turn of the first line of the input
-abbrev pub IsTurnOfFirstLine : Shown → List ℕ → SessionTurn → Shown → List ℕ → Type 0
+abbrev pub IsTurnOfFirstLine : ModelStore → List ℕ → SessionTurn → ModelStore → List ℕ → Type 0
 IsTurnOfFirstLine old input turn new rest = (0 < length input) × IsTurnOfRequest old (request_in (take_through 10 input)) (take_through 10 input) (drop_through 10 input) turn new rest
 
 -- ---- a session
 
 -- lines in order, each with its turn, and the bytes that remain after them
-abbrev pub AreSessionTurns : Shown → List ℕ → List SessionTurn → Shown → List ℕ → Type 0
+abbrev pub AreSessionTurns : ModelStore → List ℕ → List SessionTurn → ModelStore → List ℕ → Type 0
 AreSessionTurns old input [] new rest = (new ≡ old) × (rest ≡ input)
-AreSessionTurns old input (turn ∷ turns) new rest = (mid : Shown) × (following : List ℕ) × IsTurnOfFirstLine old input turn mid following × AreSessionTurns mid following turns new rest
+AreSessionTurns old input (turn ∷ turns) new rest = (mid : ModelStore) × (following : List ℕ) × IsTurnOfFirstLine old input turn mid following × AreSessionTurns mid following turns new rest
 
 -- the steps among turns, and their replies
 abbrev pub session_calls : List SessionTurn → List Call
@@ -139,7 +139,7 @@ session_replies (reported_as manner turn ∷ turns) = script.replies_of (turn �
 -- steps among them are a run of the store, and the invariant of a store holds after it.
 pub record AreServed (input output rest : List ℕ) : Type 0 where
   pub turns : List SessionTurn
-  pub end : Shown
+  pub end : ModelStore
   pub plays : AreSessionTurns widest_start input turns end rest
   pub run : Run widest_start (session_calls turns) (session_replies turns) end
   pub law : IsCarried end
@@ -169,5 +169,5 @@ pub record ServedAll (input : List ℕ) (old new : Option (List ℕ)) (verdict :
 
 -- how an input splits into lines and bytes depends only on the input, and not on what is kept or on failed allocations
 abbrev pub FramesAlike : Type 0
-FramesAlike = (old new old2 new2 : Shown) (input : List ℕ) (turns turns2 : List SessionTurn) (rest rest2 : List ℕ)
+FramesAlike = (old new old2 new2 : ModelStore) (input : List ℕ) (turns turns2 : List SessionTurn) (rest rest2 : List ℕ)
     → AreSessionTurns old input turns new rest → AreSessionTurns old2 input turns2 new2 rest2 → length turns ≡ length turns2 → rest ≡ rest2

@@ -8,7 +8,7 @@ use Rattle.edge.specs.declared.outcome.Verdict.{Verdict}
 use Rattle.edge.specs.declared.outcome.Verdict.TheVariants as verdicts
 use Rattle.store_books.specs.declared.refusal.Refusal.{Refusal}
 use Rattle.store_core.specs.Commands.{plan_in}
-use Rattle.store_core.specs.Model.{Shown}
+use Rattle.store_core.specs.Model.{ModelStore}
 use Rattle.store_core.specs.Runs.{Call, ask, change, put}
 use Rattle.store_core.specs.declared.command.Question.{Question}
 use Rattle.store_core.specs.declared.command.Question.TheVariants as questions
@@ -38,16 +38,16 @@ turn_calls (took call reply) = took_calls call reply
 turn_calls _ = 0
 
 -- and its own entries by that of an accepted command
-abbrev pub turn_numbers : Shown → Turn → List ℕ
+abbrev pub turn_numbers : ModelStore → Turn → List ℕ
 turn_numbers found (took call reply) = took_numbers found call reply
 turn_numbers found _ = []
 
-abbrev pub IsCounted : SessionState → Shown → Turn → SessionState → Type 0
+abbrev pub IsCounted : SessionState → ModelStore → Turn → SessionState → Type 0
 IsCounted old found turn new = (new.bytes ≡ old.bytes + turn_bytes turn) × (new.calls ≡ old.calls + turn_calls turn) × (new.own ≡ old.own ++ turn_numbers found turn)
 
 -- one step from a state that is linked to what was left before
 abbrev pub IsLinkedStep : Reach → SessionState → Call → Turn → SessionState → Type 0
-IsLinkedStep reach old call turn new = (found : Shown) × (reach.links old.shown found × (IsTurnOfStep found call turn new.shown × IsCounted old found turn new))
+IsLinkedStep reach old call turn new = (found : ModelStore) × (reach.links old.store found × (IsTurnOfStep found call turn new.store × IsCounted old found turn new))
 
 -- A part is put in two steps: a plan is asked for, the part is made for it, and then it is put to the state that is found then.
 abbrev pub IsLinkedPart : Reach → SessionState → ℕ → ModelPrepared → Turn → SessionState → Type 0
@@ -60,11 +60,11 @@ IsLinkedMade reach first upload part (Some fault) turn new = (turn ≡ unmade fa
 IsLinkedMade reach first upload part None turn new = IsLinkedPart reach first upload part turn new
 
 abbrev pub IsLinkedPlan : Reach → SessionState → ℕ → ℕ → List ℕ → Result UploadPlan Refusal → Turn → SessionState → Type 0
-IsLinkedPlan reach first upload offset bytes (Err refusal) turn new = IsTurnOfStep first.shown (ask (questions.Plan upload)) turn new.shown × IsCounted first first.shown turn new
+IsLinkedPlan reach first upload offset bytes (Err refusal) turn new = IsTurnOfStep first.store (ask (questions.Plan upload)) turn new.store × IsCounted first first.store turn new
 IsLinkedPlan reach first upload offset bytes (Ok plan) turn new = IsLinkedMade reach first upload (planned plan offset bytes) (part_refusal plan offset (length bytes)) turn new
 
 abbrev pub IsLinkedPut : Reach → SessionState → ℕ → ℕ → List ℕ → Turn → SessionState → Type 0
-IsLinkedPut reach old upload offset bytes turn new = (first : Shown) × (reach.links old.shown first × IsLinkedPlan reach (at old first) upload offset bytes (plan_in first.state upload) turn new)
+IsLinkedPut reach old upload offset bytes turn new = (first : ModelStore) × (reach.links old.store first × IsLinkedPlan reach (at old first) upload offset bytes (plan_in first.state upload) turn new)
 
 abbrev pub IsLinkedCommand : Reach → SessionState → Option ScriptCommand → Turn → SessionState → Type 0
 IsLinkedCommand reach old None turn new = (turn ≡ bad) × (new ≡ old)
@@ -129,7 +129,7 @@ AreLinkedTurns reach old input (turn ∷ turns) new rest = (mid : SessionState) 
 -- lines of a prefix of the input were answered in order, whatever was left before the session; the account is the session's own in the end
 pub record ServedOver (reach : Reach) (was is : SessionState → Type 0) (input output rest : List ℕ) : Type 0 where
   pub turns : List SessionTurn
-  pub plays : (start : SessionState) → was start → (end : SessionState) × (AreLinkedTurns reach start input turns end rest × ((left : Shown) × is (at end left)))
+  pub plays : (start : SessionState) → was start → (end : SessionState) × (AreLinkedTurns reach start input turns end rest × ((left : ModelStore) × is (at end left)))
   pub text_is : output ≡ flat_map session_turn_text turns
 
 -- the writer grew by the answers to the lines of a prefix of the input

@@ -1,13 +1,13 @@
 //! Reading the request of a line.
 
 ghost use Rattle.std.specs.Prelude.{◌≡◌};
-ghost use Rattle.edge.specs.Fields.{cut_at};
+ghost use Rattle.edge.specs.Fields.{split_at};
 ghost use Rattle.store_script.specs.Grammar.{held_at};
 ghost use Rattle.store_session.specs.Requests.{entries_at, fetch_at, fetch_of, holds_at, raw_put_at, request_at, request_of_kind, uploads_at};
 ghost use Rattle.store_session.specs.inner.Requests.{AsksFor};
 
 use crate::reading::LineRead;
-use edge::{cut_at, number, three_numbers, two_numbers};
+use edge::{number, split_at, three_numbers, two_numbers};
 use store_core::{Address, Question, TenantId};
 use store_script::{address, number_and_address, without_end};
 
@@ -65,7 +65,7 @@ pub(crate) fn request_of(line: &[u8], read: LineRead) -> Option<Request>
 fn read_request(line: &[u8]) -> Option<Request>
     ensures { result ≡ request_at line.now }
 {
-    match cut_at(line, b' ') {
+    match split_at(line, b' ') {
         Some((kind, fields)) => request_of_kind(kind, fields),
         None if line == b"tenants".as_slice() => Some(Request::Asks(Question::Tenants)),
         None => None,
@@ -108,16 +108,16 @@ fn put(fields: &[u8]) -> Option<Request>
 fn fetch(fields: &[u8]) -> Option<Request>
     ensures { result ≡ fetch_at fields.now }
 {
-    let (tenant, field) = cut_at(fields, b' ')?;
+    let (tenant, field) = split_at(fields, b' ')?;
     let tenant = number(tenant)?;
     fetch_of(tenant, field)
 }
 
 fn fetch_of(tenant: u64, field: &[u8]) -> Option<Request>
-    ensures { result ≡ fetch_of tenant field.now (cut_at 32 field.now) }
+    ensures { result ≡ fetch_of tenant field.now (split_at 32 field.now) }
 {
     let tenant = TenantId::new(tenant);
-    match cut_at(field, b' ') {
+    match split_at(field, b' ') {
         None => {
             let address = address(field)?;
             Some(Request::Fetch(Wanted {
@@ -156,7 +156,7 @@ fn uploads(fields: &[u8]) -> Option<Request>
 fn entries(fields: &[u8]) -> Option<Request>
     ensures { result ≡ entries_at fields.now }
 {
-    let (from, count) = match cut_at(fields, b' ') {
+    let (from, count) = match split_at(fields, b' ') {
         None => (number(fields)?, None),
         Some((from, count)) => (number(from)?, Some(number(count)?)),
     };

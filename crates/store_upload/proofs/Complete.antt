@@ -3,7 +3,7 @@ use Rattle.std.proofs.Common.{◌≡◌, ◌∙◌, ◌+◌, ◌≤◌, ℕ, Lis
 use Rattle.std.specs.Prelude.{IsSome, is_some, nat_lt, option_map}
 use Rattle.std.proofs.lemmas.Bool.{cases_Bool, cases_eq, eq-eqb, ltb-false, ne_eqb}
 use Rattle.store_upload.specs.declared.refusal.FinishFault.TheVariants.{Incomplete, NotFixed}
-use Rattle.store_upload.specs.Uploads.{ArePlaced, IsUpload, Upload, end_of, finish_refusal, first_gap, first_missing, held_bytes, length_of}
+use Rattle.store_upload.specs.Uploads.{ArePlaced, IsUpload, ModelUpload, end_of, finish_refusal, first_gap, first_missing, held_bytes, length_of}
 use Rattle.store_upload.proofs.Places.{held-cons}
 
 module _ {P : Type 0} (len : P → ℕ) where
@@ -32,11 +32,11 @@ module _ {P : Type 0} (len : P → ℕ) where
   ]
 
   -- a complete upload has its end, and holds as many bytes as it is long
-  pub record IsWhole (u : Upload P) : Type 0 where
+  pub record IsWhole (u : ModelUpload P) : Type 0 where
     pub fixed : IsSome u.end
     pub held : held_bytes len u.parts ≡ length_of u
 
-  pub whole_is : (u : Upload P) → IsUpload len u → finish_refusal len u ≡ None → IsWhole u
+  pub whole_is : (u : ModelUpload P) → IsUpload len u → finish_refusal len u ≡ None → IsWhole u
   whole_is u lawful none = elim (cases_Bool (is_some u.end)) [
     | inr open_yet ↦ let bad : finish_refusal len u ≡ Some NotFixed = rw open_yet refl in let no = sym none ∙ bad in cc
     | inl fixed ↦

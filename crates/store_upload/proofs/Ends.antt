@@ -10,7 +10,7 @@ use Rattle.std.proofs.lemmas.Bool.Decides.{nat_tests}
 use Rattle.store_upload.specs.declared.refusal.AddFault.TheVariants.{Overlap, PastLast}
 use Rattle.store_upload.specs.declared.refusal.FixFault.TheVariants as fix
 use Rattle.store_upload.specs.inner.Places.{AreApart}
-use Rattle.store_upload.specs.Uploads.{ArePartsOfSome, ArePlaced, Fits, IsUpload, MayTake, Upload, UploadPlan, closed_plan, end_of, end_with, ends_elsewhere, first_end, fix_refusal, fixed_at, held_bytes, is_ragged, last_end, length_of, max_bytes, overlap_at, past_last, place_refusal, reached, with_more}
+use Rattle.store_upload.specs.Uploads.{ArePartsOfSome, ArePlaced, Fits, IsUpload, MayTake, ModelUpload, UploadPlan, closed_plan, end_of, end_with, ends_elsewhere, first_end, fix_refusal, fixed_at, held_bytes, is_ragged, last_end, length_of, max_bytes, overlap_at, past_last, place_refusal, reached, with_more}
 use Rattle.store_upload.proofs.Places.{IsWith, at, begins_behind, bytes_within, clear_parts, end-cons, ends_before, is_with, none_at, put-following, put-front}
 
 -- ---- tests
@@ -100,7 +100,7 @@ module _ {P : Type 0} (len : P → ℕ) where
 
   -- ---- an upload that holds nothing
 
-  abbrev pub upload_with : UploadPlan → Option ℕ → List (ℕ × P) → Upload P
+  abbrev pub upload_with : UploadPlan → Option ℕ → List (ℕ × P) → ModelUpload P
   upload_with plan end ps = record { plan = plan; end = end; parts = ps }
 
   pub nothing_held : (plan : UploadPlan) (ps : List (ℕ × P)) → plan.bound ≤ max_bytes → ps ≡ [] → IsUpload len (upload_with plan (first_end plan) ps)
@@ -117,11 +117,11 @@ module _ {P : Type 0} (len : P → ℕ) where
   -- ---- a part more
 
   -- bytes that are not refused
-  pub record IsFree (u : Upload P) (offset n : ℕ) : Type 0 where
+  pub record IsFree (u : ModelUpload P) (offset n : ℕ) : Type 0 where
     pub clear : overlap_at len offset n u.parts ≡ None
     pub last : past_last len u offset n ≡ None
 
-  pub free_is : (u : Upload P) (offset n : ℕ) → place_refusal len u offset n ≡ None → IsFree u offset n
+  pub free_is : (u : ModelUpload P) (offset n : ℕ) → place_refusal len u offset n ≡ None → IsFree u offset n
   free_is u offset n free = by (overlap_at len offset n u.parts) (past_last len u offset n) refl refl free
     where
       by : (o l : Option ℕ) → overlap_at len offset n u.parts ≡ o → past_last len u offset n ≡ l → option_or (option_map Overlap o) (option_map PastLast l) ≡ None → IsFree u offset n
@@ -130,7 +130,7 @@ module _ {P : Type 0} (len : P → ℕ) where
       by None None is is_last none = record { clear = is; last = is_last }
 
   -- what a part more leaves: a lawful upload, no longer than before
-  pub record Grows (u : Upload P) (offset : ℕ) (part : P) : Type 0 where
+  pub record Grows (u : ModelUpload P) (offset : ℕ) (part : P) : Type 0 where
     pub lawful : IsUpload len (with_more len u offset part)
     pub may : MayTake len u.parts offset part
     pub bytes : held_bytes len (insert_entry nat_cmp u.parts offset part) ≡ held_bytes len u.parts + len part
@@ -219,16 +219,16 @@ module _ {P : Type 0} (len : P → ℕ) where
   grows plan (Some e) ps offset part lawful free fits = grows_to_end plan e ps offset part lawful free fits
   grows plan None ps offset part lawful free fits = grows_to_part plan ps offset part lawful free fits
 
-  pub grown : (u : Upload P) (offset : ℕ) (part : P) → IsUpload len u → place_refusal len u offset (len part) ≡ None → Fits u.plan offset (len part) → Grows u offset part
+  pub grown : (u : ModelUpload P) (offset : ℕ) (part : P) → IsUpload len u → place_refusal len u offset (len part) ≡ None → Fits u.plan offset (len part) → Grows u offset part
   grown u offset part lawful free fits = grows u.plan u.end u.parts offset part lawful (free_is u offset (len part) free) fits
 
   -- no part begins where the first of some bytes may go
-  pub not_begun : (u : Upload P) (offset n : ℕ) → IsUpload len u → 0 < n → overlap_at len offset n u.parts ≡ None → at offset u.parts ≡ None
+  pub not_begun : (u : ModelUpload P) (offset n : ℕ) → IsUpload len u → 0 < n → overlap_at len offset n u.parts ≡ None → at offset u.parts ≡ None
   not_begun u offset n lawful some clear = none_at len offset 0 (length_of u) n u.parts (placed_apart (length_of u) 0 u.parts (omega arith) lawful.placed) some clear
 
   -- ---- an end
 
-  pub fixes : (u : Upload P) (n : ℕ) → IsUpload len u → fix_refusal len u n ≡ None → IsUpload len (fixed_at u n)
+  pub fixes : (u : ModelUpload P) (n : ℕ) → IsUpload len u → fix_refusal len u n ≡ None → IsUpload len (fixed_at u n)
   fixes u n lawful free = elim (cases_Bool (nat_lt u.plan.bound n)) [
     | inl long ↦ let wrong : fix_refusal len u n ≡ Some fix.TooLong = rw long refl in let bad = sym free ∙ wrong in cc
     | inr short ↦
@@ -250,7 +250,7 @@ module _ {P : Type 0} (len : P → ℕ) where
           }
 
   -- a fixed end is within the length
-  pub fixed_within : (u : Upload P) (n : ℕ) → IsUpload len u → fix_refusal len u n ≡ None → n ≤ length_of u
+  pub fixed_within : (u : ModelUpload P) (n : ℕ) → IsUpload len u → fix_refusal len u n ≡ None → n ≤ length_of u
   fixed_within u n lawful free = elim (cases_Bool (nat_lt u.plan.bound n)) [
     | inl long ↦ let wrong : fix_refusal len u n ≡ Some fix.TooLong = rw long refl in let bad = sym free ∙ wrong in cc
     | inr short ↦

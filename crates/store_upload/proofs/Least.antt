@@ -3,7 +3,7 @@ use Rattle.std.proofs.Common.{◌≡◌, ◌+◌, ◌<◌, ◌≤◌, ℕ, List,
 use Rattle.std.specs.Prelude.{IfNone, IfSome}
 use Rattle.std.proofs.lemmas.Bool.{and_parts, cases_Bool, cases_eq, cases_lt, le-ltb, lt-ltb, ltb-true}
 use Rattle.store_upload.specs.Laws.{IsFirstMissing, IsFirstOverlap, IsHeldAt, ReportsMissing, ReportsOverlap}
-use Rattle.store_upload.specs.Uploads.{ArePlaced, IsUpload, Upload, end_of, first_gap, first_missing, length_of, overlap_at, overlaps}
+use Rattle.store_upload.specs.Uploads.{ArePlaced, IsUpload, ModelUpload, end_of, first_gap, first_missing, length_of, overlap_at, overlaps}
 use Rattle.store_upload.proofs.Complete.{gap_here, gap_stops}
 use Rattle.store_upload.proofs.Places.{clear-step, over-step, over_from}
 
@@ -52,7 +52,7 @@ module _ {P : Type 0} (len : P → ℕ) where
         }
   ]
 
-  pub least_missing : (u : Upload P) → IsUpload len u → ReportsMissing len u
+  pub least_missing : (u : ModelUpload P) → IsUpload len u → ReportsMissing len u
   least_missing u lawful =
       let gap = gap_offset (length_of u) 0 u.parts (omega arith) lawful.placed in
       elim (cases_lt (first_gap len 0 u.parts) (length_of u)) [
@@ -117,7 +117,7 @@ module _ {P : Type 0} (len : P → ℕ) where
         none = tt;
       }
 
-  pub least_overlap : (u : Upload P) (offset n : ℕ) → IsUpload len u → 0 < n → ReportsOverlap len offset n u.parts
+  pub least_overlap : (u : ModelUpload P) (offset n : ℕ) → IsUpload len u → 0 < n → ReportsOverlap len offset n u.parts
   least_overlap u offset n lawful some =
       let reported = overlap_from (length_of u) 0 offset n u.parts lawful.placed some in
       record { some = reported.some; none = reported.none }

@@ -78,17 +78,17 @@ part_refusal plan offset n =
 -- ---- uploads
 
 -- an upload: its plan, its end once that is fixed, and the parts that it holds, by offset
-pub record Upload (P : Type 0) : Type 0 where
+pub record ModelUpload (P : Type 0) : Type 0 where
   pub plan : UploadPlan
   pub end : Option ℕ
   pub parts : List (ℕ × P)
 
 -- an upload of that plan that holds nothing
-abbrev pub new_upload : {P : Type 0} → UploadPlan → Upload P
+abbrev pub new_upload : {P : Type 0} → UploadPlan → ModelUpload P
 new_upload plan = record { plan = plan; end = first_end plan; parts = [] }
 
 -- an upload's length is its end if that is fixed, otherwise its bound
-abbrev pub length_of : {P : Type 0} → Upload P → ℕ
+abbrev pub length_of : {P : Type 0} → ModelUpload P → ℕ
 length_of u = unwrap_or u.end u.plan.bound
 
 -- the end of an upload that takes n more bytes: ragged ones fix the end
@@ -96,7 +96,7 @@ abbrev pub end_with : Option ℕ → ℕ → ℕ → Option ℕ
 end_with end offset n = option_or end (if is_ragged n then Some (offset + n) else None)
 
 -- the upload with its end
-abbrev pub fixed_at : {P : Type 0} → Upload P → ℕ → Upload P
+abbrev pub fixed_at : {P : Type 0} → ModelUpload P → ℕ → ModelUpload P
 fixed_at u n = record u { end = Some n }
 
 module _ {P : Type 0} (len : P → ℕ) where
@@ -114,7 +114,7 @@ module _ {P : Type 0} (len : P → ℕ) where
   last_end (p ∷ ps) = max (end_of p) (last_end ps)
 
   -- how far an upload extends: to its end if that is fixed, otherwise to the largest end of its parts
-  abbrev pub reached : Upload P → ℕ
+  abbrev pub reached : ModelUpload P → ℕ
   reached u = unwrap_or u.end (last_end u.parts)
 
   -- ---- adding a part
@@ -129,26 +129,26 @@ module _ {P : Type 0} (len : P → ℕ) where
   overlap_at offset n (p ∷ ps) = elim (overlaps offset n p) [ true ↦ Some (max offset p.0) | false ↦ overlap_at offset n ps ]
 
   -- how far the upload extends, if n bytes would end past its end, or would end it at another place
-  abbrev pub past_last : Upload P → ℕ → ℕ → Option ℕ
+  abbrev pub past_last : ModelUpload P → ℕ → ℕ → Option ℕ
   past_last u offset n =
       if (is_some u.end && nat_lt (reached u) (offset + n)) || (is_ragged n && nat_lt (offset + n) (reached u)) then Some (reached u) else None
 
   -- why an upload does not take n bytes that fit its plan: one of their offsets is held, or they are refused by past_last
-  abbrev pub place_refusal : Upload P → ℕ → ℕ → Option AddFault
+  abbrev pub place_refusal : ModelUpload P → ℕ → ℕ → Option AddFault
   place_refusal u offset n = option_or (option_map Overlap (overlap_at offset n u.parts)) (option_map PastLast (past_last u offset n))
 
   -- the upload with one more part
-  abbrev pub with_more : Upload P → ℕ → P → Upload P
+  abbrev pub with_more : ModelUpload P → ℕ → P → ModelUpload P
   with_more u offset part = record u { end = end_with u.end offset (len part); parts = insert_entry nat_cmp u.parts offset part }
 
   -- ---- the end
 
   -- whether an upload cannot end there: it has another end, or holds a part that ends after it
-  abbrev pub ends_elsewhere : Upload P → ℕ → Bool
+  abbrev pub ends_elsewhere : ModelUpload P → ℕ → Bool
   ends_elsewhere u n = if is_some u.end then not (n == reached u) else nat_lt n (reached u)
 
   -- why an end is not fixed
-  abbrev pub fix_refusal : Upload P → ℕ → Option FixFault
+  abbrev pub fix_refusal : ModelUpload P → ℕ → Option FixFault
   fix_refusal u n =
       if nat_lt u.plan.bound n then Some fix.TooLong
       else if ends_elsewhere u n then Some (fix.PastLast (reached u))
@@ -162,15 +162,15 @@ module _ {P : Type 0} (len : P → ℕ) where
   first_gap a (p ∷ ps) = elim (p.0 == a) [ true ↦ first_gap (end_of p) ps | false ↦ a ]
 
   -- the lowest offset below the upload's length that is not held
-  abbrev pub first_missing : Upload P → Option ℕ
+  abbrev pub first_missing : ModelUpload P → Option ℕ
   first_missing u = if nat_lt (first_gap 0 u.parts) (length_of u) then Some (first_gap 0 u.parts) else None
 
   -- why an upload is not complete
-  abbrev pub finish_refusal : Upload P → Option FinishFault
+  abbrev pub finish_refusal : ModelUpload P → Option FinishFault
   finish_refusal u = if is_some u.end then option_map Incomplete (first_missing u) else Some NotFixed
 
   -- the upload has its end, and every offset below it is held
-  abbrev pub IsComplete : Upload P → Type 0
+  abbrev pub IsComplete : ModelUpload P → Type 0
   IsComplete u = IsSome u.end × (first_missing u ≡ None)
 
   -- ---- invariants of an upload
@@ -182,7 +182,7 @@ module _ {P : Type 0} (len : P → ℕ) where
 
   -- a lawful upload: not above the maximum length, and with parts that fit, in order and disjoint; a closed plan fixes its end, and one
   -- without a fixed end holds only whole chunks
-  pub record IsUpload (u : Upload P) : Type 0 where
+  pub record IsUpload (u : ModelUpload P) : Type 0 where
     pub most : u.plan.bound ≤ max_bytes
     pub within : length_of u ≤ u.plan.bound
     pub placed : ArePlaced (length_of u) 0 u.parts

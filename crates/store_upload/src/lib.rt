@@ -1,10 +1,10 @@
 //! The rules of an upload: its plan, where parts may be, what is held and what is missing, and where it ends.
 //!
 //! - A `Plan` is the length of an upload, or its maximum length if the length is fixed later. `Plan::part_fault` says whether bytes fit it.
-//! - `Open` is an upload that is not closed yet: its plan, its end once that is fixed, and its parts. It knows only the offsets and the
+//! - `Upload` is an upload that is not closed yet: its plan, its end once that is fixed, and its parts. It knows only the offsets and the
 //!   lengths of parts. So the rules are the same for a store, whose parts have bytes, and for the replay of a journal, whose parts have
 //!   none.
-//! - `HeldParts` stores the parts of an `Open`, and `Length` is implemented by a part. An ordered map of lengths implements `HeldParts`.
+//! - `HeldParts` stores the parts of an `Upload`, and `Length` is implemented by a part. An ordered map of lengths implements `HeldParts`.
 //!
 //! In contracts an upload is a list of parts by offset (`specs/Uploads.antt`).
 #![tactic(auto)]
@@ -12,14 +12,14 @@
 mod held_parts;
 mod laws;
 mod length;
-mod open;
 mod parts;
 mod plan;
 mod refusal;
+mod upload;
 
 pub use held_parts::HeldParts;
 pub use laws::upload_laws;
 pub use length::Length;
-pub use open::Open;
 pub use plan::{CHUNK_LEN, MAX_BYTES, MAX_PART_BYTES, MAX_PART_CHUNKS, Plan, TooLong};
 pub use refusal::{AddFault, FinishFault, FixFault, PartFault};
+pub use upload::Upload;

@@ -7,7 +7,7 @@ use Rattle.b3_check.specs.declared.report.Shown.{Shown}
 use Rattle.edge.specs.declared.outcome.Cause.{Cause}
 use Rattle.edge.specs.declared.outcome.Cause.TheVariants.{CannotRead, CannotWrite, OutOfMemory}
 use Rattle.std.specs.Io.KnownBytes.{Appends}
-use Rattle.edge.specs.Output.{IsCutOff}
+use Rattle.edge.specs.Output.{IsTruncated}
 use Rattle.b3_check.specs.Reports.{Verdict, Answer, IsVerdictBy, IsRefusedFor, with_verdict, shown_line}
 
 -- ---- counts
@@ -32,5 +32,5 @@ pub record IsLineAsked {S : Type 0} (gives : S → List ℕ → Answer → S →
 -- what ended a report at a line
 abbrev pub IsLineEnded : {S : Type 0} → (S → List ℕ → Answer → S → Type 0) → Shown → S → ℕ → Result Line Fault → Cause → S → Option (List ℕ) → Option (List ℕ) → Type 0
 IsLineEnded gives shown old number line CannotRead new written grown = ⊥
-IsLineEnded gives shown old number line CannotWrite new written grown = (verdict : Verdict) × IsVerdictBy gives old number line verdict new × IsCutOff written grown (shown_line shown verdict)
+IsLineEnded gives shown old number line CannotWrite new written grown = (verdict : Verdict) × IsVerdictBy gives old number line verdict new × IsTruncated written grown (shown_line shown verdict)
 IsLineEnded gives shown old number line OutOfMemory new written grown = IsRefusedFor gives old line new × (grown ≡ written)

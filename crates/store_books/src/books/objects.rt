@@ -12,7 +12,7 @@ use crate::index::AddressIndex;
 use crate::refusal::Refusal;
 use crate::tenant::{Change, change_sums, tenant_of};
 use std::alloc::AllocError;
-use store_upload::{FinishFault, HeldParts, Open};
+use store_upload::{FinishFault, HeldParts, Upload};
 
 impl<H: HeldParts, O: Content, I: AddressIndex> Books<H, O, I> {
     /// Why the upload would not be sealed, before its content is read: S7, S16, S10.
@@ -57,7 +57,7 @@ impl<H: HeldParts, O: Content, I: AddressIndex> Books<H, O, I> {
     }
 
     /// Files the content of a complete upload, a new object, as the last one. Returns the upload.
-    pub fn seal_new(&mut self, number: u64, content: O) -> Result<Open<H>, AllocError>
+    pub fn seal_new(&mut self, number: u64, content: O) -> Result<Upload<H>, AllocError>
         requires ready { ready_refusal H.Part.len self.old number ≡ None }
         requires free { file_refusal O.size O.address self.old number (O.address content) ≡ None }
         requires new { object_at O.address self.old (O.address content) ≡ None }
@@ -87,7 +87,7 @@ impl<H: HeldParts, O: Content, I: AddressIndex> Books<H, O, I> {
     }
 
     /// Adds the tenant of a complete upload to the holders of the object at its content's address. Returns the upload.
-    pub fn seal_known(&mut self, number: u64, address: Address) -> Result<Open<H>, AllocError>
+    pub fn seal_known(&mut self, number: u64, address: Address) -> Result<Upload<H>, AllocError>
         requires ready { ready_refusal H.Part.len self.old number ≡ None }
         requires free { file_refusal O.size O.address self.old number address ≡ None }
         requires known { IsSome (object_at O.address self.old address) }

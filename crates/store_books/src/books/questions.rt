@@ -35,7 +35,7 @@ impl<H: HeldParts, O: Content, I: AddressIndex> Books<H, O, I> {
 
     /// A tenant's limit in bytes; `None` if there is no such tenant.
     pub fn limit(&self, tenant: u64) -> Option<u64>
-        ensures { result ≡ slice_get self.now.limits tenant }
+        ensures { result ≡ slice_get self.now.tenant_limits tenant }
     {
         self.tenants.get(tenant as usize).map(|found| found.limit)
     }

@@ -12,7 +12,7 @@ use crate::index::AddressIndex;
 use crate::refusal::Refusal;
 use crate::tenant::{Change, change_sums};
 use std::alloc::AllocError;
-use store_upload::{AddFault, FixFault, HeldParts, Length, MAX_BYTES, Open, Plan};
+use store_upload::{AddFault, FixFault, HeldParts, Length, MAX_BYTES, Plan, Upload};
 
 impl<H: HeldParts, O: Content, I: AddressIndex> Books<H, O, I> {
     /// Why an upload with that bound would not be begun: S1, S5, S6, S13.
@@ -40,7 +40,7 @@ impl<H: HeldParts, O: Content, I: AddressIndex> Books<H, O, I> {
         ensures unchanged { OnErr result (self.new ≡ self.old) }
     {
         let bound = plan.bound();
-        let begun = OwnedUpload::new(tenant, Open::new(self.alloc, plan));
+        let begun = OwnedUpload::new(tenant, Upload::new(self.alloc, plan));
         begun::begin(&mut self.uploads, self.begun, begun)?;
         let used = Change { less: 0, more: 0 };
         let reserved = Change {
@@ -140,7 +140,7 @@ impl<H: HeldParts, O: Content, I: AddressIndex> Books<H, O, I> {
     }
 
     /// Aborts an upload, and returns it.
-    pub fn abort(&mut self, number: u64) -> Open<H>
+    pub fn abort(&mut self, number: u64) -> Upload<H>
         requires { abort_refusal self.old number ≡ None }
         ensures freed { self.new ≡ without_upload self.old number }
         ensures given { IfSome (upload_at self.old number) (λ u. result ≡ u.upload) }

@@ -3,21 +3,21 @@ use Rattle.std.specs.Prelude.{◌≡◌, ℕ, Bool, List, Some, Ok, length}
 use Rattle.b3_core.specs.Modes.{hash_of}
 use Rattle.store_books.specs.Bare.{Bare}
 use Rattle.store_books.specs.Books.{object_at}
-use Rattle.store_core.specs.Model.{ModelObject, ModelStore, Shown}
+use Rattle.store_core.specs.Model.{ModelObject, ModelStoreBooks, ModelStore}
 use Rattle.store_journal.specs.Replay.{accepted_of, replay_of}
 use Rattle.store_ledger.specs.declared.holding.Holding.{Holding}
 use Rattle.store_engines.specs.Uploads.{uploaded_text, HasObject}
 
 -- an object of n bytes is filed at the address
-abbrev pub IsFiled : ModelStore → List ℕ → ℕ → Type 0
+abbrev pub IsFiled : ModelStoreBooks → List ℕ → ℕ → Type 0
 IsFiled s address n = (o : ModelObject) × (object_at hash_of s address ≡ Some o) × (length o.content ≡ n)
 
 -- What is written for a store with a filed upload: its journal is legal and results in an object at the address, and what it accepted is
 -- what the share says.
-pub record IsUploadReport (journal : Bool) (address : List ℕ) (share : Holding) (shown : Shown) (text : List ℕ) : Type 0 where
+pub record IsUploadReport (journal : Bool) (address : List ℕ) (share : Holding) (store : ModelStore) (text : List ℕ) : Type 0 where
   pub left : Bare
-  pub legal : replay_of shown.journal ≡ Ok left
+  pub legal : replay_of store.journal ≡ Ok left
   pub filed : HasObject left address share.bytes
-  pub bytes : (accepted_of shown.journal).bytes ≡ share.bytes
-  pub calls : (accepted_of shown.journal).calls ≡ share.calls
-  pub text_is : text ≡ uploaded_text journal address share.bytes share.calls shown.journal
+  pub bytes : (accepted_of store.journal).bytes ≡ share.bytes
+  pub calls : (accepted_of store.journal).calls ≡ share.calls
+  pub text_is : text ≡ uploaded_text journal address share.bytes share.calls store.journal

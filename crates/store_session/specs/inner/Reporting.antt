@@ -4,7 +4,7 @@ use Rattle.std.specs.Io.BufRead.{strip_last}
 use Rattle.std.specs.Io.KnownBytes.{Appends}
 use Rattle.store_books.specs.Refusals.{refusal_text}
 use Rattle.store_books.specs.declared.refusal.Refusal.TheVariants as refusals
-use Rattle.store_core.specs.Model.{Shown}
+use Rattle.store_core.specs.Model.{ModelStore}
 use Rattle.store_script.specs.Answers.{reported_text}
 use Rattle.store_script.specs.Script.{Turn, turn_text, widest_start}
 use Rattle.store_script.specs.Texts.{refused_text}
@@ -20,7 +20,7 @@ use Rattle.store_session.specs.Turns.{IsLinkedBytes, IsLinkedPut, IsLinkedReques
 
 -- nothing was added to the account
 pub record Leaves (was is : SessionState → Type 0) : Type 0 where
-  pub leaves : (before : SessionState) → was before → (left : Shown) × is (at before left)
+  pub leaves : (before : SessionState) → was before → (left : ModelStore) × is (at before left)
 
 -- a turn was answered: it is the turn for each state that may have been left before
 pub record ReportedOver (was is : SessionState → Type 0) (Is : SessionState → SessionTurn → SessionState → Type 0) (old new : Option (List ℕ)) : Type 0 where

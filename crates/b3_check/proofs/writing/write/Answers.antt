@@ -4,14 +4,14 @@ use Rattle.std.proofs.lemmas.List.{take_all}
 use Rattle.std.proofs.lemmas.Result.{err_from_is_err_and}
 use Rattle.b3_check.specs.declared.line.Line.{Line}
 use Rattle.b3_check.specs.Lines.{IsLawful, written_line}
-use Rattle.b3_check.proofs.CutOffs.{cut_within}
+use Rattle.b3_check.proofs.CutOffs.{truncated_within}
 use Rattle.b3_check.proofs.Written.{file_at-written_lines}
 use Rattle.b3_check.proofs.writing.write.Goals as goal
 
 pub returns-in_err-write_line-clause-failed : goal.returns-in_err-write_line-clause-failed
 returns-in_err-write_line-clause-failed g c =
     let p = err_from_is_err_and c.from_residual.result c.from_residual.ensures.1 in
-    rw (p.1) (cut_within written_line (g.W.Write.contents c.args.writer.now) (g.W.Write.contents c.loop-line.writer) (g.W.Write.contents c.write_line.new.writer) c.args.lines.now c.loop-line.line-index c.line-item.result
+    rw (p.1) (truncated_within written_line (g.W.Write.contents c.args.writer.now) (g.W.Write.contents c.loop-line.writer) (g.W.Write.contents c.write_line.new.writer) c.args.lines.now c.loop-line.line-index c.line-item.result
     c.loop-line-test.true c.line-item.is c.loop-line.invariant.written c.in_err-write_line.ensures.failed)
 
 pub returns-clause-read_back : goal.returns-clause-read_back

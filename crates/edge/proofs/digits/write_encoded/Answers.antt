@@ -4,8 +4,8 @@ use Rattle.hex.specs.Hex.{encode_lower, lower_digits}
 use Rattle.edge.proofs.Encoding.{digits_append, no_digits}
 use Rattle.edge.proofs.Joining.{appends_more, appends_none}
 use Rattle.std.proofs.lemmas.Result.{err_from_is_err_and}
-use Rattle.edge.specs.Output.{IsCutOff}
-use Rattle.edge.proofs.Output.{cut_between}
+use Rattle.edge.specs.Output.{IsTruncated}
+use Rattle.edge.proofs.Output.{split_between}
 use Rattle.edge.proofs.digits.write_encoded.Goals as goal
 
 pub loop-rest-init : goal.loop-rest-init
@@ -38,5 +38,5 @@ returns-in_err-write_piece-clause-failed g c =
     let text : encode_lower done ++ (encode_lower front ++ encode_lower following) ≡ encode_lower c.args.bytes.now =
     ap (λ w. encode_lower done ++ w) (sym (digits_append lower_digits front following)) ∙ sym (digits_append lower_digits done (front ++ following)) ∙ ap encode_lower (ap (λ w. done ++ w) (sym whole) ∙ sym is) in
     let p = err_from_is_err_and c.from_residual.result c.from_residual.ensures.1 in
-    rw (p.1) (subst (IsCutOff (g.W.Write.contents c.args.writer.now) (g.W.Write.contents c.write_piece.new.writer)) text
-    (cut_between (g.W.Write.contents c.args.writer.now) (g.W.Write.contents c.loop-rest.writer) (g.W.Write.contents c.write_piece.new.writer) (encode_lower done) (encode_lower front) (encode_lower following) wrote c.in_err-write_piece.ensures.failed))
+    rw (p.1) (subst (IsTruncated (g.W.Write.contents c.args.writer.now) (g.W.Write.contents c.write_piece.new.writer)) text
+    (split_between (g.W.Write.contents c.args.writer.now) (g.W.Write.contents c.loop-rest.writer) (g.W.Write.contents c.write_piece.new.writer) (encode_lower done) (encode_lower front) (encode_lower following) wrote c.in_err-write_piece.ensures.failed))

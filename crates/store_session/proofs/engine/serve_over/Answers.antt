@@ -4,7 +4,7 @@ use Rattle.edge.specs.declared.outcome.Cause.TheVariants as causes
 use Rattle.store_session.specs.Reads.{max_request}
 use Rattle.store_session.specs.inner.Reporting.{ServesReadOver}
 use Rattle.store_session.specs.Turns.{ServedSomeOver}
-use Rattle.store_session.proofs.Under.{at_end, begun, cut_off, stopped, turned, unended}
+use Rattle.store_session.proofs.Under.{at_end, begun, truncated, stopped, turned, unended}
 use Rattle.store_session.proofs.engine.serve_over.Goals as goal
 
 pub loop-init : goal.loop-init
@@ -36,7 +36,7 @@ returns-then-not-branch-clause-written g c =
     let none : c.in_ok-serve_line.field-0 ≡ false = search rules in
     let kept : c.as_slice.result.now ≡ c.read_line.new.line.items = search rules in
     let served = subst (λ (k : List ℕ). IfSome (g.R.Read.remaining c.read_line.new.reader) (λ following. ServesReadOver reach mid now c.in_ok-serve_line.field-0 c.in_ok-read.read k following (g.R.Read.remaining c.serve_line.new.reader) (g.W.Write.contents c.loop.writer) (g.W.Write.contents c.serve_line.new.writer))) kept c.in_ok-serve_line.ensures.served in
-    cut_off reach (g.A.Access.stands c.args.access.now) mid now (g.R.Read.remaining c.args.reader.now) (g.R.Read.remaining c.loop.reader) (g.R.Read.remaining c.read_line.new.reader) (g.R.Read.remaining c.serve_line.new.reader) (g.W.Write.contents c.args.writer.now) (g.W.Write.contents c.loop.writer) (g.W.Write.contents c.serve_line.new.writer)
+    truncated reach (g.A.Access.stands c.args.access.now) mid now (g.R.Read.remaining c.args.reader.now) (g.R.Read.remaining c.loop.reader) (g.R.Read.remaining c.read_line.new.reader) (g.R.Read.remaining c.serve_line.new.reader) (g.W.Write.contents c.args.writer.now) (g.W.Write.contents c.loop.writer) (g.W.Write.contents c.serve_line.new.writer)
     c.in_ok-read.read c.read_line.new.line.items c.in_ok-serve_line.field-0 none c.loop.invariant.0 c.in_ok-read.ensures.read c.in_ok-read.ensures.rest served
 
 pub returns-then-is_cut-clause-written : goal.returns-then-is_cut-clause-written

@@ -1,6 +1,6 @@
 use Rattle.std.proofs.Common.{◌≡◌, ◌∙◌, ◌-◌, ◌≤◌, arith, ap, refl, subst, sym}
 use Rattle.store_books.specs.declared.tenant.Tenant.{Tenant}
-use Rattle.store_books.specs.Books.{Books}
+use Rattle.store_books.specs.Books.{ModelBooks}
 use Rattle.store_books.specs.Kept.{books_of, tenant_at}
 use Rattle.store_books.proofs.Commands.{found_among}
 use Rattle.store_books.proofs.Sums.{count_is, tenant_is}
@@ -12,7 +12,7 @@ tenant_of-found-requires g c =
     let len = g.H.Part.Length.len in
     let size = g.O.Content.size in
     let address = g.O.Content.address in
-    let b : Books g.row.H-Part.Denot g.row.O.Denot = books_of old.limits old.tenants.items old.begun old.uploads.entries old.catalog.objects old.accepted in
+    let b : ModelBooks g.row.H-Part.Denot g.row.O.Denot = books_of old.limits old.tenants.items old.begun old.uploads.entries old.catalog.objects old.accepted in
     let u = c.in-Some.begun.now in
     let found = sym c.in-Some.ensures.value in
     let was = found_among len size address b c.args.number u found c.self.invariant.sound in
@@ -27,7 +27,7 @@ overflow_sub-free g c =
     let len = g.H.Part.Length.len in
     let size = g.O.Content.size in
     let address = g.O.Content.address in
-    let b : Books g.row.H-Part.Denot g.row.O.Denot = books_of old.limits old.tenants.items old.begun old.uploads.entries old.catalog.objects old.accepted in
+    let b : ModelBooks g.row.H-Part.Denot g.row.O.Denot = books_of old.limits old.tenants.items old.begun old.uploads.entries old.catalog.objects old.accepted in
     let u = c.in-Some.begun.now in
     let found = sym c.in-Some.ensures.value in
     let was = found_among len size address b c.args.number u found c.self.invariant.sound in
@@ -41,7 +41,7 @@ overflow_sub-free-2 g c =
     let len = g.H.Part.Length.len in
     let size = g.O.Content.size in
     let address = g.O.Content.address in
-    let b : Books g.row.H-Part.Denot g.row.O.Denot = books_of old.limits old.tenants.items old.begun old.uploads.entries old.catalog.objects old.accepted in
+    let b : ModelBooks g.row.H-Part.Denot g.row.O.Denot = books_of old.limits old.tenants.items old.begun old.uploads.entries old.catalog.objects old.accepted in
     let u = c.in-Some.begun.now in
     let found = sym c.in-Some.ensures.value in
     let was = found_among len size address b c.args.number u found c.self.invariant.sound in

@@ -2,7 +2,7 @@ use Rattle.std.proofs.Common.{◌≡◌, ◌∙◌, ◌+◌, ◌-◌, ℕ, None,
 use Rattle.std.specs.Prelude.{nat_le}
 use Rattle.std.proofs.lemmas.Bool.{leb-false}
 use Rattle.store_books.specs.declared.refusal.Refusal.TheVariants.{NoTenant}
-use Rattle.store_books.specs.Books.{Books, is_absent, is_held_by}
+use Rattle.store_books.specs.Books.{ModelBooks, is_absent, is_held_by}
 use Rattle.store_books.specs.inner.Catalog.{ModelCatalog}
 use Rattle.store_books.specs.Commands.{forget_refusal, full_refusal, holding_refusal, with_left}
 use Rattle.store_books.specs.Kept.{books_of}
@@ -18,15 +18,15 @@ change_sums-requires g c =
     let len = g.H.Part.Length.len in
     let size = g.O.Content.size in
     let address = g.O.Content.address in
-    let b : Books g.row.H-Part.Denot g.row.O.Denot = books_of old.limits old.tenants.items old.begun old.uploads.entries old.catalog.objects old.accepted in
+    let b : ModelBooks g.row.H-Part.Denot g.row.O.Denot = books_of old.limits old.tenants.items old.begun old.uploads.entries old.catalog.objects old.accepted in
     let t = c.args.tenant in
     let at = c.args.address in
     let k = c.in-Some.ensures.found in
     let o = k.object in
     let known = k.found in
-    let free = both (holding_refusal address b t at) (full_refusal b) (ap (λ (x : Books g.row.H-Part.Denot g.row.O.Denot). forget_refusal address x t at) c.self.view_is ∙ c.requires) in
+    let free = both (holding_refusal address b t at) (full_refusal b) (ap (λ (x : ModelBooks g.row.H-Part.Denot g.row.O.Denot). forget_refusal address x t at) c.self.view_is ∙ c.requires) in
     let all = passed (is_absent b t) NoTenant _ free.0 in
-    let there = leb-false (length b.limits) t all.0 in
+    let there = leb-false (length b.tenant_limits) t all.0 in
     let held = is_held (is_held_by t o) None (rw known at all.1) in
     let left = leaves len size address b t at o known c.self.invariant.sound (room b free.1) there held.0 in
     let next = with_left address b t at (Some o) in
@@ -39,15 +39,15 @@ overflow_sub-self g c =
     let len = g.H.Part.Length.len in
     let size = g.O.Content.size in
     let address = g.O.Content.address in
-    let b : Books g.row.H-Part.Denot g.row.O.Denot = books_of old.limits old.tenants.items old.begun old.uploads.entries old.catalog.objects old.accepted in
+    let b : ModelBooks g.row.H-Part.Denot g.row.O.Denot = books_of old.limits old.tenants.items old.begun old.uploads.entries old.catalog.objects old.accepted in
     let t = c.args.tenant in
     let at = c.args.address in
     let k = c.in-Some.ensures.found in
     let o = k.object in
     let known = k.found in
-    let free = both (holding_refusal address b t at) (full_refusal b) (ap (λ (x : Books g.row.H-Part.Denot g.row.O.Denot). forget_refusal address x t at) c.self.view_is ∙ c.requires) in
+    let free = both (holding_refusal address b t at) (full_refusal b) (ap (λ (x : ModelBooks g.row.H-Part.Denot g.row.O.Denot). forget_refusal address x t at) c.self.view_is ∙ c.requires) in
     let all = passed (is_absent b t) NoTenant _ free.0 in
-    let there = leb-false (length b.limits) t all.0 in
+    let there = leb-false (length b.tenant_limits) t all.0 in
     let held = is_held (is_held_by t o) None (rw known at all.1) in
     let left = leaves len size address b t at o known c.self.invariant.sound (room b free.1) there held.0 in
     let next = with_left address b t at (Some o) in
@@ -60,15 +60,15 @@ invariant_of-self g c =
     let len = g.H.Part.Length.len in
     let size = g.O.Content.size in
     let address = g.O.Content.address in
-    let b : Books g.row.H-Part.Denot g.row.O.Denot = books_of old.limits old.tenants.items old.begun old.uploads.entries old.catalog.objects old.accepted in
+    let b : ModelBooks g.row.H-Part.Denot g.row.O.Denot = books_of old.limits old.tenants.items old.begun old.uploads.entries old.catalog.objects old.accepted in
     let t = c.args.tenant in
     let at = c.args.address in
     let k = c.in-Some.ensures.found in
     let o = k.object in
     let known = k.found in
-    let free = both (holding_refusal address b t at) (full_refusal b) (ap (λ (x : Books g.row.H-Part.Denot g.row.O.Denot). forget_refusal address x t at) c.self.view_is ∙ c.requires) in
+    let free = both (holding_refusal address b t at) (full_refusal b) (ap (λ (x : ModelBooks g.row.H-Part.Denot g.row.O.Denot). forget_refusal address x t at) c.self.view_is ∙ c.requires) in
     let all = passed (is_absent b t) NoTenant _ free.0 in
-    let there = leb-false (length b.limits) t all.0 in
+    let there = leb-false (length b.tenant_limits) t all.0 in
     let held = is_held (is_held_by t o) None (rw known at all.1) in
     let left = leaves len size address b t at o known c.self.invariant.sound (room b free.1) there held.0 in
     let next = with_left address b t at (Some o) in

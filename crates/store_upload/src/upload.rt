@@ -15,18 +15,18 @@ use std::marker::Model;
 
 /// An upload that is not closed yet: its plan, its end once that is fixed, and the parts that it holds.
 #[derive(Drop)]
-pub struct Open<H: HeldParts> {
+pub struct Upload<H: HeldParts> {
     plan: Plan,
     end: Option<u64>,
     held: u64,
     parts: H,
 }
 
-impl<H: HeldParts> Model for Open<H> {
+impl<H: HeldParts> Model for Upload<H> {
     ghost use Rattle.std.specs.Prelude.{◌≡◌};
-    ghost use Rattle.store_upload.specs.Uploads.{IsUpload, Upload, held_bytes};
+    ghost use Rattle.store_upload.specs.Uploads.{IsUpload, ModelUpload, held_bytes};
 
-    ghost Value = { Upload H.Part };
+    ghost Value = { ModelUpload H.Part };
 
     ghost view = { λ u. record { plan = u.plan; end = u.end; parts = H.parts u.parts } };
 
@@ -34,15 +34,15 @@ impl<H: HeldParts> Model for Open<H> {
         × (u.held ≡ held_bytes H.Part.len (H.parts u.parts)) };
 }
 
-impl<H: HeldParts> Open<H> {
+impl<H: HeldParts> Upload<H> {
     /// An upload that holds nothing. Allocates nothing.
-    pub fn new(alloc: Global, plan: Plan) -> Open<H>
+    pub fn new(alloc: Global, plan: Plan) -> Upload<H>
         ensures { result ≡ new_upload plan }
     {
         // For the proof alone: the bound of a plan is at most 2^44.
         let _most = plan.bound();
         let end = plan.end();
-        Open {
+        Upload {
             plan,
             end,
             held: 0,
@@ -55,7 +55,7 @@ impl<H: HeldParts> Open<H> {
         ensures value { result ≡ self.now.plan }
         ensures lawful { IsUpload H.Part.len self.now }
     {
-        let Open { plan, .. } = self;
+        let Upload { plan, .. } = self;
         *plan
     }
 
@@ -63,7 +63,7 @@ impl<H: HeldParts> Open<H> {
     pub fn end(&self) -> Option<u64>
         ensures { result ≡ self.now.end }
     {
-        let Open { end, .. } = self;
+        let Upload { end, .. } = self;
         *end
     }
 
@@ -79,7 +79,7 @@ impl<H: HeldParts> Open<H> {
     pub fn held(&self) -> u64
         ensures { result ≡ held_bytes H.Part.len self.now.parts }
     {
-        let Open { held, .. } = self;
+        let Upload { held, .. } = self;
         *held
     }
 
@@ -103,7 +103,7 @@ impl<H: HeldParts> Open<H> {
     pub fn into_parts(self) -> H
         ensures { H.parts result ≡ self.parts }
     {
-        let Open { parts, .. } = self;
+        let Upload { parts, .. } = self;
         parts
     }
 
