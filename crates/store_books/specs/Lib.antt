@@ -1,5 +1,5 @@
 -- The definitions that a reader has to trust, each file after those it uses; inner has those that only proofs and private functions use.
-pub mod ModelBooks
+pub mod Books
 pub mod Commands
 pub mod Questions
 pub mod Refusals
