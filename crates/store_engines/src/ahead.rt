@@ -2,7 +2,7 @@
 
 ghost use Rattle.std.specs.Prelude.{◌≡◌, ◌<◌, All, IfErr, IfOk, IfSome};
 ghost use Rattle.b3_core.specs.Tree.{ModelMode};
-ghost use Rattle.store_engines.specs.Files.{IsKnown, IsSomeRoot};
+ghost use Rattle.store_engines.specs.Files.{IsNamedRoot, IsSomeRoot};
 
 use b3_check::{Name, NumberedLine};
 use b3_core::{Mode, Top, Work};
@@ -70,7 +70,7 @@ pub(crate) fn small_root(
 
 // Hashes the small files among the named ones, one after the other.
 fn hash_each(rt: &HostRuntime, mode: &Mode, names: &mut [NamedRoot], work: &mut Work)
-    ensures { All (IsKnown mode.now) names.new }
+    ensures { All (IsNamedRoot mode.now) names.new }
 {
     let mut room = Vec::new(rt.alloc());
     for i in 0..names.len() {
@@ -86,14 +86,14 @@ fn hash_known(
     room: &mut Vec<u8>,
     work: &mut Work,
 )
-    ensures { IsKnown mode.now known.new }
+    ensures { IsNamedRoot mode.now known.new }
 {
     known.root = small_root(rt, mode, known.name.as_slice(), room, work);
 }
 
 // Hashes the small files among the named ones on this thread.
 fn hash_run(rt: HostRuntime, mode: Mode, names: Vec<NamedRoot>, work: Work) -> Vec<NamedRoot>
-    ensures { All (IsKnown mode) result.items }
+    ensures { All (IsNamedRoot mode) result.items }
 {
     let mut known = names;
     let mut work = work;
@@ -106,7 +106,7 @@ fn hash_run(rt: HostRuntime, mode: Mode, names: Vec<NamedRoot>, work: Work) -> V
 struct KnownIn(Mode);
 
 impl Promise<Vec<NamedRoot>> for KnownIn {
-    ghost kept_by = { λ p r. All (IsKnown p.0) r.items };
+    ghost kept_by = { λ p r. All (IsNamedRoot p.0) r.items };
 }
 
 type Handle = PromisedHandle<Vec<NamedRoot>, KnownIn>;
@@ -120,7 +120,7 @@ fn start<T: Threads>(
     work: Work,
 ) -> Result<Handle, Vec<NamedRoot>>
     ensures started { IfOk result (λ h. h.promise.0 ≡ mode) }
-    ensures here { IfErr result (λ known. All (IsKnown mode) known.items) }
+    ensures here { IfErr result (λ known. All (IsNamedRoot mode) known.items) }
 {
     let rt = *rt;
     match thread::spawn_with(
@@ -135,7 +135,7 @@ fn start<T: Threads>(
 
 // What is known of some names, followed by what is known of others; the others are dropped if an allocation fails.
 fn joined(first: Vec<NamedRoot>, others: Vec<NamedRoot>) -> Vec<NamedRoot>
-    ensures { (mode : ModelMode) → All (IsKnown mode) first.items → All (IsKnown mode) others.items → All (IsKnown mode) result.items }
+    ensures { (mode : ModelMode) → All (IsNamedRoot mode) first.items → All (IsNamedRoot mode) others.items → All (IsNamedRoot mode) result.items }
 {
     let mut all = first;
     let mut others = others;
@@ -153,7 +153,7 @@ pub(crate) fn hash_runs<T: Threads>(
     names: Vec<NamedRoot>,
 ) -> Vec<NamedRoot>
     requires { 0 < size }
-    ensures { All (IsKnown mode) result.items }
+    ensures { All (IsNamedRoot mode) result.items }
 {
     let mut mine = names;
     if mine.len() <= size {

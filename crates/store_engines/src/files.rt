@@ -174,13 +174,13 @@ pub struct SystemFiles<'a, T> {
 
 impl<'a, T> Model for SystemFiles<'a, T> {
     ghost use Rattle.std.specs.Prelude.{All};
-    ghost use Rattle.store_engines.specs.Files.{IsKnown, Setting};
+    ghost use Rattle.store_engines.specs.Files.{IsNamedRoot, Setting};
 
     ghost Value = { Setting };
 
     ghost view = { λ f. record { mode = f.hasher.mode; threads = f.hasher.threads } };
 
-    ghost invariant = { λ f. All (IsKnown f.hasher.mode) f.known.items };
+    ghost invariant = { λ f. All (IsNamedRoot f.hasher.mode) f.known.items };
 }
 
 impl<'a, T: Threads + Runtime> SystemFiles<'a, T> {

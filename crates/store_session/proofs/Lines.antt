@@ -9,7 +9,7 @@ use Rattle.std.proofs.lemmas.Bool.{cases_lt, le-ltb, lt-ltb}
 use Rattle.std.proofs.lemmas.List.{length-take}
 use Rattle.edge.proofs.LineParts.{kept_more, nothing_added}
 use Rattle.store_session.specs.inner.Lines.{KeepsPart}
-use Rattle.store_session.specs.Reads.{IsEnded, max_request}
+use Rattle.store_session.specs.Reads.{HasNewline, max_request}
 use Rattle.store_session.specs.inner.Reads.{IsLineRead}
 use Rattle.store_session.specs.Requests.{request_at, request_in}
 use Rattle.store_session.specs.inner.Requests.{AsksFor}
@@ -39,33 +39,33 @@ positive len some = elim (cases_lt 0 len) [
 ]
 
 -- how a line ends, from its last part
-pub ended_by : (done part : List ℕ) (len : ℕ) → length part ≡ len → IsEmptyOrEndsWith part 10 → nat_lt 0 len ≡ true → IsEnded (done ++ part)
+pub ended_by : (done part : List ℕ) (len : ℕ) → length part ≡ len → IsEmptyOrEndsWith part 10 → nat_lt 0 len ≡ true → HasNewline (done ++ part)
 ended_by done part len is ends some =
     let more : 0 < length part = omega (arith, is, positive len some) in
     let at : length (done ++ part) - 1 ≡ length done + (length part - 1) = omega (arith, more, length-append done part) in
     (omega (arith, more, length-append done part), ap (λ n. slice_index (done ++ part) n) at ∙ get_or-append-add done part (length part - 1) 0 ∙ ends more)
 
-pub unended_by : (done part : List ℕ) (len : ℕ) → length part ≡ len → All (λ x. x ≢ 10) done → nat_lt 0 len ≡ false → IsEnded (done ++ part) → ⊥
+pub unended_by : (done part : List ℕ) (len : ℕ) → length part ≡ len → All (λ x. x ≢ 10) done → nat_lt 0 len ≡ false → HasNewline (done ++ part) → ⊥
 unended_by done [] len is free none h =
-    let whole : IsEnded done = subst IsEnded (append-nil done) h in
+    let whole : HasNewline done = subst HasNewline (append-nil done) h in
     free (length done - 1) 0 (omega (arith, whole.0)) whole.1
 unended_by done (b ∷ part) len is free none h = true≢false (sym (lt-ltb 0 len (omega (arith, is))) ∙ none)
 
-pub is_read : (got whole : List ℕ) (total : ℕ) (is_kept is_ended : Bool) (kept : List ℕ) → got ≡ whole → total ≡ u64_saturate (length got) → KeptSoFar is_kept kept got → (is_ended ≡ true → IsEnded got) → (is_ended ≡ false → IsEnded got → ⊥)
+pub is_read : (got whole : List ℕ) (total : ℕ) (is_kept is_ended : Bool) (kept : List ℕ) → got ≡ whole → total ≡ u64_saturate (length got) → KeptSoFar is_kept kept got → (is_ended ≡ true → HasNewline got) → (is_ended ≡ false → HasNewline got → ⊥)
     → IsLineRead whole (record { count = total; is_kept = is_kept; is_ended = is_ended }) kept
 is_read got whole total true is_ended kept same counted h ended unended = record {
   count_is = counted ∙ ap (λ l. u64_saturate (length l)) same;
   kept_is = λ _. h ∙ ap (take 33554481) same;
   long = λ lost. absurd (true≢false lost);
-  ended = λ e. subst IsEnded same (ended e);
-  unended = λ e k. unended e (subst IsEnded (sym same) k);
+  ended = λ e. subst HasNewline same (ended e);
+  unended = λ e k. unended e (subst HasNewline (sym same) k);
 }
 is_read got whole total false is_ended kept same counted h ended unended = record {
   count_is = counted ∙ ap (λ l. u64_saturate (length l)) same;
   kept_is = λ held. absurd (true≢false (sym held));
   long = λ _. omega (arith, h, ap length same);
-  ended = λ e. subst IsEnded same (ended e);
-  unended = λ e k. unended e (subst IsEnded (sym same) k);
+  ended = λ e. subst HasNewline same (ended e);
+  unended = λ e k. unended e (subst HasNewline (sym same) k);
 }
 
 -- a part of a line for which there is room, or none

@@ -10,7 +10,7 @@ use Rattle.store_core.specs.declared.reply.Reply.{Reply as CodeReply}
 use Rattle.store_journal.specs.declared.entry.Entry.{Entry}
 use Rattle.store_script.specs.Script.{widest_start}
 use Rattle.store_script.specs.Texts.{entries_text}
-use Rattle.store_session.specs.Session.{entries_in}
+use Rattle.store_session.specs.Session.{range_entries}
 use Rattle.store_session.specs.declared.request.EntryRange.{EntryRange}
 use Rattle.store_upload.specs.Uploads.{UploadPlan}
 
@@ -86,7 +86,7 @@ pub record TookPlan (reach : Reach) (was is : SessionState → Type 0) (upload :
 pub record TookEntries (reach : Reach) (was is : SessionState → Type 0) (range : EntryRange) (entries : List Entry) : Type 0 where
   pub found : ModelStore
   pub linked : (before : SessionState) → was before → reach.links before.store found
-  pub entries_are : entries ≡ entries_in range found.journal
+  pub entries_are : entries ≡ range_entries range found.journal
   pub stands : (before : SessionState) → was before → is (at before found)
 
 -- nothing was left that could not have been left before

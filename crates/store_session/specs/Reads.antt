@@ -6,5 +6,5 @@ abbrev pub max_request : ℕ
 max_request = 200
 
 -- a newline ends the line
-abbrev pub IsEnded : List ℕ → Type 0
-IsEnded line = (0 < length line) × (slice_index line (length line - 1) ≡ 10)
+abbrev pub HasNewline : List ℕ → Type 0
+HasNewline line = (0 < length line) × (slice_index line (length line - 1) ≡ 10)

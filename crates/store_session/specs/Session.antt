@@ -58,12 +58,12 @@ abbrev pub at_most : Option ℕ → List Entry → List Entry
 at_most None entries = entries
 at_most (Some count) entries = take count entries
 
-abbrev pub entries_in : EntryRange → List Entry → List Entry
-entries_in range entries = at_most range.count (drop range.from entries)
+abbrev pub range_entries : EntryRange → List Entry → List Entry
+range_entries range entries = at_most range.count (drop range.from entries)
 
-abbrev pub journal_text : EntryRange → Reply → List ℕ
-journal_text range (the_journal entries) = entries_text (entries_in range entries)
-journal_text range reply = reply_text reply
+abbrev pub journal_reply_text : EntryRange → Reply → List ℕ
+journal_reply_text range (the_journal entries) = entries_text (range_entries range entries)
+journal_reply_text range reply = reply_text reply
 
 -- a turn with its reply written like this
 abbrev pub reported_by : (Reply → List ℕ) → script.Turn → List ℕ
@@ -74,7 +74,7 @@ abbrev pub session_turn_text : SessionTurn → List ℕ
 session_turn_text no_memory = refused_text (refusal_text refusals.NoMemory)
 session_turn_text (reported_as as_script turn) = script.turn_text turn
 session_turn_text (reported_as (as_range range) turn) = reported_by (range_text range) turn
-session_turn_text (reported_as (as_entries range) turn) = reported_by (journal_text range) turn
+session_turn_text (reported_as (as_entries range) turn) = reported_by (journal_reply_text range) turn
 
 -- ---- one line
 

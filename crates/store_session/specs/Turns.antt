@@ -15,7 +15,7 @@ use Rattle.store_core.specs.declared.command.Question.TheVariants as questions
 use Rattle.store_script.specs.Grammar.{ScriptCommand, asks, command_at, does, puts}
 use Rattle.store_script.specs.Lines.{IsPutLine}
 use Rattle.store_script.specs.Script.{IsTurnOfStep, Turn, bad, skipped, took, unmade}
-use Rattle.store_session.specs.Reads.{IsEnded, max_request}
+use Rattle.store_session.specs.Reads.{HasNewline, max_request}
 use Rattle.store_session.specs.Requests.{request_in}
 use Rattle.store_session.specs.Session.{Ends, Manner, SessionTurn, as_entries, as_range, as_script, no_memory, session_turn_text, reported_as}
 use Rattle.store_session.specs.declared.request.EntryRange.{EntryRange}
@@ -42,12 +42,12 @@ abbrev pub turn_numbers : ModelStore → Turn → List ℕ
 turn_numbers found (took call reply) = took_numbers found call reply
 turn_numbers found _ = []
 
-abbrev pub IsCounted : SessionState → ModelStore → Turn → SessionState → Type 0
-IsCounted old found turn new = (new.bytes ≡ old.bytes + turn_bytes turn) × (new.calls ≡ old.calls + turn_calls turn) × (new.own ≡ old.own ++ turn_numbers found turn)
+abbrev pub IsCountedTurn : SessionState → ModelStore → Turn → SessionState → Type 0
+IsCountedTurn old found turn new = (new.bytes ≡ old.bytes + turn_bytes turn) × (new.calls ≡ old.calls + turn_calls turn) × (new.own ≡ old.own ++ turn_numbers found turn)
 
 -- one step from a state that is linked to what was left before
 abbrev pub IsLinkedStep : Reach → SessionState → Call → Turn → SessionState → Type 0
-IsLinkedStep reach old call turn new = (found : ModelStore) × (reach.links old.store found × (IsTurnOfStep found call turn new.store × IsCounted old found turn new))
+IsLinkedStep reach old call turn new = (found : ModelStore) × (reach.links old.store found × (IsTurnOfStep found call turn new.store × IsCountedTurn old found turn new))
 
 -- A part is put in two steps: a plan is asked for, the part is made for it, and then it is put to the state that is found then.
 abbrev pub IsLinkedPart : Reach → SessionState → ℕ → ModelPrepared → Turn → SessionState → Type 0
@@ -60,7 +60,7 @@ IsLinkedMade reach first upload part (Some fault) turn new = (turn ≡ unmade fa
 IsLinkedMade reach first upload part None turn new = IsLinkedPart reach first upload part turn new
 
 abbrev pub IsLinkedPlan : Reach → SessionState → ℕ → ℕ → List ℕ → Result UploadPlan Refusal → Turn → SessionState → Type 0
-IsLinkedPlan reach first upload offset bytes (Err refusal) turn new = IsTurnOfStep first.store (ask (questions.Plan upload)) turn new.store × IsCounted first first.store turn new
+IsLinkedPlan reach first upload offset bytes (Err refusal) turn new = IsTurnOfStep first.store (ask (questions.Plan upload)) turn new.store × IsCountedTurn first first.store turn new
 IsLinkedPlan reach first upload offset bytes (Ok plan) turn new = IsLinkedMade reach first upload (planned plan offset bytes) (part_refusal plan offset (length bytes)) turn new
 
 abbrev pub IsLinkedPut : Reach → SessionState → ℕ → ℕ → List ℕ → Turn → SessionState → Type 0
@@ -112,14 +112,14 @@ IsLinkedRequest reach old (Some (Asks question)) whole following turn new rest =
 IsLinkedRequest reach old (Some (Entries range)) whole following turn new rest = IsLinkedEntries reach range old turn new × (rest ≡ following)
 
 abbrev pub IsLinkedFirstLine : Reach → SessionState → List ℕ → SessionTurn → SessionState → List ℕ → Type 0
-IsLinkedFirstLine reach old input turn new rest = (0 < length input) × (reach.needs_newline ≡ true → IsEnded (take_through 10 input)) × IsLinkedRequest reach old (request_in (take_through 10 input)) (take_through 10 input) (drop_through 10 input) turn new rest
+IsLinkedFirstLine reach old input turn new rest = (0 < length input) × (reach.needs_newline ≡ true → HasNewline (take_through 10 input)) × IsLinkedRequest reach old (request_in (take_through 10 input)) (take_through 10 input) (drop_through 10 input) turn new rest
 
 -- ---- a session
 
 -- no bytes remain; or a part whose bytes are truncated, or a line without the newline that it needs
 abbrev pub EndsOver : Reach → Verdict → List ℕ → Type 0
 EndsOver reach verdicts.Good rest = rest ≡ []
-EndsOver reach verdicts.Refused rest = Ends verdicts.Refused rest ⊎ ((reach.needs_newline ≡ true) × (0 < length rest) × (IsEnded (take_through 10 rest) → ⊥))
+EndsOver reach verdicts.Refused rest = Ends verdicts.Refused rest ⊎ ((reach.needs_newline ≡ true) × (0 < length rest) × (HasNewline (take_through 10 rest) → ⊥))
 
 -- lines in order, each with its turn, from states that are linked to what was left before
 abbrev pub AreLinkedTurns : Reach → SessionState → List ℕ → List SessionTurn → SessionState → List ℕ → Type 0

@@ -3,7 +3,7 @@ use Rattle.std.specs.Prelude.{◌≡◌, ◌≤◌, ◌<◌, ℕ, Bool, true, fa
 use Rattle.std.specs.Io.Iter.{u64_saturate}
 use Rattle.std.specs.Io.KnownBytes.{Consumes, IsAtEnd}
 use Rattle.store_session.specs.declared.reading.LineRead.{LineRead}
-use Rattle.store_session.specs.Reads.{IsEnded, max_request}
+use Rattle.store_session.specs.Reads.{HasNewline, max_request}
 
 -- a line with its newline has `count` bytes, of which at most as many are kept as a command's line can have; they are dropped if an
 -- allocation fails for them, which cannot happen for short lines
@@ -11,8 +11,8 @@ pub record IsLineRead (whole : List ℕ) (read : LineRead) (kept : List ℕ) : T
   pub count_is : read.count ≡ u64_saturate (length whole)
   pub kept_is : read.is_kept ≡ true → kept ≡ take 33554481 whole
   pub long : read.is_kept ≡ false → max_request < length whole
-  pub ended : read.is_ended ≡ true → IsEnded whole
-  pub unended : read.is_ended ≡ false → IsEnded whole → ⊥
+  pub ended : read.is_ended ≡ true → HasNewline whole
+  pub unended : read.is_ended ≡ false → HasNewline whole → ⊥
 
 -- some of the remaining bytes were taken, at most `most`; none only at the end of the input
 abbrev pub TakesSome : Option (List ℕ) → Option (List ℕ) → ℕ → Option ℕ → List ℕ → Type 0
