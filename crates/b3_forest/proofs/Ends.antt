@@ -3,7 +3,7 @@ use Rattle.std.proofs.Common.{◌≡◌, ℕ, ◌+◌, ◌<◌, ◌≤◌, List,
 use Rattle.std.specs.Prelude.{◌≢◌, ◌==◌, Bool, if◌then◌else◌, max, not, option_map}
 use Rattle.std.proofs.lemmas.Bool.{cases_lt}
 use Rattle.std.proofs.lemmas.Bool.Decides.{nat_tests}
-use Rattle.store_upload.specs.Uploads.{ArePlaced, IsComplete, MayTake, ModelUpload, UploadPlan, end_of, finish_refusal, first_gap, first_missing, last_end, length_of, max_bytes, place_refusal, same_plan}
+use Rattle.store_upload.specs.Uploads.{ArePlaced, IsComplete, MayTake, ModelUpload, UploadPlan, end_of, finish_fault, first_gap, first_missing, last_end, length_of, max_bytes, place_fault, same_plan}
 use Rattle.std.specs.BTreeMap.{is_at}
 use Rattle.std.specs.Map.{lookup}
 use Rattle.std.specs.Option.{option_or}
@@ -14,7 +14,7 @@ use Rattle.b3_forest.specs.Parts.{HeldPart, Part, ModelPrepared, chunk_in, chunk
 use Rattle.b3_forest.specs.Subtrees.{AreHashed, Keeps, Subtrees}
 use Rattle.b3_forest.specs.inner.Subtrees.{AreWhole, HaveRoom}
 use Rattle.b3_forest.specs.Pieces.{piece_count, root_level}
-use Rattle.b3_forest.specs.Uploads.{add_refusal, pieces_held, with_part}
+use Rattle.b3_forest.specs.Uploads.{add_fault, pieces_held, with_part}
 use Rattle.b3_forest.specs.inner.Uploads.{overlap_at, past_last}
 use Rattle.b3_forest.proofs.Contents.{gap_follows, gap_here}
 use Rattle.b3_forest.proofs.Counts.{count_joined}
@@ -129,11 +129,11 @@ same_plan_is p q same =
 -- a part that is not refused was made for the upload's plan, and may go where it is
 pub record IsAllowed (u : ModelUpload (List ℕ)) (p : ModelPrepared) : Type 0 where
   pub plan : p.plan ≡ u.plan
-  pub free : place_refusal length u p.part.offset (length p.part.bytes) ≡ None
+  pub free : place_fault length u p.part.offset (length p.part.bytes) ≡ None
 
-pub allowed : (u : ModelUpload (List ℕ)) (p : ModelPrepared) → None ≡ add_refusal u p → IsAllowed u p
+pub allowed : (u : ModelUpload (List ℕ)) (p : ModelPrepared) → None ≡ add_fault u p → IsAllowed u p
 allowed u p free = elim (bool_cases (same_plan p.plan u.plan)) [
-  | inr other ↦ let wrong : add_refusal u p ≡ Some WrongPlan = rw other refl in let bad = free ∙ wrong in cc
+  | inr other ↦ let wrong : add_fault u p ≡ Some WrongPlan = rw other refl in let bad = free ∙ wrong in cc
   | inl same ↦ record { plan = same_plan_is p.plan u.plan same; free = sym (rw same refl) ∙ sym free }
 ]
 
@@ -142,7 +142,7 @@ no_overlap_of None l none = refl
 no_overlap_of (Some at) l none = cc
 
 -- the merges are no more than the pieces before and those of the part
-pub merges_most : (u : ModelUpload (List ℕ)) (p : ModelPrepared) → ArePlaced length (length_of u) 0 u.parts → 0 < length p.part.bytes → None ≡ add_refusal u p
+pub merges_most : (u : ModelUpload (List ℕ)) (p : ModelPrepared) → ArePlaced length (length_of u) 0 u.parts → 0 < length p.part.bytes → None ≡ add_fault u p
     → pieces_held (with_part p.part u.parts) ≤ pieces_held u.parts + piece_count (chunks_of p.part)
 merges_most u p placed some free =
     let apart = no_overlap_of (overlap_at p.part u.parts) (past_last u p.part) (allowed u p free).free in
@@ -173,20 +173,20 @@ all_held n ps placed all =
     let high = last_within n 0 ps placed in
     record { gap = omega (arith, low, high, all); end = omega (arith, low, high, all) }
 
-pub complete_is : (u : ModelUpload (List ℕ)) → None ≡ finish_refusal length u → IsComplete length u
+pub complete_is : (u : ModelUpload (List ℕ)) → None ≡ finish_fault length u → IsComplete length u
 complete_is u free = by u.end refl free
   where
-    by : (e : Option ℕ) → u.end ≡ e → None ≡ finish_refusal length u → IsComplete length u
-    by None is free = let fault : finish_refusal length u ≡ Some NotFixed = rw is refl in let bad = free ∙ fault in cc
+    by : (e : Option ℕ) → u.end ≡ e → None ≡ finish_fault length u → IsComplete length u
+    by None is free = let fault : finish_fault length u ≡ Some NotFixed = rw is refl in let bad = free ∙ fault in cc
     by (Some n) is free =
-        let missing : finish_refusal length u ≡ option_map Incomplete (first_missing length u) = rw is refl in
+        let missing : finish_fault length u ≡ option_map Incomplete (first_missing length u) = rw is refl in
         (rw is refl, none_of (first_missing length u) (free ∙ missing))
       where
         none_of : (o : Option ℕ) → None ≡ option_map Incomplete o → o ≡ None
         none_of None none = refl
         none_of (Some m) none = cc
 
-pub complete_all : (u : ModelUpload (List ℕ)) → ArePlaced length (length_of u) 0 u.parts → None ≡ finish_refusal length u → IsAll (length_of u) u.parts
+pub complete_all : (u : ModelUpload (List ℕ)) → ArePlaced length (length_of u) 0 u.parts → None ≡ finish_fault length u → IsAll (length_of u) u.parts
 complete_all u placed free =
     let none = (complete_is u free).1 in
     let n = length_of u in

@@ -3,7 +3,7 @@ use Rattle.std.specs.Prelude.{ℕ, ◌+◌, ◌-◌, ◌*◌, if◌then◌else�
 use Rattle.std.specs.Arc.{arc_value}
 use Rattle.std.specs.BTreeMap.{insert_entry}
 use Rattle.std.specs.Ordering.{nat_cmp}
-use Rattle.store_upload.specs.Uploads.{ModelUpload, place_refusal, same_plan}
+use Rattle.store_upload.specs.Uploads.{ModelUpload, place_fault, same_plan}
 use Rattle.store_upload.specs.Uploads as upload
 use Rattle.store_upload.specs.declared.refusal.AddFault.{AddFault}
 use Rattle.store_upload.specs.declared.refusal.AddFault.TheVariants.{WrongPlan}
@@ -18,8 +18,8 @@ part_of s = (s.offset, (arc_value s.bytes).items)
 -- ---- adding a part
 
 -- why a part is not added to an upload: it was made for another plan, or the upload does not accept it at its place
-abbrev pub add_refusal : ModelUpload (List ℕ) → ModelPrepared → Option AddFault
-add_refusal u p = if same_plan p.plan u.plan then place_refusal length u p.part.offset (length p.part.bytes) else Some WrongPlan
+abbrev pub add_fault : ModelUpload (List ℕ) → ModelPrepared → Option AddFault
+add_fault u p = if same_plan p.plan u.plan then place_fault length u p.part.offset (length p.part.bytes) else Some WrongPlan
 
 -- a part among others
 abbrev pub with_part : Part → List HeldPart → List HeldPart

@@ -4,11 +4,11 @@ ghost use Rattle.std.specs.Prelude.{◌≡◌, ◌≤◌, IfErr, IfOk, OnErr, On
 ghost use Rattle.b3_core.specs.Modes.{hash_mode};
 ghost use Rattle.b3_core.specs.Tree.{tree_top};
 ghost use Rattle.b3_core.specs.Work.{counted};
-ghost use Rattle.store_upload.specs.Uploads.{ArePlaced, IsComplete, IsUpload, finish_refusal, first_missing, fix_refusal, fixed_at, held_bytes, length_of, new_upload};
+ghost use Rattle.store_upload.specs.Uploads.{ArePlaced, IsComplete, IsUpload, finish_fault, first_missing, fix_fault, fixed_at, held_bytes, length_of, new_upload};
 ghost use Rattle.store_upload.specs.declared.refusal.AddFault.TheVariants.{NoMemory};
 ghost use Rattle.b3_forest.specs.Gaps.{gaps_of};
 ghost use Rattle.b3_forest.specs.Texts.{forest_text};
-ghost use Rattle.b3_forest.specs.Uploads.{add_refusal, content_of, finish_work, merges_of, part_of, put_work, with_more};
+ghost use Rattle.b3_forest.specs.Uploads.{add_fault, content_of, finish_work, merges_of, part_of, put_work, with_more};
 
 use crate::add_refused::AddRefused;
 use crate::gap::Gap;
@@ -83,7 +83,7 @@ impl Forest {
     /// F8, some offset of the part is held already; F12, the part ends past the upload's end, or its length is not a multiple of 1024 and
     /// it ends before the upload's end (if that is not fixed: before the end of the last part).
     pub fn refusal_of(&self, part: &Prepared) -> Option<AddFault>
-        ensures { result ≡ add_refusal self.now part.now }
+        ensures { result ≡ add_fault self.now part.now }
     {
         if !part.plan().is_same(&self.open.plan()) {
             return Some(AddFault::WrongPlan);
@@ -95,7 +95,7 @@ impl Forest {
     /// Why the upload's end would not be fixed at `len`. The first matching one of: F1, `len` exceeds the plan's bound; F12, the upload has
     /// another end, or holds a part that ends after `len`.
     pub fn fix_refusal_of(&self, len: u64) -> Option<FixFault>
-        ensures { result ≡ fix_refusal length self.now len }
+        ensures { result ≡ fix_fault length self.now len }
     {
         self.open.fix_fault(len)
     }
@@ -104,8 +104,8 @@ impl Forest {
     /// after `len`. Allocates nothing.
     pub fn fix(&mut self, len: u64) -> Result<(), FixFault>
         ensures fixed { OnOk result (self.new ≡ fixed_at self.old len) }
-        ensures allowed { OnOk result (fix_refusal length self.old len ≡ None) }
-        ensures fault { IfErr result (λ fault. fix_refusal length self.old len ≡ Some fault) }
+        ensures allowed { OnOk result (fix_fault length self.old len ≡ None) }
+        ensures fault { IfErr result (λ fault. fix_fault length self.old len ≡ Some fault) }
         ensures unchanged { OnErr result (self.new ≡ self.old) }
     {
         match self.open.fix_fault(len) {
@@ -125,10 +125,10 @@ impl Forest {
     /// before the upload's end (if that is not fixed: before the end of the last part). F9 if out of memory.
     pub fn add(&mut self, part: Prepared, work: &mut Work) -> Result<u64, AddRefused>
         ensures added { OnOk result (self.new ≡ with_more self.old part.part) }
-        ensures allowed { OnOk result (add_refusal self.old part ≡ None) }
+        ensures allowed { OnOk result (add_fault self.old part ≡ None) }
         ensures merges { IfOk result (λ n. n ≡ merges_of self.old.parts part.part) }
         ensures count { OnOk result (work.new ≡ counted work.old (put_work self.old.parts part.part)) }
-        ensures fault { IfErr result (λ r. r.fault ≡ unwrap_or (add_refusal self.old part) NoMemory) }
+        ensures fault { IfErr result (λ r. r.fault ≡ unwrap_or (add_fault self.old part) NoMemory) }
         ensures back { IfErr result (λ r. r.part ≡ part) }
         ensures unchanged { OnErr result (self.new ≡ self.old) }
         ensures uncounted { OnErr result (work.new ≡ work.old) }
@@ -195,7 +195,7 @@ impl Forest {
     /// The top of the tree over the whole content; F13 if the upload's end is not fixed, or F10 with the lowest offset that is not held. It
     /// makes two compressions for each piece after the first, and none if it is refused.
     pub fn finish(&self, work: &mut Work) -> Result<Top, FinishFault>
-        ensures fault { IfErr result (λ fault. finish_refusal length self.now ≡ Some fault) }
+        ensures fault { IfErr result (λ fault. finish_fault length self.now ≡ Some fault) }
         ensures complete { OnOk result (IsComplete length self.now) }
         ensures top { IfOk result (λ top. top ≡ tree_top (content_of self.now.parts) 0 hash_mode) }
         ensures len { OnOk result (length (content_of self.now.parts) ≡ length_of self.now) }
@@ -211,7 +211,7 @@ impl Forest {
 
 /// The top of the tree over the whole content of a complete upload. It makes two compressions for each piece after the first.
 pub fn top_of(upload: &Upload<HashedParts>, work: &mut Work) -> Top
-    requires { finish_refusal length upload.now ≡ None }
+    requires { finish_fault length upload.now ≡ None }
     ensures top { result ≡ tree_top (content_of upload.now.parts) 0 hash_mode }
     ensures len { length (content_of upload.now.parts) ≡ length_of upload.now }
     ensures count { work.new ≡ counted work.old (finish_work upload.now.parts) }

@@ -7,7 +7,7 @@ ghost use Rattle.b3_forest.specs.Lent.{lent_bytes};
 ghost use Rattle.b3_forest.specs.Parts.{chunks_of, planned};
 ghost use Rattle.b3_forest.specs.Pieces.{part_work, piece_count};
 ghost use Rattle.b3_forest.specs.Stretches.{IsRun, StandsAt};
-ghost use Rattle.store_upload.specs.Uploads.{part_refusal};
+ghost use Rattle.store_upload.specs.Uploads.{part_fault};
 
 use crate::prepared::Prepared;
 use crate::stretches::Stretches;
@@ -98,11 +98,11 @@ impl<'a> Lent<'a> {
     ) -> Result<Prepared, PartFault>
         requires { offset + len ≤ length (lent_bytes self) }
         ensures made { IfOk result (λ p. p ≡ planned plan.now offset (take len (drop offset (lent_bytes self.entry)))) }
-        ensures fits { OnOk result (part_refusal plan.now offset len ≡ None) }
-        ensures fault { IfErr result (λ fault. fault ≡ unwrap_or (part_refusal plan.now offset len) PartFault.NoMemory) }
+        ensures fits { OnOk result (part_fault plan.now offset len ≡ None) }
+        ensures fault { IfErr result (λ fault. fault ≡ unwrap_or (part_fault plan.now offset len) PartFault.NoMemory) }
         ensures count { OnOk result (work.new ≡ counted work.old (part_work len
             (piece_count (chunks_of (planned plan.now offset (take len (drop offset (lent_bytes self.entry)))).part)))) }
-        ensures uncounted { IfSome (part_refusal plan.now offset len) (λ _. work.new ≡ work.old) }
+        ensures uncounted { IfSome (part_fault plan.now offset len) (λ _. work.new ≡ work.old) }
         ensures never_falls { NeverFalls work.old work.new }
     {
         if let Some(fault) = plan.part_fault(offset, len as u64) {

@@ -3,7 +3,7 @@
 ghost use Rattle.std.specs.Prelude.{◌≡◌, ◌+◌, ◌≤◌, IfErr, IfOk, IfSome, OnOk, Some, length, unwrap_or, vec_len};
 ghost use Rattle.std.specs.Arc.{arc_value};
 ghost use Rattle.b3_core.specs.Work.{NeverFalls, counted};
-ghost use Rattle.store_upload.specs.Uploads.{Fits, max_bytes, part_refusal};
+ghost use Rattle.store_upload.specs.Uploads.{Fits, max_bytes, part_fault};
 ghost use Rattle.b3_forest.specs.Parts.{ModelPrepared, chunks_of, planned};
 ghost use Rattle.b3_forest.specs.Texts.{prepared_text};
 ghost use Rattle.b3_forest.specs.Pieces.{IsPrepared, part_work, piece_count, pieces_of, root_level};
@@ -53,12 +53,12 @@ impl Prepared {
         work: &mut Work,
     ) -> Result<Prepared, PartRefused>
         ensures made { IfOk result (λ p. p ≡ planned plan.now offset bytes.items) }
-        ensures fits { OnOk result (part_refusal plan.now offset (vec_len bytes) ≡ None) }
-        ensures fault { IfErr result (λ r. r.fault ≡ unwrap_or (part_refusal plan.now offset (vec_len bytes)) PartFault.NoMemory) }
+        ensures fits { OnOk result (part_fault plan.now offset (vec_len bytes) ≡ None) }
+        ensures fault { IfErr result (λ r. r.fault ≡ unwrap_or (part_fault plan.now offset (vec_len bytes)) PartFault.NoMemory) }
         ensures back { IfErr result (λ r. r.bytes.items ≡ bytes.items) }
         ensures count { OnOk result (work.new ≡ counted work.old (part_work (vec_len bytes)
             (piece_count (chunks_of (planned plan.now offset bytes.items).part)))) }
-        ensures uncounted { IfSome (part_refusal plan.now offset (vec_len bytes)) (λ _. work.new ≡ work.old) }
+        ensures uncounted { IfSome (part_fault plan.now offset (vec_len bytes)) (λ _. work.new ≡ work.old) }
         ensures never_falls { NeverFalls work.old work.new }
     {
         let pieces = match hashed(alloc, plan, offset, bytes.as_slice(), work) {
@@ -88,12 +88,12 @@ impl Prepared {
         work: &mut Work,
     ) -> Result<Prepared, ShareRefused>
         ensures made { IfOk result (λ p. p ≡ planned plan.now offset (arc_value bytes).items) }
-        ensures fits { OnOk result (part_refusal plan.now offset (vec_len (arc_value bytes)) ≡ None) }
-        ensures fault { IfErr result (λ r. r.fault ≡ unwrap_or (part_refusal plan.now offset (vec_len (arc_value bytes))) PartFault.NoMemory) }
+        ensures fits { OnOk result (part_fault plan.now offset (vec_len (arc_value bytes)) ≡ None) }
+        ensures fault { IfErr result (λ r. r.fault ≡ unwrap_or (part_fault plan.now offset (vec_len (arc_value bytes))) PartFault.NoMemory) }
         ensures back { IfErr result (λ r. (arc_value r.bytes).items ≡ (arc_value bytes).items) }
         ensures count { OnOk result (work.new ≡ counted work.old (part_work (vec_len (arc_value bytes))
             (piece_count (chunks_of (planned plan.now offset (arc_value bytes).items).part)))) }
-        ensures uncounted { IfSome (part_refusal plan.now offset (vec_len (arc_value bytes))) (λ _. work.new ≡ work.old) }
+        ensures uncounted { IfSome (part_fault plan.now offset (vec_len (arc_value bytes))) (λ _. work.new ≡ work.old) }
         ensures never_falls { NeverFalls work.old work.new }
     {
         match hashed(alloc, plan, offset, bytes.as_slice(), work) {
@@ -203,11 +203,11 @@ fn hashed(
     work: &mut Work,
 ) -> Result<Vec<Piece>, PartFault>
     ensures made { IfOk result (λ pieces. IsPrepared (planned plan.now offset bytes.now) pieces.items) }
-    ensures fits { OnOk result (part_refusal plan.now offset (length bytes.now) ≡ None) }
-    ensures fault { IfErr result (λ fault. fault ≡ unwrap_or (part_refusal plan.now offset (length bytes.now)) PartFault.NoMemory) }
+    ensures fits { OnOk result (part_fault plan.now offset (length bytes.now) ≡ None) }
+    ensures fault { IfErr result (λ fault. fault ≡ unwrap_or (part_fault plan.now offset (length bytes.now)) PartFault.NoMemory) }
     ensures count { OnOk result (work.new ≡ counted work.old (part_work (length bytes.now)
         (piece_count (chunks_of (planned plan.now offset bytes.now).part)))) }
-    ensures uncounted { IfSome (part_refusal plan.now offset (length bytes.now)) (λ _. work.new ≡ work.old) }
+    ensures uncounted { IfSome (part_fault plan.now offset (length bytes.now)) (λ _. work.new ≡ work.old) }
     ensures never_falls { NeverFalls work.old work.new }
 {
     if let Some(fault) = plan.part_fault(offset, bytes.len() as u64) {

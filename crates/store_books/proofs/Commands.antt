@@ -12,7 +12,7 @@ use Rattle.store_books.specs.declared.refusal.Refusal.TheVariants.{JournalFull, 
 use Rattle.store_books.specs.declared.tenant.Change.{Change}
 use Rattle.store_books.specs.Books.{AreSound, ModelOwnedUpload, ModelBooks, IsOwnedUpload, IsRisingFrom, held_bytes_of, in_use, is_absent, is_full, is_number, limit_of, parts_of, reserved_by, reserved_of, upload_at}
 use Rattle.store_books.specs.Commands.{add_refused, begin_refusal, fix_refused, full_refusal, with_begun, with_upload, without_upload}
-use Rattle.store_upload.specs.Uploads.{Fits, IsUpload, UploadPlan, first_end, fix_refusal, fixed_at, held_bytes, length_of, max_bytes, new_upload, place_refusal, with_more}
+use Rattle.store_upload.specs.Uploads.{Fits, IsUpload, UploadPlan, first_end, fix_fault, fixed_at, held_bytes, length_of, max_bytes, new_upload, place_fault, with_more}
 use Rattle.store_upload.proofs.Ends.{fixed_within, fixes, grown, nothing_held}
 use Rattle.store_upload.proofs.Places.{not_some}
 use Rattle.store_books.proofs.Lists.{all_found, all_push, all_removed, all_set, all_weaker, values_push}
@@ -221,9 +221,9 @@ module _ {P O : Type 0} (len : P → ℕ) (size : O → ℕ) (address : O → Li
     pub parts : parts_of (with_upload b number (record u { upload = with_more len u.upload offset part })) ≡ parts_of b + 1
 
   pub puts : (b : ModelBooks P O) (number offset : ℕ) (part : P) (u : ModelOwnedUpload P) → upload_at b number ≡ Some u → AreSound len size address b → Fits u.upload.plan offset (len part)
-      → option_or (option_map add_refused (place_refusal len u.upload offset (len part))) (full_refusal b) ≡ None → Puts b number offset part u
+      → option_or (option_map add_refused (place_fault len u.upload offset (len part))) (full_refusal b) ≡ None → Puts b number offset part u
   puts b number offset part u found sound fits free =
-      let both = neither add_refused (place_refusal len u.upload offset (len part)) (full_refusal b) free in
+      let both = neither add_refused (place_fault len u.upload offset (len part)) (full_refusal b) free in
       let was = found_among b number u found sound in
       let grow = grown len u.upload offset part was.1 both.0 fits in
       let w : ModelOwnedUpload P = record u { upload = with_more len u.upload offset part } in
@@ -232,10 +232,10 @@ module _ {P O : Type 0} (len : P → ℕ) (size : O → ℕ) (address : O → Li
       record { replaced = put; held = omega (arith, put.held, grow.bytes); parts = omega (arith, put.parts, grow.count) }
 
   -- an end is fixed
-  pub ends : (b : ModelBooks P O) (number n : ℕ) (u : ModelOwnedUpload P) → upload_at b number ≡ Some u → AreSound len size address b → option_or (option_map fix_refused (fix_refusal len u.upload n)) (full_refusal b) ≡ None
+  pub ends : (b : ModelBooks P O) (number n : ℕ) (u : ModelOwnedUpload P) → upload_at b number ≡ Some u → AreSound len size address b → option_or (option_map fix_refused (fix_fault len u.upload n)) (full_refusal b) ≡ None
       → Replaces b number u (record u { upload = fixed_at u.upload n })
   ends b number n u found sound free =
-      let both = neither fix_refused (fix_refusal len u.upload n) (full_refusal b) free in
+      let both = neither fix_refused (fix_fault len u.upload n) (full_refusal b) free in
       let was = found_among b number u found sound in
       let fixed = fixes len u.upload n was.1 both.0 in
       replaces b number u (record u { upload = fixed_at u.upload n }) found sound (room b both.1) refl fixed (fixed_within len u.upload n was.1 both.0) (omega arith) (omega arith)

@@ -19,7 +19,7 @@ use Rattle.store_upload.specs.declared.refusal.FixFault.{FixFault}
 use Rattle.store_upload.specs.declared.refusal.AddFault.TheVariants.{Overlap, PastLast}
 use Rattle.store_upload.specs.declared.refusal.FinishFault.TheVariants.{Incomplete, NotFixed}
 use Rattle.store_upload.specs.declared.refusal.FixFault.TheVariants as fix
-use Rattle.store_upload.specs.Uploads.{ModelUpload, finish_refusal, first_gap, fix_refusal, held_bytes, is_ragged, last_end, length_of, max_bytes, new_upload, overlap_at, overlaps, place_refusal, with_more}
+use Rattle.store_upload.specs.Uploads.{ModelUpload, finish_fault, first_gap, fix_fault, held_bytes, is_ragged, last_end, length_of, max_bytes, new_upload, overlap_at, overlaps, place_fault, with_more}
 use Rattle.store_books.specs.Books.{ModelOwnedUpload, ModelBooks, Filed, addressed, in_use, is_absent, is_held_by, is_number, limit_of, max_limit, object_among, object_at, reserved_by, reserved_of, totals_of, upload_at, use_by, use_of}
 use Rattle.store_books.specs.Commands.{add_refused, finish_refused, fix_refused, full_refusal, join_refusal, with_begun, with_end, with_holder, with_holders, with_known, with_left, with_new, with_part, without_holder}
 use Rattle.store_books.specs.Forgetting.{Forgets, SeesCommands, SeesRefusals, bare, bare_begun, bare_object, bare_upload, label_of}
@@ -78,7 +78,7 @@ module _ {P : Type 0} (len : P → ℕ) where
   place_by u offset n over last =
       option_or (option_map Overlap over) (option_map PastLast (if (is_some u.end && nat_lt (unwrap_or u.end last) (offset + n)) || (is_ragged n && nat_lt (offset + n) (unwrap_or u.end last)) then Some (unwrap_or u.end last) else None))
 
-  pub place_same : (u : ModelUpload P) (offset n : ℕ) → place_refusal as_it_is (bare_upload len u) offset n ≡ place_refusal len u offset n
+  pub place_same : (u : ModelUpload P) (offset n : ℕ) → place_fault as_it_is (bare_upload len u) offset n ≡ place_fault len u offset n
   place_same u offset n = ap₂ (place_by u offset n) (overlap_same offset n u.parts) (ends_same u.parts)
 
   pub more_same : (u : ModelUpload P) (offset : ℕ) (part : P) → bare_upload len (with_more len u offset part) ≡ with_more as_it_is (bare_upload len u) offset (len part)
@@ -90,13 +90,13 @@ module _ {P : Type 0} (len : P → ℕ) where
       else if (if is_some u.end then not (n == unwrap_or u.end last) else nat_lt n (unwrap_or u.end last)) then Some (fix.PastLast (unwrap_or u.end last))
       else None
 
-  pub fix_same : (u : ModelUpload P) (n : ℕ) → fix_refusal as_it_is (bare_upload len u) n ≡ fix_refusal len u n
+  pub fix_same : (u : ModelUpload P) (n : ℕ) → fix_fault as_it_is (bare_upload len u) n ≡ fix_fault len u n
   fix_same u n = ap (fix_by u n) (ends_same u.parts)
 
   abbrev finish_by : ModelUpload P → ℕ → Option FinishFault
   finish_by u gap = if is_some u.end then option_map Incomplete (if nat_lt gap (length_of u) then Some gap else None) else Some NotFixed
 
-  pub finish_same : (u : ModelUpload P) → finish_refusal as_it_is (bare_upload len u) ≡ finish_refusal len u
+  pub finish_same : (u : ModelUpload P) → finish_fault as_it_is (bare_upload len u) ≡ finish_fault len u
   finish_same u = ap (finish_by u) (gap_same 0 u.parts)
 
 -- ---- books
@@ -172,18 +172,18 @@ module _ {P O : Type 0} (len : P → ℕ) (size : O → ℕ) (address : O → Li
     limit = λ t limit. ap (limit_by b t limit) (in_use_same b t);
     begin = λ t n. ap (begin_by b t n) (in_use_same b t);
     put = λ number offset n.
-        let g : ModelOwnedUpload ℕ → Option Refusal = λ u. option_or (option_map add_refused (place_refusal as_it_is u.upload offset n)) (full_refusal b) in
-        let h : ModelOwnedUpload P → Option Refusal = λ u. option_or (option_map add_refused (place_refusal len u.upload offset n)) (full_refusal b) in
+        let g : ModelOwnedUpload ℕ → Option Refusal = λ u. option_or (option_map add_refused (place_fault as_it_is u.upload offset n)) (full_refusal b) in
+        let h : ModelOwnedUpload P → Option Refusal = λ u. option_or (option_map add_refused (place_fault len u.upload offset n)) (full_refusal b) in
         ap (λ (o : Option (ModelOwnedUpload ℕ)). option_map_or g o (Some NoUpload)) (upload_same b number)
         ∙ on_seen (bare_begun len) g h (λ u. ap (λ x. option_or (option_map add_refused x) (full_refusal b)) (place_same len u.upload offset n)) (upload_at b number);
     fix = λ number n.
-        let g : ModelOwnedUpload ℕ → Option Refusal = λ u. option_or (option_map fix_refused (fix_refusal as_it_is u.upload n)) (full_refusal b) in
-        let h : ModelOwnedUpload P → Option Refusal = λ u. option_or (option_map fix_refused (fix_refusal len u.upload n)) (full_refusal b) in
+        let g : ModelOwnedUpload ℕ → Option Refusal = λ u. option_or (option_map fix_refused (fix_fault as_it_is u.upload n)) (full_refusal b) in
+        let h : ModelOwnedUpload P → Option Refusal = λ u. option_or (option_map fix_refused (fix_fault len u.upload n)) (full_refusal b) in
         ap (λ (o : Option (ModelOwnedUpload ℕ)). option_map_or g o (Some NoUpload)) (upload_same b number)
         ∙ on_seen (bare_begun len) g h (λ u. ap (λ x. option_or (option_map fix_refused x) (full_refusal b)) (fix_same len u.upload n)) (upload_at b number);
     ready = λ number.
-        let g : ModelOwnedUpload ℕ → Option Refusal = λ u. option_map finish_refused (finish_refusal as_it_is u.upload) in
-        let h : ModelOwnedUpload P → Option Refusal = λ u. option_map finish_refused (finish_refusal len u.upload) in
+        let g : ModelOwnedUpload ℕ → Option Refusal = λ u. option_map finish_refused (finish_fault as_it_is u.upload) in
+        let h : ModelOwnedUpload P → Option Refusal = λ u. option_map finish_refused (finish_fault len u.upload) in
         ap (λ (o : Option (ModelOwnedUpload ℕ)). option_map_or g o (Some NoUpload)) (upload_same b number)
         ∙ on_seen (bare_begun len) g h (λ u. ap (option_map finish_refused) (finish_same len u.upload)) (upload_at b number);
     file = λ number at.

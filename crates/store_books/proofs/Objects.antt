@@ -10,7 +10,7 @@ use Rattle.store_books.specs.declared.refusal.Refusal.{Refusal}
 use Rattle.store_books.specs.declared.refusal.Refusal.TheVariants.{NotHeld}
 use Rattle.store_books.specs.Books.{AreSound, ModelOwnedUpload, ModelBooks, Filed, IsFiledAmong, IsRisingFrom, addressed, free_of, is_held_by, object_among, object_at, object_bytes_of, upload_at, use_by, use_of, held_bytes_of, parts_of}
 use Rattle.store_books.specs.Commands.{is_over, with_holder, with_holders, with_known, with_left, with_new, without_holder}
-use Rattle.store_upload.specs.Uploads.{finish_refusal, held_bytes, length_of}
+use Rattle.store_upload.specs.Uploads.{finish_fault, held_bytes, length_of}
 use Rattle.store_upload.proofs.Complete.{whole_is}
 use Rattle.store_upload.proofs.Places.{not_some}
 use Rattle.store_books.proofs.AddressedObjects.{apart_filed, apart_with, sum_with, weight, weight_some, weight_with}
@@ -87,7 +87,7 @@ module _ {P O : Type 0} (len : P → ℕ) (size : O → ℕ) (address : O → Li
     pub held : held_bytes_of len (with_new b number content (Some u)) + held_bytes len u.upload.parts ≡ held_bytes_of len b
     pub parts : parts_of (with_new b number content (Some u)) + length u.upload.parts ≡ parts_of b
 
-  pub files : (b : ModelBooks P O) (number : ℕ) (content : O) (u : ModelOwnedUpload P) → upload_at b number ≡ Some u → AreSound len size address b → b.accepted < b.max_entries → finish_refusal len u.upload ≡ None → object_at address b (address content) ≡ None
+  pub files : (b : ModelBooks P O) (number : ℕ) (content : O) (u : ModelOwnedUpload P) → upload_at b number ≡ Some u → AreSound len size address b → b.accepted < b.max_entries → finish_fault len u.upload ≡ None → object_at address b (address content) ≡ None
       → size content ≡ length_of u.upload → Files b number content u
   files b number content u found sound room ready absent long =
       let was = found_among len size address b number u found sound in

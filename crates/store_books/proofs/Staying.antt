@@ -9,7 +9,7 @@ use Rattle.store_books.specs.declared.refusal.Refusal.TheVariants.{LimitTooLarge
 use Rattle.store_books.specs.Books.{AreSound, ModelOwnedUpload, ModelBooks, Filed, IsOwnedUpload, IsFiledAmong, in_use, is_absent, is_held_by, max_limit, object_at, upload_at}
 use Rattle.store_books.specs.Commands.{add_refused, begin_refusal, finish_refused, fix_refused, full_refusal, holding_refusal, is_over, join_refusal, limit_refusal, with_begun, with_known, with_left, with_limit, with_new, with_part, with_end, without_upload}
 use Rattle.store_books.specs.Staying.{StaySound}
-use Rattle.store_upload.specs.Uploads.{Fits, UploadPlan, finish_refusal, fix_refusal, length_of, place_refusal}
+use Rattle.store_upload.specs.Uploads.{Fits, UploadPlan, finish_fault, fix_fault, length_of, place_fault}
 use Rattle.store_upload.proofs.Places.{not_some}
 use Rattle.store_books.proofs.Commands.{begins, both, ends, goes, none, none_mapped, passed, puts, rises, room}
 use Rattle.store_books.proofs.NewTenant.{all_tenants}
@@ -64,12 +64,12 @@ module _ {P O : Type 0} (len : P → ℕ) (size : O → ℕ) (address : O → Li
   begin_sound b t plan free old = sound_after len size address t none (rises plan.bound) b (with_begun b t plan) (begins len size address b t plan free old).moves old
 
   put_sound : (b : ModelBooks P O) (number offset : ℕ) (part : P) (found : Option (ModelOwnedUpload P)) → upload_at b number ≡ found → ((u : ModelOwnedUpload P) → found ≡ Some u → Fits u.upload.plan offset (len part))
-      → option_map_or (λ (u : ModelOwnedUpload P). option_or (option_map add_refused (place_refusal len u.upload offset (len part))) (full_refusal b)) found (Some NoUpload) ≡ None
+      → option_map_or (λ (u : ModelOwnedUpload P). option_or (option_map add_refused (place_fault len u.upload offset (len part))) (full_refusal b)) found (Some NoUpload) ≡ None
       → AreSound len size address b → AreSound len size address (with_part len b number offset part found)
   put_sound b number offset part None is fits free old = old
   put_sound b number offset part (Some u) is fits free old = sound_after len size address u.tenant none _ b (with_part len b number offset part (Some u)) (puts len size address b number offset part u is old (fits u refl) free).replaced.moves old
 
-  fix_sound : (b : ModelBooks P O) (number n : ℕ) (found : Option (ModelOwnedUpload P)) → upload_at b number ≡ found → option_map_or (λ (u : ModelOwnedUpload P). option_or (option_map fix_refused (fix_refusal len u.upload n)) (full_refusal b)) found (Some NoUpload) ≡ None
+  fix_sound : (b : ModelBooks P O) (number n : ℕ) (found : Option (ModelOwnedUpload P)) → upload_at b number ≡ found → option_map_or (λ (u : ModelOwnedUpload P). option_or (option_map fix_refused (fix_fault len u.upload n)) (full_refusal b)) found (Some NoUpload) ≡ None
       → AreSound len size address b → AreSound len size address (with_end b number n found)
   fix_sound b number n None is free old = old
   fix_sound b number n (Some u) is free old = sound_after len size address u.tenant none _ b (with_end b number n (Some u)) (ends len size address b number n u is old free).moves old
@@ -79,14 +79,14 @@ module _ {P O : Type 0} (len : P → ℕ) (size : O → ℕ) (address : O → Li
   abort_sound b number (Some u) is free old = sound_after len size address u.tenant none _ b (without_upload b number) (goes len size address b number u is old (room b free)).moves old
 
   new_sound : (b : ModelBooks P O) (number : ℕ) (content : O) (found : Option (ModelOwnedUpload P)) → upload_at b number ≡ found
-      → option_map_or (λ (u : ModelOwnedUpload P). option_map finish_refused (finish_refusal len u.upload)) found (Some NoUpload) ≡ None
+      → option_map_or (λ (u : ModelOwnedUpload P). option_map finish_refused (finish_fault len u.upload)) found (Some NoUpload) ≡ None
       → option_map_or (λ (u : ModelOwnedUpload P). join_refusal size address b u None) found (Some NoUpload) ≡ None
       → object_at address b (address content) ≡ None
       → ((u : ModelOwnedUpload P) → found ≡ Some u → size content ≡ length_of u.upload)
       → AreSound len size address b → AreSound len size address (with_new b number content found)
   new_sound b number content None is ready free absent long old = old
   new_sound b number content (Some u) is ready free absent long old =
-      sound_after len size address u.tenant _ _ b (with_new b number content (Some u)) (files len size address b number content u is old (room b free) (none_mapped finish_refused (finish_refusal len u.upload) ready) absent (long u refl)).moves old
+      sound_after len size address u.tenant _ _ b (with_new b number content (Some u)) (files len size address b number content u is old (room b free) (none_mapped finish_refused (finish_fault len u.upload) ready) absent (long u refl)).moves old
 
   known_sound : (b : ModelBooks P O) (number : ℕ) (at : List ℕ) (found : Option (ModelOwnedUpload P)) (known : Option (Filed O)) → upload_at b number ≡ found → object_at address b at ≡ known
       → option_map_or (λ (u : ModelOwnedUpload P). join_refusal size address b u known) found (Some NoUpload) ≡ None → AreSound len size address b → AreSound len size address (with_known address b number at found known)

@@ -11,7 +11,7 @@ use Rattle.store_upload.specs.declared.refusal.FinishFault.{FinishFault}
 use Rattle.store_upload.specs.declared.refusal.FinishFault.TheVariants as finish
 use Rattle.store_upload.specs.declared.refusal.FixFault.{FixFault}
 use Rattle.store_upload.specs.declared.refusal.FixFault.TheVariants as fix
-use Rattle.store_upload.specs.Uploads.{UploadPlan, finish_refusal, fix_refusal, fixed_at, length_of, max_bytes, new_upload, place_refusal, with_more}
+use Rattle.store_upload.specs.Uploads.{UploadPlan, finish_fault, fix_fault, fixed_at, length_of, max_bytes, new_upload, place_fault, with_more}
 use Rattle.store_books.specs.Books.{ModelOwnedUpload, ModelBooks, Filed, addressed, free_of, in_use, is_absent, is_full, is_held_by, is_number, limit_of, max_limit, object_at, upload_at}
 
 -- the store's refusals for those of an upload
@@ -102,7 +102,7 @@ module _ {P O : Type 0} where
 module _ {P O : Type 0} (len : P → ℕ) where
   -- of n bytes that fit the upload's plan
   abbrev pub put_refusal : ModelBooks P O → ℕ → ℕ → ℕ → Option Refusal
-  put_refusal b number offset n = on_upload b number (λ u. option_or (option_map add_refused (place_refusal len u.upload offset n)) (full_refusal b))
+  put_refusal b number offset n = on_upload b number (λ u. option_or (option_map add_refused (place_fault len u.upload offset n)) (full_refusal b))
 
   -- the part is added to the upload of the number
   abbrev pub with_part : ModelBooks P O → ℕ → ℕ → P → Option (ModelOwnedUpload P) → ModelBooks P O
@@ -112,14 +112,14 @@ module _ {P O : Type 0} (len : P → ℕ) where
   abbrev pub with_put : ModelBooks P O → ℕ → ℕ → P → ModelBooks P O
   with_put b number offset part = with_part b number offset part (upload_at b number)
 
-  abbrev pub end_refusal : ModelBooks P O → ℕ → ℕ → Option Refusal
-  end_refusal b number n = on_upload b number (λ u. option_or (option_map fix_refused (fix_refusal len u.upload n)) (full_refusal b))
+  abbrev pub fix_refusal : ModelBooks P O → ℕ → ℕ → Option Refusal
+  fix_refusal b number n = on_upload b number (λ u. option_or (option_map fix_refused (fix_fault len u.upload n)) (full_refusal b))
 
   -- ---- objects
 
   -- of a seal, before its content is read: the upload is not open, its end is not fixed, or it is not complete
   abbrev pub ready_refusal : ModelBooks P O → ℕ → Option Refusal
-  ready_refusal b number = on_upload b number (λ u. option_map finish_refused (finish_refusal len u.upload))
+  ready_refusal b number = on_upload b number (λ u. option_map finish_refused (finish_fault len u.upload))
 
 -- the tenant inserted among the holders, by number
 unfoldable pub with_holder : ℕ → List ℕ → List ℕ

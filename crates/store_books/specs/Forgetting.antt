@@ -2,7 +2,7 @@
 use Rattle.std.specs.Prelude.{◌≡◌, ℕ, List, map}
 use Rattle.store_books.specs.declared.content.ObjectLabel.{ObjectLabel}
 use Rattle.store_books.specs.Books.{ModelOwnedUpload, ModelBooks, Filed, totals_of}
-use Rattle.store_books.specs.Commands.{abort_refusal, begin_refusal, end_refusal, file_refusal, forget_refusal, limit_refusal, put_refusal, ready_refusal, tenant_refusal, with_begun, with_filed, with_fixed, with_forgotten, with_joined, with_limit, with_put, with_tenant, without_upload}
+use Rattle.store_books.specs.Commands.{abort_refusal, begin_refusal, fix_refusal, file_refusal, forget_refusal, limit_refusal, put_refusal, ready_refusal, tenant_refusal, with_begun, with_filed, with_fixed, with_forgotten, with_joined, with_limit, with_put, with_tenant, without_upload}
 use Rattle.store_books.specs.Bare.{Bare, as_it_is, label_address, label_len}
 use Rattle.store_upload.specs.Uploads.{ModelUpload, UploadPlan}
 
@@ -39,7 +39,7 @@ module _ {P O : Type 0} (len : P → ℕ) (size : O → ℕ) (address : O → Li
     pub limit : (tenant limit : ℕ) → limit_refusal label_len (bare b) tenant limit ≡ limit_refusal size b tenant limit
     pub begin : (tenant bound : ℕ) → begin_refusal label_len (bare b) tenant bound ≡ begin_refusal size b tenant bound
     pub put : (number offset n : ℕ) → put_refusal as_it_is (bare b) number offset n ≡ put_refusal len b number offset n
-    pub fix : (number n : ℕ) → end_refusal as_it_is (bare b) number n ≡ end_refusal len b number n
+    pub fix : (number n : ℕ) → fix_refusal as_it_is (bare b) number n ≡ fix_refusal len b number n
     pub ready : (number : ℕ) → ready_refusal as_it_is (bare b) number ≡ ready_refusal len b number
     pub file : (number : ℕ) (at : List ℕ) → file_refusal label_len label_address (bare b) number at ≡ file_refusal size address b number at
     pub abort : (number : ℕ) → abort_refusal (bare b) number ≡ abort_refusal b number

@@ -4,7 +4,7 @@ ghost use Rattle.std.specs.Prelude.{◌≡◌, ◌<◌, ◌∷◌, ◌++◌, [],
 ghost use Rattle.std.specs.List.{AllByRecursion};
 ghost use Rattle.std.specs.Map.{lookup, remove_entry, set_value};
 ghost use Rattle.store_books.specs.Books.{ModelOwnedUpload, is_number};
-ghost use Rattle.store_upload.specs.Uploads.{Fits, IsUpload, fix_refusal, fixed_at, length_of, place_refusal, with_more};
+ghost use Rattle.store_upload.specs.Uploads.{Fits, IsUpload, fix_fault, fixed_at, length_of, place_fault, with_more};
 
 use std::alloc::AllocError;
 use std::collections::BTreeMap;
@@ -59,7 +59,7 @@ impl<H: HeldParts> OwnedUpload<H> {
     // Adds a part to the upload. Returns the upload's length afterwards.
     fn put(&mut self, part: H::Given, work: &mut H::Work) -> Result<u64, H::Given>
         requires fits { Fits self.old.upload.plan (H.start part) (H.Part.len (H.kept part)) }
-        requires free { place_refusal H.Part.len self.old.upload (H.start part) (H.Part.len (H.kept part)) ≡ None }
+        requires free { place_fault H.Part.len self.old.upload (H.start part) (H.Part.len (H.kept part)) ≡ None }
         ensures put { OnOk result (self.new ≡ record self.old { upload = with_more H.Part.len self.old.upload (H.start part) (H.kept part) }) }
         ensures length { IfOk result (λ n. n ≡ length_of self.new.upload) }
         ensures count { OnOk result (work.new ≡ H.works self.old.upload.parts (H.start part) (H.kept part) work.old) }
@@ -75,7 +75,7 @@ impl<H: HeldParts> OwnedUpload<H> {
 
     // Fixes the upload's end.
     fn fix(&mut self, len: u64)
-        requires { fix_refusal H.Part.len self.old.upload len ≡ None }
+        requires { fix_fault H.Part.len self.old.upload len ≡ None }
         ensures { self.new ≡ record self.old { upload = fixed_at self.old.upload len } }
     {
         self.upload.fix(len);
@@ -107,7 +107,7 @@ pub(crate) fn put<H: HeldParts>(
 ) -> Result<u64, H::Given>
     requires there { IsSome (lookup (is_number number) uploads.old.entries) }
     requires fits { IfSome (lookup (is_number number) uploads.old.entries) (λ u. Fits u.upload.plan (H.start part) (H.Part.len (H.kept part))) }
-    requires free { IfSome (lookup (is_number number) uploads.old.entries) (λ u. place_refusal H.Part.len u.upload (H.start part) (H.Part.len (H.kept part)) ≡ None) }
+    requires free { IfSome (lookup (is_number number) uploads.old.entries) (λ u. place_fault H.Part.len u.upload (H.start part) (H.Part.len (H.kept part)) ≡ None) }
     ensures put { OnOk result ((u : ModelOwnedUpload H.Part) → lookup (is_number number) uploads.old.entries ≡ Some u
         → uploads.new.entries ≡ set_value (is_number number) uploads.old.entries (record u { upload = with_more H.Part.len u.upload (H.start part) (H.kept part) })) }
     ensures length { IfOk result (λ n. (u : ModelOwnedUpload H.Part) → lookup (is_number number) uploads.old.entries ≡ Some u → n ≡ length_of (with_more H.Part.len u.upload (H.start part) (H.kept part))) }
@@ -125,7 +125,7 @@ pub(crate) fn put<H: HeldParts>(
 /// Fixes the end of the upload `number`.
 pub(crate) fn fix<H: HeldParts>(uploads: &mut BTreeMap<u64, OwnedUpload<H>>, number: u64, len: u64)
     requires there { IsSome (lookup (is_number number) uploads.old.entries) }
-    requires may { IfSome (lookup (is_number number) uploads.old.entries) (λ u. fix_refusal H.Part.len u.upload len ≡ None) }
+    requires may { IfSome (lookup (is_number number) uploads.old.entries) (λ u. fix_fault H.Part.len u.upload len ≡ None) }
     ensures { (u : ModelOwnedUpload H.Part) → lookup (is_number number) uploads.old.entries ≡ Some u → uploads.new.entries ≡ set_value (is_number number) uploads.old.entries (record u { upload = fixed_at u.upload len }) }
 {
     match uploads.get_mut(&number) {

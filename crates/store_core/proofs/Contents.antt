@@ -15,7 +15,7 @@ use Rattle.store_books.proofs.Commands.{found_among, none_mapped}
 use Rattle.store_core.specs.Commands.{content_in, opened}
 use Rattle.store_core.specs.Model.{AreJoined, ModelStoreBooks}
 use Rattle.store_core.specs.inner.Model.{ModelStoreUpload, content}
-use Rattle.store_upload.specs.Uploads.{ArePlaced, ModelUpload, end_of, finish_refusal, first_gap, length_of}
+use Rattle.store_upload.specs.Uploads.{ArePlaced, ModelUpload, end_of, finish_fault, first_gap, length_of}
 use Rattle.store_upload.proofs.Complete.{gap_here, gap_stops}
 
 pub top_is : (x : List ℕ) → output_of (tree_top x 0 hash_mode) 0 32 ≡ hash_of x
@@ -39,7 +39,7 @@ pub record IsContent (u : ModelUpload (List ℕ)) : Type 0 where
   pub long : length (content_of u.parts) ≡ length_of u
   pub joined : AreJoined 0 u.parts
 
-pub content_is : (u : ModelUpload (List ℕ)) → ArePlaced length (length_of u) 0 u.parts → finish_refusal length u ≡ None → IsContent u
+pub content_is : (u : ModelUpload (List ℕ)) → ArePlaced length (length_of u) 0 u.parts → finish_fault length u ≡ None → IsContent u
 content_is u placed none =
     let all = complete_all u placed (sym none) in
     let gap : length_of u ≤ first_gap length 0 u.parts = omega (arith, all.gap, all.end) in
@@ -47,8 +47,8 @@ content_is u placed none =
     record { long = omega (arith, whole); joined = joined_from (length_of u) 0 u.parts (omega arith) placed gap }
 
 -- an upload that is ready
-pub is_ready : (s : ModelStoreBooks) (number : ℕ) (u : ModelStoreUpload) → upload_at s number ≡ Some u → ready_refusal length s number ≡ None → finish_refusal length u.upload ≡ None
-is_ready s number u found ready = none_mapped finish_refused (finish_refusal length u.upload) (rw found at ready)
+pub is_ready : (s : ModelStoreBooks) (number : ℕ) (u : ModelStoreUpload) → upload_at s number ≡ Some u → ready_refusal length s number ≡ None → finish_fault length u.upload ≡ None
+is_ready s number u found ready = none_mapped finish_refused (finish_fault length u.upload) (rw found at ready)
 
 pub opened_is : (s : ModelStoreBooks) (number : ℕ) (u : ModelStoreUpload) → upload_at s number ≡ Some u → opened s number ≡ u.upload
 opened_is s number u found = rw found refl

@@ -2,10 +2,10 @@
 use Rattle.std.proofs.Common.{◌≡◌, ◌+◌, ℕ, Bool, true, false, None, refl, arith, inl, inr}
 use Rattle.std.specs.Prelude.{◌==◌, ◌&&◌, ◌%◌, not}
 use Rattle.std.proofs.lemmas.Bool.{cases_eq, eq-eqb, le-ltb, ne_eqb}
-use Rattle.store_upload.specs.Uploads.{Fits, UploadPlan, max_part_bytes, part_refusal}
+use Rattle.store_upload.specs.Uploads.{Fits, UploadPlan, max_part_bytes, part_fault}
 
 -- bytes that fit a plan have none of the faults
-pub fits_none : (plan : UploadPlan) (offset n : ℕ) → Fits plan offset n → part_refusal plan offset n ≡ None
+pub fits_none : (plan : UploadPlan) (offset n : ℕ) → Fits plan offset n → part_fault plan offset n ≡ None
 fits_none plan offset n f =
     let some = f.some in
     let full = ne_eqb n 0 (λ none. omega (arith, none, some)) in

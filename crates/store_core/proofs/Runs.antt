@@ -5,7 +5,7 @@ use Rattle.b3_core.specs.Modes.{hash_of}
 use Rattle.b3_forest.specs.Parts.{ModelPrepared}
 use Rattle.store_books.specs.declared.refusal.Refusal.{Refusal}
 use Rattle.store_books.specs.Books.{object_at, upload_at}
-use Rattle.store_books.specs.Commands.{abort_refusal, begin_refusal, end_refusal, file_refusal, forget_refusal, limit_refusal, put_refusal, ready_refusal, tenant_refusal}
+use Rattle.store_books.specs.Commands.{abort_refusal, begin_refusal, fix_refusal, file_refusal, forget_refusal, limit_refusal, put_refusal, ready_refusal, tenant_refusal}
 use Rattle.b3_forest.proofs.Ends.{same_plan_is}
 use Rattle.store_core.specs.Carried.{IsCarried}
 use Rattle.store_core.specs.Commands.{Acceptance, StepsAs, address_in, address_refused, advanced, and_then, as_is, content_in, filed_in, part_refused, sealed_by, unless}
@@ -89,7 +89,7 @@ step_carries old new (change (commands.Begin tenant len)) reply h step =
 step_carries old new (change (commands.BeginOpen tenant at_most)) reply h step =
     kept_on as_is _ old new reply (accepts_replied old _ _ (accepts_unless old (begin_refusal length old.state tenant at_most) _ (λ free. begun_carried old tenant (open_plan at_most) h free))) h step
 step_carries old new (change (commands.Fix upload len)) reply h step =
-    kept_on as_is _ old new reply (accepts_replied old _ _ (accepts_unless old (end_refusal length old.state upload len) _ (λ free. fix_carried old upload len h free))) h step
+    kept_on as_is _ old new reply (accepts_replied old _ _ (accepts_unless old (fix_refusal length old.state upload len) _ (λ free. fix_carried old upload len h free))) h step
 step_carries old new (put upload part) reply h step =
     kept_on as_is _ old new reply
     (accepts_replied old _ _ (accepts_unless old (part_refused old.state upload part) _ (λ free. let p = is_put old.state upload part step.0 free in put_carried old upload part.part.offset part.part.bytes h p.fits p.free))) h step.1

@@ -7,9 +7,9 @@ use Rattle.store_books.specs.declared.content.ObjectLabel.{ObjectLabel}
 use Rattle.store_books.specs.declared.refusal.Refusal.{Refusal}
 use Rattle.store_books.specs.declared.refusal.Refusal.TheVariants.{BelowUse, LimitTooLarge, NoTenant, NoUpload, OverQuota, TenantsFull, TooLong}
 use Rattle.store_books.specs.Books.{ModelOwnedUpload, ModelBooks, Filed, free_of, in_use, is_absent, limit_of, max_entries, max_limit, max_tenants, object_at, upload_at}
-use Rattle.store_books.specs.Commands.{abort_refusal, add_refused, begin_refusal, end_refusal, file_refusal, fix_refused, forget_refusal, full_refusal, holding_refusal, join_refusal, limit_refusal, put_refusal, tenant_refusal, with_end, with_fixed, with_forgotten, with_joined, with_known, with_left, with_new, with_filed, with_part, with_put}
+use Rattle.store_books.specs.Commands.{abort_refusal, add_refused, begin_refusal, fix_refusal, file_refusal, fix_refused, forget_refusal, full_refusal, holding_refusal, join_refusal, limit_refusal, put_refusal, tenant_refusal, with_end, with_fixed, with_forgotten, with_joined, with_known, with_left, with_new, with_filed, with_part, with_put}
 use Rattle.store_books.specs.Bare.{Bare, as_it_is, label_address, label_len}
-use Rattle.store_upload.specs.Uploads.{fix_refusal, max_bytes, place_refusal}
+use Rattle.store_upload.specs.Uploads.{fix_fault, max_bytes, place_fault}
 use Rattle.store_upload.proofs.Places.{not_some}
 use Rattle.store_books.proofs.Commands.{passed, room}
 use Rattle.store_core.specs.Carried.{widest}
@@ -57,14 +57,14 @@ module _ (b : Bare) (within : IsWithin b) where
 
   pub wide_put : (number offset n : ℕ) → put_refusal as_it_is b number offset n ≡ None → put_refusal as_it_is (widest b) number offset n ≡ None
   wide_put number offset n = last_on
-      (λ (u : ModelOwnedUpload ℕ). option_or (option_map add_refused (place_refusal as_it_is u.upload offset n)) (full_refusal b))
-      (λ (u : ModelOwnedUpload ℕ). option_or (option_map add_refused (place_refusal as_it_is u.upload offset n)) (full_refusal (widest b)))
+      (λ (u : ModelOwnedUpload ℕ). option_or (option_map add_refused (place_fault as_it_is u.upload offset n)) (full_refusal b))
+      (λ (u : ModelOwnedUpload ℕ). option_or (option_map add_refused (place_fault as_it_is u.upload offset n)) (full_refusal (widest b)))
       (λ u. last_of _ (full_refusal b) (full_refusal (widest b)) wide_full) (upload_at b number)
 
-  pub wide_fix : (number n : ℕ) → end_refusal as_it_is b number n ≡ None → end_refusal as_it_is (widest b) number n ≡ None
+  pub wide_fix : (number n : ℕ) → fix_refusal as_it_is b number n ≡ None → fix_refusal as_it_is (widest b) number n ≡ None
   wide_fix number n = last_on
-      (λ (u : ModelOwnedUpload ℕ). option_or (option_map fix_refused (fix_refusal as_it_is u.upload n)) (full_refusal b))
-      (λ (u : ModelOwnedUpload ℕ). option_or (option_map fix_refused (fix_refusal as_it_is u.upload n)) (full_refusal (widest b)))
+      (λ (u : ModelOwnedUpload ℕ). option_or (option_map fix_refused (fix_fault as_it_is u.upload n)) (full_refusal b))
+      (λ (u : ModelOwnedUpload ℕ). option_or (option_map fix_refused (fix_fault as_it_is u.upload n)) (full_refusal (widest b)))
       (λ u. last_of _ (full_refusal b) (full_refusal (widest b)) wide_full) (upload_at b number)
 
   wide_join : (u : ModelOwnedUpload ℕ) (known : Option (Filed ObjectLabel)) → join_refusal label_len label_address b u known ≡ None → join_refusal label_len label_address (widest b) u known ≡ None

@@ -11,7 +11,7 @@ use Rattle.store_books.specs.declared.books.Usage.{Usage}
 use Rattle.store_books.specs.declared.refusal.Refusal.{Refusal}
 use Rattle.store_books.specs.declared.refusal.Refusal.TheVariants.{NoMemory, NoTenant, NoUpload, WrongAddress, WrongPlan}
 use Rattle.store_books.specs.Books.{is_absent, object_at, upload_at}
-use Rattle.store_books.specs.Commands.{abort_refusal, begin_refusal, end_refusal, file_refusal, forget_refusal, holding_refusal, limit_refusal, put_refusal, ready_refusal, tenant_refusal, with_begun, with_filed, with_fixed, with_forgotten, with_joined, with_limit, with_put, with_tenant, without_upload}
+use Rattle.store_books.specs.Commands.{abort_refusal, begin_refusal, fix_refusal, file_refusal, forget_refusal, holding_refusal, limit_refusal, put_refusal, ready_refusal, tenant_refusal, with_begun, with_filed, with_fixed, with_forgotten, with_joined, with_limit, with_put, with_tenant, without_upload}
 use Rattle.store_books.specs.Questions as books
 use Rattle.store_core.specs.declared.refusal.PutRefused.{PutRefused}
 use Rattle.store_core.specs.declared.store.Held.{Held}
@@ -126,7 +126,7 @@ put_in s number p = unless (part_refused s number p) (record {
 
 -- the upload's end is fixed, and so is what it reserves
 abbrev pub fix_in : ModelStoreBooks → ℕ → ℕ → Result (Acceptance (Unit {0})) Refusal
-fix_in s number len = unless (end_refusal length s number len) (record {
+fix_in s number len = unless (fix_refusal length s number len) (record {
   reply = tt;
   state = with_fixed s number len;
   entry = entry.Fix number len;

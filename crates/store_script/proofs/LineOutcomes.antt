@@ -6,7 +6,7 @@ use Rattle.std.proofs.lemmas.List.{length-take, take_all}
 use Rattle.b3_forest.specs.Parts.{ModelPrepared, planned}
 use Rattle.edge.specs.Fields.{split_at, space}
 use Rattle.edge.proofs.FieldTexts.{split_found}
-use Rattle.store_upload.specs.Uploads.{UploadPlan, part_refusal}
+use Rattle.store_upload.specs.Uploads.{UploadPlan, part_fault}
 use Rattle.store_upload.specs.declared.refusal.PartFault.{PartFault}
 use Rattle.store_upload.specs.declared.refusal.PartFault.TheVariants as faults
 use Rattle.store_books.specs.declared.refusal.Refusal.{Refusal}
@@ -72,17 +72,17 @@ fault_is old upload part (Some first) fault is = (ap unmade is, refl)
 fault_is old upload part None fault is = (is, refl)
 
 -- F2 to F6, or want of memory
-pub no_part : (old : ModelStore) (upload offset : ℕ) (made_for : UploadPlan) (bytes : List ℕ) (fault : PartFault) (text : List ℕ) (ending : Ending) → Ok made_for ≡ plan_in old.state upload → fault ≡ unwrap_or (part_refusal made_for offset (length bytes)) faults.NoMemory
+pub no_part : (old : ModelStore) (upload offset : ℕ) (made_for : UploadPlan) (bytes : List ℕ) (fault : PartFault) (text : List ℕ) (ending : Ending) → Ok made_for ≡ plan_in old.state upload → fault ≡ unwrap_or (part_fault made_for offset (length bytes)) faults.NoMemory
     → SaysFault fault text ending → Answered (PutTurn old upload offset bytes old) text ending
 no_part old upload offset made_for bytes fault text ending is refused says = record {
   turn = unmade fault;
-  is = by_plan old old upload offset bytes (unmade fault) (Ok made_for) is (fault_is old upload (planned made_for offset bytes) (part_refusal made_for offset (length bytes)) fault refused);
+  is = by_plan old old upload offset bytes (unmade fault) (Ok made_for) is (fault_is old upload (planned made_for offset bytes) (part_fault made_for offset (length bytes)) fault refused);
   text_is = says.0;
   ending_is = says.1;
 }
 
 -- the step
-pub made : (old new : ModelStore) (upload offset : ℕ) (made_for : UploadPlan) (bytes : List ℕ) (part : ModelPrepared) (reply : Result Reply Refusal) (text : List ℕ) (ending : Ending) → Ok made_for ≡ plan_in old.state upload → part_refusal made_for offset (length bytes) ≡ None
+pub made : (old new : ModelStore) (upload offset : ℕ) (made_for : UploadPlan) (bytes : List ℕ) (part : ModelPrepared) (reply : Result Reply Refusal) (text : List ℕ) (ending : Ending) → Ok made_for ≡ plan_in old.state upload → part_fault made_for offset (length bytes) ≡ None
     → part ≡ planned made_for offset bytes → Step old (put upload part) reply new → Says reply text ending → Answered (PutTurn old upload offset bytes new) text ending
 made old new upload offset made_for bytes part reply text ending is fits part_is step says = record {
   turn = took (put upload (planned made_for offset bytes)) reply;

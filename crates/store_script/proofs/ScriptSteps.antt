@@ -7,7 +7,7 @@ use Rattle.std.specs.Io.KnownBytes.{Appends, IsAtEnd}
 use Rattle.std.proofs.lemmas.List.{append-nil}
 use Rattle.std.proofs.lemmas.List.Concat.{flat_map-append}
 use Rattle.b3_forest.specs.Parts.{ModelPrepared, planned}
-use Rattle.store_upload.specs.Uploads.{UploadPlan, part_refusal}
+use Rattle.store_upload.specs.Uploads.{UploadPlan, part_fault}
 use Rattle.store_upload.specs.declared.refusal.PartFault.{PartFault}
 use Rattle.store_books.specs.declared.refusal.Refusal.{Refusal}
 use Rattle.store_books.specs.declared.limits.Limits.{Limits}
@@ -86,7 +86,7 @@ came_makes old new upload part None turn h = came_puts old new upload part turn 
 
 pub came_put : (old new : ModelStore) (upload offset : ℕ) (bytes : List ℕ) (made_by : Result UploadPlan Refusal) (turn : Turn) → IsTurnOfPut old upload offset bytes made_by turn new → Came old turn new
 came_put old new upload offset bytes (Err refusal) turn h = came_takes old new (ask (Plan upload)) turn h
-came_put old new upload offset bytes (Ok made_for) turn h = came_makes old new upload (planned made_for offset bytes) (part_refusal made_for offset (length bytes)) turn h
+came_put old new upload offset bytes (Ok made_for) turn h = came_makes old new upload (planned made_for offset bytes) (part_fault made_for offset (length bytes)) turn h
 
 came_does : (old new : ModelStore) (command : Option ScriptCommand) (turn : Turn) → IsTurnOfCommand old command turn new → Came old turn new
 came_does old new None turn h = subst (λ (t : Turn). Came old t new) (sym h.0) h.1

@@ -3,7 +3,7 @@ use Rattle.std.specs.Prelude.{◌≡◌, ◌≢◌, ◌⊎◌, ℕ, List, [], �
 use Rattle.std.specs.Io.KnownBytes.{Appends, IsAtEnd}
 use Rattle.std.specs.List.{flat_map}
 use Rattle.b3_forest.specs.Parts.{ModelPrepared, planned}
-use Rattle.store_upload.specs.Uploads.{UploadPlan, part_refusal}
+use Rattle.store_upload.specs.Uploads.{UploadPlan, part_fault}
 use Rattle.store_upload.specs.declared.refusal.PartFault.{PartFault}
 use Rattle.store_upload.specs.declared.refusal.PartFault.TheVariants as faults
 use Rattle.store_books.specs.declared.refusal.Refusal.{Refusal}
@@ -77,7 +77,7 @@ IsTurnOfMade old upload part None turn new = IsTurnOfPart old upload part turn n
 -- the upload's plan is asked for first
 abbrev pub IsTurnOfPut : ModelStore → ℕ → ℕ → List ℕ → Result UploadPlan Refusal → Turn → ModelStore → Type 0
 IsTurnOfPut old upload offset bytes (Err refusal) turn new = IsTurnOfStep old (ask (Plan upload)) turn new
-IsTurnOfPut old upload offset bytes (Ok made_for) turn new = IsTurnOfMade old upload (planned made_for offset bytes) (part_refusal made_for offset (length bytes)) turn new
+IsTurnOfPut old upload offset bytes (Ok made_for) turn new = IsTurnOfMade old upload (planned made_for offset bytes) (part_fault made_for offset (length bytes)) turn new
 
 abbrev pub IsTurnOfCommand : ModelStore → Option ScriptCommand → Turn → ModelStore → Type 0
 IsTurnOfCommand old None turn new = (turn ≡ bad) × (new ≡ old)

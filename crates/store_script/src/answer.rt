@@ -3,7 +3,7 @@
 ghost use Rattle.std.specs.Prelude.{◌≡◌, ◌<◌, IfErr, IfOk, OnErr, OnOk};
 ghost use Rattle.std.specs.Io.KnownBytes.{Appends};
 ghost use Rattle.b3_forest.specs.Parts.{planned};
-ghost use Rattle.store_upload.specs.Uploads.{part_refusal};
+ghost use Rattle.store_upload.specs.Uploads.{part_fault};
 ghost use Rattle.store_core.specs.Commands.{plan_in, reply_seen};
 ghost use Rattle.store_script.specs.Answers.{reported_ending, reported_text};
 ghost use Rattle.store_core.specs.Runs.{Step, put};

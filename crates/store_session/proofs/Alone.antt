@@ -24,7 +24,7 @@ use Rattle.store_session.specs.Session.{AreServed, AreSessionTurns, Ends, IsRepo
 use Rattle.store_session.specs.declared.request.EntryRange.{EntryRange}
 use Rattle.store_session.specs.declared.request.Request.{Request}
 use Rattle.store_session.specs.declared.request.Request.TheVariants.{Asks, Entries, Fetch, Put}
-use Rattle.store_upload.specs.Uploads.{UploadPlan, part_refusal}
+use Rattle.store_upload.specs.Uploads.{UploadPlan, part_fault}
 use Rattle.store_upload.specs.declared.refusal.PartFault.{PartFault}
 use Rattle.store_session.specs.Access.{SessionState, alone_reach, alone_stands, at}
 use Rattle.store_session.specs.Turns.{AreLinkedTurns, EndsOver, IsLinkedAsk, IsLinkedBytes, IsLinkedCommand, IsLinkedEntries, IsLinkedFirstLine, IsLinkedLine, IsLinkedMade, IsLinkedPart, IsLinkedPlan, IsLinkedPut, IsLinkedQuestion, IsLinkedRequest, IsLinkedScriptLine, IsLinkedStep, MayLack, ServedAllOver, ServedSomeOver}
@@ -49,7 +49,7 @@ of_made old new upload part None turn h = of_part old new upload part turn h
 
 of_plan : (old new : SessionState) (upload offset : ℕ) (bytes : List ℕ) (plan : Result UploadPlan Refusal) (turn : script.Turn) → IsLinkedPlan alone_reach old upload offset bytes plan turn new → script.IsTurnOfPut old.store upload offset bytes plan turn new.store
 of_plan old new upload offset bytes (Err refusal) turn h = h.0
-of_plan old new upload offset bytes (Ok plan) turn h = of_made old new upload (planned plan offset bytes) (part_refusal plan offset (length bytes)) turn h
+of_plan old new upload offset bytes (Ok plan) turn h = of_made old new upload (planned plan offset bytes) (part_fault plan offset (length bytes)) turn h
 
 of_put : (old new : SessionState) (upload offset : ℕ) (bytes : List ℕ) (turn : script.Turn) → IsLinkedPut alone_reach old upload offset bytes turn new → script.IsTurnOfPut old.store upload offset bytes (plan_in old.store.state upload) turn new.store
 of_put old new upload offset bytes turn h =

@@ -10,7 +10,7 @@ use Rattle.store_script.specs.Script.{took, unmade, widest_start}
 use Rattle.store_script.specs.Texts.{answer_text, refused_text, unmade_text}
 use Rattle.store_script.specs.declared.answer.Answer.{Answer}
 use Rattle.store_session.specs.inner.Reads.{Copied, Dropped}
-use Rattle.store_upload.specs.Uploads.{UploadPlan, part_refusal}
+use Rattle.store_upload.specs.Uploads.{UploadPlan, part_fault}
 use Rattle.store_upload.specs.declared.refusal.PartFault.{PartFault}
 use Rattle.store_upload.specs.declared.refusal.PartFault.TheVariants as faults
 use Rattle.store_session.specs.Access.{advance, at, SessionState, Reach, Took, TookPlan}
@@ -20,12 +20,12 @@ use Rattle.store_session.specs.Turns.{IsLinkedMade, IsLinkedPlan, IsLinkedPut}
 
 -- what a part that was made for a plan comes to
 abbrev pub MadeOver : Reach → (SessionState → Type 0) → (SessionState → Type 0) → ℕ → ℕ → UploadPlan → List ℕ → List ℕ → Type 0
-MadeOver reach was is upload offset plan bytes text = AnsweredOver was is (λ first turn after. IsLinkedMade reach first upload (planned plan offset bytes) (part_refusal plan offset (length bytes)) turn after) text
+MadeOver reach was is upload offset plan bytes text = AnsweredOver was is (λ first turn after. IsLinkedMade reach first upload (planned plan offset bytes) (part_fault plan offset (length bytes)) turn after) text
 
 abbrev pub PutOver : Reach → (SessionState → Type 0) → (SessionState → Type 0) → ℕ → ℕ → List ℕ → List ℕ → Type 0
 PutOver reach was is upload offset bytes text = AnsweredOver was is (λ before turn after. IsLinkedPut reach before upload offset bytes turn after) text
 
-pub made : (reach : Reach) (was is : SessionState → Type 0) (upload offset : ℕ) (plan : UploadPlan) (bytes : List ℕ) (part : ModelPrepared) (reply : Result Reply Refusal) → part_refusal plan offset (length bytes) ≡ None → part ≡ planned plan offset bytes
+pub made : (reach : Reach) (was is : SessionState → Type 0) (upload offset : ℕ) (plan : UploadPlan) (bytes : List ℕ) (part : ModelPrepared) (reply : Result Reply Refusal) → part_fault plan offset (length bytes) ≡ None → part ≡ planned plan offset bytes
     → Took reach was is (put upload part) reply → MadeOver reach was is upload offset plan bytes (answer_text reply)
 made reach was is upload offset plan bytes part reply fits part_is took_it =
     let call = put upload (planned plan offset bytes) in
@@ -47,11 +47,11 @@ fault_is : (reach : Reach) (old : SessionState) (upload : ℕ) (part : ModelPrep
 fault_is reach old upload part (Some first) fault is = (ap unmade is, refl)
 fault_is reach old upload part None fault is = (is, refl)
 
-pub no_part : (reach : Reach) (was : SessionState → Type 0) (upload offset : ℕ) (plan : UploadPlan) (bytes : List ℕ) (fault : PartFault) → fault ≡ unwrap_or (part_refusal plan offset (length bytes)) faults.NoMemory
+pub no_part : (reach : Reach) (was : SessionState → Type 0) (upload offset : ℕ) (plan : UploadPlan) (bytes : List ℕ) (fault : PartFault) → fault ≡ unwrap_or (part_fault plan offset (length bytes)) faults.NoMemory
     → MadeOver reach was was upload offset plan bytes (refused_text (unmade_text fault))
 no_part reach was upload offset plan bytes fault is = record {
   turn = unmade fault;
-  goes = λ before session. (before, (session, fault_is reach before upload (planned plan offset bytes) (part_refusal plan offset (length bytes)) fault is));
+  goes = λ before session. (before, (session, fault_is reach before upload (planned plan offset bytes) (part_fault plan offset (length bytes)) fault is));
   text_is = refl;
 }
 
@@ -107,11 +107,11 @@ whole (Some following) left reach was is upload offset len bytes answer false al
 
 -- ---- faults
 
-pub fault_reported : (made_for : UploadPlan) (offset len n : ℕ) (fault : PartFault) → Some fault ≡ part_refusal made_for offset len → n ≡ len → fault ≡ unwrap_or (part_refusal made_for offset n) faults.NoMemory
-fault_reported made_for offset len n fault is same = ap (λ (o : Option PartFault). unwrap_or o faults.NoMemory) (is ∙ ap (part_refusal made_for offset) (sym same))
+pub fault_reported : (made_for : UploadPlan) (offset len n : ℕ) (fault : PartFault) → Some fault ≡ part_fault made_for offset len → n ≡ len → fault ≡ unwrap_or (part_fault made_for offset n) faults.NoMemory
+fault_reported made_for offset len n fault is same = ap (λ (o : Option PartFault). unwrap_or o faults.NoMemory) (is ∙ ap (part_fault made_for offset) (sym same))
 
-pub no_fault : (made_for : UploadPlan) (offset len n : ℕ) → None ≡ part_refusal made_for offset len → n ≡ len → faults.NoMemory ≡ unwrap_or (part_refusal made_for offset n) faults.NoMemory
-no_fault made_for offset len n is same = ap (λ (o : Option PartFault). unwrap_or o faults.NoMemory) (is ∙ ap (part_refusal made_for offset) (sym same))
+pub no_fault : (made_for : UploadPlan) (offset len n : ℕ) → None ≡ part_fault made_for offset len → n ≡ len → faults.NoMemory ≡ unwrap_or (part_fault made_for offset n) faults.NoMemory
+no_fault made_for offset len n is same = ap (λ (o : Option PartFault). unwrap_or o faults.NoMemory) (is ∙ ap (part_fault made_for offset) (sym same))
 
 pub truncated : (now left : Option (List ℕ)) (reach : Reach) (was is : SessionState → Type 0) (upload offset len : ℕ) (bytes : List ℕ) (is_whole : Bool) → is_whole ≡ false → IfSome now (λ following. Copied is_whole len following bytes left) → Leaves was is
     → IfSome now (λ following. ReceivesOver reach was is None upload offset len following left)

@@ -21,7 +21,7 @@ use Rattle.store_session.specs.Session.{Ends, Manner, SessionTurn, as_entries, a
 use Rattle.store_session.specs.declared.request.EntryRange.{EntryRange}
 use Rattle.store_session.specs.declared.request.Request.{Request}
 use Rattle.store_session.specs.declared.request.Request.TheVariants.{Asks, Entries, Fetch, Put}
-use Rattle.store_upload.specs.Uploads.{UploadPlan, part_refusal}
+use Rattle.store_upload.specs.Uploads.{UploadPlan, part_fault}
 use Rattle.store_upload.specs.declared.refusal.PartFault.{PartFault}
 use Rattle.store_upload.specs.declared.refusal.PartFault.TheVariants as faults
 use Rattle.store_session.specs.Access.{Reach, SessionState, at, took_bytes, took_calls, took_numbers}
@@ -61,7 +61,7 @@ IsLinkedMade reach first upload part None turn new = IsLinkedPart reach first up
 
 abbrev pub IsLinkedPlan : Reach → SessionState → ℕ → ℕ → List ℕ → Result UploadPlan Refusal → Turn → SessionState → Type 0
 IsLinkedPlan reach first upload offset bytes (Err refusal) turn new = IsTurnOfStep first.store (ask (questions.Plan upload)) turn new.store × IsCountedTurn first first.store turn new
-IsLinkedPlan reach first upload offset bytes (Ok plan) turn new = IsLinkedMade reach first upload (planned plan offset bytes) (part_refusal plan offset (length bytes)) turn new
+IsLinkedPlan reach first upload offset bytes (Ok plan) turn new = IsLinkedMade reach first upload (planned plan offset bytes) (part_fault plan offset (length bytes)) turn new
 
 abbrev pub IsLinkedPut : Reach → SessionState → ℕ → ℕ → List ℕ → Turn → SessionState → Type 0
 IsLinkedPut reach old upload offset bytes turn new = (first : ModelStore) × (reach.links old.store first × IsLinkedPlan reach (at old first) upload offset bytes (plan_in first.state upload) turn new)

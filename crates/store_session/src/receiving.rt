@@ -7,7 +7,7 @@ ghost use Rattle.store_core.specs.Runs.{put};
 ghost use Rattle.store_script.specs.Answers.{reported_text};
 ghost use Rattle.store_script.specs.Script.{widest_start};
 ghost use Rattle.store_session.specs.inner.Reads.{Dropped};
-ghost use Rattle.store_upload.specs.Uploads.{part_refusal};
+ghost use Rattle.store_upload.specs.Uploads.{part_fault};
 ghost use Rattle.store_session.specs.Access.{Took, reply_alone};
 ghost use Rattle.store_session.specs.inner.Reporting.{AnsweredOver, ReceivesOver};
 ghost use Rattle.store_session.specs.Turns.{IsLinkedMade, IsLinkedPut};
@@ -49,7 +49,7 @@ fn put_made<A: Access>(
     bytes: Vec<u8>,
     work: &mut Work,
 ) -> Answer
-    ensures { AnsweredOver (A.stands access.old) (A.stands access.new) (λ first turn after. IsLinkedMade A.reach first upload (planned plan.now offset bytes.items) (part_refusal plan.now offset (length bytes.items)) turn after) (reported_text widest_start result) }
+    ensures { AnsweredOver (A.stands access.old) (A.stands access.new) (λ first turn after. IsLinkedMade A.reach first upload (planned plan.now offset bytes.items) (part_fault plan.now offset (length bytes.items)) turn after) (reported_text widest_start result) }
 {
     match Prepared::make(alloc, plan, offset, bytes, work) {
         Ok(part) => Answer::Replied(put(access, upload, part, work)),

@@ -3,7 +3,7 @@ use Rattle.std.proofs.Common.{◌≡◌, ◌∙◌, ◌+◌, ◌≤◌, ℕ, Lis
 use Rattle.std.specs.Prelude.{IsSome, is_some, nat_lt, option_map}
 use Rattle.std.proofs.lemmas.Bool.{cases_Bool, cases_eq, eq-eqb, ltb-false, ne_eqb}
 use Rattle.store_upload.specs.declared.refusal.FinishFault.TheVariants.{Incomplete, NotFixed}
-use Rattle.store_upload.specs.Uploads.{ArePlaced, IsUpload, ModelUpload, end_of, finish_refusal, first_gap, first_missing, held_bytes, length_of}
+use Rattle.store_upload.specs.Uploads.{ArePlaced, IsUpload, ModelUpload, end_of, finish_fault, first_gap, first_missing, held_bytes, length_of}
 use Rattle.store_upload.proofs.Places.{held-cons}
 
 module _ {P : Type 0} (len : P → ℕ) where
@@ -36,9 +36,9 @@ module _ {P : Type 0} (len : P → ℕ) where
     pub fixed : IsSome u.end
     pub held : held_bytes len u.parts ≡ length_of u
 
-  pub whole_is : (u : ModelUpload P) → IsUpload len u → finish_refusal len u ≡ None → IsWhole u
+  pub whole_is : (u : ModelUpload P) → IsUpload len u → finish_fault len u ≡ None → IsWhole u
   whole_is u lawful none = elim (cases_Bool (is_some u.end)) [
-    | inr open_yet ↦ let bad : finish_refusal len u ≡ Some NotFixed = rw open_yet refl in let no = sym none ∙ bad in cc
+    | inr open_yet ↦ let bad : finish_fault len u ≡ Some NotFixed = rw open_yet refl in let no = sym none ∙ bad in cc
     | inl fixed ↦
         let rest : option_map Incomplete (first_missing len u) ≡ None = sym (rw fixed refl) ∙ none in
         elim (cases_Bool (nat_lt (first_gap len 0 u.parts) (length_of u))) [

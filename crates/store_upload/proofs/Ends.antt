@@ -10,7 +10,7 @@ use Rattle.std.proofs.lemmas.Bool.Decides.{nat_tests}
 use Rattle.store_upload.specs.declared.refusal.AddFault.TheVariants.{Overlap, PastLast}
 use Rattle.store_upload.specs.declared.refusal.FixFault.TheVariants as fix
 use Rattle.store_upload.specs.inner.Places.{AreApart}
-use Rattle.store_upload.specs.Uploads.{ArePartsOfSome, ArePlaced, Fits, IsUpload, MayTake, ModelUpload, UploadPlan, closed_plan, end_of, end_with, ends_elsewhere, first_end, fix_refusal, fixed_at, held_bytes, is_ragged, last_end, length_of, max_bytes, overlap_at, past_last, place_refusal, reached, with_more}
+use Rattle.store_upload.specs.Uploads.{ArePartsOfSome, ArePlaced, Fits, IsUpload, MayTake, ModelUpload, UploadPlan, closed_plan, end_of, end_with, ends_elsewhere, first_end, fix_fault, fixed_at, held_bytes, is_ragged, last_end, length_of, max_bytes, overlap_at, past_last, place_fault, reached, with_more}
 use Rattle.store_upload.proofs.Places.{IsWith, at, begins_behind, bytes_within, clear_parts, end-cons, ends_before, is_with, none_at, put-following, put-front}
 
 -- ---- tests
@@ -121,7 +121,7 @@ module _ {P : Type 0} (len : P → ℕ) where
     pub clear : overlap_at len offset n u.parts ≡ None
     pub last : past_last len u offset n ≡ None
 
-  pub free_is : (u : ModelUpload P) (offset n : ℕ) → place_refusal len u offset n ≡ None → IsFree u offset n
+  pub free_is : (u : ModelUpload P) (offset n : ℕ) → place_fault len u offset n ≡ None → IsFree u offset n
   free_is u offset n free = by (overlap_at len offset n u.parts) (past_last len u offset n) refl refl free
     where
       by : (o l : Option ℕ) → overlap_at len offset n u.parts ≡ o → past_last len u offset n ≡ l → option_or (option_map Overlap o) (option_map PastLast l) ≡ None → IsFree u offset n
@@ -219,7 +219,7 @@ module _ {P : Type 0} (len : P → ℕ) where
   grows plan (Some e) ps offset part lawful free fits = grows_to_end plan e ps offset part lawful free fits
   grows plan None ps offset part lawful free fits = grows_to_part plan ps offset part lawful free fits
 
-  pub grown : (u : ModelUpload P) (offset : ℕ) (part : P) → IsUpload len u → place_refusal len u offset (len part) ≡ None → Fits u.plan offset (len part) → Grows u offset part
+  pub grown : (u : ModelUpload P) (offset : ℕ) (part : P) → IsUpload len u → place_fault len u offset (len part) ≡ None → Fits u.plan offset (len part) → Grows u offset part
   grown u offset part lawful free fits = grows u.plan u.end u.parts offset part lawful (free_is u offset (len part) free) fits
 
   -- no part begins where the first of some bytes may go
@@ -228,9 +228,9 @@ module _ {P : Type 0} (len : P → ℕ) where
 
   -- ---- an end
 
-  pub fixes : (u : ModelUpload P) (n : ℕ) → IsUpload len u → fix_refusal len u n ≡ None → IsUpload len (fixed_at u n)
+  pub fixes : (u : ModelUpload P) (n : ℕ) → IsUpload len u → fix_fault len u n ≡ None → IsUpload len (fixed_at u n)
   fixes u n lawful free = elim (cases_Bool (nat_lt u.plan.bound n)) [
-    | inl long ↦ let wrong : fix_refusal len u n ≡ Some fix.TooLong = rw long refl in let bad = sym free ∙ wrong in cc
+    | inl long ↦ let wrong : fix_fault len u n ≡ Some fix.TooLong = rw long refl in let bad = sym free ∙ wrong in cc
     | inr short ↦
         let rest : (if ends_elsewhere len u n then Some (fix.PastLast (reached len u)) else None) ≡ None = sym (rw short refl) ∙ free in
         ends u.plan u.end u.parts lawful (grind (arith, nat_tests, short)) (no_value _ _ rest)
@@ -250,9 +250,9 @@ module _ {P : Type 0} (len : P → ℕ) where
           }
 
   -- a fixed end is within the length
-  pub fixed_within : (u : ModelUpload P) (n : ℕ) → IsUpload len u → fix_refusal len u n ≡ None → n ≤ length_of u
+  pub fixed_within : (u : ModelUpload P) (n : ℕ) → IsUpload len u → fix_fault len u n ≡ None → n ≤ length_of u
   fixed_within u n lawful free = elim (cases_Bool (nat_lt u.plan.bound n)) [
-    | inl long ↦ let wrong : fix_refusal len u n ≡ Some fix.TooLong = rw long refl in let bad = sym free ∙ wrong in cc
+    | inl long ↦ let wrong : fix_fault len u n ≡ Some fix.TooLong = rw long refl in let bad = sym free ∙ wrong in cc
     | inr short ↦
         let rest : (if ends_elsewhere len u n then Some (fix.PastLast (reached len u)) else None) ≡ None = sym (rw short refl) ∙ free in
         by u.end (grind (arith, nat_tests, short)) (no_value _ _ rest)

@@ -66,8 +66,8 @@ pub record Fits (plan : UploadPlan) (offset n : ℕ) : Type 0 where
   pub small : n ≤ max_part_bytes
 
 -- the first reason why n bytes at an offset do not fit a plan
-abbrev pub part_refusal : UploadPlan → ℕ → ℕ → Option PartFault
-part_refusal plan offset n =
+abbrev pub part_fault : UploadPlan → ℕ → ℕ → Option PartFault
+part_fault plan offset n =
     if n == 0 then Some EmptyPart
     else if not (offset % chunk_len == 0) then Some OffAlign
     else if nat_lt plan.bound (offset + n) then Some PastEnd
@@ -134,8 +134,8 @@ module _ {P : Type 0} (len : P → ℕ) where
       if (is_some u.end && nat_lt (reached u) (offset + n)) || (is_ragged n && nat_lt (offset + n) (reached u)) then Some (reached u) else None
 
   -- why an upload does not take n bytes that fit its plan: one of their offsets is held, or they are refused by past_last
-  abbrev pub place_refusal : ModelUpload P → ℕ → ℕ → Option AddFault
-  place_refusal u offset n = option_or (option_map Overlap (overlap_at offset n u.parts)) (option_map PastLast (past_last u offset n))
+  abbrev pub place_fault : ModelUpload P → ℕ → ℕ → Option AddFault
+  place_fault u offset n = option_or (option_map Overlap (overlap_at offset n u.parts)) (option_map PastLast (past_last u offset n))
 
   -- the upload with one more part
   abbrev pub with_more : ModelUpload P → ℕ → P → ModelUpload P
@@ -148,8 +148,8 @@ module _ {P : Type 0} (len : P → ℕ) where
   ends_elsewhere u n = if is_some u.end then not (n == reached u) else nat_lt n (reached u)
 
   -- why an end is not fixed
-  abbrev pub fix_refusal : ModelUpload P → ℕ → Option FixFault
-  fix_refusal u n =
+  abbrev pub fix_fault : ModelUpload P → ℕ → Option FixFault
+  fix_fault u n =
       if nat_lt u.plan.bound n then Some fix.TooLong
       else if ends_elsewhere u n then Some (fix.PastLast (reached u))
       else None
@@ -166,8 +166,8 @@ module _ {P : Type 0} (len : P → ℕ) where
   first_missing u = if nat_lt (first_gap 0 u.parts) (length_of u) then Some (first_gap 0 u.parts) else None
 
   -- why an upload is not complete
-  abbrev pub finish_refusal : ModelUpload P → Option FinishFault
-  finish_refusal u = if is_some u.end then option_map Incomplete (first_missing u) else Some NotFixed
+  abbrev pub finish_fault : ModelUpload P → Option FinishFault
+  finish_fault u = if is_some u.end then option_map Incomplete (first_missing u) else Some NotFixed
 
   -- the upload has its end, and every offset below it is held
   abbrev pub IsComplete : ModelUpload P → Type 0

@@ -2,7 +2,7 @@
 
 ghost use Rattle.std.specs.Prelude.{◌≡◌, ◌≢◌, ◌<◌, ◌≤◌, ◌↔◌, ℕ, IfNone, IfOk, IsErr, Some, false, true};
 ghost use Rattle.store_upload.specs.Texts.{too_long_text};
-ghost use Rattle.store_upload.specs.Uploads.{Fits, closed_plan, first_end, max_bytes, open_plan, part_refusal, same_plan};
+ghost use Rattle.store_upload.specs.Uploads.{Fits, closed_plan, first_end, max_bytes, open_plan, part_fault, same_plan};
 
 use crate::refusal::PartFault;
 use std::error::Error;
@@ -136,7 +136,7 @@ impl Plan {
     /// of 1024; F4, they end past the bound; F5, the length is not a multiple of 1024 and they do not end at the upload's end (not under an
     /// open plan); F6, there are more than 2^24 bytes.
     pub fn part_fault(&self, offset: u64, len: u64) -> Option<PartFault>
-        ensures fault { result ≡ part_refusal self.now offset len }
+        ensures fault { result ≡ part_fault self.now offset len }
         ensures fits { IfNone result (Fits self.now offset len) }
         ensures bounded { self.now.bound ≤ max_bytes }
     {

@@ -4,7 +4,7 @@ ghost use Rattle.std.specs.Prelude.{◌≡◌, ◌+◌, ◌^◌, ◌<◌, ◌≤
 ghost use Rattle.std.specs.BTreeMap.{is_at};
 ghost use Rattle.std.specs.Map.{lookup};
 ghost use Rattle.std.specs.Ordering.{nat_cmp};
-ghost use Rattle.store_upload.specs.Uploads.{ArePlaced, Fits, IsUpload, end_with, finish_refusal, first_gap as first_gap_of, first_missing as first_missing_of, fix_refusal, fixed_at, held_bytes, length_of, max_bytes, new_upload, past_last, place_refusal, reached, with_more};
+ghost use Rattle.store_upload.specs.Uploads.{ArePlaced, Fits, IsUpload, end_with, finish_fault, first_gap as first_gap_of, first_missing as first_missing_of, fix_fault, fixed_at, held_bytes, length_of, max_bytes, new_upload, past_last, place_fault, reached, with_more};
 
 use crate::held_parts::HeldParts;
 use crate::length::Length;
@@ -117,7 +117,7 @@ impl<H: HeldParts> Upload<H> {
 
     /// Why the upload is not complete. The first matching one of: F13, its end is not fixed; F10, with the lowest offset that is not held.
     pub fn finish_fault(&self) -> Option<FinishFault>
-        ensures { result ≡ finish_refusal H.Part.len self.now }
+        ensures { result ≡ finish_fault H.Part.len self.now }
     {
         if self.end.is_none() {
             return Some(FinishFault::NotFixed);
@@ -159,7 +159,7 @@ impl<H: HeldParts> Upload<H> {
     /// that is not fixed: before the end of the last part).
     pub fn place_fault(&self, offset: u64, len: u64) -> Option<AddFault>
         requires { Fits self.now.plan offset len }
-        ensures fault { result ≡ place_refusal H.Part.len self.now offset len }
+        ensures fault { result ≡ place_fault H.Part.len self.now offset len }
         ensures absent { IfNone result (lookup (is_at (nat_cmp offset)) self.now.parts ≡ None) }
     {
         match self.parts.overlap(offset, len) {
@@ -174,7 +174,7 @@ impl<H: HeldParts> Upload<H> {
     /// The upload's length once it has taken `len` bytes at `offset`, which it can take.
     pub fn length_with(&self, offset: u64, len: u64) -> u64
         requires fits { Fits self.now.plan offset len }
-        requires free { place_refusal H.Part.len self.now offset len ≡ None }
+        requires free { place_fault H.Part.len self.now offset len ≡ None }
         ensures length { (part : H.Part) → H.Part.len part ≡ len → result ≡ length_of (with_more H.Part.len self.now offset part) }
     {
         end_with(self.end, offset, len).unwrap_or(self.plan.bound())
@@ -184,7 +184,7 @@ impl<H: HeldParts> Upload<H> {
     /// of the part. If an allocation fails, the part is returned, and nothing changes.
     pub fn put(&mut self, part: H::Given, work: &mut H::Work) -> Result<(), H::Given>
         requires fits { Fits self.old.plan (H.start part) (H.Part.len (H.kept part)) }
-        requires free { place_refusal H.Part.len self.old (H.start part) (H.Part.len (H.kept part)) ≡ None }
+        requires free { place_fault H.Part.len self.old (H.start part) (H.Part.len (H.kept part)) ≡ None }
         ensures put { OnOk result (self.new ≡ with_more H.Part.len self.old (H.start part) (H.kept part)) }
         ensures count { OnOk result (work.new ≡ H.works self.old.parts (H.start part) (H.kept part) work.old) }
         ensures back { IfErr result (λ back. back ≡ part) }
@@ -205,7 +205,7 @@ impl<H: HeldParts> Upload<H> {
     /// Why the upload's end would not be fixed at `len`. The first matching one of: F1, `len` exceeds the plan's bound; F12, the upload has
     /// another end, or holds a part that ends after `len`.
     pub fn fix_fault(&self, len: u64) -> Option<FixFault>
-        ensures { result ≡ fix_refusal H.Part.len self.now len }
+        ensures { result ≡ fix_fault H.Part.len self.now len }
     {
         if len > self.plan.bound() {
             return Some(FixFault::TooLong);
@@ -225,7 +225,7 @@ impl<H: HeldParts> Upload<H> {
 
     /// Fixes the upload's end at `len`. The parts are not read.
     pub fn fix(&mut self, len: u64)
-        requires { fix_refusal H.Part.len self.old len ≡ None }
+        requires { fix_fault H.Part.len self.old len ≡ None }
         ensures { self.new ≡ fixed_at self.old len }
     {
         self.end = Some(len);

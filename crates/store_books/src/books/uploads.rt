@@ -2,7 +2,7 @@
 
 ghost use Rattle.std.specs.Prelude.{◌≡◌, IfErr, IfNone, IfSome, None, OnErr, OnOk, Some};
 ghost use Rattle.store_books.specs.Books.{ModelOwnedUpload, upload_at};
-ghost use Rattle.store_books.specs.Commands.{abort_refusal, add_refused as add_refused_of, begin_refusal, end_refusal, fix_refused as fix_refused_of, put_refusal, with_begun, with_fixed, with_put, without_upload};
+ghost use Rattle.store_books.specs.Commands.{abort_refusal, add_refused as add_refused_of, begin_refusal, fix_refusal, fix_refused as fix_refused_of, put_refusal, with_begun, with_fixed, with_put, without_upload};
 ghost use Rattle.store_upload.specs.Uploads.{Fits};
 
 use crate::begun::{self, OwnedUpload};
@@ -98,7 +98,7 @@ impl<H: HeldParts, O: Content, I: AddressIndex> Books<H, O, I> {
 
     /// Why the upload's end would not be fixed at `len`: S7, S5, S15, S13.
     pub fn fix_refusal(&self, number: u64, len: u64) -> Option<Refusal>
-        ensures { result ≡ end_refusal H.Part.len self.now number len }
+        ensures { result ≡ fix_refusal H.Part.len self.now number len }
     {
         let Some(begun) = self.uploads.get(&number) else {
             return Some(Refusal::NoUpload);
@@ -111,7 +111,7 @@ impl<H: HeldParts, O: Content, I: AddressIndex> Books<H, O, I> {
 
     /// Fixes the upload's end at `len`. Its tenant then reserves no more than that.
     pub fn fix(&mut self, number: u64, len: u64)
-        requires { end_refusal H.Part.len self.old number len ≡ None }
+        requires { fix_refusal H.Part.len self.old number len ≡ None }
         ensures { self.new ≡ with_fixed self.old number len }
     {
         let Some(begun) = self.uploads.get(&number) else {

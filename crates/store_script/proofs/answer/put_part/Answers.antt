@@ -1,5 +1,5 @@
 use Rattle.std.proofs.Common.{rules, ◌≡◌, None, Err, length, refl}
-use Rattle.store_upload.specs.Uploads.{part_refusal}
+use Rattle.store_upload.specs.Uploads.{part_fault}
 use Rattle.store_core.specs.Commands.{reply_seen}
 use Rattle.store_core.specs.Seen.{reply_of}
 use Rattle.store_script.proofs.LineOutcomes.{made, no_part, no_plan, says}
@@ -13,7 +13,7 @@ pub returns-in-Ok-make : goal.returns-in-Ok-make
 returns-in-Ok-make c =
     let old = c.args.store.now in
     let new = c.put.new.store in
-    let fits : part_refusal c.in-Ok.plan c.args.offset (length c.args.bytes.items) ≡ None = search rules in
+    let fits : part_fault c.in-Ok.plan c.args.offset (length c.args.bytes.items) ≡ None = search rules in
     made old new c.args.upload c.args.offset c.in-Ok.plan c.args.bytes.items c.in-Ok-make.part (reply_seen (reply_of new) c.put.result) _ _ c.in-Ok.ensures fits c.in-Ok-make.ensures.made c.put.ensures (says new c.put.result)
 
 pub returns-in-Err-make : goal.returns-in-Err-make

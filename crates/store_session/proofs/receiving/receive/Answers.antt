@@ -3,7 +3,7 @@ use Rattle.store_script.specs.Answers.{reported_text}
 use Rattle.store_script.specs.Script.{widest_start}
 use Rattle.store_script.specs.Texts.{refused_text, unmade_text}
 use Rattle.store_script.specs.declared.answer.Answer.TheVariants as answers
-use Rattle.store_upload.specs.Uploads.{part_refusal}
+use Rattle.store_upload.specs.Uploads.{part_fault}
 use Rattle.store_upload.specs.declared.refusal.PartFault.TheVariants as faults
 use Rattle.store_session.proofs.Puts.{dropped, leaves, fault_reported, no_fault, no_part, no_plan, planned_put, whole}
 use Rattle.store_session.proofs.receiving.receive.Goals as goal
@@ -21,7 +21,7 @@ returns-in-Some-clause-received g c =
     let reach = g.A.Access.reach in
     let was = g.A.Access.stands c.args.access.now in
     let mid = g.A.Access.stands c.plan.new.self in
-    let is : Some c.in-Some.fault ≡ part_refusal c.in-Ok.plan c.args.offset c.args.len = search rules in
+    let is : Some c.in-Some.fault ≡ part_fault c.in-Ok.plan c.args.offset c.args.len = search rules in
     dropped c.dropped-in-Some.result (g.R.Read.remaining c.args.reader.now) (g.R.Read.remaining c.dropped-in-Some.new.reader) reach was mid c.args.upload c.args.offset c.args.len (answers.Unmade c.in-Some.fault)
     (λ bytes long. planned_put reach was mid mid c.args.upload c.args.offset c.in-Ok.plan bytes (refused_text (unmade_text c.in-Some.fault)) c.in-Ok.ensures (no_part reach mid c.args.upload c.args.offset c.in-Ok.plan bytes c.in-Some.fault (fault_reported c.in-Ok.plan c.args.offset c.args.len (length bytes) c.in-Some.fault is long)))
     (leaves reach was mid c.args.upload c.plan.result c.plan.ensures) c.dropped-in-Some.ensures.dropped
@@ -31,7 +31,7 @@ returns-in_default-with_capacity-clause-received g c =
     let reach = g.A.Access.reach in
     let was = g.A.Access.stands c.args.access.now in
     let mid = g.A.Access.stands c.plan.new.self in
-    let none : None ≡ part_refusal c.in-Ok.plan c.args.offset c.args.len = search rules in
+    let none : None ≡ part_fault c.in-Ok.plan c.args.offset c.args.len = search rules in
     dropped c.dropped-in_default-with_capacity.result (g.R.Read.remaining c.args.reader.now) (g.R.Read.remaining c.dropped-in_default-with_capacity.new.reader) reach was mid c.args.upload c.args.offset c.args.len (answers.Unmade faults.NoMemory)
     (λ bytes long. planned_put reach was mid mid c.args.upload c.args.offset c.in-Ok.plan bytes (refused_text (unmade_text faults.NoMemory)) c.in-Ok.ensures (no_part reach mid c.args.upload c.args.offset c.in-Ok.plan bytes faults.NoMemory (no_fault c.in-Ok.plan c.args.offset c.args.len (length bytes) none long)))
     (leaves reach was mid c.args.upload c.plan.result c.plan.ensures) c.dropped-in_default-with_capacity.ensures.dropped

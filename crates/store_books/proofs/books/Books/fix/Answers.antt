@@ -1,7 +1,7 @@
 use Rattle.std.proofs.Common.{◌≡◌, ◌∙◌, ◌+◌, ℕ, arith, ap, refl, subst, sym}
 use Rattle.store_books.specs.declared.tenant.Change.{Change}
 use Rattle.store_books.specs.Books.{ModelOwnedUpload, ModelBooks}
-use Rattle.store_books.specs.Commands.{end_refusal, with_upload}
+use Rattle.store_books.specs.Commands.{fix_refusal, with_upload}
 use Rattle.store_books.specs.Kept.{books_of}
 use Rattle.store_books.specs.inner.Kept.{HasRoom, changed_sums}
 use Rattle.store_upload.specs.Uploads.{ModelUpload, fixed_at, length_of}
@@ -19,7 +19,7 @@ change_sums-requires g c =
     let u = c.in-Some.begun.now in
     let found = sym c.in-Some.ensures.value in
     let w : ModelOwnedUpload g.row.H-Part.Denot = record u { upload = fixed_at u.upload c.args.len } in
-    let free = ap (λ (x : ModelBooks g.row.H-Part.Denot g.row.O.Denot). end_refusal len x c.args.number c.args.len) c.self.view_is ∙ c.requires in
+    let free = ap (λ (x : ModelBooks g.row.H-Part.Denot g.row.O.Denot). fix_refusal len x c.args.number c.args.len) c.self.view_is ∙ c.requires in
     let fixed = ends len size address b c.args.number c.args.len u found c.self.invariant.sound (rw found at free) in
     let by : Change = record { less = length_of u.upload; more = c.args.len } in
     let before : c.length-before.result ≡ length_of u.upload = c.length-before.ensures.value ∙ ap (λ (x : ModelUpload g.row.H-Part.Denot). length_of x) c.upload.ensures in
@@ -37,7 +37,7 @@ invariant_of-self g c =
     let u = c.in-Some.begun.now in
     let found = sym c.in-Some.ensures.value in
     let w : ModelOwnedUpload g.row.H-Part.Denot = record u { upload = fixed_at u.upload c.args.len } in
-    let free = ap (λ (x : ModelBooks g.row.H-Part.Denot g.row.O.Denot). end_refusal len x c.args.number c.args.len) c.self.view_is ∙ c.requires in
+    let free = ap (λ (x : ModelBooks g.row.H-Part.Denot g.row.O.Denot). fix_refusal len x c.args.number c.args.len) c.self.view_is ∙ c.requires in
     let fixed = ends len size address b c.args.number c.args.len u found c.self.invariant.sound (rw found at free) in
     let by : Change = record { less = length_of u.upload; more = c.args.len } in
     let before : c.length-before.result ≡ length_of u.upload = c.length-before.ensures.value ∙ ap (λ (x : ModelUpload g.row.H-Part.Denot). length_of x) c.upload.ensures in

@@ -4,7 +4,7 @@ use Rattle.store_books.specs.inner.Catalog.{ModelCatalog}
 use Rattle.store_books.specs.Commands.{file_refusal, finish_refused, ready_refusal, with_new}
 use Rattle.store_books.specs.Kept.{books_of}
 use Rattle.store_books.specs.inner.Kept.{HasRoom, changed_sums}
-use Rattle.store_upload.specs.Uploads.{ModelUpload, finish_refusal, held_bytes, length_of}
+use Rattle.store_upload.specs.Uploads.{ModelUpload, finish_fault, held_bytes, length_of}
 use Rattle.store_upload.proofs.Places.{some_is}
 use Rattle.store_books.proofs.Commands.{falls, none_mapped, rises, room}
 use Rattle.store_books.proofs.Objects.{files}
@@ -22,7 +22,7 @@ change_sums-requires g c =
     let found = sym c.in-Some.ensures.value in
     let seen : ModelBooks g.row.H-Part.Denot g.row.O.Denot → ModelBooks g.row.H-Part.Denot g.row.O.Denot = λ x. x in
     let content = c.args.content in
-    let ready = none_mapped finish_refused (finish_refusal len u.upload) (rw found at (ap (λ (x : ModelBooks g.row.H-Part.Denot g.row.O.Denot). ready_refusal len x c.args.number) c.self.view_is ∙ c.requires.ready)) in
+    let ready = none_mapped finish_refused (finish_fault len u.upload) (rw found at (ap (λ (x : ModelBooks g.row.H-Part.Denot g.row.O.Denot). ready_refusal len x c.args.number) c.self.view_is ∙ c.requires.ready)) in
     let absent = ap (λ (x : ModelBooks g.row.H-Part.Denot g.row.O.Denot). object_at address x (address content)) c.self.view_is ∙ c.requires.new in
     let free = ap (λ (x : ModelBooks g.row.H-Part.Denot g.row.O.Denot). file_refusal size address x c.args.number (address content)) c.self.view_is ∙ c.requires.free in
     let long = rw (ap (λ (x : ModelBooks g.row.H-Part.Denot g.row.O.Denot). upload_at x c.args.number) (sym c.self.view_is) ∙ found) at c.requires.size in
@@ -45,7 +45,7 @@ overflow_sub-self-2 g c =
     let found = sym c.in-Some.ensures.value in
     let seen : ModelBooks g.row.H-Part.Denot g.row.O.Denot → ModelBooks g.row.H-Part.Denot g.row.O.Denot = λ x. x in
     let content = c.args.content in
-    let ready = none_mapped finish_refused (finish_refusal len u.upload) (rw found at (ap (λ (x : ModelBooks g.row.H-Part.Denot g.row.O.Denot). ready_refusal len x c.args.number) c.self.view_is ∙ c.requires.ready)) in
+    let ready = none_mapped finish_refused (finish_fault len u.upload) (rw found at (ap (λ (x : ModelBooks g.row.H-Part.Denot g.row.O.Denot). ready_refusal len x c.args.number) c.self.view_is ∙ c.requires.ready)) in
     let absent = ap (λ (x : ModelBooks g.row.H-Part.Denot g.row.O.Denot). object_at address x (address content)) c.self.view_is ∙ c.requires.new in
     let free = ap (λ (x : ModelBooks g.row.H-Part.Denot g.row.O.Denot). file_refusal size address x c.args.number (address content)) c.self.view_is ∙ c.requires.free in
     let long = rw (ap (λ (x : ModelBooks g.row.H-Part.Denot g.row.O.Denot). upload_at x c.args.number) (sym c.self.view_is) ∙ found) at c.requires.size in
@@ -69,7 +69,7 @@ invariant_of-self-2 g c =
     let found = sym c.in-Some.ensures.value in
     let seen : ModelBooks g.row.H-Part.Denot g.row.O.Denot → ModelBooks g.row.H-Part.Denot g.row.O.Denot = λ x. x in
     let content = c.args.content in
-    let ready = none_mapped finish_refused (finish_refusal len u.upload) (rw found at (ap (λ (x : ModelBooks g.row.H-Part.Denot g.row.O.Denot). ready_refusal len x c.args.number) c.self.view_is ∙ c.requires.ready)) in
+    let ready = none_mapped finish_refused (finish_fault len u.upload) (rw found at (ap (λ (x : ModelBooks g.row.H-Part.Denot g.row.O.Denot). ready_refusal len x c.args.number) c.self.view_is ∙ c.requires.ready)) in
     let absent = ap (λ (x : ModelBooks g.row.H-Part.Denot g.row.O.Denot). object_at address x (address content)) c.self.view_is ∙ c.requires.new in
     let free = ap (λ (x : ModelBooks g.row.H-Part.Denot g.row.O.Denot). file_refusal size address x c.args.number (address content)) c.self.view_is ∙ c.requires.free in
     let long = rw (ap (λ (x : ModelBooks g.row.H-Part.Denot g.row.O.Denot). upload_at x c.args.number) (sym c.self.view_is) ∙ found) at c.requires.size in
