@@ -11,9 +11,9 @@ use Rattle.edge.specs.Lines.{lines_of, with_byte}
 use Rattle.b3_check.specs.Files.{Numbered, with_line, file_at, numbered_from, read_of}
 use Rattle.b3_check.proofs.Returns.{without_returns-push}
 
--- ---- one line and the lines behind it
+-- ---- one line and the lines after it
 
--- up to the first line feed
+-- up to the first newline
 abbrev first_line : List ℕ → List ℕ
 first_line [] = []
 first_line (b ∷ bytes) = cond (b == 10) [] (b ∷ first_line bytes)
@@ -30,7 +30,7 @@ lines_step b (c ∷ bytes) =
       | inr ne ↦ with_byte_front b (first_line (c ∷ bytes)) (lines_of (drop (line_len (c ∷ bytes)) (c ∷ bytes))) (lines_of (c ∷ bytes)) ne (lines_step c bytes) ∙ rw ne refl
     ]
 
--- a line is what bstr takes, with its line feed or at the end
+-- a line is what bstr takes, with its newline or at the end
 taken : (bytes : List ℕ) → (take (line_len bytes) bytes ≡ first_line bytes ++ 10 ∷ []) ⊎ (take (line_len bytes) bytes ≡ first_line bytes)
 unfolding line_len
 taken [] = inr refl

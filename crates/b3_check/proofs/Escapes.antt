@@ -113,7 +113,7 @@ unescaped-from_StandsFor (itself {b} {units} {name} ne rest) =
 unescaped-from_StandsFor (escape {c} {b} {units} {name} is rest) =
     ap (λ (o : Option ℕ). after_escape o (unescaped_from false units)) (escape_is c b is) ∙ ap (in_front b) (unescaped-from_StandsFor rest)
 
--- what is read behind a backslash, or not, stands for the name
+-- what is read after a backslash, or not, stands for the name
 abbrev Stands : Bool → List ℕ → List ℕ → Type 0
 Stands false units name = StandsFor units name
 Stands true units name = StandsFor (backslash ∷ units) name

@@ -198,7 +198,7 @@ line_at-from_IsLine text digest name h = only_marked (without_returns text) dige
 
 -- ---- what is written is in the grammar
 
--- no carriage return stands at the end of a name as it is written
+-- no carriage return is at the end of a name as it is written
 kept_byte : (b : ℕ) (text : List ℕ) → b ≢ 13 → before_returns b text ≡ b ∷ text
 kept_byte b [] ne = cond-false (b == 13) [] (b ∷ []) (ne_eqb b 13 ne)
 kept_byte b (c ∷ text) ne = refl

@@ -38,7 +38,7 @@ within_more n verdict before after is h = subst (AreAtMost (n + 1)) (sym is) (on
 
 -- ---- one line more
 
--- what holds behind i lines
+-- what holds after i lines
 abbrev pub IsUpTo : {S : Type 0} → (S → List ℕ → Answer → S → Type 0) → Shown → S → List NumberedLine → ℕ → S → Counts → Option (List ℕ) → Option (List ℕ) → Type 0
 IsUpTo gives shown old lines i new counts before after =
     (verdicts : List Verdict) × IsReport gives old (take i lines) verdicts new × (counts ≡ counts_of verdicts) × AreAtMost i counts
@@ -95,10 +95,10 @@ ended_at gives shown old mid new lines i line counts before grown last OutOfMemo
   went = subst (λ (o : Option (List ℕ)). Appends before o (lines_text shown h.0)) (sym e.1) h.4;
 }
 
--- a write of the counts failed, behind all lines
-pub broken_behind : {S : Type 0} (gives : S → List ℕ → Answer → S → Type 0) (shown : Shown) (old new : S) (lines : List NumberedLine) (i : ℕ) (counts : Counts) (before grown last : Option (List ℕ))
+-- a write of the counts failed, after all lines
+pub broken_after : {S : Type 0} (gives : S → List ℕ → Answer → S → Type 0) (shown : Shown) (old new : S) (lines : List NumberedLine) (i : ℕ) (counts : Counts) (before grown last : Option (List ℕ))
     → length lines ≤ i → IsUpTo gives shown old lines i new counts before grown → IsTruncated grown last (shown_counts shown counts) → IsBroken gives shown old lines new before last
-broken_behind gives shown old new lines i counts before grown last le h cut = record {
+broken_after gives shown old new lines i counts before grown last le h cut = record {
   front = take i lines;
   back = [];
   verdicts = h.0;

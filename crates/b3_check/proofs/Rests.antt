@@ -1,4 +1,4 @@
--- Reading what stands behind the backslash of an escaped line, or is another line, fault by fault.
+-- Reading what follows the backslash of an escaped line, or is another line, fault by fault.
 use Rattle.std.proofs.Common.{◌≡◌, ◌∙◌, ℕ, ◌%◌, ◌<◌, ◌≤◌, Bool, true, false, List, [], ◌∷◌, Some, None, Ok, Err, Option, Result, refl, sym, ap, subst, length, take, drop, cond, inl, inr, arith}
 use Rattle.std.specs.Prelude.{◌==◌, nat_eq, slice_index}
 use Rattle.std.specs.List.{list_all, starts_with}
@@ -75,10 +75,10 @@ escape_some : (o : Option ℕ) (r : Result (List ℕ) Fault) (bytes : List ℕ) 
 escape_some (Some b) r bytes e = front_some b r bytes e
 escape_some None r bytes e = absurd cc
 
-behind_backslash : (units bytes : List ℕ) → unescaped_from true units ≡ Ok bytes → 0 < length bytes
+after_backslash : (units bytes : List ℕ) → unescaped_from true units ≡ Ok bytes → 0 < length bytes
 unfolding unescaped_from
-behind_backslash [] bytes e = absurd cc
-behind_backslash (c ∷ units) bytes e = escape_some (escape_value c) (unescaped_from false units) bytes e
+after_backslash [] bytes e = absurd cc
+after_backslash (c ∷ units) bytes e = escape_some (escape_value c) (unescaped_from false units) bytes e
 
 abbrev chosen : Bool → Result (List ℕ) Fault → Result (List ℕ) Fault → Result (List ℕ) Fault
 chosen t x y = elim t [ true ↦ x | false ↦ y ]
@@ -89,7 +89,7 @@ some_byte [] bytes lt e = absurd (omega arith)
 some_byte (b ∷ units) bytes lt e = here (b == backslash) e
   where
     here : (t : Bool) → chosen t (unescaped_from true units) (in_front b (unescaped_from false units)) ≡ Ok bytes → 0 < length bytes
-    here true e = behind_backslash units bytes e
+    here true e = after_backslash units bytes e
     here false e = front_some b (unescaped_from false units) bytes e
 
 ok_same : (x y : List ℕ) → ◌≡◌ {A = Result (List ℕ) Fault} (Ok x) (Ok y) → x ≡ y
@@ -107,7 +107,7 @@ no_bytes false = refl
 pub bytes_none : (e : Bool) (text bytes : List ℕ) → name_bytes_at e text ≡ Ok bytes → length text ≡ 0 → bytes ≡ []
 bytes_none e text bytes is none = ok_same bytes [] (sym is ∙ ap (name_bytes_at e) (nil_from_length text none) ∙ no_bytes e)
 
--- ---- the answer behind the spaces
+-- ---- the answer after the spaces
 
 -- the name's fault, or the line
 abbrev answer_at : List ℕ → List ℕ → Option Fault → Result Line Fault

@@ -22,7 +22,7 @@ only_returns (b ∷ line) h =
     let first : b ≡ 13 = h 0 (omega arith) in
     rw (rest, eq-eqb b 13 first) refl
 
--- the last byte that is no carriage return stands at k
+-- the last byte that is no carriage return is at k
 pub up_to_last : (line : List ℕ) (k : ℕ) → k < length line → get_or line k 0 ≢ 13 → ((j : ℕ) → k < j → j < length line → get_or line j 0 ≡ 13) → without_returns line ≡ take (suc k) line
 unfolding without_returns
 up_to_last [] k lt ne h = absurd (omega arith)

@@ -17,7 +17,7 @@ use Rattle.edge.specs.Lines.{lines_of}
 use Rattle.b3_check.specs.Files.{Numbered, all_good, with_line, file_at, numbered_from, read_of}
 use Rattle.b3_check.proofs.Grammar.{IsLine-text_of, line_at-from_IsLine, without_returns-text_of}
 
--- ---- no line feed stands in a line as it is written
+-- ---- no newline is in a line as it is written
 
 HasNoNewline-append : (xs ys : List ℕ) → HasNoNewline xs → HasNoNewline ys → HasNoNewline (xs ++ ys)
 HasNoNewline-append [] ys h k = k

@@ -93,7 +93,7 @@ parted_lanes =
     eight_lanes (λ b. Fronts (a0 ∷ a1 ∷ a2 ∷ a3 ∷ a4 ∷ a5 ∷ a6 ∷ a7 ∷ []) b × Backs (a0 ∷ a1 ∷ a2 ∷ a3 ∷ a4 ∷ a5 ∷ a6 ∷ a7 ∷ []) b) (λ b0 b1 b2 b3 b4 b5 b6 b7.
     (below_four _ (refl, refl) (refl, refl) (refl, refl) (refl, refl), below_four _ (refl, refl) (refl, refl) (refl, refl) (refl, refl))))
 
--- the lanes of two vectors of four, one behind the other
+-- the lanes of two vectors of four, one after the other
 abbrev joined : List ℕ → List ℕ → List ℕ
 joined a b =
     slice_index_or (a ++ b) 0 0 ∷ slice_index_or (a ++ b) 1 0 ∷ slice_index_or (a ++ b) 2 0 ∷ slice_index_or (a ++ b) 3 0
@@ -147,7 +147,7 @@ word_from x y n same o m within at =
 abbrev Row : List ℕ → List ℕ → ℕ → Type 0
 Row x a o = (i : ℕ) → i < 4 → slice_index a i ≡ word_at x (o + 4 * i)
 
--- and those that stand f bytes further on
+-- and those that are f bytes further on
 abbrev TwoRows : List ℕ → List ℕ → ℕ → ℕ → Type 0
 TwoRows x a o f = Row x a o × ((i : ℕ) → i < 4 → slice_index a (i + 4) ≡ word_at x (o + f + 4 * i))
 

@@ -1,4 +1,4 @@
--- Whole subtrees, each greater than those behind it, and the bytes behind them make the tree's top.
+-- Whole subtrees, each greater than those after it, and the bytes after them make the tree's top.
 use Rattle.std.proofs.Common.{◌≡◌, ℕ, ◌+◌, ◌-◌, ◌*◌, ◌/◌, ◌^◌, ◌<◌, ◌≤◌, ◌++◌, List, [], ◌∷◌, length, arith, refl, ap, sym, ◌∙◌, subst, add-one, append_assoc, length-append, inl, inr, reverse, take, Some, None, min, ◌≢◌, ◌⊎◌, rules}
 use Rattle.std.specs.List.{slice_get}
 use Rattle.std.proofs.lemmas.Option.{get_or_from_slice_get, slice_get-get_or, slice_get_within}
@@ -21,7 +21,7 @@ whole_chunks p (s ∷ subtrees) x (before, mine, cut, len, node, above, rest) =
     let n = whole_chunks p subtrees before rest in
     (n.0 + 2 ^ s.0, let a = ap length cut in let b = length-append before mine in let c = n.1 in omega (arith, a, b, c, len))
 
--- the node of a subtree and that of no more bytes behind it are halves of one
+-- the node of a subtree and that of no more bytes after it are halves of one
 joins : (p : ModelMode) (k n : ℕ) (t right : ModelTop) (before mine r : List ℕ) → length before ≡ 1024 * n → length mine ≡ 1024 * 2 ^ k → t ≡ tree_top mine (length before / 1024) p
     → 0 < length r → length r ≤ 1024 * 2 ^ k → right ≡ tree_top r (length (before ++ mine) / 1024) p → parent_top t right p ≡ tree_top (mine ++ r) (length before / 1024) p
 joins p k n t right before mine r whole len left some few is =
@@ -38,7 +38,7 @@ unfolding AreNoMore
 wider [] k n above few = tt
 wider (s ∷ subtrees) k n above few = let most : 2 ^ (k + 1) ≤ 2 ^ s.0 = pow_mono (omega (arith, above)) in omega (arith, most, few)
 
--- what stands behind all subtrees is joined with them, the last first
+-- what follows all subtrees is joined with them, the last first
 pub all_joined : (p : ModelMode) (subtrees : Subtrees) (x r : List ℕ) (right : ModelTop) → AreSubtrees p subtrees x → AreNoMore subtrees (length r) → 0 < length r → right ≡ tree_top r (length x / 1024) p
     → joined p subtrees right ≡ tree_top (x ++ r) 0 p
 unfolding AreNoMore
@@ -76,7 +76,7 @@ merged p subtrees s next x same (both, y, cut, len, node, from, (before, mine, c
     from_above [] k l above next = tt
     from_above (t ∷ subtrees) k l above next = omega (arith, above, next)
 
--- behind none of its level
+-- after none of its level
 pub put_last : (p : ModelMode) (subtrees : Subtrees) (next : ℕ × ModelTop) (x : List ℕ) → AreAbove next.0 subtrees → IsNext p subtrees next x → AreSubtrees p (next ∷ subtrees) x
 put_last p subtrees next x above (before, mine, cut, len, node, from, rest) = (before, mine, cut, len, node, above, rest)
 
@@ -120,7 +120,7 @@ from_zero (s ∷ subtrees) = omega arith
 
 -- ---- their work
 
--- the hash of whole chunks and some bytes behind them makes those of both and one more
+-- the hash of whole chunks and some bytes after them makes those of both and one more
 pub hash_sum : (n m : ℕ) → 0 < n → 0 < m → hash_work (1024 * n + m) ≡ hash_work (1024 * n) + hash_work m + 1
 hash_sum n m some more = omega (arith, some, more)
 
@@ -133,7 +133,7 @@ merged_work k =
     let at = ap hash_work size in
     omega (arith, both, at, some)
 
--- that of what stands behind all subtrees, and of its parents
+-- that of what follows all subtrees, and of its parents
 pub joined_work : (p : ModelMode) (subtrees : Subtrees) (x : List ℕ) (n : ℕ) → AreSubtrees p subtrees x → 0 < n
     → hash_work (length x + n) - 1 ≡ kept_work subtrees + (hash_work n - 1) + 2 * length subtrees
 joined_work p [] x n is some = rw is (omega arith)
@@ -193,14 +193,14 @@ has_room p items next x above is few =
 pub makes_then : (k l m n w v : ℕ) → CountsRest k l n w → CountsRest l m w v → CountsRest k m n v
 makes_then k l m n w v first (made, up, at) = makes_more k l m n w v made first up at
 
--- the next subtree of a hasher that has no bytes behind the others
+-- the next subtree of a hasher that has no bytes after the others
 pub next_of : (h : ModelHasher) (next : ℕ × ModelTop) (x mine : List ℕ) → h.tail ≡ [] → Holds h x → AreFrom next.0 h.subtrees → length mine ≡ 1024 * 2 ^ next.0
     → next.1 ≡ tree_top mine (h.whole / 1024) h.mode → IsNext h.mode h.subtrees next (x ++ mine)
 next_of h next x mine none (before, cut, are, size, few) from len node =
     let same : x ≡ before = cut ∙ ap (λ t. before ++ t) none ∙ append-nil before in
     (before, mine, ap (λ z. z ++ mine) same, len, node ∙ ap (λ n. tree_top mine (n / 1024) h.mode) (sym size), from, are)
 
--- behind it
+-- after it
 pub holds_next : (h new : ModelHasher) (next : ℕ × ModelTop) (x mine : List ℕ) → h.tail ≡ [] → Holds h x → length mine ≡ 1024 * 2 ^ next.0
     → new.mode ≡ h.mode → new.tail ≡ h.tail → new.whole ≡ h.whole + 1024 * 2 ^ next.0 → AreSubtrees h.mode new.subtrees (x ++ mine) → Holds new (x ++ mine)
 holds_next h new next x mine none (before, cut, are, size, few) len mode tail whole more =
@@ -235,7 +235,7 @@ unfolding AreNoMore
 short_no_more [] n few = tt
 short_no_more (s ∷ subtrees) n few = omega (arith, few, pow_pos s.0)
 
--- the node over subtrees and the bytes behind them, of which there are some, or there is no subtree
+-- the node over subtrees and the bytes after them, of which there are some, or there is no subtree
 pub tail_joined : (p : ModelMode) (subtrees : Subtrees) (before tail : List ℕ) (right : ModelTop) → AreSubtrees p subtrees before → length tail < 1024
     → (0 < length tail) ⊎ (subtrees ≡ []) → right ≡ chunk_top tail (length before / 1024) p → joined p subtrees right ≡ tree_top (before ++ tail) 0 p
 tail_joined p subtrees before tail right are few (inl some) node =

@@ -1,4 +1,4 @@
--- What stands in a number of places, from the first on.
+-- What is in a number of places, from the first on.
 use Rattle.std.proofs.Common.{◌≡◌, ℕ, ◌+◌, ◌-◌, ◌<◌, ◌≤◌, ◌++◌, List, [], ◌∷◌, Some, length, reverse, take, slice_set, arith, ap, sym, ◌∙◌}
 use Rattle.std.specs.List.{slice_get}
 use Rattle.std.proofs.lemmas.Grind.{take_at_read}

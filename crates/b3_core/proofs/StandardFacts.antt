@@ -58,7 +58,7 @@ pub derived_digest : digest_of [] (derive_mode (codes "BLAKE3 2019-12-27 16:29:5
 unfolding g columns diagonals message rounds compress_of chain chunk_top parent_top power_below left_length tree_top_within tree_top output_byte digest_of
 derived_digest = refl
 
--- the compressions behind the nodes of three whole chunks, one and two before it; the whole has one parent more
+-- the compressions after the nodes of three whole chunks, one and two before it; the whole has one parent more
 pub work_of_three_chunks : (one two : ModelTop) → kept_work ((0, one) ∷ (1, two) ∷ []) ≡ 15 + 32
 work_of_three_chunks one two = refl
 

@@ -129,7 +129,7 @@ all_top x c w k n p len =
     let first : c + k * 0 ≡ c = omega arith in
     rw (none, first) (ap (λ (y : List ℕ). tree_top y c p) (take_all n x (omega (arith, len))))
 
--- chunk i of the bytes behind the first t chunks
+-- chunk i of the bytes after the first t chunks
 later_chunk : (x : List ℕ) (c t i : ℕ) (p : ModelMode) → chunk_at (drop (1024 * t) x) (c + t) p i ≡ chunk_at x c p (i + t)
 later_chunk x c t i p =
     ap₂ (λ (y : List ℕ) (n : ℕ). chunk_top (take 1024 y) n p)

@@ -54,7 +54,7 @@ impl Read for CountedOutput {
     {
         let left = u64::MAX - self.reader.position();
         let count = (buf.len() as u64).min(left) as usize;
-        let (front, _behind) = buf.split_at_mut(count);
+        let (front, _after) = buf.split_at_mut(count);
         let Ok(()) = self.reader.fill(front, &mut self.work) else {
             unreachable!()
         };

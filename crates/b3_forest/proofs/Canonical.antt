@@ -18,7 +18,7 @@ use Rattle.b3_forest.proofs.OneForest.{one_forest}
 abbrev pub AreSorted : Subtrees → Type 0
 AreSorted es = IsStrictlySortedBy nat_cmp (keys_of es)
 
--- ---- an entry and those behind it
+-- ---- an entry and those after it
 
 pub head_at : (e : ℕ × Subtree) (es : Subtrees) → subtree_at (e ∷ es) e.0 ≡ Some e.1
 head_at e es = rw (at_same e.0) refl
@@ -26,7 +26,7 @@ head_at e es = rw (at_same e.0) refl
 pub tail_at : (e : ℕ × Subtree) (es : Subtrees) (s : ℕ) → s ≢ e.0 → subtree_at (e ∷ es) s ≡ subtree_at es s
 tail_at e es s apart = rw (at_other s e.0 apart) refl
 
--- a key that is found is behind those before
+-- a key that is found is after those before
 following : (k s : ℕ) (es : Subtrees) (n : Subtree) → AllByRecursion (λ y. nat_cmp k y ≡ Less) (keys_of es) → subtree_at es s ≡ Some n → k < s
 following k s [] n all is = cc
 following k s (e ∷ es) n all is = elim (same_or s e.0) [

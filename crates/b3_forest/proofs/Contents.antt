@@ -28,10 +28,10 @@ record IsGapFrom (ps : List HeldPart) (a c : ℕ) : Type 0 where
   held : (i : ℕ) → a ≤ 1024 * i → i < c → is_held (chunk_in ps) i ≡ true
   gap : is_held (chunk_in ps) c ≡ false
 
--- nothing is behind the end
-nothing_behind : (n : ℕ) (ps : List HeldPart) → ArePlaced length n n ps → ps ≡ []
-nothing_behind n [] placed = refl
-nothing_behind n (p ∷ ps) placed = absurd (omega (arith, placed.0, placed.1.within, placed.1.some))
+-- nothing is after the end
+nothing_after : (n : ℕ) (ps : List HeldPart) → ArePlaced length n n ps → ps ≡ []
+nothing_after n [] placed = refl
+nothing_after n (p ∷ ps) placed = absurd (omega (arith, placed.0, placed.1.within, placed.1.some))
 
 gap_from : (n a c : ℕ) (ps : List HeldPart) → a ≤ n → a % 1024 ≡ 0 → ArePlaced length n a ps → IsGapFrom ps a c → first_gap length a ps ≡ min (1024 * c) n
 unfolding first_gap
@@ -57,7 +57,7 @@ gap_from n a c (p ∷ ps) most aligned placed gap = elim (same_or p.0 a) [
       gap_follows a p ps same ∙ elim (cases_lt 0 (length p.1 % 1024)) [
         | inl ragged ↦
             let end : end_of length p ≡ n = placed.1.whole refl (λ none. omega (arith, none, ragged)) in
-            let empty = nothing_behind n ps (subst (λ i. ArePlaced length n i ps) end placed.2) in
+            let empty = nothing_after n ps (subst (λ i. ArePlaced length n i ps) end placed.2) in
             ap (first_gap length (end_of length p)) empty ∙ omega (arith, end, reached)
         | inr whole ↦ gap_from n (end_of length p) c ps placed.1.within (omega (arith, whole, aligned, same)) placed.2 (record {
           low = reached;
@@ -115,7 +115,7 @@ whole_from n a (p ∷ ps) most placed all = elim (same_or p.0 a) [
               chunk_here p ps i inside ∙ ap (λ j. take 1024 (drop j p.1)) place ∙ sym (elim (cases_lt 0 (length p.1 % 1024)) [
                 | inl ragged ↦
                     let end : end_of length p ≡ n = placed.1.whole refl (λ none. omega (arith, none, ragged)) in
-                    let empty = nothing_behind n ps (subst (λ j. ArePlaced length n j ps) end placed.2) in
+                    let empty = nothing_after n ps (subst (λ j. ArePlaced length n j ps) end placed.2) in
                     ap (λ (l : List HeldPart). take 1024 (drop m (p.1 ++ content_of l))) empty ∙ ap (λ (b : List ℕ). take 1024 (drop m b)) (append-nil p.1)
                 | inr whole ↦ take_front 1024 m p.1 (content_of ps) (omega (arith, same, inside.1, inside.0)) (omega (arith, same, inside.1, inside.0, whole, placed.1.aligned))
               ])

@@ -105,7 +105,7 @@ held_of b ps es i keeps noted =
     let chunk = held_in (chunk_in ps) es has.first (i / 1024) has.subtree keeps.forest.pieces has.is has.after has.before in
     offset_of_chunk (length b) 0 i ps keeps.placed noted.0 chunk
 
--- ---- what is told
+-- ---- what is reported
 
 abbrev pub Missing : Type 0
 Missing = LeastMissing (λ (x : List ℕ). length x)

@@ -55,7 +55,7 @@ fresh y z a es p grows piece following = go (subtree_at es p.first) refl
         let has : HasChunk es p.first = record { first = p.first; subtree = n; is = is; after = omega arith; before = omega (arith, width) } in
         absurd (omega (arith, grows.below p.first has held, following))
 
--- what a look-up finds behind a piece more
+-- what a look-up finds after a piece more
 Found : Subtrees → Piece → ℕ → Subtree → Type 0
 Found es p s m = ((s ≡ p.first) × (m ≡ subtree_of p)) ⊎ ((s ≢ p.first) × (subtree_at es s ≡ Some m))
 

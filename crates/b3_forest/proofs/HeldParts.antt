@@ -160,7 +160,7 @@ overlap_order p q some other apart = elim (cases_lt q.0 (end_of length p)) [
   ]
 ]
 
--- a part goes before the first of others, or behind it
+-- a part goes before the first of others, or after it
 pub record GoesLater (p q : HeldPart) (qs : List HeldPart) : Type 0 where
   pub following : end_of length q ≤ p.0
   pub put : with_held p (q ∷ qs) ≡ q ∷ with_held p qs

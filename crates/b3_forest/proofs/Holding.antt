@@ -1,4 +1,4 @@
--- What the pieces of an upload tell of its parts.
+-- What the pieces of an upload say of its parts.
 use Rattle.std.proofs.Common.{◌≡◌, ℕ, ◌+◌, ◌-◌, ◌≤◌, List, [], ◌∷◌, length, Some, None, false, arith, refl, ap, ap₂, subst, sym, ◌∙◌, inl, inr}
 use Rattle.std.specs.Prelude.{OnErr, Result, Ok, Err}
 use Rattle.std.specs.List.Sorted.{IsStrictlySortedBy}

@@ -20,7 +20,7 @@ merged_subtree h = record { level = suc h.level; top = parent_top h.left_top h.r
 pub some_same : (n m : Subtree) → Some n ≡ Some m → n ≡ m
 some_same n m same = cc
 
--- what a look-up finds behind a merge
+-- what a look-up finds after a merge
 Found : Subtrees → Halves → ℕ → Subtree → Type 0
 Found es h s m = ((s ≡ h.left) × (m ≡ merged_subtree h)) ⊎ ((s ≢ h.left) × (s ≢ h.right) × (subtree_at es s ≡ Some m))
 
@@ -56,11 +56,11 @@ merged_within x es first h pieces pair =
     let next = pair.next in
     omega (arith, two, right, next)
 
--- a piece that begins behind the left half begins behind both
-behind_both : (x : ℕ → List ℕ) (es : Subtrees) (first t : ℕ) (m : Subtree) (h : Halves) → ArePieces x es → IsPair es first h → subtree_at es t ≡ Some m
+-- a piece that begins after the left half begins after both
+after_both : (x : ℕ → List ℕ) (es : Subtrees) (first t : ℕ) (m : Subtree) (h : Halves) → ArePieces x es → IsPair es first h → subtree_at es t ≡ Some m
     → t ≢ h.right → h.left < t → h.left + 2 ^ suc h.level ≤ t
 unfolding left_subtree right_subtree
-behind_both x es first t m h pieces pair is not_right following =
+after_both x es first t m h pieces pair is not_right following =
     let two = two-pow-succ h.level in
     let left = pieces.apart h.left t (left_subtree h) m pair.is_left is following in
     let next = pair.next in
@@ -88,7 +88,7 @@ merged_pieces n x es fs first h join chunks pieces pair merged = record {
       | inr other ↦
           let level : m.level ≡ suc h.level = ap (λ (w : Subtree). w.level) at.1 in
           let wide : 2 ^ m.level ≡ 2 ^ suc h.level = ap (λ i. 2 ^ i) level in
-          let both = behind_both x es first t k h pieces pair other.2 other.1 (omega (arith, before, at.0)) in
+          let both = after_both x es first t k h pieces pair other.2 other.1 (omega (arith, before, at.0)) in
           omega (arith, both, wide, at.0)
     ]
     | inr here ↦ elim (found es fs h t k merged is_t) [
@@ -100,7 +100,7 @@ merged_pieces n x es fs first h join chunks pieces pair merged = record {
   ];
 }
 
--- a chunk in a piece is in one behind a merge
+-- a chunk in a piece is in one after a merge
 chunk_kept : (es fs : Subtrees) (first i : ℕ) (h : Halves) → IsPair es first h → IsMerged es fs h → HasChunk es i → HasChunk fs i
 unfolding merged_subtree
 chunk_kept es fs first i h pair merged has =
@@ -143,7 +143,7 @@ merged_settled es fs first ds h pair merged settled s p =
       ]
     ]
 
--- a canonical forest but for halves at `first` is, behind their merge, one but for halves at the result
+-- a canonical forest but for halves at `first` is, after their merge, one but for halves at the result
 pub merged_forest : (n : ℕ) (x : ℕ → List ℕ) (ds : List ℕ) (es fs : Subtrees) (first : ℕ) (h : Halves) → NeighboursJoin → AreChunks n x
     → AreForest x (first ∷ ds) es → IsPair es first h → IsMerged es fs h → AreForest x (h.left ∷ ds) fs
 merged_forest n x ds es fs first h join chunks forest pair merged = record {

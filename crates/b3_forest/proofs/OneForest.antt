@@ -116,7 +116,7 @@ row_empty x e a [] none row = refl
 row_empty x e a (p ∷ ps) none row =
     let positive = pow_pos p.level in absurd (omega (arith, row.0, row.1, positive))
 
--- what a row covers lies behind its beginning
+-- what a row covers lies after its start
 covers_after : (x : ℕ → List ℕ) (e a i : ℕ) (ps : List Piece) → IsRow x e a ps → Covers ps i → a ≤ i
 covers_after x e a i [] row covered = absurd covered
 covers_after x e a i (p ∷ ps) row (inl within) = omega (arith, row.0, within.0)

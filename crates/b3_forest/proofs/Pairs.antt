@@ -28,8 +28,8 @@ odd_multiple q w v twice odd =
 quotient : (first width l q : ℕ) → width ≡ 2 ^ l → first ≡ q * 2 ^ l → first / width ≡ q
 quotient first width l q wide is = ap₂ (λ i j. i / j) is wide ∙ mul-div_cancel q (pow_pos l)
 
-pub behind_left : (first width l q : ℕ) → width ≡ 2 ^ l → first ≡ q * 2 ^ l → (first / width) % 2 ≡ 0 → IsOtherHalf first l (first + width)
-behind_left first width l q wide is even =
+pub after_left : (first width l q : ℕ) → width ≡ 2 ^ l → first ≡ q * 2 ^ l → (first / width) % 2 ≡ 0 → IsOtherHalf first l (first + width)
+after_left first width l q wide is even =
     let two = two-pow-succ l in
     let parity : q % 2 ≡ 0 = ap (λ i. i % 2) (sym (quotient first width l q wide is)) ∙ even in
     inl ((q / 2, is ∙ even_multiple q (2 ^ l) (2 ^ suc l) two parity), omega (arith, wide))

@@ -247,7 +247,7 @@ pieces_bound a b (suc k) s =
 abbrev pub bytes_within : ℕ → ℕ → ℕ → ℕ → ℕ
 bytes_within a n s w = min (1024 * a + n) (1024 * (s + w)) - max (1024 * a) (1024 * s)
 
--- so many chunks have at least some of these bytes
+-- the chunks of a number of bytes have at least one of them each
 chunks_within : (a n s w : ℕ) → min (end_from a n) (s + w) - max a s ≤ (bytes_within a n s w + 1023) / 1024
 chunks_within a n s w =
     elim (cases_lt (1024 * a + n) (1024 * (s + w))) [

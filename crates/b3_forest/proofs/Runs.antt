@@ -1,4 +1,4 @@
--- Where bytes stand that are kept in stretches of one length, and in runs.
+-- The places of bytes that are kept in stretches of one length, and in runs.
 use Rattle.std.proofs.Common.{◌≡◌, ℕ, zero, suc, ◌+◌, ◌-◌, ◌*◌, ◌/◌, ◌%◌, ◌<◌, ◌≤◌, ◌++◌, List, [], ◌∷◌, length, min, take, drop, arith, ap, ap₂, subst, sym, ◌∙◌}
 use Rattle.std.specs.Prelude.{All, flat_map, get_or, ◌↔◌}
 use Rattle.std.proofs.lemmas.List.{append_assoc, flat_map_more, drop-append-le, drop-drop, drop-take, length-append, length-drop, length-take-le, take-take}
@@ -9,7 +9,7 @@ use Rattle.std.proofs.Math.Nat.{div-mul-le_self, mod-lt, mul-le-mul_right}
 use Rattle.std.proofs.Math.Seq.{drop-append-add, drop-append_seam, take-add, take-append_seam, take-length}
 use Rattle.b3_forest.specs.Stretches.{IsRun, StandsAt}
 
--- ---- stretches of n bytes each, and some bytes behind them
+-- ---- stretches of n bytes each, and some bytes after them
 
 abbrev AreOf : {X : Type 0} → (X → List ℕ) → ℕ → List X → Type 0
 AreOf f n xs = All (λ x. length (f x) ≡ n) xs
@@ -22,7 +22,7 @@ their_length f n (x ∷ xs) all =
     let split : length (flat_map f (x ∷ xs)) ≡ length (f x) + length (flat_map f xs) = ap length (flat_map-cons f x xs) ∙ length-append (f x) (flat_map f xs) in
     omega (arith, split, head, rest)
 
--- what stands from within stretch k on
+-- the bytes from within stretch k on
 from_stretch : {X : Type 0} (f : X → List ℕ) (n k r : ℕ) (xs : List X) (last : List ℕ) (d : X) → AreOf f n xs → k < length xs → r ≤ n
     → (following : List ℕ) × (drop (k * n + r) (flat_map f xs ++ last) ≡ drop r (f (get_or xs k d)) ++ following)
 from_stretch f n k r [] last d all low within = absurd (omega (arith, low))
@@ -37,7 +37,7 @@ from_stretch f n (suc k) r (x ∷ xs) last d all low within =
     let place : suc k * n + r ≡ length (f x) + (k * n + r) = omega (arith, head) in
     (later.0, ap₂ drop place whole ∙ drop-append-add (f x) (flat_map f xs ++ last) (k * n + r) ∙ later.1)
 
--- what bytes begin with stands at their front
+-- a prefix of bytes is at their start
 front_stands : (b : List ℕ) (at : ℕ) (run following : List ℕ) → drop at b ≡ run ++ following → StandsAt b at run
 front_stands b at run following is = sym (ap (take (length run)) is ∙ take-append_seam run following)
 
@@ -55,7 +55,7 @@ in_full f n at xs last d some all low =
       some = λ _. omega (arith, len, left, less);
     }
 
--- and the run from an offset behind them on
+-- and the run from an offset after them on
 pub in_last : {X : Type 0} (f : X → List ℕ) (n at : ℕ) (xs : List X) (last : List ℕ) → AreOf f n xs → length xs * n ≤ at
     → IsRun (flat_map f xs ++ last) at (drop (at - length xs * n) last)
 in_last f n at xs last all low =
@@ -85,13 +85,13 @@ last_stands f n at xs last all number aligned =
     let none : at - length xs * n ≡ 0 = omega (arith, place) in
     subst (λ i. StandsAt (flat_map f xs ++ last) at (drop i last)) none run.same
 
--- a number of stretches that an offset is behind
+-- a number of stretches that an offset is after
 pub before : (n at k : ℕ) → k ≤ at / n → k * n ≤ at
 before n at k low = omega (arith, mul-le-mul_right n low, div-mul-le_self at n)
 
 -- ---- how long they are
 
--- the rest of a full stretch, of which more bytes stand behind
+-- the remaining bytes of a full stretch that more bytes follow
 pub full_length : {X : Type 0} (f : X → List ℕ) (n at : ℕ) (xs : List X) (last : List ℕ) (d : X) → 0 < n → AreOf f n xs → at / n < length xs
     → length (drop (at % n) (f (get_or xs (at / n) d))) ≡ min (n - at % n) (length (flat_map f xs ++ last) - at)
 full_length f n at xs last d some all low =
@@ -127,7 +127,7 @@ last_whole f n at xs last some all short number aligned =
     let none : at - length xs * n ≡ 0 = omega (arith, place) in
     ap (λ i. length (drop i last)) (sym none) ∙ last_length f n at xs last some all short (omega (arith, number))
 
--- all bytes end before an offset behind the last stretch
+-- all bytes end before an offset after the last stretch
 pub all_before : {X : Type 0} (f : X → List ℕ) (n at : ℕ) (xs : List X) (last : List ℕ) → AreOf f n xs → length last ≤ n → length xs < at / n → length (flat_map f xs ++ last) ≤ at
 all_before f n at xs last all short low =
     let sum = length-append (flat_map f xs) last in
@@ -138,7 +138,7 @@ all_before f n at xs last all short low =
 
 -- ---- runs joined
 
--- bytes stand where their front and the rest behind it do
+-- bytes are where their first bytes and the remaining ones are
 pub stands_in_two : (b : List ℕ) (at : ℕ) (front following : List ℕ) → StandsAt b at (front ++ following) ↔ (StandsAt b at front × StandsAt b (at + length front) following)
 stands_in_two b at front following =
     let n = length front in
@@ -158,14 +158,14 @@ stands_in_two b at front following =
 pub whole_rest : (i : ℕ) (b : List ℕ) → take (length b - i) (drop i b) ≡ drop i b
 whole_rest i b = ap (λ n. take n (drop i b)) (sym (length-drop i b)) ∙ take-length (drop i b)
 
--- bytes with more behind them
+-- bytes with more after them
 pub stands_more : (b : List ℕ) (at : ℕ) (front run : List ℕ) (m : ℕ) → StandsAt b at front → StandsAt b (at + length front) run → m ≤ length run → StandsAt b at (front ++ take m run)
 stands_more b at front run m first then_run short =
     let taken : take m run ≡ take m (drop (at + length front) b) = ap (take m) then_run ∙ take-take m (length run) (drop (at + length front) b) short in
     let len = length-take-le m run short in
     (stands_in_two b at front (take m run)).1 (first, taken ∙ ap (λ i. take i (drop (at + length front) b)) (sym len))
 
--- a beginning of a run that stands where it does
+-- a prefix of a run, at the same place
 pub stands_front : (b : List ℕ) (at : ℕ) (run : List ℕ) (m : ℕ) → StandsAt b at run → m ≤ length run → StandsAt b at (take m run)
 stands_front b at run m stands short =
     ap (take m) stands ∙ take-take m (length run) (drop at b) short ∙ ap (λ i. take i (drop at b)) (sym (length-take-le m run short))
@@ -175,8 +175,8 @@ stands_front b at run m stands short =
 pub with_stretch : {X : Type 0} (f : X → List ℕ) (xs : List X) (x : X) → flat_map f (xs ++ x ∷ []) ≡ flat_map f xs ++ f x
 with_stretch f xs x = sym (flat_map_more f [] xs x)
 
-pub more_behind : (before last front following : List ℕ) → (before ++ (last ++ front)) ++ following ≡ (before ++ last) ++ (front ++ following)
-more_behind before last front following = ap (λ b. b ++ following) (sym (append_assoc before last front)) ∙ append_assoc (before ++ last) front following
+pub more_after : (before last front following : List ℕ) → (before ++ (last ++ front)) ++ following ≡ (before ++ last) ++ (front ++ following)
+more_after before last front following = ap (λ b. b ++ following) (sym (append_assoc before last front)) ∙ append_assoc (before ++ last) front following
 
 -- as many bytes at one place are the same
 pub same_place : (b : List ℕ) (at : ℕ) (x y : List ℕ) → StandsAt b at x → StandsAt b at y → length x ≡ length y → x ≡ y

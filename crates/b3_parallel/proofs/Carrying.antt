@@ -17,7 +17,7 @@ bytes_of t = t.promise.bytes.value.items
 pub makes_given : (n k l v w : ℕ) → v ≡ counted n k → CountsRest k l v w → w ≡ counted n l
 makes_given n k l v w before (made, sum, after) = omega (arith, before, sum, after)
 
--- a block's own count is taken over before its node is put behind the others
+-- a block's own count is taken over before its node is put after the others
 pub taken_over : (k : ℕ) (subtrees new : Subtrees) (top : ModelTop) (mine : List ℕ) (n w own v u : ℕ) → length mine ≡ 1024 * 2 ^ k → own ≡ counted 0 (hash_work (length mine) - 1)
     → v ≡ counted w own → CountsRest (kept_work ((k, top) ∷ subtrees)) (kept_work new) v u → w ≡ counted n (kept_work subtrees) → u ≡ counted n (kept_work new)
 taken_over k subtrees new top mine n w own v u len is added makes before =
@@ -29,11 +29,11 @@ taken_over k subtrees new top mine n w own v u len is added makes before =
     both : (a b : ℕ) → v ≡ counted w b → (w ≡ counted n a) → v ≡ counted n (a + b)
     both a b one two = omega (arith, one, two)
 
--- the first block stands behind what the hasher was given
-pub first_is_behind : (p : ModelMode) (k : ℕ) (h : ModelHasher) (t : Thread) (hs : List Thread) (x : List ℕ) (n m : ℕ) (top : ModelTop) (own : ℕ)
+-- the first block follows what the hasher was given
+pub first_is_after : (p : ModelMode) (k : ℕ) (h : ModelHasher) (t : Thread) (hs : List Thread) (x : List ℕ) (n m : ℕ) (top : ModelTop) (own : ℕ)
     → (is : Carries p k h (t ∷ hs) x n m) → length x < 2 ^ 64
     → IsHashed t.promise.mode (bytes_of t) t.promise.number top own → IsAfter h k top is.1 (bytes_of t)
-first_is_behind p k h t hs x n m top own (mode, before, z, cut, (held, count), fits, (rest, parts, len, number, moded, others)) few (node, made) = (
+first_is_after p k h t hs x n m top own (mode, before, z, cut, (held, count), fits, (rest, parts, len, number, moded, others)) few (node, made) = (
   held,
   fits,
   len,
@@ -64,10 +64,10 @@ all_given p k h x n m (mode, before, z, cut, (held, count), fits, none) = (subst
 pub given_carries : (p : ModelMode) (k : ℕ) (h : ModelHasher) (x : List ℕ) (n m : ℕ) → h.mode ≡ p → IsGiven h x n m → HasRoomFor k h → Carries p k h [] x n m
 given_carries p k h x n m mode given fits = (mode, x, [], sym (append-nil x), given, fits, refl)
 
--- a block behind all bytes
-pub is_behind_all : (p : ModelMode) (k : ℕ) (h : ModelHasher) (x mine : List ℕ) (n m own : ℕ) (top : ModelTop) → Carries p k h [] x n m → length mine ≡ 1024 * 2 ^ k
+-- a block after all bytes
+pub is_after_all : (p : ModelMode) (k : ℕ) (h : ModelHasher) (x mine : List ℕ) (n m own : ℕ) (top : ModelTop) → Carries p k h [] x n m → length mine ≡ 1024 * 2 ^ k
     → IsHashed p mine (length x / 1024) top own → length x + length mine < 2 ^ 64 → IsAfter h k top x mine
-is_behind_all p k h x mine n m own top (mode, before, z, cut, given, fits, none) len (node, made) few =
+is_after_all p k h x mine n m own top (mode, before, z, cut, given, fits, none) len (node, made) few =
     let all = (all_given p k h x n m (mode, before, z, cut, given, fits, none)).0 in
     (all, fits, len, node ∙ ap₂ (λ n q. tree_top mine (n / 1024) q) (bare_length h x fits.0 all) (sym mode), few)
 

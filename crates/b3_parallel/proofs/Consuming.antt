@@ -24,7 +24,7 @@ max_of most h x n m old new (y, given, consumed, few) = omega (arith, few, lengt
 pub none_read : (most : ℕ) (h : ModelHasher) (x : List ℕ) (n m : ℕ) (known : Option (List ℕ)) → IsGiven h x n m → length x ≤ most → HasRead most h x n m known known
 none_read most h x n m known (held, count) few = ([], (subst (Holds h) (sym (append-nil x)) held, count), nothing known, omega (arith, few))
 
--- bytes that were read behind the others and given to the hasher
+-- bytes that were read after the others and given to the hasher
 pub read_more : (most : ℕ) (h new : ModelHasher) (x bytes : List ℕ) (n m u : ℕ) (old mid now : Option (List ℕ)) → (is : HasRead most h x n m old mid)
     → Holds new ((x ++ is.0) ++ bytes) → CountsRest (kept_work h.subtrees) (kept_work new.subtrees) m u → Consumes mid now bytes → length (x ++ is.0) + length bytes ≤ most
     → HasRead most new x n u old now
@@ -47,7 +47,7 @@ counts_all h x (before, cut, are, size, short) few = omega (arith, few, size, ap
 pub nothing_given : (p : ModelMode) (h : ModelHasher) (n : ℕ) → h ≡ record { mode = p; subtrees = []; whole = 0; tail = [] } → IsGiven h [] n n
 nothing_given p h n is = rw is (([], refl, refl, refl, omega arith), omega arith)
 
--- what was read before and behind
+-- what was read before and after
 pub both_read : (most more : ℕ) (h new : ModelHasher) (n m u : ℕ) (old mid now : Option (List ℕ)) → (first : HasRead most h [] n m old mid) → HasRead more new first.0 n u mid now → HasRead more new [] n u old now
 both_read most more h new n m u old mid now (x, given, consumed, few) (y, held, then, fits) = (x ++ y, held, Consumes-trans old mid now x y consumed then, omega (arith, fits, length-append x y))
 

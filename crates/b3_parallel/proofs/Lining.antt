@@ -10,7 +10,7 @@ use Rattle.b3_parallel.specs.inner.Lines.{Carries, Thread}
 use Rattle.b3_parallel.proofs.Carrying.{all_given, makes_given}
 use Rattle.b3_parallel.proofs.Consuming.{nothing}
 
--- behind x stands what was read: c blocks together
+-- after x is what was read: c blocks together
 abbrev pub LineHas : ModelMode → ℕ → ModelHasher → List Thread → List ℕ → ℕ → ℕ → ℕ → Option (List ℕ) → Option (List ℕ) → Type 0
 LineHas p k h hs x n m c old new =
     (y : List ℕ) × Carries p k h hs (x ++ y) n m × (length (x ++ y) ≡ 1024 * (c * 2 ^ k)) × (c * 2 ^ k ≤ 2 ^ 53) × Consumes old new y

@@ -1,4 +1,4 @@
--- Blocks of a source, behind those that a hasher was given.
+-- Blocks of a source, after those that a hasher was given.
 use Rattle.std.proofs.Common.{suc, zero, ◌≡◌, ℕ, ◌+◌, ◌-◌, ◌*◌, ◌/◌, ◌^◌, ◌<◌, ◌≤◌, ◌++◌, List, [], ◌∷◌, Option, Some, None, IfSome, length, take, drop, set, arith, refl, ap, ap₂, sym, ◌∙◌, subst, length-append}
 use Rattle.std.proofs.lemmas.List.{append-nil, take-append-drop}
 use Rattle.std.proofs.Math.Nat.{mul-le-mul_left}
@@ -14,23 +14,23 @@ use Rattle.b3_parallel.specs.Rounds.{AreAll}
 use Rattle.b3_parallel.specs.inner.Rounds.{ArePlaced, AreSlots, AreTaken, HasFront, IsPlaced, StandsAt}
 use Rattle.b3_parallel.specs.Sources.{known_from}
 use Rattle.b3_parallel.specs.declared.taking.Placed.{Placed}
-use Rattle.b3_parallel.proofs.Carrying.{given_carries, is_behind_all, makes_given}
+use Rattle.b3_parallel.proofs.Carrying.{given_carries, is_after_all, makes_given}
 use Rattle.b3_parallel.proofs.Consuming.{nothing_given}
 use Rattle.b3_parallel.proofs.Standing.{same_count}
 
--- what a reader gives from a place on stands there
+-- what a reader gives from a place on is there
 pub read_stands : (known new : Option (List ℕ)) (start : ℕ) (x : List ℕ) → Consumes (known_from known start) new x → StandsAt known start x
 read_stands None new start x gave = tt
 read_stands (Some all) None start x gave = absurd gave
 read_stands (Some all) (Some rest) start x gave = ap (take (length x)) gave ∙ take-append_seam x rest
 
--- the first bytes, and those that stand behind them
+-- the first bytes, and those that follow them
 pub front_more : (known : Option (List ℕ)) (x y : List ℕ) → StandsAt known 0 x → StandsAt known (length x) y → StandsAt known 0 (x ++ y)
 front_more None x y first then = tt
 front_more (Some all) x y first then =
     ap (λ n. take n all) (length-append x y) ∙ take-add (length x) (length y) all ∙ ap₂ (λ a b. a ++ b) first then
 
--- the first bytes, and all that a reader gives behind them
+-- the first bytes, and all that a reader gives after them
 pub front_all : (known new : Option (List ℕ)) (x y : List ℕ) → StandsAt known 0 x → Consumes (known_from known (length x)) new y → IsAtEnd new → AreAll known (x ++ y)
 front_all None new x y first gave end = tt
 front_all (Some all) None x y first gave end = absurd gave
@@ -54,12 +54,12 @@ at_end p top mine x number own (node, made) size =
     let count : number ≡ length x / 1024 = omega (arith, size) in
     (node ∙ ap (λ n. tree_top mine n p) count, made)
 
--- the next block stands behind what the hasher was given
-pub placed_is_behind : (p : ModelMode) (known : Option (List ℕ)) (k place n m : ℕ) (h : ModelHasher) (s : Placed) → (front : HasFront p known k h place n m)
+-- the next block follows what the hasher was given
+pub placed_is_after : (p : ModelMode) (known : Option (List ℕ)) (k place n m : ℕ) (h : ModelHasher) (s : Placed) → (front : HasFront p known k h place n m)
     → (block : IsPlaced p known k s) → s.place ≡ place → (place + 1) * 2 ^ k ≤ 2 ^ 53 → IsAfter h k s.top front.0 block.0
-placed_is_behind p known k place n m h s (x, carries, size, first) (mine, len, hashed, at) same most =
+placed_is_after p known k place n m h s (x, carries, size, first) (mine, len, hashed, at) same most =
     let number : length x ≡ 1024 * (s.place * 2 ^ k) = size ∙ ap (λ n. 1024 * (n * 2 ^ k)) (sym same) in
-    is_behind_all p k h x mine n m s.work s.top carries len (at_end p s.top mine x (s.place * 2 ^ k) s.work hashed number)
+    is_after_all p k h x mine n m s.work s.top carries len (at_end p s.top mine x (s.place * 2 ^ k) s.work hashed number)
     (few_bytes (length x) place (2 ^ k) (length mine) size len most)
 
 pub front_grows : (p : ModelMode) (known : Option (List ℕ)) (k place n m u : ℕ) (h new : ModelHasher) (s : Placed) → (front : HasFront p known k h place n m)
@@ -73,7 +73,7 @@ front_grows p known k place n m u h new s (x, carries, size, first) (mine, len, 
       front_more known x mine first (subst (λ n. StandsAt known n mine) start at),
     )
 
--- a list with one more block behind the others
+-- a list with one more block after the others
 pub placed_more : (p : ModelMode) (known : Option (List ℕ)) (k : ℕ) (list : List Placed) (s : Placed) → ArePlaced p known k list → IsPlaced p known k s → ArePlaced p known k (list ++ s ∷ [])
 placed_more p known k [] s are is = (is, tt)
 placed_more p known k (first ∷ list) s (one, are) is = (one, placed_more p known k list s are is)
@@ -88,7 +88,7 @@ pub slots_more : (p : ModelMode) (known : Option (List ℕ)) (k : ℕ) (slots : 
 slots_more p known k [] s are is = (is, tt)
 slots_more p known k (first ∷ slots) s (one, are) is = (one, slots_more p known k slots s are is)
 
--- what one thread made, behind what others did
+-- what one thread made, after what others did
 pub taken_more : (p : ModelMode) (known : Option (List ℕ)) (k : ℕ) (lists : List (Vec Placed)) (list : Vec Placed) → AreTaken p known k lists → ArePlaced p known k list.items → AreTaken p known k (lists ++ list ∷ [])
 taken_more p known k [] list are is = (is, tt)
 taken_more p known k (first ∷ lists) list (one, are) is = (one, taken_more p known k lists list are is)
@@ -103,7 +103,7 @@ front_begins p known k n h is =
     let fits : HasRoomFor k h = rw is (refl, tt) in
     ([], given_carries p k h [] n n (ap (λ (h : ModelHasher). h.mode) is) (nothing_given p h n is) fits, omega arith, nothing_stands known)
 
--- so many blocks, of which the last ends within 2^53 chunks
+-- a number of blocks, of which the last ends within 2^53 chunks
 pub all_within : (blocks limit size : ℕ) → blocks ≤ limit → ((n : ℕ) → n < limit → (n + 1) * size ≤ 2 ^ 53) → blocks * size ≤ 2 ^ 53
 all_within zero limit size few within = omega arith
 all_within (suc n) limit size few within = let last : (n + 1) * size ≤ 2 ^ 53 = within n (omega (arith, few)) in omega (arith, last)

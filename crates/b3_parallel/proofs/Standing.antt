@@ -1,4 +1,4 @@
--- A part behind those before it.
+-- A part after those before it.
 use Rattle.std.proofs.Common.{◌≡◌, ℕ, ◌+◌, ◌-◌, ◌*◌, ◌/◌, ◌%◌, ◌^◌, ◌<◌, ◌≤◌, ◌++◌, List, [], ◌∷◌, inl, inr, add-one, rules, length, take, drop, drop-cons, arith, refl, ap, ap₂, sym, ◌∙◌, subst, append_assoc, length-append, slice_index_or}
 use Rattle.std.proofs.lemmas.Bool.{cases_lt}
 use Rattle.std.proofs.lemmas.List.{append-nil, length-drop, length-take-le, take_all}
@@ -46,10 +46,10 @@ next_part x bytes k i =
 number_of : (w v i p : ℕ) → v ≡ w + i * (1024 * p) → w / 1024 + p * i ≡ v / 1024
 number_of w v i p is = let all : i * (1024 * p) ≡ 1024 * (p * i) = omega arith in omega (arith, is, all)
 
-pub part_is_behind : (old h : ModelHasher) (k i : ℕ) (parts : List Part) (part : Part) (x bytes : List ℕ) → AreAfter old k parts x bytes → i < length parts
+pub part_is_after : (old h : ModelHasher) (k i : ℕ) (parts : List Part) (part : Part) (x bytes : List ℕ) → AreAfter old k parts x bytes → i < length parts
     → part ≡ slice_index_or parts i part → h.mode ≡ old.mode → Holds h (x ++ before_part bytes k i) → HasRoomFor k h
     → IsAfter h k part.top (x ++ before_part bytes k i) (stretch_at bytes k i)
-part_is_behind old h k i parts part x bytes (held, fits, few, (len, each)) below is mode now now_fits =
+part_is_after old h k i parts part x bytes (held, fits, few, (len, each)) below is mode now now_fits =
     let size = part_length bytes k (length parts) i len below in
     let front = front_length bytes k (length parts) i len below in
     let inside = within (1024 * 2 ^ k) (length parts) i below in
@@ -90,9 +90,9 @@ whole_front n m =
     let front : n - n % m ≡ m * (n / m) = omega (arith, sum) in
     ap (λ k. k % m) front ∙ mul-mod_right m (n / m)
 
--- the subtree of 2^k chunks that has i of them between it and a place where one may stand
-pub subtree_behind : (k c i : ℕ) → IsSubtree (1024 * 2 ^ k) c → IsSubtree (1024 * 2 ^ k) (c + 2 ^ k * i)
-subtree_behind k c i (empty, j, q, fits, at) =
+-- the subtree of 2^k chunks that has i of them between it and a place where one may be
+pub subtree_after : (k c i : ℕ) → IsSubtree (1024 * 2 ^ k) c → IsSubtree (1024 * 2 ^ k) (c + 2 ^ k * i)
+subtree_after k c i (empty, j, q, fits, at) =
     let some = pow_pos k in
     let from : k ≤ j = no_less (omega (arith, fits)) in
     let sum : k + (j - k) ≡ j = omega (arith, from) in
@@ -111,14 +111,14 @@ subtree_behind k c i (empty, j, q, fits, at) =
     place : (e s : ℕ) → 2 ^ j ≡ s * e → c + s * i ≡ (q * e + i) * s
     place e s power = let here : c ≡ q * (s * e) = at ∙ ap (λ n. q * n) power in omega (arith, here)
 
--- a place behind i subtrees of 2^k chunks
+-- a place after i subtrees of 2^k chunks
 pub subtree_at : (k i : ℕ) → IsSubtree (1024 * 2 ^ k) (i * 2 ^ k)
 subtree_at k i = let some = pow_pos k in ((λ none. absurd (nothing none some)), k, i, omega (arith, some), refl)
   where
     nothing : 1024 * 2 ^ k ≡ 0 → 0 < 2 ^ k → ⊥
     nothing none some = omega (arith, none, some)
 
--- the first of the parts that are left behind i others
+-- the first of the parts that are left after i others
 pub next_of : (parts : List Part) (i : ℕ) (part : Part) (rest : List Part) → drop i parts ≡ part ∷ rest
     → (i < length parts) × (part ≡ slice_index_or parts i part) × (drop (i + 1) parts ≡ rest)
 next_of parts i part rest left = elim (cases_lt i (length parts)) [
@@ -135,7 +135,7 @@ next_of parts i part rest left = elim (cases_lt i (length parts)) [
 pub none_left : (parts : List Part) (i : ℕ) → drop i parts ≡ [] → length parts ≤ i
 none_left parts i none = let size : length parts - i ≡ 0 = sym (length-drop i parts) ∙ ap length none in omega (arith, size)
 
--- before the first part stand no bytes
+-- before the first part are no bytes
 pub before_first : (x bytes : List ℕ) (k : ℕ) → x ++ before_part bytes k 0 ≡ x
 before_first x bytes k = let none : 0 * (1024 * 2 ^ k) ≡ 0 = omega arith in ap (λ n. x ++ take n bytes) none ∙ append-nil x
 

@@ -157,10 +157,10 @@ fn a_file_is_verified(rt: HostRuntime) -> Result<(), Fail> {
     let alloc = rt.alloc();
     let all: &[u8] =
         b"good f\nfault 2 C2\nmissing g\ngood 1 bad 0 missing 1 unreadable 0 faults 1\n";
-    let behind_good: &[u8] =
+    let after_good: &[u8] =
         b"fault 2 C2\nmissing g\ngood 1 bad 0 missing 1 unreadable 0 faults 1\n";
     assert!(rt; report_on(alloc, Shown::All)?.as_slice() == all);
-    assert!(rt; report_on(alloc, Shown::AllButGood)?.as_slice() == behind_good);
+    assert!(rt; report_on(alloc, Shown::AllButGood)?.as_slice() == after_good);
     assert!(rt; report_on(alloc, Shown::Nothing)?.is_empty());
     Ok(())
 }

@@ -1,4 +1,4 @@
--- Digits of bytes that stand one behind another.
+-- Digits of bytes one after another.
 use Rattle.std.proofs.Common.{◌≡◌, ◌/◌, ◌%◌, List, [], ◌∷◌, ◌++◌, ℕ, refl, ap}
 use Rattle.std.specs.Prelude.{slice_index}
 use Rattle.hex.specs.Hex.{encode_lower, encode_with}

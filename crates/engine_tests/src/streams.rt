@@ -189,7 +189,7 @@ const LONG_LINE: &[u8] = b"52dc212cb4cc61cb94d25bd7b1d47b256e4c3a6d68956df50c235
 
 // The bytes after the first 2 MiB are read in blocks, for threads.
 #[test]
-fn a_long_input_is_read_on_behind_interruptions(rt: HostRuntime) -> Result<(), Fail> {
+fn a_long_input_is_read_on_after_interruptions(rt: HostRuntime) -> Result<(), Fail> {
     let input = pattern(rt.alloc(), 0, 2_097_153)?;
     let two = SumRequest {
         threads: Some(2),

@@ -145,7 +145,7 @@ module _ {O : Type 0} (address : O → List ℕ) where
     addressed = subst (λ (es : (List (ℕ × (List ℕ × Filed O)))). AllByRecursion (IsAddressed address) (values_of es)) (sym same) are.addressed;
   }
 
-  -- the object of an address stands under its number
+  -- the object of an address is stored under its number
   pub placed_at : (k : ℕ) (m : BTreeMap ℕ (List ℕ × Filed O)) (p : Numbers) (x : ModelCatalog O) → AreCatalogued address k m p → catalog_of k m ≡ x → (a : List ℕ) (q : ℕ) → p a ≡ Some q → (o : Filed O) → object_among address x.objects a ≡ Some o → get nat_cmp m q ≡ Some (a, o)
   placed_at k m p x are is a q number o found = placed k m p are.filed a q number o (sym (among a m.entries are.addressed) ∙ ap (λ (y : ModelCatalog O). object_among address y.objects a) is ∙ found)
 

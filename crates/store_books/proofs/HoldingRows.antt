@@ -240,13 +240,13 @@ module _ {O : Type 0} where
   AreThere m ps = AllByRecursion (λ n. IsSome (get nat_cmp m n)) (map (λ p. p.1) ps)
 
 module _ {O : Type 0} (size : O → ℕ) (address : O → List ℕ) where
-  -- ---- what is told of them
+  -- ---- what is reported of them
 
   -- the address and the length of what is filed there
   abbrev pub reported : Option (List ℕ × Filed O) → List ℕ × ℕ
   reported f = option_map_or (λ f. (address f.1.content, size f.1.content)) f ([], 0)
 
-  -- what is told of the filings of a row
+  -- what is reported of the filings of a row
   abbrev pub reported_of : (BTreeMap ℕ (List ℕ × Filed O)) → List (ℕ × ℕ) → List (List ℕ × ℕ)
   reported_of m ps = map (λ p. reported (get nat_cmp m p.1)) ps
 
@@ -267,7 +267,7 @@ module _ {O : Type 0} (size : O → ℕ) (address : O → List ℕ) where
       ns : List ℕ
       ns = filter (λ n. is_holding t (get nat_cmp m n)) (keys_of es)
 
-  -- the row of a tenant tells what it holds
+  -- the row of a tenant says what it holds
   pub row_reported : (k t : ℕ) (m : (BTreeMap ℕ (List ℕ × Filed O))) (h : Held) (ps : List (ℕ × ℕ)) → IsOrdered nat_cmp m → ((n : ℕ) (f : (List ℕ × Filed O)) → get nat_cmp m n ≡ Some f → n < k) → AreHoldings m h → ps ≡ filter (range_contains pair_cmp (Included (t, 0)) (Excluded (t, k))) h.keys
       → (reported_of m ps ≡ listed size address t (shown m.entries)) × AreThere m ps
   row_reported k t m h ps ordered before are is =

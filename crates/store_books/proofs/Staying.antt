@@ -1,4 +1,4 @@
--- What is true of books stays true behind each command.
+-- What is true of books stays true after each command.
 use Rattle.std.proofs.Common.{◌≡◌, ◌∙◌, ◌<◌, ◌≤◌, ℕ, List, Option, Some, None, refl, ap, sym, arith, length, get_or, subst, inl, inr}
 use Rattle.std.specs.Prelude.{if◌then◌else◌, nat_lt, option_map, slice_set}
 use Rattle.std.specs.List.{AllByRecursion}

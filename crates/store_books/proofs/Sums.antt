@@ -1,4 +1,4 @@
--- What the books keep behind a command for one tenant.
+-- What the books keep after a command for one tenant.
 use Rattle.std.proofs.Common.{◌≡◌, ◌∙◌, ◌+◌, ◌^◌, ◌<◌, ◌≤◌, ℕ, List, ap, refl, sym, arith, inl, inr, length, get_or, subst}
 use Rattle.std.specs.List.{AllByRecursion}
 use Rattle.std.specs.Map.{keys_of}
@@ -28,7 +28,7 @@ pub change_is : {a b c d : ℕ} → a ≡ b → c ≡ d → ◌≡◌ {A = Chang
 change_is {a} {b} {c} {d} first second = ap (λ (n : ℕ). record { less = n; more = c }) first ∙ ap (λ (n : ℕ). record { less = b; more = n }) second
 
 module _ {P O : Type 0} (len : P → ℕ) (size : O → ℕ) (address : O → List ℕ) where
-  -- books behind a command that changes what one tenant uses and reserves
+  -- books after a command that changes what one tenant uses and reserves
   pub record Moves (t : ℕ) (used reserved : Change) (b c : ModelBooks P O) : Type 0 where
     pub tenants : c.max_tenants ≡ b.max_tenants
     pub entries : c.max_entries ≡ b.max_entries
@@ -79,7 +79,7 @@ module _ {P O : Type 0} (len : P → ℕ) (size : O → ℕ) (address : O → Li
         parts = omega (arith, m.parts, m.accepted, old.parts);
       }
 
-  -- what a tenant's running sums tell
+  -- what a tenant's running sums say
   pub record IsAt (b : ModelBooks P O) (t : ℕ) (x : Tenant) : Type 0 where
     pub limit : x.limit ≡ limit_of b t
     pub used : x.used ≡ use_of size b t

@@ -52,7 +52,7 @@ pub taken : (a : App) (words : List Text) → a ≡ command_line → (is_simple_
 unfolding IsTaken
 taken a words shape fits = ap (λ (b : App). fault_of b words) (sym shape) ∙ fits (ap is_simple_and_free shape)
 
--- at such words a parse fails for want of memory alone
+-- at such words a parse fails only when out of memory
 pub memory : (a : App) (words : List Text) (e : Error) → a ≡ command_line → (is_simple_and_free a ≡ true → HasKind (fault_of a words) e) → IsTaken words → kind_of e ≡ kinds.OutOfMemory
 unfolding IsTaken
 memory a words e shape fails is = go (subst (λ ks. HasKind ks e) (ap (λ (b : App). fault_of b words) shape ∙ is) (fails (ap is_simple_and_free shape)))
@@ -61,7 +61,7 @@ memory a words e shape fails is = go (subst (λ ks. HasKind ks e) (ap (λ (b : A
     go (inl h) = h
     go (inr h) = absurd h
 
--- what is told where a parse fails
+-- what is reported where a parse fails
 pub reported_at : (a : App) (words : List Text) (e : Error) (fault : Fault) → a ≡ command_line → (is_simple_and_free a ≡ true → HasKind (fault_of a words) e)
     → (kind_of e ≡ kinds.OutOfMemory → fault ≡ NoMemory) → ReportsKind (kind_of e) fault → IsFaultAt words fault
 unfolding AsksVersion MayAskVersion
@@ -78,7 +78,7 @@ reported_at a words e fault shape fails short reports = go fault (subst (λ ks. 
         none (inr impossible) = impossible
     go NoMemory h short reports = tt
 
--- what is told where it doesn't
+-- what is reported where it doesn't
 pub reported_by : {T : Type 0} (r : Result T Fault) (words : List Text) → IsTaken words → IfErr r IsNoVersion → IfErr r (IsFaultAt words)
 unfolding IsTaken AsksVersion MayAskVersion
 reported_by (Ok x) words is reports = tt
@@ -96,11 +96,11 @@ spelled_or most other n (Some t) P spells within f = f (Some n) spells within
 abbrev following : List (Bor Text) → List Text
 following = map (λ t. t.now)
 
-each_behind : (P : Text → Type 0) (texts : List (Bor Text)) → All P (following texts) → All (λ t. P t.now) texts
-each_behind P texts h = λ k d lt. subst P (get_or-map (λ (t : Bor Text). t.now) texts k d) (h k d.now (omega (arith, length-map texts (λ (t : Bor Text). t.now))))
+each_after : (P : Text → Type 0) (texts : List (Bor Text)) → All P (following texts) → All (λ t. P t.now) texts
+each_after P texts h = λ k d lt. subst P (get_or-map (λ (t : Bor Text). t.now) texts k d) (h k d.now (omega (arith, length-map texts (λ (t : Bor Text). t.now))))
 
 named_too : (P : Text → Type 0) (names texts : List (Bor Text)) → following names ≡ following texts → All (λ n. P n.now) names → All (λ t. P t.now) texts
-named_too P names texts same h = each_behind P texts (subst (All P) same (All-map P (λ (n : Bor Text). n.now) names h))
+named_too P names texts same h = each_after P texts (subst (All P) same (All-map P (λ (n : Bor Text). n.now) names h))
 
 -- where words without an option are given, only their names are hashed
 pub only_named : (i : SumInputs) (files : Option (List Text)) (said list null : Option Text) (texts : List (Bor Text)) (P : Type 0)

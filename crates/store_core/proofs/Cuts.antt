@@ -1,4 +1,4 @@
--- Some of the bytes that stand one behind another: so many from an offset on.
+-- Some of the bytes of segments: a number of bytes from an offset on.
 use Rattle.std.proofs.Common.{◌≡◌, ◌∙◌, ◌+◌, ◌-◌, ◌<◌, ◌≤◌, ◌++◌, ℕ, List, [], ◌∷◌, inl, inr, min, refl, ap, sym, append-nil, append_assoc, arith, drop, get_or, length, map, take, take_all}
 use Rattle.std.specs.Arc.{arc_value}
 use Rattle.std.proofs.lemmas.Bool.{cases_lt}
@@ -8,7 +8,7 @@ use Rattle.std.proofs.Math.Seq.{drop-append-add, take-append-add, take-append_se
 use Rattle.b3_forest.specs.declared.segment.Segment.{Segment}
 use Rattle.b3_forest.specs.Uploads.{content_of, part_of}
 
--- those behind so many of two lists
+-- two lists without their first `s` elements
 drop_of_two : (s : ℕ) (xs ys : List ℕ) → drop s (xs ++ ys) ≡ drop s xs ++ drop (s - length xs) ys
 drop_of_two s xs ys =
     elim (cases_lt (length xs) s) [
@@ -20,7 +20,7 @@ drop_of_two s xs ys =
           drop-append-le s xs ys (omega arith) ∙ ap (λ k. drop s xs ++ drop k ys) (sym e)
     ]
 
--- so many of two lists
+-- the first `n` elements of two lists
 take_of_two : (n : ℕ) (xs ys : List ℕ) → take n (xs ++ ys) ≡ take n xs ++ take (n - length xs) ys
 take_of_two n xs ys =
     elim (cases_lt (length xs) n) [
@@ -54,7 +54,7 @@ taken_more done all xs ys l s n is h =
     ∙ ap (λ z. done ++ z) (sym (ap (take l) (drop_of_two s xs ys) ∙ take_of_two l (drop s xs) (drop (s - length xs) ys)))
     ∙ h
 
--- a piece more stands in the room
+-- a piece more is in the room
 pub room_more : (old now new done piece : List ℕ) (at n : ℕ) → length done ≡ at → n ≡ length piece → now ≡ done ++ drop at old → new ≡ take at now ++ (piece ++ drop (at + n) now) → new ≡ (done ++ piece) ++ drop (at + n) old
 room_more old now new done piece at n long count was is =
     let front : take at now ≡ done = ap (take at) was ∙ ap (λ k. take k (done ++ drop at old)) (sym long) ∙ take-append_seam done (drop at old) in
@@ -67,7 +67,7 @@ content_step : (s : Segment) (segments : List Segment) → content_of (map part_
 unfolding content_of
 content_step s segments = refl
 
--- the segments that are left are this one and those behind it
+-- the segments that are left are this one and those after it
 pub segment_next : (segments : List Segment) (i : ℕ) (s : Segment) → i < length segments → s ≡ get_or segments i s → content_of (map part_of (drop i segments)) ≡ (arc_value s.bytes).items ++ content_of (map part_of (drop (i + 1) segments))
 segment_next segments i s there is =
     at_drop_more (λ ss. content_of (map part_of ss)) segments i s there ∙ ap (λ y. content_of (map part_of (y ∷ drop (i + 1) segments))) (sym is) ∙ content_step s (drop (i + 1) segments)
@@ -79,7 +79,7 @@ no_segments = refl
 none_left : (l s : ℕ) → ◌≡◌ {A = List ℕ} (take l (drop s [])) []
 none_left l s = ap (take l) (drop_all s [] (omega arith)) ∙ take_all l [] (omega arith)
 
--- behind the last segment nothing is left
+-- after the last segment nothing is left
 pub all_taken : (done all : List ℕ) (l s : ℕ) (segments : List Segment) (i : ℕ) → length segments ≤ i → done ++ take l (drop s (content_of (map part_of (drop i segments)))) ≡ all → done ≡ all
 all_taken done all l s segments i past h =
     let none : content_of (map part_of (drop i segments)) ≡ [] = ap (λ ss. content_of (map part_of ss)) (drop_all i segments past) ∙ no_segments in

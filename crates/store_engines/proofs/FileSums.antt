@@ -41,7 +41,7 @@ verdict_push [] answer = last (has_root answer)
 verdict_push (Ok root ∷ answers) answer = verdict_push answers answer
 verdict_push (Err reason ∷ answers) answer = refl
 
--- what holds behind i names
+-- what holds after i names
 abbrev pub IsUpTo : {S : Type 0} → (S → List ℕ → Result ModelTop FileFault → S → Type 0) → (S → List ℕ → Reason → S → Type 0) → Option ℕ → S → List (List ℕ) → ℕ → S → Verdict → Option (List ℕ) → Option (List ℕ) → Type 0
 IsUpTo gives reports len old names i new verdict before after =
     (answers : List RootAnswer) × AreRootAnswers gives reports old (take i names) answers new × Appends before after (root_answers_text len (take i names) answers)

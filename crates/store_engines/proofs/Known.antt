@@ -14,9 +14,9 @@ known None bytes P is h = tt
 known (Some left) bytes P is h = subst P is h
 
 -- a report went out, and could not be flushed
-pub cut_behind : {S : Type 0} (gives : S → List ℕ → Answer → S → Type 0) (shown : Shown) (old : S) (lines : List NumberedLine) (new : S) (before grown last : Option (List ℕ)) (verdicts : List Verdict)
+pub cut_after : {S : Type 0} (gives : S → List ℕ → Answer → S → Type 0) (shown : Shown) (old : S) (lines : List NumberedLine) (new : S) (before grown last : Option (List ℕ)) (verdicts : List Verdict)
     → IsReport gives old lines verdicts new → Appends before grown (report_text shown verdicts) → Keeps grown last → IsCut gives shown old lines new before last
-cut_behind gives shown old lines new before grown last verdicts asked went kept = record {
+cut_after gives shown old lines new before grown last verdicts asked went kept = record {
   front = lines;
   back = [];
   verdicts = verdicts;

@@ -63,7 +63,7 @@ pub longer_within : (end : ℕ) (names : List (List ℕ)) (front text : List ℕ
     → option_map (λ r. names ++ r) (names_from end front (drop i text)) ≡ all → option_map (λ r. names ++ r) (names_from end (front ++ get_or text i 0 ∷ []) (drop (i + 1) text)) ≡ all
 longer_within end names front text i all lt other is = ap (option_map (λ r. names ++ r)) (sym (within end front text i lt other)) ∙ is
 
--- ---- behind the last byte
+-- ---- after the last byte
 
 last : (end : ℕ) (front text : List ℕ) (i : ℕ) → length text ≤ i → names_from end front (drop i text) ≡ name_in_front front (Some [])
 unfolding names_from

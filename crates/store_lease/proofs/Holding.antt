@@ -87,7 +87,7 @@ module _ {O : Type 0} (address : O → List ℕ) where
       option_or d (Some z) = z
       option_or d None = d
 
-  -- where the address is the other one, the object that stands there is the tenant's
+  -- where the address is the other one, the object that is there is the tenant's
   own : (os : List (Filed O)) (at other : List ℕ) (tenant : ℕ) (o : Filed O) → object_among address os other ≡ Some o → Among os tenant at → bytes_eq other at ≡ true → is_held_by tenant o ≡ true
   own os at other tenant o known was is =
       let same : object_among address os other ≡ Some was.object = ap (object_among address os) ((bytes_eq-Decides other at).0 is) ∙ was.found in

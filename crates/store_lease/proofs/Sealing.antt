@@ -1,4 +1,4 @@
--- What a client was told that a seal filed, the tenant holds.
+-- The tenant holds what an answer to its client reported as filed by a seal.
 use Rattle.std.proofs.Common.{◌≡◌, ◌∙◌, ℕ, List, [], ◌∷◌, ◌++◌, Option, Some, None, refl, ap, sym, length}
 use Rattle.std.specs.Prelude.{Result, Ok, Err}
 use Rattle.b3_core.specs.Modes.{hash_of}

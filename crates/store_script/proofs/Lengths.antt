@@ -17,7 +17,7 @@ use Rattle.store_script.proofs.Read.{found}
 digits_few : (n : ℕ) → n < 2 ^ 64 → length (decimal n) ≤ 20
 digits_few n lt = length-decimal-le 20 n (omega arith) (omega (arith, lt)) lt
 
--- a word and what stands behind it
+-- a word and what follows it
 worded : (line word fields : List ℕ) (k n : ℕ) → line ≡ word ++ fields → length word ≡ k → length fields ≤ n → length line ≤ k + n
 worded line word fields k n is long few = omega (arith, ap length is, length-append word fields, long, few)
 

@@ -1,4 +1,4 @@
--- What a line comes to.
+-- What a line results in.
 use Rattle.std.proofs.Common.{◌≡◌, ◌∙◌, ◌+◌, ◌-◌, ◌<◌, ◌≤◌, ℕ, List, [], ◌∷◌, ◌++◌, Some, None, Ok, Err, Result, refl, ap, sym, subst, arith, cond, length, take}
 use Rattle.std.specs.Prelude.{◌&&◌, ◌==◌, Bool, Option, IfOk, OnErr, unwrap_or, codes, false, nat_lt, slice_index, true}
 use Rattle.std.specs.Io.BufRead.{strip_last}
@@ -71,7 +71,7 @@ fault_is : (old : ModelStore) (upload : ℕ) (part : ModelPrepared) (refused : O
 fault_is old upload part (Some first) fault is = (ap unmade is, refl)
 fault_is old upload part None fault is = (is, refl)
 
--- F2 to F6, or want of memory
+-- F2 to F6, or out of memory
 pub no_part : (old : ModelStore) (upload offset : ℕ) (made_for : UploadPlan) (bytes : List ℕ) (fault : PartFault) (text : List ℕ) (ending : Ending) → Ok made_for ≡ plan_in old.state upload → fault ≡ unwrap_or (part_fault made_for offset (length bytes)) faults.NoMemory
     → SaysFault fault text ending → Answered (PutTurn old upload offset bytes old) text ending
 no_part old upload offset made_for bytes fault text ending is refused says = record {
@@ -161,7 +161,7 @@ short_line (Ok a) old new count kept line short is h = record {
       subst (λ (l : List ℕ). Answered (LineTurn old l new) (reported_text new a) (reported_ending a)) (is ∙ ap (strip_last 10) all) h;
 }
 
--- ---- want of memory
+-- ---- out of memory
 
 pub put_line : (line kind fields : List ℕ) → Some (kind, fields) ≡ split_at space line → kind ≡ codes "put" → IsPutLine line
 put_line line kind fields cut is = (fields, sym (split_found space line (kind, fields) (sym cut)) ∙ ap (λ (k : List ℕ). k ++ space ∷ fields) is)

@@ -168,7 +168,7 @@ ended_reader (Some input) now then was is store ending h none drops =
 
 -- ---- a run that ends
 
--- answered to its end: its verdict, or want of memory in an answer
+-- answered to its end: its verdict, or out of memory in an answer
 pub is_verdict : (old was is : Option (List ℕ)) (ending : Ending) → IfSome old (λ input. Ran input was is ending) → IfOk (ended_as ending) (λ verdict. IfSome old (λ input. Ran input was is (verdict_ending verdict)))
 is_verdict old was is endings.Good h = h
 is_verdict old was is endings.Refused h = h
@@ -190,7 +190,7 @@ if_ended endings.Good Holds h = h
 if_ended endings.Refused Holds h = h
 if_ended endings.OutOfMemory Holds h = tt
 
--- stopped behind a beginning of its lines
+-- stopped after a prefix of its lines
 abbrev script_begun : (now was is : Option (List ℕ)) (store : ModelStore) (ending : Ending) (input : List ℕ) (h : IsUnder now was is store ending input) → IsScriptBegun input (flat_map turn_text h.turns) ending
 script_begun now was is store ending input h = record {
   front = h.front;
@@ -199,7 +199,7 @@ script_begun now was is store ending input h = record {
   answered = are_answered h.front h.turns store ending h.plays h.ending_is;
 }
 
--- a failed read is told only where no answer before told want of memory
+-- a failed read is reported only where no answer before reported out of memory
 pub has_memory : (ending : Ending) (cause : Cause) → (ending ≡ endings.OutOfMemory → cause ≡ causes.OutOfMemory) → cause ≡ causes.CannotRead → ending ≢ endings.OutOfMemory
 has_memory ending cause reported is = λ memory. let other = reported memory in absurd (cc)
 
@@ -216,7 +216,7 @@ at_stop (Some input) now was is store ending memory h = record {
 some_left : (input : List ℕ) → 0 < length input → lines_of input ≢ []
 some_left input some = λ none. let nothing = ap length (nothing_is input none) in absurd (omega (arith, nothing, some))
 
--- a line is left, or an answer told want of memory
+-- a line is left, or an answer reported out of memory
 pub at_refusal : (old now left was is : Option (List ℕ)) (store : ModelStore) (ending : Ending) → IfSome now (λ input. (0 < length input) ⊎ (ending ≡ endings.OutOfMemory)) → IfSome old (IsUnder now was is store ending) → IfSome old (λ input. RanOut input left was is)
 at_refusal None now left was is store ending some h = tt
 at_refusal (Some input) now left was is store ending some h =
@@ -242,12 +242,12 @@ nothing_read (Some xs) count kept zero h = nothing_through xs (omega (arith, h.0
         some_through true e = omega (arith, e)
         some_through false e = omega (arith, e)
 
--- an answer told so
+-- an answer that was reported so
 pub reported_left : (now : Option (List ℕ)) (ending : Ending) → ending ≡ endings.OutOfMemory → IfSome now (λ input. (0 < length input) ⊎ (ending ≡ endings.OutOfMemory))
 reported_left None ending memory = tt
 reported_left (Some input) ending memory = inr memory
 
--- of a failed write the writer tells nothing
+-- of a failed write the writer reports nothing
 pub whatever_written : (old now was is : Option (List ℕ)) (store : ModelStore) (ending : Ending) → IfSome old (IsUnder now was is store ending) → IfSome old (IsUnder now None None store ending)
 whatever_written None now was is store ending h = tt
 whatever_written (Some input) now was is store ending h = record {

@@ -1,4 +1,4 @@
--- What so many bytes that were read add up to.
+-- What the bytes that were read add up to.
 use Rattle.std.proofs.Common.{◌≡◌, ◌∙◌, ◌<◌, ◌≤◌, ◌++◌, ℕ, true, List, Some, None, ap, arith, drop, length, length-append, sym, take}
 use Rattle.std.proofs.Math.Seq.{drop-append_seam, take-append_seam}
 use Rattle.std.specs.Prelude.{IfSome, OnSome, Option}

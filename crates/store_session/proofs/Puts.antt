@@ -18,7 +18,7 @@ use Rattle.store_session.proofs.Steps.{plus_none}
 use Rattle.store_session.specs.inner.Reporting.{Leaves, AnsweredOver, ReceivesOver}
 use Rattle.store_session.specs.Turns.{IsLinkedMade, IsLinkedPlan, IsLinkedPut}
 
--- what a part that was made for a plan comes to
+-- what a part that was made for a plan results in
 abbrev pub MadeOver : Reach → (SessionState → Type 0) → (SessionState → Type 0) → ℕ → ℕ → UploadPlan → List ℕ → List ℕ → Type 0
 MadeOver reach was is upload offset plan bytes text = AnsweredOver was is (λ first turn after. IsLinkedMade reach first upload (planned plan offset bytes) (part_fault plan offset (length bytes)) turn after) text
 
@@ -87,9 +87,9 @@ no_plan reach was is upload offset bytes refusal p = record {
 pub leaves : (reach : Reach) (was is : SessionState → Type 0) (upload : ℕ) (plan : Result UploadPlan Refusal) → TookPlan reach was is upload plan → Leaves was is
 leaves reach was is upload plan p = record { leaves = λ before session. (p.found, p.stands before session) }
 
--- ---- the bytes behind a line
+-- ---- the bytes after a line
 
--- they are dropped behind an answer that does not look at them
+-- they are dropped after an answer that does not look at them
 pub dropped : {E : Type 0} (r : Result (Option Answer) E) (now left : Option (List ℕ)) (reach : Reach) (was is : SessionState → Type 0) (upload offset len : ℕ) (answer : Answer)
     → ((bytes : List ℕ) → length bytes ≡ len → PutOver reach was is upload offset bytes (reported_text widest_start answer)) → Leaves was is → IfOk r (λ given. IfSome now (λ following. Dropped given answer len following left))
     → IfOk r (λ given. IfSome now (λ following. ReceivesOver reach was is given upload offset len following left))

@@ -1,4 +1,4 @@
--- What one line comes to.
+-- What one line results in.
 use Rattle.std.proofs.Common.{◌≡◌, ◌∙◌, ◌<◌, ◌≤◌, ℕ, Bool, true, false, List, [], ◌∷◌, Ok, Err, Some, None, Option, Result, ap, append-nil, arith, inl, inr, length, refl, subst, sym}
 use Rattle.std.specs.Prelude.{OnOk, codes}
 use Rattle.std.specs.Io.BufRead.{strip_last}
@@ -28,7 +28,7 @@ use Rattle.store_session.proofs.Steps.{plus_none}
 use Rattle.store_session.specs.inner.Reporting.{AnsweredOver, AnswersOver, GaveEntries, ReportedOver, gave_none, gave_these}
 use Rattle.store_session.specs.Turns.{IsLinkedAsk, IsLinkedCommand, IsLinkedEntries, IsLinkedLine, IsLinkedPut, IsLinkedQuestion, IsLinkedScriptLine}
 
--- a line of a script, told so
+-- a line of a script, reported so
 abbrev pub LineOver : Reach → (SessionState → Type 0) → (SessionState → Type 0) → List ℕ → Option (List ℕ) → Option (List ℕ) → Type 0
 LineOver reach was is line w1 w2 = ReportedOver was is (λ before turn after. IsLinkedScriptLine reach before line turn after) w1 w2
 

@@ -1,4 +1,4 @@
--- What one line comes to, and what it leaves.
+-- What one line results in, and what it leaves.
 use Rattle.std.proofs.Common.{◌≡◌, ◌∙◌, ℕ, Bool, true, false, List, Ok, Err, Some, None, Option, Result, drop, refl, subst, sym}
 use Rattle.std.specs.Prelude.{IfOk, IfSome}
 use Rattle.std.specs.Io.KnownBytes.{Appends}

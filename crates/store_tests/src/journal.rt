@@ -67,14 +67,14 @@ fn lines_of(alloc: Global, entries: &[Entry]) -> Result<Vec<u8>, Fail> {
 #[test]
 fn a_journal_is_read_and_written(rt: HostRuntime) -> Result<(), Fail> {
     let alloc = rt.alloc();
-    let (_, behind_the_header) = LINES.split_once('\n').ok_or("no header")?;
+    let (_, after_the_header) = LINES.split_once('\n').ok_or("no header")?;
     let entries = read_journal(alloc, LINES.as_bytes())?;
     let fields = fields_of(alloc, entries.as_slice())?;
     assert_eq!(rt; fields.as_str(), FIELDS);
     let lines = lines_of(alloc, entries.as_slice())?;
-    assert_eq!(rt; lines.as_slice(), behind_the_header.as_bytes());
+    assert_eq!(rt; lines.as_slice(), after_the_header.as_bytes());
     let lines = entry_lines(alloc, entries.as_slice())?;
-    assert_eq!(rt; lines.as_slice(), behind_the_header.as_bytes());
+    assert_eq!(rt; lines.as_slice(), after_the_header.as_bytes());
     let mut written = Vec::new(alloc);
     write_journal(entries.as_slice(), &mut written)?;
     assert_eq!(rt; written.as_slice(), LINES.as_bytes());

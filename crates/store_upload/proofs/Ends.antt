@@ -11,7 +11,7 @@ use Rattle.store_upload.specs.declared.refusal.AddFault.TheVariants.{Overlap, Pa
 use Rattle.store_upload.specs.declared.refusal.FixFault.TheVariants as fix
 use Rattle.store_upload.specs.inner.Places.{AreApart}
 use Rattle.store_upload.specs.Uploads.{ArePartsOfSome, ArePlaced, Fits, IsUpload, MayTake, ModelUpload, UploadPlan, closed_plan, end_of, end_with, ends_elsewhere, first_end, fix_fault, fixed_at, held_bytes, is_ragged, last_end, length_of, max_bytes, overlap_at, past_last, place_fault, reached, with_more}
-use Rattle.store_upload.proofs.Places.{IsWith, at, begins_behind, bytes_within, clear_parts, end-cons, ends_before, is_with, none_at, put-following, put-front}
+use Rattle.store_upload.proofs.Places.{IsWith, at, begins_after, bytes_within, clear_parts, end-cons, ends_before, is_with, none_at, put-following, put-front}
 
 -- ---- tests
 
@@ -84,7 +84,7 @@ module _ {P : Type 0} (len : P → ℕ) where
       elim (cases_lt offset p.0) [
         | inl front ↦ rw (put-front offset part p ps front) (first, fits, (ends_before len offset (len part) p front placed.1.some apart.0, placed.1, placed.2))
         | inr following ↦
-            let after = begins_behind len offset (len part) p following fits.some apart.0 in
+            let after = begins_after len offset (len part) p following fits.some apart.0 in
             rw (put-following offset part p ps (omega (arith, after, placed.1.some))) (placed.0, placed.1, placed_with n (end_of len p) offset part ps placed.2 after fits apart.1)
       ]
 

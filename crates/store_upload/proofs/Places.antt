@@ -86,11 +86,11 @@ module _ {P : Type 0} (len : P → ℕ) where
   unfolding holds
   holds-cons offset e es = refl
 
-  holds_behind : (from n offset : ℕ) (es : List (ℕ × P)) → AreApart len from n es → offset < from → holds len offset es ≡ false
+  holds_after : (from n offset : ℕ) (es : List (ℕ × P)) → AreApart len from n es → offset < from → holds len offset es ≡ false
   unfolding holds
-  holds_behind from n offset [] h before = refl
-  holds_behind from n offset (e ∷ es) h before =
-      or_from _ _ (and_left _ _ (not_le e.0 offset (omega (arith, h.0)))) (holds_behind (e.0 + len e.1) n offset es h.2 (omega (arith, h.0)))
+  holds_after from n offset [] h before = refl
+  holds_after from n offset (e ∷ es) h before =
+      or_from _ _ (and_left _ _ (not_le e.0 offset (omega (arith, h.0)))) (holds_after (e.0 + len e.1) n offset es h.2 (omega (arith, h.0)))
     where
       not_le : (a b : ℕ) → b < a → nat_le a b ≡ false
       not_le a b less = grind (arith, less)
@@ -189,7 +189,7 @@ module _ {P : Type 0} (len : P → ℕ) where
         over-step offset n e es (over_from offset n e (omega (arith, low, some)) high) ∙ some_eq (max offset e.0) offset (omega (arith, low))
     | inr apart ↦
         let later : holds len offset es ≡ true = rw apart at (sym (holds-cons offset e es) ∙ is) in
-        let clear = clear_from offset n e (λ a b. false≢true (sym (holds_behind (e.0 + len e.1) m offset es h.2 b) ∙ later)) in
+        let clear = clear_from offset n e (λ a b. false≢true (sym (holds_after (e.0 + len e.1) m offset es h.2 b) ∙ later)) in
         clear-step offset n e es clear ∙ overlap_held offset (e.0 + len e.1) m n es h.2 some later
   ]
 
@@ -197,7 +197,7 @@ module _ {P : Type 0} (len : P → ℕ) where
   not_here offset e es none low high =
       false≢true (sym (or_parts _ _ (sym (holds-cons offset e es) ∙ none)).0 ∙ and_from _ _ (le-leb e.0 offset low) (lt-ltb offset (e.0 + len e.1) high))
 
-  -- else the first part behind it
+  -- else the first part after it
   pub overlap_next : (offset from m n k : ℕ) (p : P) (es : List (ℕ × P)) → AreApart len from m es → holds len offset es ≡ false → at k es ≡ Some p → offset ≤ k → k < offset + n
       → ((q : ℕ) → offset ≤ q → q < offset + n → IsSome (at q es) → k ≤ q) → overlap_at len offset n es ≡ Some k
   overlap_next offset from m n k p [] h none is low high least = absurd (not_some p is)
@@ -286,8 +286,8 @@ module _ {P : Type 0} (len : P → ℕ) where
     | inr apart ↦ apart
   ]
 
-  pub begins_behind : (offset n : ℕ) (e : ℕ × P) → e.0 ≤ offset → 0 < n → overlaps len offset n e ≡ false → e.0 + len e.1 ≤ offset
-  begins_behind offset n e following some clear = elim (cases_lt offset (e.0 + len e.1)) [
+  pub begins_after : (offset n : ℕ) (e : ℕ × P) → e.0 ≤ offset → 0 < n → overlaps len offset n e ≡ false → e.0 + len e.1 ≤ offset
+  begins_after offset n e following some clear = elim (cases_lt offset (e.0 + len e.1)) [
     | inl over ↦ absurd (false≢true (sym clear ∙ over_from offset n e (omega (arith, following, some)) over))
     | inr apart ↦ apart
   ]
@@ -309,7 +309,7 @@ module _ {P : Type 0} (len : P → ℕ) where
             let bytes = held-cons (offset, p) (e ∷ es) in
             rw (put-front offset p e es front) (record { bytes = omega (arith, bytes); ends = refl; apart = (first, some, (ends_before offset (len p) e front h.1 parts.0, h.1, h.2)); count = omega arith })
         | inr following ↦
-            let after = begins_behind offset (len p) e following some parts.0 in
+            let after = begins_after offset (len p) e following some parts.0 in
             let rest = is_with (e.0 + len e.1) n offset p es h.2 after some within parts.1 in
             let a = held-cons e es in
             let b = held-cons e (insert_entry nat_cmp es offset p) in

@@ -145,9 +145,9 @@ impl<H: HeldParts> Upload<H> {
     {
         let end = offset + len;
         let reached = self.reached();
-        let is_behind = self.end.is_some() && end > reached;
+        let is_after = self.end.is_some() && end > reached;
         let is_before = len % CHUNK_LEN != 0 && end < reached;
-        if is_behind || is_before {
+        if is_after || is_before {
             Some(reached)
         } else {
             None

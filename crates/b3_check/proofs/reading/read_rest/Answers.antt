@@ -20,7 +20,7 @@ returns-in_default c =
     let bad = digits_bad text c.in_default.field-0 long c.in_default.ensures in
     at_hex c.args.is_escaped c.args.rest.now (search rules) c.if-rest-lt-BEFORE_NAME.false (rw is at bad)
 
--- what is known behind the digits
+-- what is known after the digits
 good : (c : In-Ok) → Reaches c.args.rest.now × (c.in-Ok.digest ≡ digest_at (take 64 c.args.rest.now))
 good c =
     let text = c.split_at.result.0.now in

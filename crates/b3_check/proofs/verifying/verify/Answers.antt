@@ -1,7 +1,7 @@
 use Rattle.std.proofs.Common.{◌≡◌, ◌<◌, List, arith, get_or, length, subst}
 use Rattle.std.proofs.lemmas.Result.{err_from_is_err_and}
 use Rattle.b3_check.specs.declared.file.NumberedLine.{NumberedLine}
-use Rattle.b3_check.proofs.Reporting.{broken_behind, ended_at, one_line_more}
+use Rattle.b3_check.proofs.Reporting.{broken_after, ended_at, one_line_more}
 use Rattle.b3_check.proofs.verifying.verify.Goals as goal
 
 pub returns-in_err-verify_line-clause-stopped : goal.returns-in_err-verify_line-clause-stopped
@@ -31,6 +31,6 @@ pub returns-in-Err-clause-stopped : goal.returns-in-Err-clause-stopped
 returns-in-Err-clause-stopped g c =
     let all = c.lines-lines.ensures in
     let lines = c.lines-lines.result.now in
-    broken_behind g.N.Names.gives c.args.shown c.args.names.now c.loop-index.names c.args.file.now c.loop-index.index c.loop-index.counts
+    broken_after g.N.Names.gives c.args.shown c.args.names.now c.loop-index.names c.args.file.now c.loop-index.index c.loop-index.counts
     (g.W.Write.contents c.args.writer.now) (g.W.Write.contents c.loop-index.writer) (g.W.Write.contents c.write_counts.new.writer)
     (rw (← all) (omega arith)) c.loop-index.invariant c.in-Err.ensures.failed

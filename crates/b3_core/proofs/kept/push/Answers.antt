@@ -40,7 +40,7 @@ loop-last-smaller c =
     let some = slice_get_within (nodes_of c.loop-last.subtrees) (length (nodes_of c.loop-last.subtrees) - 1) (last c) (at c) in
     c.pop.ensures.fewer (omega (arith, some))
 
--- the next one stands behind greater ones
+-- the next one follows greater ones
 stands : (c : goal.After-push) (x : List ℕ) → IsNext c.args.mode.now (reverse (nodes_of c.loop-last.subtrees)) c.loop-last.next x → AreAbove c.loop-last.next.0 (reverse (nodes_of c.loop-last.subtrees))
 stands c x is = elim c.match-last.branch [
   | in-Some+then-last-next w ↦ above_next (nodes_of c.loop-last.subtrees) c.loop-last.next (w.last-in-Some.inside.level, w.last-in-Some.inside.top) (search (rules, c.last.ensures, c.as_slice.ensures, w.last-in-Some, w.in-Some)) (rw (← w.next.view_is) w.if-last-next.true) is.5

@@ -5,7 +5,7 @@ use Rattle.b3_core.specs.Hashers.{HasRoomFor, ModelHasher, Holds, CountsRest, ke
 use Rattle.b3_core.specs.Work.{NeverFalls}
 use Rattle.b3_parallel.specs.inner.Parts.{AreAfter, stretch_at}
 use Rattle.b3_parallel.specs.declared.parts.Part.{Part}
-use Rattle.b3_parallel.proofs.Standing.{all_parts, before_first, before_part, next_of, next_part, none_left, none_made, part_is_behind, part_made}
+use Rattle.b3_parallel.proofs.Standing.{all_parts, before_first, before_part, next_of, next_part, none_left, none_made, part_is_after, part_made}
 use Rattle.b3_parallel.proofs.parts.append_all.Goals as goal
 
 pub loop-part-init : goal.loop-part-init
@@ -53,7 +53,7 @@ loop-part-preserved c = go c.loop-part.invariant
           λ x bytes are.
               let now = stands x bytes are in
               let mine = stretch_at bytes k i in
-              let is = part_is_behind old h k i parts part x bytes are next.0 next.1 mode now.0 now.1 in (
+              let is = part_is_after old h k i parts part x bytes are next.0 next.1 mode now.0 now.1 in (
                 subst (Holds new) (next_part x bytes k i) (c.append.ensures.bytes (x ++ before_part bytes k i) mine is),
                 c.append.ensures.fits (x ++ before_part bytes k i) mine is,
                 part_made old h new k i parts part x bytes _ _ _ _ are next.0 next.1 c.absorb.ensures now.2 (c.append.ensures.count (x ++ before_part bytes k i) mine is),

@@ -1,10 +1,10 @@
 use Rattle.std.proofs.Common.{◌≡◌, ◌+◌, ◌*◌, ◌/◌, ◌%◌, ◌^◌, ℕ, arith, length, ap, subst, sym}
 use Rattle.std.proofs.Math.Nat.{div-add-mod}
 use Rattle.b3_core.specs.Tree.{IsSubtree}
-use Rattle.b3_parallel.proofs.Standing.{subtree_behind}
+use Rattle.b3_parallel.proofs.Standing.{subtree_after}
 use Rattle.b3_parallel.proofs.parts.part_of.Goals as goal
 
--- so many bytes on, at a multiple of a part, so many parts' chunks were before
+-- the chunks before an offset that is a multiple of a part
 chunks_before : (start size : ℕ) → start % (1024 * size) ≡ 0 → (i : ℕ) × (start / 1024 ≡ size * i)
 chunks_before start size whole =
     let i = start / (1024 * size) in
@@ -18,4 +18,4 @@ of_subtree-top-requires-clause-subtree g c =
     let before = chunks_before c.args.start size c.requires.start in
     let place : c.args.number + c.args.start / 1024 ≡ c.args.number + size * before.0 = ap (λ n. c.args.number + n) before.1 in
     subst (λ n. IsSubtree (length c.args.bytes.now) n) (sym place)
-    (subst (λ n. IsSubtree n (c.args.number + size * before.0)) (sym c.requires.len) (subtree_behind c.args.level c.args.number before.0 c.requires.subtree))
+    (subst (λ n. IsSubtree n (c.args.number + size * before.0)) (sym c.requires.len) (subtree_after c.args.level c.args.number before.0 c.requires.subtree))

@@ -18,7 +18,7 @@ pub returns-then-threads-lt2-clause-given : goal.returns-then-threads-lt2-clause
 returns-then-threads-lt2-clause-given g c x n is len =
     (refl, none_read (2 ^ 64 - 1) c.args.hasher.now x n c.args.work.now (g.R.Read.remaining c.args.reader.now) is (omega (arith, len, small c.args.level c.requires)))
 
--- the line is empty, and behind what the hasher was given a block can stand
+-- the line is empty, and after what the hasher was given a block can be
 begun : (g : _) (c : After-new-line g) (x : List ℕ) (n : ℕ) → IsGiven c.args.hasher.now x n c.args.work.now → length x ≡ 1024 * 2 ^ c.args.level
     → Carries c.args.hasher.now.mode c.args.level c.args.hasher.now c.new-line.result.items x n c.args.work.now
 begun g c x n is len =

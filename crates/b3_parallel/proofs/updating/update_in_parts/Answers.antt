@@ -11,7 +11,7 @@ parts_of-requires-clause-whole g c κs within =
     let size = c.bytes_of-size.ensures.value in
     rw (c.split_at.ensures.front_len, size) (whole_front (length c.args.bytes.now) (1024 * 2 ^ c.args.level))
 
--- the parts stand behind what the hasher was given
+-- the parts follow what the hasher was given
 stand : (g : _) (c : goal.After-update g) (x : List ℕ) → Holds c.args.hasher.now x → length x + length c.args.bytes.now < 2 ^ 64
     → AreAfter c.args.hasher.now c.args.level c.in-Ok.parts.items x c.split_at.result.0.now
 stand g c x held few =

@@ -1,7 +1,7 @@
 use Rattle.std.proofs.Common.{rules, ◌≡◌, subst}
 use Rattle.b3_check.specs.Files.{file_at}
 use Rattle.store_engines.specs.Checks.{IsCut}
-use Rattle.store_engines.proofs.Known.{cut_behind, known}
+use Rattle.store_engines.proofs.Known.{cut_after, known}
 use Rattle.store_engines.proofs.checking.check.Goals as goal
 
 pub returns-clause-stopped : goal.returns-clause-stopped
@@ -13,4 +13,4 @@ returns-clause-stopped g c =
     let file : c.in_ok-file.file ≡ file_at input = search rules in
     known (g.R.Read.remaining c.args.reader.now) input (λ x. IsCut g.N.Names.gives c.args.shown c.args.names.now (file_at x) c.verify.new.names before last) c.in_ok-input.ensures.bytes
     (subst (λ lines. IsCut g.N.Names.gives c.args.shown c.args.names.now lines c.verify.new.names before last) file
-    (cut_behind g.N.Names.gives c.args.shown c.args.names.now c.in_ok-file.file c.verify.new.names before (g.W.Write.contents c.verify.new.writer) last report.0 report.1 report.3 c.flush.ensures.bytes))
+    (cut_after g.N.Names.gives c.args.shown c.args.names.now c.in_ok-file.file c.verify.new.names before (g.W.Write.contents c.verify.new.writer) last report.0 report.1 report.3 c.flush.ensures.bytes))

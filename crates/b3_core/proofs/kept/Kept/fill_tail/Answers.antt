@@ -5,7 +5,7 @@ use Rattle.b3_core.specs.Tree.{chunk_top}
 use Rattle.b3_core.proofs.Hashings.{holds_filled, makes_then, next_filled}
 use Rattle.b3_core.proofs.kept.Kept.fill_tail.Goals as goal
 
--- the hasher before the call, and behind it
+-- the hasher before the call, and after it
 abbrev old : goal.After-put → ModelHasher
 old c = kept_of c.args.mode.now c.args.self.now
 

@@ -7,7 +7,7 @@ use Rattle.b3_core.proofs.Hashings.{tail_joined, tail_work, whole_joined, whole_
 use Rattle.b3_core.proofs.kept.Kept.top.Goals as goal
 use Rattle.b3_core.proofs.kept.Kept.top.Goals.{in_default-via-in-Some+else-is_empty, in_default-via-in_default}
 
--- the last subtree, before which stand the others
+-- the last subtree, before which are the others
 abbrev last : goal.After-joined → ℕ × ModelTop
 last c = (c.last.inside.level, c.last.inside.top)
 
@@ -31,7 +31,7 @@ returns-in-Some-clause-count c x (before, cut, are, size, few) =
     let same = length-reverse c.in-Some.before.now in
     (2 * length c.in-Some.before.now, rw (no_tail c before x cut, taken c) (omega (arith, work, same)), c.joined.ensures.count)
 
--- there are bytes behind the subtrees, or there is none
+-- there are bytes after the subtrees, or there is none
 tail_or_none : (c : goal.After-joined-in_default) → (0 < length (tail_of c.args.self.now.tail)) ⊎ ((reverse (nodes_of c.args.self.now.subtrees)) ≡ [])
 tail_or_none c = elim c.in_default.branch [
   | in_default-via-in-Some+else-is_empty w ↦ inl (search (rules, w.is_empty.ensures, w.if-is_empty))

@@ -24,7 +24,7 @@ mine c = c.split_at.result.0.now
 its_length : (c : goal.After-put) → length (mine c) ≡ 1024 * 2 ^ c.next_level-level.result
 its_length c = omega (arith, c.split_at.ensures.front_len, c.next_level-level.ensures.fits, c.loop-rest.invariant.short)
 
--- the hasher before the call, before the subtree and behind it
+-- the hasher before the call, before the subtree and after it
 abbrev old : goal.After-put → ModelHasher
 old c = kept_of c.args.mode.now c.args.self.now
 

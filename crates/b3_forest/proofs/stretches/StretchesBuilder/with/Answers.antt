@@ -3,7 +3,7 @@ use Rattle.std.specs.Prelude.{flat_map}
 use Rattle.std.proofs.lemmas.List.{append-nil}
 use Rattle.std.proofs.lemmas.List.Elements.{All-push}
 use Rattle.b3_forest.specs.Stretches.{AreFull, stretch_bytes}
-use Rattle.b3_forest.proofs.Runs.{more_behind, with_stretch}
+use Rattle.b3_forest.proofs.Runs.{more_after, with_stretch}
 use Rattle.b3_forest.proofs.stretches.StretchesBuilder.with.Goals as goal
 use Rattle.b3_forest.proofs.stretches.StretchesBuilder.with.Goals.{then-len-stretch_len+in-Ok+in_ok-push+in_ok-last, else-len-stretch_len}
 
@@ -28,7 +28,7 @@ loop-rest-preserved c =
           record {
             full = subst (AreFull c.self.inside.stretch_len) (sym pushed) (All-push (λ s. length (stretch_bytes s) ≡ c.self.inside.stretch_len) old.full.items w.in-Ok.stretch old.invariant.full len);
             short = short;
-            bytes = ap (λ l. (flat_map stretch_bytes new.full.items ++ l) ++ following) added ∙ more_behind (flat_map stretch_bytes new.full.items) new.last.items front following
+            bytes = ap (λ l. (flat_map stretch_bytes new.full.items ++ l) ++ following) added ∙ more_after (flat_map stretch_bytes new.full.items) new.last.items front following
                 ∙ ap₂ (λ x y. x ++ y) kept whole ∙ old.invariant.bytes;
           }
       | else-len-stretch_len w ↦
@@ -37,7 +37,7 @@ loop-rest-preserved c =
           record {
             full = subst (AreFull c.self.inside.stretch_len) (sym full) old.invariant.full;
             short = short;
-            bytes = ap (λ l. (flat_map stretch_bytes new.full.items ++ l) ++ following) added ∙ more_behind (flat_map stretch_bytes new.full.items) new.last.items front following
+            bytes = ap (λ l. (flat_map stretch_bytes new.full.items ++ l) ++ following) added ∙ more_after (flat_map stretch_bytes new.full.items) new.last.items front following
                 ∙ ap₂ (λ x y. x ++ y) (ap₂ (λ xs l. flat_map stretch_bytes xs ++ l) full last) whole ∙ old.invariant.bytes;
           }
     ]
