@@ -18,6 +18,16 @@ use std::io;
 use std::io::Write;
 
 impl Line {
+    /// The line of a digest and a name as it is written, with its newline.
+    pub fn text_of(alloc: Global, digest: [u8; 32], name: &[u8]) -> Result<Vec<u8>, AllocError>
+        requires { IsName name.now }
+        ensures { IfOk result (λ text. text.items ≡ written_line (record { digest = digest; name = name.now })) }
+    {
+        let name = Vec::from_slice(alloc, name)?;
+        let line = Line::new(digest, name).unwrap();
+        line.text(alloc)
+    }
+
     /// The line as it is written, with its newline.
     pub fn text(&self, alloc: Global) -> Result<Vec<u8>, AllocError>
         ensures written { IfOk result (λ text. text.items ≡ written_line self.now) }

@@ -2,9 +2,9 @@
 
 use b3_check::{Name, NameFault, Names, NumberedLine};
 use b3_core::Top;
+use hash_engines::{FileFault, Reason, Sources};
 use std::fs;
 use std::sync::atomic::{AtomicU64, Ordering};
-use store_engines::{FileFault, Reason, Sources};
 
 /// The numbers of files and bytes to hash, if they are known, and the number of files that remain.
 #[derive(Drop)]

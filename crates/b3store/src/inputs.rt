@@ -10,13 +10,13 @@ use crate::standard::{StandardError, StandardInput, standard_output};
 use b3_check::Name;
 use b3_core::{Runtime, Work};
 use edge::SumMode;
-use std::io::{LineWriter, Read};
-use std::thread::Threads;
-use store_command_line::{AskedMode, CheckOptions, Input, NameList, SumInputs, SumOptions};
-use store_engines::{
+use hash_engines::{
     Cause, SumRequest, SystemFiles, SystemInputs, Verdict, check, names_of, read_key, read_names,
     sum, sum_files, write_root,
 };
+use std::io::{LineWriter, Read};
+use std::thread::Threads;
+use store_command_line::{AskedMode, CheckOptions, Input, NameList, SumInputs, SumOptions};
 
 // The requested mode, or the exit status if its key is not available.
 fn mode_of<'a>(rt: &HostRuntime, asked: AskedMode<'a>) -> Result<SumMode<'a>, u8> {

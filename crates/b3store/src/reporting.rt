@@ -1,8 +1,8 @@
 //! Exit statuses and messages on standard error. A standard error that cannot be written changes no status.
 
+use hash_engines::{Cause, FileFault, Verdict, fault_of};
 use std::fs::File;
 use std::io;
-use store_engines::{Cause, FileFault, Verdict, fault_of};
 
 pub(crate) const GOOD: u8 = 0;
 

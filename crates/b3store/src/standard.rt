@@ -1,10 +1,10 @@
 //! The standard streams.
 
+use hash_engines::{Cause, Standing};
 use std::fs::File;
 use std::io::{BufReader, BufWriter, ErrorKind, IsTerminal, Printer, Read, Write};
 use std::rt::Stdin;
 use std::{fs, io};
-use store_engines::{Cause, Standing};
 
 // The name by which the system opens standard input as a file, and the file that contains its position.
 const PATH: &str = "/dev/stdin";

@@ -3,6 +3,7 @@ pub mod Encoding
 pub mod FieldTexts
 pub mod Joining
 pub mod FirstLines
+pub mod Inputs
 pub mod LineParts
 pub mod Numbers
 pub mod Output

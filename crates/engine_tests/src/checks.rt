@@ -2,8 +2,8 @@
 
 use crate::fakes::NoNames;
 use b3_check::Shown;
+use hash_engines::{Cause, check};
 use std::test::Fail;
-use store_engines::{Cause, check};
 
 #[test]
 fn a_name_without_memory_is_the_last(rt: HostRuntime) -> Result<(), Fail> {

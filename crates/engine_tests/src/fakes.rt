@@ -3,11 +3,11 @@
 
 use b3_check::{Name, NameFault, Names};
 use b3_core::{Mode, Top, Work};
+use hash_engines::{FileFault, Reason, Sources};
 use std::alloc::Global;
 use std::io;
 use std::io::{ErrorKind, Read, Write};
 use std::marker::Model;
-use store_engines::{FileFault, Reason, Sources};
 
 /// Returns one byte per call. The call with the number `fails_at`, from 0, and all later ones fail. With `is_interrupted` it returns
 /// `Interrupted` before each byte and before the end.

@@ -1,4 +1,5 @@
-//! Tests of command lines and engines, including the one for scripts, over the public calls of `store_command_line` and `store_engines`.
+//! Tests of command lines and engines, including the one for scripts, over the public calls of `store_command_line`,
+//! `hash_engines` and `store_engines`.
 //! What can be shown by the input and output of a process is in tests/cases.
 #![tactic(auto)]
 

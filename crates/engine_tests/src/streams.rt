@@ -6,11 +6,12 @@ use b3_check::Shown;
 use b3_core::{Runtime, Work};
 use b3_tests::pattern;
 use edge::{SumMode, UploadOptions};
+use hash_engines::{Cause, SumRequest, Verdict, check, sum};
 use std::io::BufReader;
 use std::sync::Wait;
 use std::test::Fail;
 use std::thread::Threads;
-use store_engines::{Cause, SumRequest, Verdict, audit, check, migrate, sum};
+use store_engines::{audit, migrate};
 use store_script::run;
 use store_session::serve;
 

@@ -3,9 +3,9 @@
 use crate::fakes::{AbcSources, ByteWriter, HintedSources};
 use b3_check::Name;
 use b3_core::{Runtime, Work};
+use hash_engines::{Cause, Verdict, names_of, sum_files};
 use std::alloc::{AllocError, Global};
 use std::test::Fail;
-use store_engines::{Cause, Verdict, names_of, sum_files};
 
 // Names that can be in a check line.
 fn names(alloc: Global, words: &[&str]) -> Result<Vec<Name>, AllocError> {

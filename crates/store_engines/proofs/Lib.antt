@@ -1,5 +1,2 @@
-pub mod FileSums
-pub mod Known
-pub mod ListNames
 pub mod Writes
 pub mod UploadTexts

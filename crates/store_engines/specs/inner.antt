@@ -1,4 +1,3 @@
 -- Definitions that only proofs and private functions use.
 pub mod Journals
-pub mod Sums
 pub mod Uploads

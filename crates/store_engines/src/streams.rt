@@ -1,45 +1,19 @@
-//! Reading all of an input.
+//! Reading an input in stretches.
 
-ghost use Rattle.std.specs.Prelude.{◌≡◌, ◌≢◌, ◌↔◌, ◌<◌, ◌≤◌, IfSome, OnOk, IfOk, IfErr, take, vec_len};
+ghost use Rattle.std.specs.Prelude.{◌≡◌, ◌≢◌, ◌<◌, ◌≤◌, IfSome, OnOk, IfOk, IfErr, take, vec_len};
 ghost use Rattle.std.specs.Io.KnownBytes.{Consumes, IsAtEnd, Keeps};
-ghost use Rattle.std.specs.IoError.{error_kind};
 
 use b3_forest::{Stretches, StretchesBuilder};
-use edge::Cause;
+use edge::{Cause, read_cause};
 use std::alloc::Global;
 use std::io;
-use std::io::{Error, ErrorKind, Read};
+use std::io::{ErrorKind, Read};
 
 // The number of bytes per read into stretches.
 fn at_a_time() -> usize
     ensures { 0 < result }
 {
     1 << 16
-}
-
-/// Why a read failed.
-pub(crate) fn read_cause(error: &Error) -> Cause
-    ensures memory { (result ≡ Cause.OutOfMemory) ↔ (error_kind error.now ≡ ErrorKind.OutOfMemory) }
-    ensures cause { result ≢ Cause.CannotWrite }
-{
-    if error.kind() == ErrorKind::OutOfMemory {
-        Cause::OutOfMemory
-    } else {
-        Cause::CannotRead
-    }
-}
-
-/// All bytes that the reader has left, or why they are not available.
-pub fn read_all<R: Read>(alloc: Global, reader: &mut R) -> Result<Vec<u8>, Cause>
-    ensures bytes { IfOk result (λ input. IfSome (R.remaining reader.old) (λ left. input.items ≡ left)) }
-    ensures end { OnOk result (IsAtEnd (R.remaining reader.new)) }
-    ensures cause { IfErr result (λ cause. cause ≢ Cause.CannotWrite) }
-{
-    let mut input: Vec<u8> = Vec::new(alloc);
-    match reader.read_to_end(&mut input) {
-        Ok(_) => Ok(input),
-        Err(error) => Err(read_cause(&error)),
-    }
 }
 
 /// All bytes that the reader has left, in stretches of `stretch_len` bytes, or why they are not available. Each stretch is allocated before

@@ -13,7 +13,7 @@ ghost use Rattle.store_engines.specs.inner.Uploads.{IsFiled, IsUploadReport};
 use crate::auditing::accepted_line;
 use crate::journals::text_of;
 use crate::streams::read_stretches;
-use crate::summing::line_of;
+use b3_check::Line;
 use b3_core::{CHUNK_LEN, Runtime};
 use b3_forest::{Lent, MAX_PART_BYTES};
 use edge::{Cause, UploadOptions, Verdict, write_all};
@@ -112,7 +112,7 @@ fn uploaded_text<L: Ledgers>(
     let Ok(accepted) = locked.settle(&mut share) else {
         unreachable!()
     };
-    let line = line_of(alloc, address.bytes(), b"-")?;
+    let line = Line::text_of(alloc, address.bytes(), b"-")?;
     let accepted = accepted_line(alloc, accepted.bytes, accepted.calls)?;
     let entries = journal_part(alloc, journal, locked.store().journal())?;
     joined(line, accepted.as_bytes(), entries.as_slice())

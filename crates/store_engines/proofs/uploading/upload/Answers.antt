@@ -9,7 +9,7 @@ use Rattle.store_engines.specs.Uploads.{WrotePrefix, WroteUpload}
 use Rattle.edge.specs.Output.{WroteSome}
 use Rattle.store_engines.specs.inner.Uploads.{IsUploadReport}
 use Rattle.std.specs.Io.KnownBytes.{Appends}
-use Rattle.store_engines.proofs.Known.{known}
+use Rattle.edge.proofs.Inputs.{known}
 use Rattle.store_engines.proofs.UploadTexts.{is_sealed, is_upload_text, never_bad, no_memory, own_may, passed_may, reported, reported_memory, reported_some, unopened}
 use Rattle.store_engines.proofs.uploading.upload.Goals as goal
 

@@ -1,0 +1,3 @@
+pub mod FileSums
+pub mod Flushing
+pub mod ListNames

@@ -1,0 +1,2 @@
+-- Definitions that only proofs and private functions use.
+pub mod Sums

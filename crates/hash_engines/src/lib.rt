@@ -1,0 +1,32 @@
+//! The engines that hash and check files, each over a reader or named inputs, and a writer. They need no store.
+//!
+//! | Engine | Reads | Writes |
+//! |---|---|---|
+//! | `sum` | bytes | their check line, or the first bytes of their extended output |
+//! | `sum_files` | the files of several names | the same for each, when it is known |
+//! | `check` | check lines | for each, whether the file of its name has its hash |
+//!
+//! An engine ends with its `Verdict`, or with the `Cause` that stopped it. `SystemFiles` are the names that `check` uses in the program,
+//! and `SystemInputs` the sources of `sum_files`; several threads hash small files of both before they are asked for. If the input of `sum`
+//! is an open file, `SystemFiles::root_of_file_input` returns its root, and `write_root` writes what `sum` does. `read_key` and
+//! `read_names` read the key and the names that `sum` takes from files.
+//!
+//! Contracts know what a reader returns and what a writer accepted if the types specify it, as slices and vectors do. The texts and
+//! verdicts are defined in `specs/`: `Sums`, `Checks`, `Keys` and `Lists`.
+#![tactic(auto)]
+
+mod ahead;
+mod checking;
+mod files;
+mod keys;
+mod lists;
+mod sources;
+mod summing;
+
+pub use checking::check;
+pub use edge::{Cause, Verdict};
+pub use files::{SystemFiles, SystemInputs, fault_of};
+pub use keys::read_key;
+pub use lists::{names_of, read_names};
+pub use sources::{FileFault, Reason, Sources, Standing};
+pub use summing::{SumRequest, sum, sum_files, write_root};

@@ -1,0 +1,86 @@
+//! Sources of the bytes to hash.
+
+ghost use Rattle.std.specs.Prelude.{◌≡◌, ℕ, List, Result, None, IfSome};
+ghost use Rattle.std.specs.Io.KnownBytes.{IsAtEnd};
+ghost use Rattle.b3_core.specs.Tree.{ModelTop};
+ghost use Rattle.hash_engines.specs.Sums.{reason_text};
+ghost use Rattle.hash_engines.specs.declared.sources.FileFault.{FileFault as Refusal};
+ghost use Rattle.hash_engines.specs.declared.sources.Reason.{Reason as Cause};
+
+use b3_check::Name;
+use b3_core::Top;
+use std::fs::File;
+use std::io::Read;
+
+/// Why the bytes of a name are not available.
+#[derive(Clone, Copy, Debug, PartialEq, Eq)]
+pub enum Reason {
+    /// There is no such file.
+    Missing,
+    /// It is a directory.
+    IsFolder,
+    /// There is no permission.
+    NoPermission,
+    /// The name is not UTF-8, and the program cannot open such files.
+    NotUtf8,
+    /// Something else, such as a loop of links, or a failed read.
+    Unreadable,
+}
+
+impl Reason {
+    /// The reason as a message.
+    pub fn text(self) -> &'static str
+        ensures { result.now ≡ reason_text self }
+    {
+        match self {
+            Reason::Missing => "no such file",
+            Reason::IsFolder => "it is a folder",
+            Reason::NoPermission => "no permission",
+            Reason::NotUtf8 => "the name is not UTF-8",
+            Reason::Unreadable => "it can't be read",
+        }
+    }
+}
+
+/// Why there is no root for a name.
+#[derive(Clone, Copy, Debug, PartialEq, Eq)]
+pub enum FileFault {
+    /// Its bytes are not available.
+    Failed(Reason),
+    /// Out of memory.
+    NoMemory,
+}
+
+/// Returns the roots of names, such as those of files, and reports why there is none.
+pub trait Sources {
+    // Whether a call in the state before, with this name, may return this result and leave the state after.
+    ghost gives: { Self → List ℕ → Result ModelTop Refusal → Self → Type 0 };
+
+    // Whether a call that reports why there is no root may leave the state after.
+    ghost reports: { Self → List ℕ → Cause → Self → Type 0 };
+
+    /// Announces the following names, in their order, so that they can be looked up ahead. It is a hint: no result depends on it, and any
+    /// other name may be asked for.
+    fn expect(&mut self, _names: &[Name])
+        ensures { self.new ≡ self.old }
+    {}
+
+    /// The root of all bytes of the file with this name.
+    fn root_of(&mut self, name: &[u8]) -> Result<Top, FileFault>
+        ensures { gives self.old name.now result self.new };
+
+    /// Reports to the user why there is no root for a name.
+    fn report(&mut self, name: &[u8], reason: Reason)
+        ensures { reports self.old name.now reason self.new };
+}
+
+/// An input that may be an open file, such as standard input redirected from a file.
+pub trait Standing: Read {
+    /// The file, opened for reading, and the current position of the input in it.
+    fn as_file(&self) -> Option<(File, u64)>
+        ensures { IfSome result (λ _. Self.remaining self.now ≡ None) };
+
+    /// Consumes all bytes of the file from that position on: the input returns none of them any more.
+    fn take_all(&mut self)
+        ensures { IsAtEnd (Self.remaining self.new) };
+}

@@ -1,9 +1,0 @@
-use Rattle.std.proofs.Common.{rules, ◌≡◌}
-use Rattle.store_engines.specs.Keys.{key_at}
-use Rattle.store_engines.proofs.Known.{known}
-use Rattle.store_engines.proofs.keys.read_key.Goals as goal
-
-pub returns-clause-key : goal.returns-clause-key
-returns-clause-key g c =
-    let key : c.key_of.result ≡ key_at c.in_ok-text.text.items = search rules in
-    known (g.R.Read.remaining c.args.reader.now) c.in_ok-text.text.items (λ text. c.key_of.result ≡ key_at text) c.in_ok-text.ensures.bytes key

@@ -1,4 +1,0 @@
-use Rattle.store_engines.proofs.summing.check_line.Goals as goal
-
-pub returns : goal.returns
-returns c = rw (← c.root32-digest.ensures.bytes) c.line_of.ensures
