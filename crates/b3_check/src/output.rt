@@ -9,13 +9,13 @@ use edge::write_whole;
 use std::io;
 use std::io::Write;
 
-/// Writes pieces, one after the other.
-pub(crate) fn write_pieces<W: Write>(writer: &mut W, pieces: &[&[u8]]) -> io::Result<()>
-    ensures written { OnOk result (Appends (W.contents writer.old) (W.contents writer.new) (flat_map (λ piece. piece.now) pieces.now)) }
-    ensures failed { OnErr result (IsTruncated (W.contents writer.old) (W.contents writer.new) (flat_map (λ piece. piece.now) pieces.now)) }
+/// Writes slices, one after the other.
+pub(crate) fn write_slices<W: Write>(writer: &mut W, slices: &[&[u8]]) -> io::Result<()>
+    ensures written { OnOk result (Appends (W.contents writer.old) (W.contents writer.new) (flat_map (λ slice. slice.now) slices.now)) }
+    ensures failed { OnErr result (IsTruncated (W.contents writer.old) (W.contents writer.new) (flat_map (λ slice. slice.now) slices.now)) }
 {
-    for piece in pieces {
-        write_whole(writer, piece)?;
+    for slice in slices {
+        write_whole(writer, slice)?;
     }
     Ok(())
 }

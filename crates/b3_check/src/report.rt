@@ -9,7 +9,7 @@ ghost use Rattle.b3_check.specs.Reports.Verdict.{faulty, named};
 
 use crate::fault::Fault;
 use crate::name::Name;
-use crate::output::write_pieces;
+use crate::output::write_slices;
 use crate::writing::write_named;
 use itoa::Buffer;
 use std::io;
@@ -149,7 +149,7 @@ fn write_fault_line<W: Write>(line: u64, fault: Fault, writer: &mut W) -> io::Re
     let mut number = Buffer::new();
     let number = number.format(line).as_bytes();
     let code = fault.code().as_bytes();
-    write_pieces(writer, &[b"fault ", number, b" ", code, b"\n"])
+    write_slices(writer, &[b"fault ", number, b" ", code, b"\n"])
 }
 
 /// Writes the line of the counts, if it is shown.
@@ -173,7 +173,7 @@ fn write_counts_line<W: Write>(counts: Counts, writer: &mut W) -> io::Result<()>
     let mut missing = Buffer::new();
     let mut unreadable = Buffer::new();
     let mut faults = Buffer::new();
-    let pieces: [&[u8]; 11] = [
+    let slices: [&[u8]; 11] = [
         b"good ",
         good.format(counts.good).as_bytes(),
         b" bad ",
@@ -186,5 +186,5 @@ fn write_counts_line<W: Write>(counts: Counts, writer: &mut W) -> io::Result<()>
         faults.format(counts.faults).as_bytes(),
         b"\n",
     ];
-    write_pieces(writer, &pieces)
+    write_slices(writer, &slices)
 }

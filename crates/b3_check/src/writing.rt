@@ -11,7 +11,7 @@ ghost use Rattle.b3_check.specs.Reports.{named_text};
 
 use crate::line::Line;
 use crate::name::Name;
-use crate::output::write_pieces;
+use crate::output::write_slices;
 use edge::write_whole;
 use std::alloc::{AllocError, Global};
 use std::io;
@@ -89,7 +89,7 @@ pub(crate) fn write_named<'a, W: Write>(
     ensures named { IsName name.now }
 {
     let name = name.as_bytes();
-    write_pieces(writer, &[mark_of(name), what, gap])?;
+    write_slices(writer, &[mark_of(name), what, gap])?;
     write_escaped(name, writer)?;
     write_whole(writer, b"\n")
 }

@@ -13,10 +13,10 @@ pub record ModelStretches : Type 0 where
 abbrev pub StandsAt : List ℕ → ℕ → List ℕ → Type 0
 StandsAt bytes at own = own ≡ take (length own) (drop at bytes)
 
--- a run of the bytes starting at an offset; it is empty only if there are no bytes there
-pub record IsRun (bytes : List ℕ) (at : ℕ) (run : List ℕ) : Type 0 where
-  pub same : StandsAt bytes at run
-  pub some : at < length bytes → 0 < length run
+-- some of the bytes, starting at an offset; it is empty only if there are no bytes there
+pub record AreBytesFrom (bytes : List ℕ) (at : ℕ) (found : List ℕ) : Type 0 where
+  pub same : StandsAt bytes at found
+  pub some : at < length bytes → 0 < length found
 
 -- the number of bytes from an offset to the end of its stretch
 abbrev pub left_of_stretch : ModelStretches → ℕ → ℕ

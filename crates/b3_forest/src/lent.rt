@@ -6,7 +6,7 @@ ghost use Rattle.b3_core.specs.Work.{NeverFalls, counted};
 ghost use Rattle.b3_forest.specs.Lent.{lent_bytes};
 ghost use Rattle.b3_forest.specs.Parts.{chunks_of, planned};
 ghost use Rattle.b3_forest.specs.Pieces.{part_work, piece_count};
-ghost use Rattle.b3_forest.specs.Stretches.{IsRun, StandsAt};
+ghost use Rattle.b3_forest.specs.Stretches.{AreBytesFrom, StandsAt};
 ghost use Rattle.store_upload.specs.Uploads.{part_fault};
 
 use crate::prepared::Prepared;
@@ -36,14 +36,14 @@ impl<'a> Lent<'a> {
         }
     }
 
-    // A run of bytes starting at offset `at`; empty if there are no bytes there.
-    fn run(self, at: u64) -> &'a [u8]
-        ensures { IsRun (lent_bytes self.entry) at result.now }
+    // Some bytes starting at offset `at`; empty if there are no bytes there.
+    fn bytes_from(self, at: u64) -> &'a [u8]
+        ensures { AreBytesFrom (lent_bytes self.entry) at result.now }
     {
         match self {
             Lent::Slice(bytes) if at < bytes.len() as u64 => &bytes[at as usize..],
             Lent::Slice(_) => &[],
-            Lent::Stretches(stretches) => stretches.run(at),
+            Lent::Stretches(stretches) => stretches.bytes_from(at),
         }
     }
 
@@ -57,10 +57,10 @@ impl<'a> Lent<'a> {
         let _len = self.len();
         let (mut at, mut rest) = (at, bytes);
         while !rest.is_empty() {
-            let run = self.run(at);
-            let len = run.len().min(rest.len());
+            let found = self.bytes_from(at);
+            let len = found.len().min(rest.len());
             let (front, following) = rest.split_at(len);
-            if front != &run[..len] {
+            if front != &found[..len] {
                 return false;
             }
             at += len as u64;
@@ -78,9 +78,9 @@ impl<'a> Lent<'a> {
         let _len = self.len();
         let mut copy = Vec::with_capacity(alloc, len)?;
         while copy.len() < len {
-            let run = self.run(at + copy.len() as u64);
-            let more = run.len().min(len - copy.len());
-            copy.extend_from_slice(&run[..more])?;
+            let found = self.bytes_from(at + copy.len() as u64);
+            let more = found.len().min(len - copy.len());
+            copy.extend_from_slice(&found[..more])?;
         }
         Ok(copy)
     }

@@ -1,7 +1,7 @@
 //! Bytes in stretches of one length, which the parts of an upload share.
 
 ghost use Rattle.std.specs.Prelude.{◌≡◌, ◌==◌, ◌%◌, ◌<◌, ◌≤◌, ◌++◌, [], IfNone, IfOk, IfSome, length};
-ghost use Rattle.b3_forest.specs.Stretches.{IsRun, StandsAt, left_of_stretch, stretch_bytes};
+ghost use Rattle.b3_forest.specs.Stretches.{AreBytesFrom, StandsAt, left_of_stretch, stretch_bytes};
 
 use std::alloc::{AllocError, Global};
 use std::marker::Model;
@@ -43,8 +43,8 @@ impl Stretches {
     }
 
     /// The bytes from offset `at` to the end of their stretch; empty if there are no bytes there.
-    pub fn run(&self, at: u64) -> &[u8]
-        ensures run { IsRun self.now.bytes at result.now }
+    pub fn bytes_from(&self, at: u64) -> &[u8]
+        ensures found { AreBytesFrom self.now.bytes at result.now }
         ensures len { length result.now ≡ left_of_stretch self.now at }
     {
         let number = at / self.stretch_len as u64;

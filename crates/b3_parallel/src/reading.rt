@@ -11,7 +11,7 @@ ghost use Rattle.b3_parallel.specs.inner.Lines.{Carries, last_of};
 use crate::blocks::Handle;
 use crate::line::{next_place, put, settle_all};
 use crate::sizes::{
-    BLOCK_LEVEL, BlockPlan, MAX_BLOCKS, block_limit, bytes_of, piece_len, thread_count,
+    BLOCK_LEVEL, BlockPlan, MAX_BLOCKS, block_limit, buffer_len, bytes_of, thread_count,
 };
 use b3_core::{Hasher, Mode, Runtime, Top, Work};
 use std::alloc::Global;
@@ -72,29 +72,29 @@ pub(crate) fn fill_block<R: Read>(reader: &mut R, block: &mut Vec<u8>) -> io::Re
 }
 
 // Reads once, at most `most` bytes.
-fn read_piece<R: Read>(reader: &mut R, piece: &mut [u8], most: u64) -> io::Result<usize>
-    requires { (0 < most) × (0 < length piece.old) }
-    ensures len { length piece.new ≡ length piece.old }
-    ensures count { IfOk result (λ n. (n ≤ most) × (n ≤ length piece.old)) }
-    ensures bytes { IfOk result (λ n. Consumes (R.remaining reader.old) (R.remaining reader.new) (take n piece.new)) }
+fn read_some<R: Read>(reader: &mut R, buffer: &mut [u8], most: u64) -> io::Result<usize>
+    requires { (0 < most) × (0 < length buffer.old) }
+    ensures len { length buffer.new ≡ length buffer.old }
+    ensures count { IfOk result (λ n. (n ≤ most) × (n ≤ length buffer.old)) }
+    ensures bytes { IfOk result (λ n. Consumes (R.remaining reader.old) (R.remaining reader.new) (take n buffer.new)) }
     ensures end { IfOk result (λ n. n ≡ 0 → IsAtEnd (R.remaining reader.new)) }
     ensures kept { IfErr result (λ _. Keeps (R.remaining reader.old) (R.remaining reader.new)) }
 {
-    let len = most.min(piece.len() as u64) as usize;
-    reader.read(&mut piece[..len])
+    let len = most.min(buffer.len() as u64) as usize;
+    reader.read(&mut buffer[..len])
 }
 
-// Reads pieces into a hasher until it has been given `until` bytes or the reader is at its end. Returns whether the reader is at its end.
+// Reads bytes into a hasher, a buffer at a time, until it has been given `until` bytes or the reader is at its end. Returns whether the reader is at its end.
 pub(crate) fn hash_until<R: Read>(
     hasher: &mut Hasher,
     reader: &mut R,
-    piece: &mut [u8],
+    buffer: &mut [u8],
     until: u64,
     work: &mut Work,
 ) -> io::Result<bool>
-    requires { 0 < length piece.old }
+    requires { 0 < length buffer.old }
     ensures mode { hasher.new.mode ≡ hasher.old.mode }
-    ensures len { length piece.new ≡ length piece.old }
+    ensures len { length buffer.new ≡ length buffer.old }
     ensures given { (x : List ℕ) (n : ℕ) → IsGiven hasher.old x n work.old → length x ≤ until
         → OnOk result (HasRead until hasher.new x n work.new (R.remaining reader.old) (R.remaining reader.new)) }
     ensures full { IfOk result (λ ended. ended ≡ false → until ≤ count_of hasher.new) }
@@ -105,9 +105,9 @@ pub(crate) fn hash_until<R: Read>(
         if given >= until {
             return Ok(false);
         }
-        match read_piece(reader, piece, until - given) {
+        match read_some(reader, buffer, until - given) {
             Ok(0) => return Ok(true),
-            Ok(count) => hasher.update(&piece[..count], work),
+            Ok(count) => hasher.update(&buffer[..count], work),
             Err(error) if error.kind() == ErrorKind::Interrupted => {}
             Err(error) => return Err(error),
         }
@@ -120,7 +120,7 @@ pub(crate) fn hash_until<R: Read>(
 /// This thread reads, and hashes the first 2 MiB. After them each block of 2 MiB is hashed by a new thread while this one reads the next;
 /// the nodes are joined in the order of the blocks. If a thread cannot be started or memory for a block cannot be allocated, this thread
 /// hashes the remaining bytes. No thread is left running, even after a failed read. Shorter inputs start no thread. A reader that returns a
-/// block in pieces, as a pipe does, is slower than this thread hashes; then this thread hashes the remaining bytes too.
+/// block in small reads, as a pipe does, is slower than this thread hashes; then this thread hashes the remaining bytes too.
 ///
 /// `threads` is the number of blocks hashed at once, up to 10 (more threads would find no block to hash). With 1, this thread hashes alone;
 /// with `None` there are as many as the machine has processors.
@@ -160,16 +160,16 @@ pub(crate) fn hash_in_blocks<T: Threads + Runtime, R: Read>(
         × (work.new ≡ counted work.old (hash_work (length input) - 1))) }
     ensures end { OnOk result (IsAtEnd (R.remaining reader.new)) }
 {
-    let mut piece = vec![in alloc; 0u8; piece_len()]?;
+    let mut buffer = vec![in alloc; 0u8; buffer_len()]?;
     let mut hasher = Hasher::new(mode);
     let first = bytes_of(level) as u64;
-    if hash_until(&mut hasher, reader, &mut piece, first, work)? {
+    if hash_until(&mut hasher, reader, &mut buffer, first, work)? {
         return Ok(hasher.top(work));
     }
     if hash_in_line(rt, alloc, &mut hasher, reader, threads, level, work)? {
         return Ok(hasher.top(work));
     }
-    if hash_until(&mut hasher, reader, &mut piece, u64::MAX, work)? {
+    if hash_until(&mut hasher, reader, &mut buffer, u64::MAX, work)? {
         return Ok(hasher.top(work));
     }
     Err(Error::from(ErrorKind::FileTooLarge))

@@ -23,7 +23,7 @@ const MAX_THREADS: usize = 16;
 
 /// The length of a read when this thread hashes. It is a function because the elements of an array of constant length would appear in the
 /// proofs of its callers.
-pub(crate) fn piece_len() -> usize
+pub(crate) fn buffer_len() -> usize
     ensures { 0 < result }
 {
     1 << 16

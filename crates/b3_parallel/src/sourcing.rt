@@ -9,7 +9,7 @@ ghost use Rattle.b3_parallel.specs.inner.Rounds.{HasFront};
 
 use crate::reading::hash_until;
 use crate::rounds::hash_round;
-use crate::sizes::{block_limit, bytes_of, piece_len, thread_count};
+use crate::sizes::{block_limit, buffer_len, bytes_of, thread_count};
 use crate::source::{Places, Source};
 use crate::taking::Round;
 use b3_core::{Hasher, Mode, Runtime, Top, Work};
@@ -131,11 +131,11 @@ fn hash_rest<S: Source>(alloc: Global, source: &S, hasher: &mut Hasher, work: &m
     ensures { (p : ModelMode) (level count n : ℕ) → HasFront p (S.bytes source.now) level hasher.old count n work.old → count * 2 ^ level ≤ 2 ^ 53
         → result ≡ true → (hasher.new.mode ≡ p) × (x : List ℕ) × IsGiven hasher.new x n work.new × AreAll (S.bytes source.now) x }
 {
-    let Ok(mut piece) = vec![in alloc; 0u8; piece_len()] else {
+    let Ok(mut buffer) = vec![in alloc; 0u8; buffer_len()] else {
         return false;
     };
     let mut reader = Places::new(source, hasher.count());
-    match hash_until(hasher, &mut reader, &mut piece, u64::MAX, work) {
+    match hash_until(hasher, &mut reader, &mut buffer, u64::MAX, work) {
         Ok(ended) => ended,
         Err(_) => false,
     }

@@ -97,14 +97,14 @@ pub fn write_encoded<W: Write>(writer: &mut W, bytes: &[u8], room: &mut [u8]) ->
     let mut rest = bytes;
     while !rest.is_empty() {
         let (front, following) = rest.split_at(rest.len().min(room.len() / 2));
-        write_piece(writer, front, room)?;
+        write_block(writer, front, room)?;
         rest = following;
     }
     Ok(())
 }
 
 // Writes the digits of `bytes`, which fit in `room`.
-fn write_piece<W: Write>(writer: &mut W, bytes: &[u8], room: &mut [u8]) -> Result<(), Cause>
+fn write_block<W: Write>(writer: &mut W, bytes: &[u8], room: &mut [u8]) -> Result<(), Cause>
     requires { 2 * length bytes.now ≤ length room.old }
     ensures written { OnOk result (Appends (W.contents writer.old) (W.contents writer.new) (encode_lower bytes.now)) }
     ensures failed { OnErr result (IsTruncated (W.contents writer.old) (W.contents writer.new) (encode_lower bytes.now)) }

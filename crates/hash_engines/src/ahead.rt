@@ -92,7 +92,7 @@ fn hash_known(
 }
 
 // Hashes the small files among the named ones on this thread.
-fn hash_run(rt: HostRuntime, mode: Mode, names: Vec<NamedRoot>, work: Work) -> Vec<NamedRoot>
+fn hash_group(rt: HostRuntime, mode: Mode, names: Vec<NamedRoot>, work: Work) -> Vec<NamedRoot>
     ensures { All (IsNamedRoot mode) result.items }
 {
     let mut known = names;
@@ -126,7 +126,7 @@ fn start<T: Threads>(
     match thread::spawn_with(
         starter,
         KnownIn(mode),
-        move || hash_run(rt, mode, names, work),
+        move || hash_group(rt, mode, names, work),
     ) {
         Ok(handle) => Ok(handle),
         Err(refused) => Err((refused.value)()),
@@ -145,7 +145,7 @@ fn joined(first: Vec<NamedRoot>, others: Vec<NamedRoot>) -> Vec<NamedRoot>
 
 /// Hashes the small files among the named ones, with a thread for each run of `size` names; this thread hashes the last run. If an
 /// allocation fails or a thread cannot be started, fewer threads hash.
-pub(crate) fn hash_runs<T: Threads>(
+pub(crate) fn hash_groups<T: Threads>(
     rt: &HostRuntime,
     starter: &T,
     mode: Mode,
@@ -157,13 +157,13 @@ pub(crate) fn hash_runs<T: Threads>(
 {
     let mut mine = names;
     if mine.len() <= size {
-        return hash_run(*rt, mode, mine, Work::new(rt));
+        return hash_group(*rt, mode, mine, Work::new(rt));
     }
     let Ok(others) = mine.split_off(size) else {
-        return hash_run(*rt, mode, mine, Work::new(rt));
+        return hash_group(*rt, mode, mine, Work::new(rt));
     };
     let started = start(rt, starter, mode, mine, Work::new(rt));
-    let others = hash_runs(rt, starter, mode, size, others);
+    let others = hash_groups(rt, starter, mode, size, others);
     match started {
         Ok(handle) => joined(handle.join(starter), others),
         Err(known) => joined(known, others),

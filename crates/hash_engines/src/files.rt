@@ -9,7 +9,7 @@ ghost use Rattle.hash_engines.specs.Sums.{IsRootOfFile, IsRootOfLeft, IsRootOfSo
 ghost use Rattle.hash_engines.specs.declared.sources.FileFault.TheVariants.{Failed, NoMemory};
 ghost use Rattle.hash_engines.specs.declared.sources.Reason.TheVariants.{IsFolder, Missing, NoPermission, NotUtf8};
 
-use crate::ahead::{NamedRoot, hash_runs, names_of_lines, next_names, small_root};
+use crate::ahead::{NamedRoot, hash_groups, names_of_lines, next_names, small_root};
 use crate::sources::{FileFault, Reason, Sources, Standing};
 use crate::summing::mode_of;
 use b3_check::{Name, NameFault, Names, NumberedLine};
@@ -239,7 +239,7 @@ impl<'a, T: Threads + Runtime> SystemFiles<'a, T> {
             mode,
             ..
         } = &self.hasher;
-        self.known = hash_runs(rt, starter, *mode, size, names);
+        self.known = hash_groups(rt, starter, *mode, size, names);
         self.next = 0;
     }
 

@@ -3,7 +3,7 @@ use Rattle.std.specs.Prelude.{◌≡◌, ◌≢◌, ℕ, Bool, true, List, Optio
 use Rattle.std.specs.Io.{IsEmptyOrEndsWith, StopsAt}
 use Rattle.std.specs.Io.KnownBytes.{Consumes, IsAtEnd}
 
--- a piece of a line was taken, of `count` bytes; it is done after its newline, or at the end of the input
+-- `count` bytes of a line were taken; it is done after its newline, or at the end of the input
 pub record TakesPart (old new : Option (List ℕ)) (count : ℕ) (is_done : Bool) (bytes : List ℕ) : Type 0 where
   pub count_is : length bytes ≡ count
   pub consumes : Consumes old new bytes

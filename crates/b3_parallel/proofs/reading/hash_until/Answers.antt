@@ -19,28 +19,28 @@ loop-preserved g c =
     let w = c.loop.work in
     let old = g.R.Read.remaining c.args.reader.now in
     let mid = g.R.Read.remaining c.loop.reader in
-    let now = g.R.Read.remaining c.read_piece.new.reader in
-    elim c.match-read_piece.branch [
+    let now = g.R.Read.remaining c.read_some.new.reader in
+    elim c.match-read_some.branch [
       | in-Ok b ↦ record {
         mode = ap (λ (h : ModelHasher). h.mode) b.hasher-is ∙ b.update.ensures.mode ∙ c.loop.invariant.mode;
-        len = c.read_piece.ensures.len ∙ c.loop.invariant.len;
+        len = c.read_some.ensures.len ∙ c.loop.invariant.len;
         given = λ x n is few.
             let before = c.loop.invariant.given x n is few in
             let all = x ++ before.0 in
-            let bytes = take b.in-Ok.count c.read_piece.new.piece in
+            let bytes = take b.in-Ok.count c.read_some.new.buffer in
             let given : c.count-given.result ≡ length all = c.count-given.ensures.bytes all (held_of until h x n w old mid before) (omega (arith, c.ranges.until.fits, max_of until h x n w old mid before)) in
-            let size : length bytes ≡ b.in-Ok.count = length-take-le b.in-Ok.count c.read_piece.new.piece (omega (arith, b.in-Ok.ensures.count, c.read_piece.ensures.len)) in
+            let size : length bytes ≡ b.in-Ok.count = length-take-le b.in-Ok.count c.read_some.new.buffer (omega (arith, b.in-Ok.ensures.count, c.read_some.ensures.len)) in
             let fits : length all + length bytes ≤ until = omega (arith, given, size, b.in-Ok.ensures.count, c.if-given-until.false) in
             let room : length all + length bytes < 2 ^ 64 = omega (arith, fits, c.ranges.until.fits) in
             let held = held_of until h x n w old mid before in
             let more = read_more until h b.update.new.self x bytes n w b.update.new.work old mid now before (b.update.ensures.bytes all held room) (b.update.ensures.count all held room) b.in-Ok.ensures.bytes fits in
-            subst (λ (z : ModelHasher). HasRead until z x n c.match-read_piece.work old now) (sym b.hasher-is) (subst (λ (m : ℕ). HasRead until b.update.new.self x n m old now) (sym b.work-is) more);
+            subst (λ (z : ModelHasher). HasRead until z x n c.match-read_some.work old now) (sym b.hasher-is) (subst (λ (m : ℕ). HasRead until b.update.new.self x n m old now) (sym b.work-is) more);
       }
       | in-Err b ↦ record {
         mode = ap (λ (h : ModelHasher). h.mode) b.hasher-is ∙ c.loop.invariant.mode;
-        len = c.read_piece.ensures.len ∙ c.loop.invariant.len;
+        len = c.read_some.ensures.len ∙ c.loop.invariant.len;
         given = λ x n is few.
             let none = read_none until h x n w old mid now (c.loop.invariant.given x n is few) b.in-Err.ensures.kept in
-            subst (λ (z : ModelHasher). HasRead until z x n c.match-read_piece.work old now) (sym b.hasher-is) (subst (λ (m : ℕ). HasRead until h x n m old now) (sym b.work-is) none);
+            subst (λ (z : ModelHasher). HasRead until z x n c.match-read_some.work old now) (sym b.hasher-is) (subst (λ (m : ℕ). HasRead until h x n m old now) (sym b.work-is) none);
       }
     ]

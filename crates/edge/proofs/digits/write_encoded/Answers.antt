@@ -19,15 +19,15 @@ loop-rest-preserved g c =
     let front_is : front ≡ take c.min.result rest = search rules in
     let back_is : c.split_at.result.1.now ≡ drop c.min.result rest = search rules in
     let whole : rest ≡ front ++ c.split_at.result.1.now = rw (front_is, back_is) (sym (take-append-drop c.min.result rest)) in
-    let more : Appends (g.W.Write.contents c.loop-rest.writer) (g.W.Write.contents c.write_piece.new.writer) (encode_lower front) = search rules in
-    let all = appends_more (g.W.Write.contents c.args.writer.now) (g.W.Write.contents c.loop-rest.writer) (g.W.Write.contents c.write_piece.new.writer) (encode_lower done) (encode_lower front) wrote more in (
+    let more : Appends (g.W.Write.contents c.loop-rest.writer) (g.W.Write.contents c.write_block.new.writer) (encode_lower front) = search rules in
+    let all = appends_more (g.W.Write.contents c.args.writer.now) (g.W.Write.contents c.loop-rest.writer) (g.W.Write.contents c.write_block.new.writer) (encode_lower done) (encode_lower front) wrote more in (
       done ++ front,
-      subst (Appends (g.W.Write.contents c.args.writer.now) (g.W.Write.contents c.write_piece.new.writer)) (sym (digits_append lower_digits done front)) all,
+      subst (Appends (g.W.Write.contents c.args.writer.now) (g.W.Write.contents c.write_block.new.writer)) (sym (digits_append lower_digits done front)) all,
       is ∙ ap (λ (w : _). done ++ w) whole ∙ sym (append_assoc done front c.split_at.result.1.now),
     )
 
-pub returns-in_err-write_piece-clause-failed : goal.returns-in_err-write_piece-clause-failed
-returns-in_err-write_piece-clause-failed g c =
+pub returns-in_err-write_block-clause-failed : goal.returns-in_err-write_block-clause-failed
+returns-in_err-write_block-clause-failed g c =
     let (done, wrote, is) = c.loop-rest.invariant in
     let front = c.split_at.result.0.now in
     let following = c.split_at.result.1.now in
@@ -38,5 +38,5 @@ returns-in_err-write_piece-clause-failed g c =
     let text : encode_lower done ++ (encode_lower front ++ encode_lower following) ≡ encode_lower c.args.bytes.now =
     ap (λ w. encode_lower done ++ w) (sym (digits_append lower_digits front following)) ∙ sym (digits_append lower_digits done (front ++ following)) ∙ ap encode_lower (ap (λ w. done ++ w) (sym whole) ∙ sym is) in
     let p = err_from_is_err_and c.from_residual.result c.from_residual.ensures.1 in
-    rw (p.1) (subst (IsTruncated (g.W.Write.contents c.args.writer.now) (g.W.Write.contents c.write_piece.new.writer)) text
-    (split_between (g.W.Write.contents c.args.writer.now) (g.W.Write.contents c.loop-rest.writer) (g.W.Write.contents c.write_piece.new.writer) (encode_lower done) (encode_lower front) (encode_lower following) wrote c.in_err-write_piece.ensures.failed))
+    rw (p.1) (subst (IsTruncated (g.W.Write.contents c.args.writer.now) (g.W.Write.contents c.write_block.new.writer)) text
+    (split_between (g.W.Write.contents c.args.writer.now) (g.W.Write.contents c.loop-rest.writer) (g.W.Write.contents c.write_block.new.writer) (encode_lower done) (encode_lower front) (encode_lower following) wrote c.in_err-write_block.ensures.failed))

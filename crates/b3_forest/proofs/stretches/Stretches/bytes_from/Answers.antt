@@ -1,47 +1,47 @@
 use Rattle.std.proofs.Common.{rules, ◌≡◌, ◌<◌, ◌≤◌, ◌-◌, ◌*◌, ◌/◌, ◌%◌, [], length, take, drop, arith, ap, sym, subst, ◌∙◌}
 use Rattle.std.specs.Prelude.{get_or}
 use Rattle.std.proofs.lemmas.List.{drop_all}
-use Rattle.b3_forest.specs.Stretches.{IsRun, ModelStretches, left_of_stretch, stretch_bytes, stretched}
-use Rattle.b3_forest.proofs.Runs.{before, full_length, in_full, in_last, last_length, whole_rest}
-use Rattle.b3_forest.proofs.stretches.Stretches.run.Goals as goal
+use Rattle.b3_forest.specs.Stretches.{AreBytesFrom, ModelStretches, left_of_stretch, stretch_bytes, stretched}
+use Rattle.b3_forest.proofs.ByteRuns.{before, full_length, in_full, in_last, last_length, whole_rest}
+use Rattle.b3_forest.proofs.stretches.Stretches.bytes_from.Goals as goal
 
-pub returns-then-number-full-clause-run : goal.returns-then-number-full-clause-run
-returns-then-number-full-clause-run c =
+pub returns-then-number-full-clause-found : goal.returns-then-number-full-clause-found
+returns-then-number-full-clause-found c =
     let n = c.self.inside.stretch_len in
     let xs = c.self.inside.full.items in
     let last = stretch_bytes c.self.inside.last in
     let at = c.args.at in
     let d = c.index.result.now in
     let low : at / n < length xs = search rules in
-    let run = in_full stretch_bytes n at xs last d c.self.invariant.0 c.self.invariant.1 low in
+    let found = in_full stretch_bytes n at xs last d c.self.invariant.0 c.self.invariant.1 low in
     let same : c.as_slice.result.now ≡ stretch_bytes (get_or xs (at / n) d) = search rules in
-    subst (λ (s : ModelStretches). IsRun s.bytes at (take (length c.as_slice.result.now - at % n) (drop (at % n) c.as_slice.result.now))) c.self.view_is
-    (subst (IsRun (stretched n xs last).bytes at) (ap (drop (at % n)) (sym same) ∙ sym (whole_rest (at % n) c.as_slice.result.now)) run)
+    subst (λ (s : ModelStretches). AreBytesFrom s.bytes at (take (length c.as_slice.result.now - at % n) (drop (at % n) c.as_slice.result.now))) c.self.view_is
+    (subst (AreBytesFrom (stretched n xs last).bytes at) (ap (drop (at % n)) (sym same) ∙ sym (whole_rest (at % n) c.as_slice.result.now)) found)
 
-pub returns-then-skip-len-clause-run : goal.returns-then-skip-len-clause-run
-returns-then-skip-len-clause-run c =
+pub returns-then-skip-len-clause-found : goal.returns-then-skip-len-clause-found
+returns-then-skip-len-clause-found c =
     let n = c.self.inside.stretch_len in
     let xs = c.self.inside.full.items in
     let last = stretch_bytes c.self.inside.last in
     let at = c.args.at in
     let skip = at - c.len-full.result * n in
     let count : length xs ≡ c.len-full.result = search rules in
-    let run = in_last stretch_bytes n at xs last c.self.invariant.1 (before n at (length xs) (omega (arith, count, c.if-number-full.false))) in
+    let found = in_last stretch_bytes n at xs last c.self.invariant.1 (before n at (length xs) (omega (arith, count, c.if-number-full.false))) in
     let same : c.as_slice-then-skip-len.result.now ≡ last = search rules in
-    subst (λ (s : ModelStretches). IsRun s.bytes at (take (length c.as_slice-then-skip-len.result.now - skip) (drop skip c.as_slice-then-skip-len.result.now))) c.self.view_is
-    (subst (IsRun (stretched n xs last).bytes at) (ap (λ k. drop (at - k * n) last) count ∙ ap (drop skip) (sym same) ∙ sym (whole_rest skip c.as_slice-then-skip-len.result.now)) run)
+    subst (λ (s : ModelStretches). AreBytesFrom s.bytes at (take (length c.as_slice-then-skip-len.result.now - skip) (drop skip c.as_slice-then-skip-len.result.now))) c.self.view_is
+    (subst (AreBytesFrom (stretched n xs last).bytes at) (ap (λ k. drop (at - k * n) last) count ∙ ap (drop skip) (sym same) ∙ sym (whole_rest skip c.as_slice-then-skip-len.result.now)) found)
 
-pub returns-else-skip-len-clause-run : goal.returns-else-skip-len-clause-run
-returns-else-skip-len-clause-run c =
+pub returns-else-skip-len-clause-found : goal.returns-else-skip-len-clause-found
+returns-else-skip-len-clause-found c =
     let n = c.self.inside.stretch_len in
     let xs = c.self.inside.full.items in
     let last = stretch_bytes c.self.inside.last in
     let at = c.args.at in
     let count : length xs ≡ c.len-full.result = search rules in
     let len : length last ≡ c.len.result = search rules in
-    let run = in_last stretch_bytes n at xs last c.self.invariant.1 (before n at (length xs) (omega (arith, count, c.if-number-full.false))) in
-    subst (λ (s : ModelStretches). IsRun s.bytes at []) c.self.view_is
-    (subst (IsRun (stretched n xs last).bytes at) (ap (λ k. drop (at - k * n) last) count ∙ drop_all (at - c.len-full.result * n) last (omega (arith, len, c.if-skip-len.false))) run)
+    let found = in_last stretch_bytes n at xs last c.self.invariant.1 (before n at (length xs) (omega (arith, count, c.if-number-full.false))) in
+    subst (λ (s : ModelStretches). AreBytesFrom s.bytes at []) c.self.view_is
+    (subst (AreBytesFrom (stretched n xs last).bytes at) (ap (λ k. drop (at - k * n) last) count ∙ drop_all (at - c.len-full.result * n) last (omega (arith, len, c.if-skip-len.false))) found)
 
 pub returns-then-number-full-clause-len : goal.returns-then-number-full-clause-len
 returns-then-number-full-clause-len c =

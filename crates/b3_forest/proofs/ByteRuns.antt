@@ -1,4 +1,4 @@
--- The places of bytes that are kept in stretches of one length, and in runs.
+-- The places of bytes that are kept in stretches of one length.
 use Rattle.std.proofs.Common.{◌≡◌, ℕ, zero, suc, ◌+◌, ◌-◌, ◌*◌, ◌/◌, ◌%◌, ◌<◌, ◌≤◌, ◌++◌, List, [], ◌∷◌, length, min, take, drop, arith, ap, ap₂, subst, sym, ◌∙◌}
 use Rattle.std.specs.Prelude.{All, flat_map, get_or, ◌↔◌}
 use Rattle.std.proofs.lemmas.List.{append_assoc, flat_map_more, drop-append-le, drop-drop, drop-take, length-append, length-drop, length-take-le, take-take}
@@ -7,7 +7,7 @@ use Rattle.std.proofs.lemmas.List.Elements.{All-get_or, All-head, All-tail}
 use Rattle.std.proofs.lemmas.Nat.{div-add-mod'}
 use Rattle.std.proofs.Math.Nat.{div-mul-le_self, mod-lt, mul-le-mul_right}
 use Rattle.std.proofs.Math.Seq.{drop-append-add, drop-append_seam, take-add, take-append_seam, take-length}
-use Rattle.b3_forest.specs.Stretches.{IsRun, StandsAt}
+use Rattle.b3_forest.specs.Stretches.{AreBytesFrom, StandsAt}
 
 -- ---- stretches of n bytes each, and some bytes after them
 
@@ -38,12 +38,12 @@ from_stretch f n (suc k) r (x ∷ xs) last d all low within =
     (later.0, ap₂ drop place whole ∙ drop-append-add (f x) (flat_map f xs ++ last) (k * n + r) ∙ later.1)
 
 -- a prefix of bytes is at their start
-front_stands : (b : List ℕ) (at : ℕ) (run following : List ℕ) → drop at b ≡ run ++ following → StandsAt b at run
-front_stands b at run following is = sym (ap (take (length run)) is ∙ take-append_seam run following)
+front_stands : (b : List ℕ) (at : ℕ) (found following : List ℕ) → drop at b ≡ found ++ following → StandsAt b at found
+front_stands b at found following is = sym (ap (take (length found)) is ∙ take-append_seam found following)
 
--- the run from an offset in a full stretch on
+-- the bytes from an offset in a full stretch on
 pub in_full : {X : Type 0} (f : X → List ℕ) (n at : ℕ) (xs : List X) (last : List ℕ) (d : X) → 0 < n → AreOf f n xs → at / n < length xs
-    → IsRun (flat_map f xs ++ last) at (drop (at % n) (f (get_or xs (at / n) d)))
+    → AreBytesFrom (flat_map f xs ++ last) at (drop (at % n) (f (get_or xs (at / n) d)))
 in_full f n at xs last d some all low =
     let stretch = f (get_or xs (at / n) d) in
     let less = mod-lt at some in
@@ -55,9 +55,9 @@ in_full f n at xs last d some all low =
       some = λ _. omega (arith, len, left, less);
     }
 
--- and the run from an offset after them on
+-- and the bytes from an offset after them on
 pub in_last : {X : Type 0} (f : X → List ℕ) (n at : ℕ) (xs : List X) (last : List ℕ) → AreOf f n xs → length xs * n ≤ at
-    → IsRun (flat_map f xs ++ last) at (drop (at - length xs * n) last)
+    → AreBytesFrom (flat_map f xs ++ last) at (drop (at - length xs * n) last)
 in_last f n at xs last all low =
     let len = their_length f n xs all in
     let skip = at - length xs * n in
@@ -74,16 +74,16 @@ in_last f n at xs last all low =
 pub full_stands : {X : Type 0} (f : X → List ℕ) (n at : ℕ) (xs : List X) (last : List ℕ) (d : X) → 0 < n → AreOf f n xs → at / n < length xs → at % n ≡ 0
     → StandsAt (flat_map f xs ++ last) at (f (get_or xs (at / n) d))
 full_stands f n at xs last d some all low aligned =
-    let run = in_full f n at xs last d some all low in
-    subst (λ i. StandsAt (flat_map f xs ++ last) at (drop i (f (get_or xs (at / n) d)))) aligned run.same
+    let found = in_full f n at xs last d some all low in
+    subst (λ i. StandsAt (flat_map f xs ++ last) at (drop i (f (get_or xs (at / n) d)))) aligned found.same
 
 pub last_stands : {X : Type 0} (f : X → List ℕ) (n at : ℕ) (xs : List X) (last : List ℕ) → AreOf f n xs → at / n ≡ length xs → at % n ≡ 0
     → StandsAt (flat_map f xs ++ last) at last
 last_stands f n at xs last all number aligned =
     let place : at ≡ length xs * n = sym (div-add-mod' at n) ∙ ap₂ (λ k r. k * n + r) number aligned ∙ omega arith in
-    let run = in_last f n at xs last all (omega (arith, place)) in
+    let found = in_last f n at xs last all (omega (arith, place)) in
     let none : at - length xs * n ≡ 0 = omega (arith, place) in
-    subst (λ i. StandsAt (flat_map f xs ++ last) at (drop i last)) none run.same
+    subst (λ i. StandsAt (flat_map f xs ++ last) at (drop i last)) none found.same
 
 -- a number of stretches that an offset is after
 pub before : (n at k : ℕ) → k ≤ at / n → k * n ≤ at
@@ -136,7 +136,7 @@ all_before f n at xs last all short low =
     let more : (length xs + 1) * n ≡ length xs * n + n = omega arith in
     omega (arith, sum, whole, following, more, short)
 
--- ---- runs joined
+-- ---- bytes joined
 
 -- bytes are where their first bytes and the remaining ones are
 pub stands_in_two : (b : List ℕ) (at : ℕ) (front following : List ℕ) → StandsAt b at (front ++ following) ↔ (StandsAt b at front × StandsAt b (at + length front) following)
@@ -159,16 +159,16 @@ pub whole_rest : (i : ℕ) (b : List ℕ) → take (length b - i) (drop i b) ≡
 whole_rest i b = ap (λ n. take n (drop i b)) (sym (length-drop i b)) ∙ take-length (drop i b)
 
 -- bytes with more after them
-pub stands_more : (b : List ℕ) (at : ℕ) (front run : List ℕ) (m : ℕ) → StandsAt b at front → StandsAt b (at + length front) run → m ≤ length run → StandsAt b at (front ++ take m run)
-stands_more b at front run m first then_run short =
-    let taken : take m run ≡ take m (drop (at + length front) b) = ap (take m) then_run ∙ take-take m (length run) (drop (at + length front) b) short in
-    let len = length-take-le m run short in
-    (stands_in_two b at front (take m run)).1 (first, taken ∙ ap (λ i. take i (drop (at + length front) b)) (sym len))
+pub stands_more : (b : List ℕ) (at : ℕ) (front found : List ℕ) (m : ℕ) → StandsAt b at front → StandsAt b (at + length front) found → m ≤ length found → StandsAt b at (front ++ take m found)
+stands_more b at front found m first then_found short =
+    let taken : take m found ≡ take m (drop (at + length front) b) = ap (take m) then_found ∙ take-take m (length found) (drop (at + length front) b) short in
+    let len = length-take-le m found short in
+    (stands_in_two b at front (take m found)).1 (first, taken ∙ ap (λ i. take i (drop (at + length front) b)) (sym len))
 
--- a prefix of a run, at the same place
-pub stands_front : (b : List ℕ) (at : ℕ) (run : List ℕ) (m : ℕ) → StandsAt b at run → m ≤ length run → StandsAt b at (take m run)
-stands_front b at run m stands short =
-    ap (take m) stands ∙ take-take m (length run) (drop at b) short ∙ ap (λ i. take i (drop at b)) (sym (length-take-le m run short))
+-- a prefix of some bytes, at the same place
+pub stands_front : (b : List ℕ) (at : ℕ) (found : List ℕ) (m : ℕ) → StandsAt b at found → m ≤ length found → StandsAt b at (take m found)
+stands_front b at found m stands short =
+    ap (take m) stands ∙ take-take m (length found) (drop at b) short ∙ ap (λ i. take i (drop at b)) (sym (length-take-le m found short))
 
 -- ---- more stretches
 
