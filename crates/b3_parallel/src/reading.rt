@@ -84,7 +84,8 @@ fn read_some<R: Read>(reader: &mut R, buffer: &mut [u8], most: u64) -> io::Resul
     reader.read(&mut buffer[..len])
 }
 
-// Reads bytes into a hasher, a buffer at a time, until it has been given `until` bytes or the reader is at its end. Returns whether the reader is at its end.
+// Reads bytes into a hasher, a buffer at a time, until it has been given `until` bytes or the reader is at its end. Returns whether the
+// reader is at its end.
 pub(crate) fn hash_until<R: Read>(
     hasher: &mut Hasher,
     reader: &mut R,
