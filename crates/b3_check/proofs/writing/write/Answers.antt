@@ -4,7 +4,7 @@ use Rattle.std.proofs.lemmas.List.{take_all}
 use Rattle.std.proofs.lemmas.Result.{err_from_is_err_and}
 use Rattle.b3_check.specs.declared.line.Line.{Line}
 use Rattle.b3_check.specs.Lines.{IsLawful, written_line}
-use Rattle.b3_check.proofs.CutOffs.{truncated_within}
+use Rattle.b3_check.proofs.Truncations.{truncated_within}
 use Rattle.b3_check.proofs.Written.{file_at-written_lines}
 use Rattle.b3_check.proofs.writing.write.Goals as goal
 

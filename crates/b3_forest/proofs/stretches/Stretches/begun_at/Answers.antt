@@ -1,7 +1,7 @@
 use Rattle.std.proofs.Common.{rules, ◌≡◌, ◌<◌, ◌≤◌, ◌/◌, ◌%◌, length, drop, arith, ap, subst, sym, ◌∙◌}
 use Rattle.std.specs.Prelude.{get_or}
 use Rattle.b3_forest.specs.Stretches.{StandsAt, ModelStretches, left_of_stretch, stretch_bytes, stretched}
-use Rattle.b3_forest.proofs.Runs.{all_before, full_length, full_stands, last_stands, last_whole}
+use Rattle.b3_forest.proofs.ByteRuns.{all_before, full_length, full_stands, last_stands, last_whole}
 use Rattle.b3_forest.proofs.stretches.Stretches.begun_at.Goals as goal
 
 pub returns-then-number-full-clause-stands : goal.returns-then-number-full-clause-stands

@@ -2,7 +2,7 @@ use Rattle.std.proofs.Common.{rules, ◌≡◌, ◌≤◌, ◌+◌, ◌*◌, len
 use Rattle.std.specs.Prelude.{flat_map}
 use Rattle.std.proofs.lemmas.List.{length-append}
 use Rattle.b3_forest.specs.Stretches.{stretch_bytes}
-use Rattle.b3_forest.proofs.Runs.{their_length}
+use Rattle.b3_forest.proofs.ByteRuns.{their_length}
 use Rattle.b3_forest.proofs.stretches.StretchesBuilder.finish.Goals as goal
 
 pub invariant_of-result : goal.invariant_of-result

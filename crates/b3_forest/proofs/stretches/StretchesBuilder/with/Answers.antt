@@ -3,7 +3,7 @@ use Rattle.std.specs.Prelude.{flat_map}
 use Rattle.std.proofs.lemmas.List.{append-nil}
 use Rattle.std.proofs.lemmas.List.Elements.{All-push}
 use Rattle.b3_forest.specs.Stretches.{AreFull, stretch_bytes}
-use Rattle.b3_forest.proofs.Runs.{more_after, with_stretch}
+use Rattle.b3_forest.proofs.ByteRuns.{more_after, with_stretch}
 use Rattle.b3_forest.proofs.stretches.StretchesBuilder.with.Goals as goal
 use Rattle.b3_forest.proofs.stretches.StretchesBuilder.with.Goals.{then-len-stretch_len+in-Ok+in_ok-push+in_ok-last, else-len-stretch_len}
 
