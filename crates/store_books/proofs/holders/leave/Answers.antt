@@ -8,7 +8,7 @@ pub returns-in-Ok : goal.returns-in-Ok
 returns-in-Ok c =
     let t = c.args.tenant in
     let found = subst (λ (hs : List ℕ). IsBinarySearchResult (λ h. nat_cmp h t) hs (Ok c.in-Ok.at)) c.as_slice.ensures.value c.in-Ok.ensures.position in
-    c.remove-freed.ensures.items ∙ sym (held_at t c.args.holders.now.items c.requires c.in-Ok.at found).1
+    c.remove-removed.ensures.items ∙ sym (held_at t c.args.holders.now.items c.requires c.in-Ok.at found).1
 
 pub returns-in_default : goal.returns-in_default
 returns-in_default c =
