@@ -17,7 +17,7 @@ def object_lines(number):
 
 
 def addresses(count):
-    """The addresses of so many objects, as the program tells them."""
+    """The addresses of so many objects, as the program reports them."""
     lines = ["tenant 70368744177664"] * TENANTS
     for number in range(count):
         lines += object_lines(number)
@@ -39,8 +39,8 @@ def script(length, forgets, address):
         if forgets and number % 4 == 0:
             at = choice.randrange(len(there))
             there[at], there[-1] = there[-1], there[at]
-            gone = there.pop()
-            lines.append(f"forget {gone % TENANTS} {address[gone]}")
+            removed = there.pop()
+            lines.append(f"forget {removed % TENANTS} {address[removed]}")
     return ("\n".join(lines[:length]) + "\n").encode()
 
 
@@ -56,8 +56,8 @@ def main():
         for length in LENGTHS:
             text = script(length, forgets, address)
             best = [min(taken) for taken in zip(*[[seconds(program, text) for program in PROGRAMS] for _ in range(TURNS)])]
-            told = "".join(f"{length / least:10.0f}" for least in best)
-            print(f"{'with forgets' if forgets else 'no forgets':12} {length:7} {told} commands a second", flush=True)
+            reported = "".join(f"{length / least:10.0f}" for least in best)
+            print(f"{'with forgets' if forgets else 'no forgets':12} {length:7} {reported} commands a second", flush=True)
 
 
 if __name__ == "__main__":

@@ -12,7 +12,7 @@ MIB = int(sys.argv[1])
 
 
 def inner(*words):
-    """The microseconds that a program tells on standard error."""
+    """The microseconds that a program reports on standard error."""
     return int(subprocess.run(words, check=True, capture_output=True, text=True).stderr)
 
 

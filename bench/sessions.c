@@ -111,7 +111,7 @@ static void drop(struct client *c, size_t count) {
     }
 }
 
-/* The next line, which has to begin with a word. Gives what is behind that. */
+/* The next line, which has to begin with a word. Gives what is after that. */
 static char *answer(struct client *c, const char *word) {
     char *line = line_of(c);
     if (strncmp(line, word, strlen(word)) != 0) {

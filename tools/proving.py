@@ -63,8 +63,8 @@ def find_rt():
 
 def kit():
     """The toolchain's folder."""
-    told = subprocess.run([find_rt(), "doc"], stdout=subprocess.PIPE, check=True)
-    return os.path.dirname(os.path.realpath(told.stdout.decode().strip()))
+    reported = subprocess.run([find_rt(), "doc"], stdout=subprocess.PIPE, check=True)
+    return os.path.dirname(os.path.realpath(reported.stdout.decode().strip()))
 
 
 def processors():

@@ -1,5 +1,5 @@
 /* Calls each function of include/b3.h but those of hashers, as C does. */
-#include "told.h"
+#include "reported.h"
 
 static size_t left_of(size_t len) {
     size_t left = B3_CHUNK_LEN;
@@ -22,20 +22,20 @@ static b3_value value_of(const uint8_t *k, size_t k_len, const uint8_t *bytes, s
     return value;
 }
 
-static void whole_calls(const uint8_t *input, size_t len, uint8_t told[3][TOLD]) {
+static void whole_calls(const uint8_t *input, size_t len, uint8_t reported[3][TOLD]) {
     uint64_t count = 5;
     uint8_t *out = output_end - B3_HASH_LEN;
-    shows(b3_hash(input, len, out, 32, &count) == B3_DONE && memcmp(out, told[0], 32) == 0 && count == 5 + work_of(len), "b3_hash", len);
+    shows(b3_hash(input, len, out, 32, &count) == B3_DONE && memcmp(out, reported[0], 32) == 0 && count == 5 + work_of(len), "b3_hash", len);
     count = 0;
-    shows(b3_keyed_hash(key, 32, input, len, out, 32, &count) == B3_DONE && memcmp(out, told[1], 32) == 0 && count == work_of(len),
+    shows(b3_keyed_hash(key, 32, input, len, out, 32, &count) == B3_DONE && memcmp(out, reported[1], 32) == 0 && count == work_of(len),
           "b3_keyed_hash", len);
     count = 0;
-    shows(b3_derive_key(context, context_len, input, len, out, 32, &count) == B3_DONE && memcmp(out, told[2], 32) == 0 &&
+    shows(b3_derive_key(context, context_len, input, len, out, 32, &count) == B3_DONE && memcmp(out, reported[2], 32) == 0 &&
               count == work_of(context_len) + work_of(len),
           "b3_derive_key", len);
 }
 
-static void extended_calls(const uint8_t *input, size_t len, uint8_t told[3][TOLD]) {
+static void extended_calls(const uint8_t *input, size_t len, uint8_t reported[3][TOLD]) {
     for (uint32_t mode = 0; mode < 3; mode++) {
         int same = 1;
         for (size_t at = 0; at <= TOLD; at += 13)
@@ -43,21 +43,21 @@ static void extended_calls(const uint8_t *input, size_t len, uint8_t told[3][TOL
                 uint64_t count = 0;
                 uint8_t *out = output_end - more;
                 same &= b3_extended(mode, key_of(mode), key_len_of(mode), input, len, at, out, more, &count) == B3_DONE &&
-                        memcmp(out, told[mode] + at, more) == 0 &&
+                        memcmp(out, reported[mode] + at, more) == 0 &&
                         count == mode_work(mode) + work_of(len) - 1 + touched(at, more);
             }
         shows(same, "b3_extended", len);
     }
 }
 
-static void node_calls(const uint8_t *input, size_t len, uint8_t told[3][TOLD]) {
+static void node_calls(const uint8_t *input, size_t len, uint8_t reported[3][TOLD]) {
     for (int keyed = 0; keyed < 2; keyed++) {
         size_t k_len = keyed ? 32 : 0, left = left_of(len);
         uint64_t count = 0, once = 0;
         b3_value first = value_of(key, k_len, input, left, 0, &count), at_once;
         b3_value second = value_of(key, k_len, input + left, len - left, left / B3_CHUNK_LEN, &count);
         uint8_t *out = output_end - B3_HASH_LEN;
-        shows(b3_root(key, k_len, first, second, out, 32, &count) == B3_DONE && memcmp(out, told[keyed], 32) == 0 && count == work_of(len),
+        shows(b3_root(key, k_len, first, second, out, 32, &count) == B3_DONE && memcmp(out, reported[keyed], 32) == 0 && count == work_of(len),
               "b3_root", len);
         shows(b3_subtree(key, k_len, input + left, len - left, left / B3_CHUNK_LEN, &at_once, &once) == B3_DONE &&
                   memcmp(&at_once, &second, sizeof second) == 0 && once == work_of(len - left),
@@ -129,7 +129,7 @@ static void *hash_often(void *of) {
             b3_keyed_hash(key, 32, task->input, MOST, out, 32, &count);
         else
             b3_hash(task->input, MOST, out, 32, &count);
-        task->same &= memcmp(out, task->told, 32) == 0 && count == work_of(MOST);
+        task->same &= memcmp(out, task->reported, 32) == 0 && count == work_of(MOST);
     }
     return NULL;
 }
@@ -138,15 +138,15 @@ int main(int argc, char **argv) {
     if (!start(argc, argv))
         return 2;
     size_t len;
-    static uint8_t told[3][TOLD];
-    while (read_told(&len, told)) {
+    static uint8_t reported[3][TOLD];
+    while (read_reported(&len, reported)) {
         const uint8_t *input = input_of(len);
-        whole_calls(input, len, told);
-        extended_calls(input, len, told);
+        whole_calls(input, len, reported);
+        extended_calls(input, len, reported);
         if (len > B3_CHUNK_LEN)
-            node_calls(input, len, told);
+            node_calls(input, len, reported);
         if (len == MOST)
-            by_threads(hash_often, told, "a thread's hash");
+            by_threads(hash_often, reported, "a thread's hash");
     }
     refusals();
     borders();

@@ -1,5 +1,5 @@
 /* Calls the functions of include/b3.h that take a hasher, as C does. */
-#include "told.h"
+#include "reported.h"
 
 enum { RANDOM_STATES = 10000, BYTE_BY_BYTE = 8193 };
 
@@ -43,13 +43,13 @@ static int give(b3_hasher *to, const struct cuts *cuts, const uint8_t *input, si
     return done;
 }
 
-static int finds(const b3_hasher *of, const uint8_t *told, uint64_t *count) {
+static int finds(const b3_hasher *of, const uint8_t *reported, uint64_t *count) {
     uint8_t *out = output_end - B3_HASH_LEN;
-    return b3_hasher_finalize(of, out, B3_HASH_LEN, count) == B3_DONE && memcmp(out, told, B3_HASH_LEN) == 0;
+    return b3_hasher_finalize(of, out, B3_HASH_LEN, count) == B3_DONE && memcmp(out, reported, B3_HASH_LEN) == 0;
 }
 
 /* Each way of cutting an input gives its hash, by as many compressions as at once. */
-static void cut_calls(const uint8_t *input, size_t len, uint8_t told[3][TOLD]) {
+static void cut_calls(const uint8_t *input, size_t len, uint8_t reported[3][TOLD]) {
     for (size_t i = 0; i < sizeof CUTS / sizeof *CUTS; i++)
         for (uint32_t mode = 0; mode < 3; mode++) {
             uint64_t count = 5;
@@ -57,12 +57,12 @@ static void cut_calls(const uint8_t *input, size_t len, uint8_t told[3][TOLD]) {
                 continue;
             memset(hasher, 0xa5, sizeof *hasher);
             int same = b3_hasher_init(hasher, mode, key_of(mode), key_len_of(mode), &count) == B3_DONE;
-            same &= give(hasher, &CUTS[i], input, len, &count) && finds(hasher, told[mode], &count);
+            same &= give(hasher, &CUTS[i], input, len, &count) && finds(hasher, reported[mode], &count);
             shows(same && count == 5 + mode_work(mode) + work_of(len), CUTS[i].name, len);
         }
 }
 
-static void read_calls(const uint8_t *input, size_t len, uint8_t told[3][TOLD]) {
+static void read_calls(const uint8_t *input, size_t len, uint8_t reported[3][TOLD]) {
     for (uint32_t mode = 0; mode < 3; mode++) {
         uint64_t before = 0;
         b3_hasher_init(hasher, mode, key_of(mode), key_len_of(mode), &before);
@@ -71,15 +71,15 @@ static void read_calls(const uint8_t *input, size_t len, uint8_t told[3][TOLD]) 
             for (size_t more = 0; at + more <= TOLD; more += 37) {
                 uint64_t count = before;
                 uint8_t *out = output_end - more;
-                same &= b3_hasher_extended(hasher, at, out, more, &count) == B3_DONE && memcmp(out, told[mode] + at, more) == 0 &&
+                same &= b3_hasher_extended(hasher, at, out, more, &count) == B3_DONE && memcmp(out, reported[mode] + at, more) == 0 &&
                         count == mode_work(mode) + work_of(len) - 1 + touched(at, more);
             }
         shows(same, "b3_hasher_extended", len);
     }
 }
 
-/* A copy goes its own way, and a hasher goes on behind its hash. */
-static void copies(const uint8_t *input, size_t len, uint8_t told[3][TOLD]) {
+/* A copy goes its own way, and a hasher goes on after its hash. */
+static void copies(const uint8_t *input, size_t len, uint8_t reported[3][TOLD]) {
     for (uint32_t mode = 0; mode < 3; mode++) {
         uint64_t count = 0;
         uint8_t first[32], other[32], out[32];
@@ -89,13 +89,13 @@ static void copies(const uint8_t *input, size_t len, uint8_t told[3][TOLD]) {
         b3_extended(mode, key_of(mode), key_len_of(mode), input, len / 2, 0, first, 32, &count);
         int same = finds(hasher, first, &count);
         b3_hasher_update(hasher, input + len / 2, len - len / 2, &count);
-        same &= finds(hasher, told[mode], &count) && finds(copy, first, &count) && finds(hasher, told[mode], &count);
+        same &= finds(hasher, reported[mode], &count) && finds(copy, first, &count) && finds(hasher, reported[mode], &count);
         uint8_t *twice = malloc(len + 1);
         memcpy(twice, input, len / 2);
         memcpy(twice + len / 2, input, len / 2);
         b3_extended(mode, key_of(mode), key_len_of(mode), twice, len / 2 * 2, 0, other, 32, &count);
         b3_hasher_update(copy, input, len / 2, &count);
-        same &= finds(copy, other, &count) && finds(hasher, told[mode], &count);
+        same &= finds(copy, other, &count) && finds(hasher, reported[mode], &count);
         same &= b3_hasher_update(copy, input, 0, &count) == B3_DONE && finds(copy, other, &count);
         same &= b3_hasher_extended(copy, 0, out, 32, &count) == B3_DONE && memcmp(out, other, 32) == 0;
         shows(same, "a hasher and its copy", len);
@@ -202,7 +202,7 @@ static void *hash_often(void *of) {
         b3_hasher_init(&mine, task->mode, key_of(task->mode), key_len_of(task->mode), &count);
         give(&mine, &CUTS[i % 2 ? 9 : 13], task->input, MOST, &count);
         b3_hasher_finalize(&mine, out, 32, &count);
-        task->same &= memcmp(out, task->told, 32) == 0 && count == work_of(MOST);
+        task->same &= memcmp(out, task->reported, 32) == 0 && count == work_of(MOST);
     }
     return NULL;
 }
@@ -213,14 +213,14 @@ int main(int argc, char **argv) {
     hasher = (b3_hasher *)(void *)(end_of_memory(sizeof *hasher) - sizeof *hasher);
     copy = (b3_hasher *)(void *)(end_of_memory(sizeof *copy) - sizeof *copy);
     size_t len;
-    static uint8_t told[3][TOLD];
-    while (read_told(&len, told)) {
+    static uint8_t reported[3][TOLD];
+    while (read_reported(&len, reported)) {
         const uint8_t *input = input_of(len);
-        cut_calls(input, len, told);
-        read_calls(input, len, told);
-        copies(input, len, told);
+        cut_calls(input, len, reported);
+        read_calls(input, len, reported);
+        copies(input, len, reported);
         if (len == MOST)
-            by_threads(hash_often, told, "a thread's hasher");
+            by_threads(hash_often, reported, "a thread's hasher");
     }
     refusals();
     random_states();

@@ -27,14 +27,14 @@ class Preloaded:
 
     def run(self, words, data, **variables):
         """The finished run, and whether the call was disturbed."""
-        seen, told = os.pipe()
-        changed = {"LD_PRELOAD": self.library, "DISTURBED": str(told), **variables}
+        seen, reported = os.pipe()
+        changed = {"LD_PRELOAD": self.library, "DISTURBED": str(reported), **variables}
         try:
             run = subprocess.run(
-                words, input=data, capture_output=True, cwd=self.folder, timeout=SECONDS, pass_fds=[told],
+                words, input=data, capture_output=True, cwd=self.folder, timeout=SECONDS, pass_fds=[reported],
                 env={**os.environ, **changed},
             )
             return run, bool(select.select([seen], [], [], 0)[0]) and os.read(seen, 1) == b"x"
         finally:
-            os.close(told)
+            os.close(reported)
             os.close(seen)

@@ -34,8 +34,8 @@ def ending(run):
 def after_write(whole, number):
     """How a run may end whose write of this number to standard output fails: standard error has what it had by then, and the cause."""
     lines = whole.stderr.splitlines(keepends=True)
-    told = [b"".join(lines[:count]) for count in range(len(lines) + 1)]
-    return [Answer(3, whole.stdout[: number - 1], before + CANNOT_WRITE) for before in told]
+    reported = [b"".join(lines[:count]) for count in range(len(lines) + 1)]
+    return [Answer(3, whole.stdout[: number - 1], before + CANNOT_WRITE) for before in reported]
 
 
 def failures_of(failing, case, kind, may_end, **variables):

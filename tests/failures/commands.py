@@ -83,8 +83,8 @@ def cases(program):
     yield case(["sum", "--length", "40"], b"abc", Answer(0, output_of(b"abc", 40).hex().encode() + b"\n"))
     whole = Answer(0, LINES)
     yield case(["sum", "--threads", "1", "abc", "empty"], b"", whole, files_read(0, whole, summed(lines)))
-    gone = Answer(1, LINES, b"b3store: gone: no such file\n")
-    yield case(["sum", "abc", "gone", "empty"], b"", gone, None)
+    removed = Answer(1, LINES, b"b3store: removed: no such file\n")
+    yield case(["sum", "abc", "removed", "empty"], b"", removed, None)
     yield case(["sum", "--files-from", "-"], LIST, whole, files_read(len(LIST), whole, summed(lines)))
     yield case(["sum", "--files-from", "list"], b"", whole, files_read(len(LIST), whole, summed(lines)))
     keyed_line = output_of(b"abc", 32, keyed(KEY)).hex().encode() + b"  abc\n"

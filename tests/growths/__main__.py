@@ -2,7 +2,7 @@
 of its memory each time: the first, the second, and so on, until a run meets none.
 
 Where no growth is refused, the answer is the second reading's. Else each run must end by itself: with the same answer, or with
-status 3 and `b3store: out of memory`. Then an engine that writes at its end has written nothing; `upload` may have told its
+status 3 and `b3store: out of memory`. Then an engine that writes at its end has written nothing; `upload` may have reported its
 refusal; and `run` has answered as the model does, but for commands that it refused with S14, from whose state it went on. `serve`
 does so to its end, unless it had no memory to begin.
 
@@ -33,7 +33,7 @@ TELLS = b"b3store: out of memory\n"
 
 
 class Tally:
-    """Counts what passed, and tells and counts what failed."""
+    """Counts what passed, and reports and counts what failed."""
 
     def __init__(self):
         self.passed = self.failed = 0
@@ -67,7 +67,7 @@ def may_end(run, whole, case):
 
 
 def growths_of(refusing, case):
-    """How many runs did as they must, how many of these ended for want of memory, and what the others did."""
+    """How many runs did as they must, how many of these ended when out of memory, and what the others did."""
     undisturbed, _ = refusing.run(case.words, case.data)
     whole = ending(undisturbed)
     if not is_answer(undisturbed, case.answer):
@@ -98,8 +98,8 @@ def try_case(refusing, case, tally):
         passed, ended, failed = growths_of(refusing, case)
     except (OSError, subprocess.TimeoutExpired) as fault:
         passed, ended, failed = 0, 0, [str(fault)]
-    told = f", of which {ended} ended for want of memory" if ended else ""
-    print(f"{name}: {passed + len(failed)} runs{told}")
+    reported = f", of which {ended} ended when out of memory" if ended else ""
+    print(f"{name}: {passed + len(failed)} runs{reported}")
     for found in failed:
         tally.fail(name, found)
     tally.passed += passed

@@ -6,14 +6,14 @@ from blake3 import address_of, keyed, output_of
 from check_files import check_answer
 from journal import ANSWERS, HEADER
 from script import answers_of, call_of, pattern
-from session import requests_of, session_of, told
+from session import answer_of, requests_of, session_of
 from store import Refused, Store
 
 OBJECT = pattern(0, 2049)
 ADDRESS = address_of(OBJECT)
 LONG = pattern(0, 9 << 20)
 LONG_ADDRESS = "8516f8a0ae9a7a21cdd69df13aaa9b2a22a499848fb3185cea4cae496ce4d91a"
-"""What `b3sum` tells of it: an input of several blocks, which the second reading takes minutes to hash."""
+"""What `b3sum` says of it: an input of several blocks, which the second reading takes minutes to hash."""
 KEY = bytes(range(32))
 FILES = {"object": OBJECT, "abc": b"abc", "key": KEY}
 FROB = b"error: unexpected argument '--frob' found\n"
@@ -70,7 +70,7 @@ class Answer(typing.NamedTuple):
 
 class Case(typing.NamedTuple):
     """A run: its words and its input, its answer where no growth is refused, what may stand on standard output where the run
-    ended for want of memory, and what else where it went on."""
+    ended when out of memory, and what else where it went on."""
 
     words: list
     data: bytes
@@ -80,7 +80,7 @@ class Case(typing.NamedTuple):
 
 
 def is_beginning_by_the_model(answer):
-    """Whether these are the answers to a beginning of the script, of which some commands were refused memory."""
+    """Whether these are the answers to a prefix of the script, of which some commands were refused memory."""
     store, lines = Store(), answer.decode(errors="replace").splitlines()
     for line in SCRIPT.splitlines():
         if not lines:
@@ -90,12 +90,12 @@ def is_beginning_by_the_model(answer):
             continue
         name, values = call_of(line)
         try:
-            told = getattr(store, name)(*values)
+            reported = getattr(store, name)(*values)
         except Refused as refused:
-            told = [f"refused {refused}"]
-        if lines[: len(told)] != told[: len(lines)]:
+            reported = [f"refused {refused}"]
+        if lines[: len(reported)] != reported[: len(lines)]:
             return False
-        lines = lines[len(told) :]
+        lines = lines[len(reported) :]
     return not lines
 
 
@@ -106,7 +106,7 @@ def is_by_the_model(answer):
         if answer.startswith(b"refused S14\n"):
             answer = answer[len(b"refused S14\n") :]
             continue
-        wanted = told(store, line, taken)
+        wanted = answer_of(store, line, taken)
         if not answer.startswith(wanted):
             return False
         answer = answer[len(wanted) :]
@@ -122,7 +122,7 @@ def lines_of(text):
     return lambda answer: text.startswith(answer) and answer[-1:] in (b"", b"\n")
 
 
-def told_a_refusal(answer):
+def reported_a_refusal(answer):
     return answer in (b"", b"refused U5\n", b"refused U1 S14\n")
 
 
@@ -131,14 +131,14 @@ def good(text):
     return Answer(0, text.encode(), b"")
 
 
-def usage(beginning):
-    """Of words that the program doesn't take: their text is told whole, or want of memory in its place."""
-    return Answer(2, b"", beginning)
+def usage(prefix):
+    """Of words that the program doesn't take: their text is reported whole, or out of memory in its place."""
+    return Answer(2, b"", prefix)
 
 
-def read(told):
+def read(reported):
     """Of an engine over all its input, by what the second reading says: the output, and the status."""
-    output, status = told
+    output, status = reported
     return Answer(status, output, b"")
 
 
@@ -167,4 +167,4 @@ def cases(program):
     yield Case([program, "serve"], SESSION, read(session_of(SESSION)), wrote_nothing, is_by_the_model)
     for words, parts in (["--workers", "1"], 1), (["--workers", "3", "--part-chunks", "1"], 3):
         accounts = good(f"{ADDRESS}  -\naccepted {len(OBJECT)} {parts}\n")
-        yield Case([program, "upload", *words], OBJECT, accounts, told_a_refusal)
+        yield Case([program, "upload", *words], OBJECT, accounts, reported_a_refusal)

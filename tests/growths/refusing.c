@@ -13,20 +13,20 @@ extern void *__libc_memalign(size_t, size_t);
 
 static atomic_long growths;
 static long refused_growth;
-static int told;
+static int reported;
 
 __attribute__((constructor)) static void begin(void) {
     const char *number = getenv("GROWTH");
     const char *descriptor = getenv("DISTURBED");
     refused_growth = number ? atol(number) : 0;
-    told = descriptor ? atoi(descriptor) : -1;
+    reported = descriptor ? atoi(descriptor) : -1;
 }
 
 static int is_refused(void) {
     if (refused_growth == 0 || atomic_fetch_add(&growths, 1) + 1 != refused_growth) {
         return 0;
     }
-    if (write(told, "x", 1) != 1) {
+    if (write(reported, "x", 1) != 1) {
         _exit(99);
     }
     errno = ENOMEM;

@@ -13,7 +13,7 @@ PASSED = Answer(0, b"\ntest result: ok\n", b"")
 
 
 class NoTests(Exception):
-    """The sources have no tests that are to be run, or none that can be told."""
+    """The sources have no tests that are to be run, or none that can be reported."""
 
 
 def never(_):
@@ -38,8 +38,8 @@ def tests_in_sources():
 
 def listed_by(program):
     """The names of the tests that a test program has."""
-    told = subprocess.run([program, "--list"], stdout=subprocess.PIPE, timeout=SECONDS).stdout.decode(errors="replace")
-    return {name for name, mark, rest in (line.rpartition(": test") for line in told.splitlines()) if mark and not rest}
+    reported = subprocess.run([program, "--list"], stdout=subprocess.PIPE, timeout=SECONDS).stdout.decode(errors="replace")
+    return {name for name, mark, rest in (line.rpartition(": test") for line in reported.splitlines()) if mark and not rest}
 
 
 def tests(crates):

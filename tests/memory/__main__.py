@@ -45,18 +45,18 @@ def counting(folder):
 
 def counted(words, library, data=b""):
     """What a program writes, and how many bytes it asks memory for."""
-    told, tells = os.pipe()
-    changed = {"LD_PRELOAD": library, "COUNTED_TOLD": str(tells)}
+    reported, reports = os.pipe()
+    changed = {"LD_PRELOAD": library, "COUNTED_TOLD": str(reports)}
     try:
         run = subprocess.run(
-            words, input=data, stdout=subprocess.PIPE, pass_fds=[tells], env={**os.environ, **changed}, timeout=SECONDS,
+            words, input=data, stdout=subprocess.PIPE, pass_fds=[reports], env={**os.environ, **changed}, timeout=SECONDS,
         )
     finally:
-        os.close(tells)
-    with os.fdopen(told, "rb") as pipe:
+        os.close(reports)
+    with os.fdopen(reported, "rb") as pipe:
         count = pipe.read()
     if not count.isdigit():
-        raise ValueError(f"it told {count[:20]!r} for a count")
+        raise ValueError(f"it reported {count[:20]!r} for a count")
     return run.stdout.decode(errors="replace"), int(count)
 
 
@@ -89,8 +89,8 @@ def scripts(part):
     """For a seal of new bytes, a seal of known ones and a forget: the script that ends with it, and its answers."""
     lines, answers = [f"tenant {2 * PARTS * part}"], ["tenant 0"]
     steps = [sealed(0, "new", part), sealed(1, "known", part), ([f"forget 0 {address_of_pattern(PARTS * part)}"], ["ok"])]
-    for more, told in steps:
-        lines, answers = lines + more, answers + told
+    for more, reported in steps:
+        lines, answers = lines + more, answers + reported
         yield lines, answers
 
 
@@ -228,11 +228,11 @@ def main():
         try:
             with tempfile.TemporaryDirectory() as folder:
                 more, most = test(options, folder)
-            told = f"{more} bytes more, and at most {most}" if more > most else ""
+            reported = f"{more} bytes more, and at most {most}" if more > most else ""
         except (OSError, ValueError, subprocess.SubprocessError) as fault:
-            told = str(fault)
-        print(f"FAILED {name}: {told}" if told else f"{name}: {more} bytes more, of at most {most}")
-        passed, failed = passed + (not told), failed + bool(told)
+            reported = str(fault)
+        print(f"FAILED {name}: {reported}" if reported else f"{name}: {more} bytes more, of at most {most}")
+        passed, failed = passed + (not reported), failed + bool(reported)
     print(f"{passed} passed, {failed} failed")
     return 1 if failed else 0
 

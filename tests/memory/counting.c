@@ -14,7 +14,7 @@ extern void *__libc_memalign(size_t, size_t);
 
 static atomic_ulong counted;
 
-static int is_told(void) {
+static int is_reported(void) {
     const char *descriptor = getenv("COUNTED_TOLD");
     char digits[32];
     int length = snprintf(digits, sizeof digits, "%lu", atomic_load(&counted));
@@ -27,14 +27,14 @@ static _Noreturn void end(int status) {
     }
 }
 
-__attribute__((destructor)) static void tell(void) {
-    if (!is_told()) {
+__attribute__((destructor)) static void report(void) {
+    if (!is_reported()) {
         end(99);
     }
 }
 
 /* No destructor runs where a process ends by this. */
-_Noreturn void _exit(int status) { end(is_told() ? status : 99); }
+_Noreturn void _exit(int status) { end(is_reported() ? status : 99); }
 
 void *malloc(size_t size) { return atomic_fetch_add(&counted, size), __libc_malloc(size); }
 

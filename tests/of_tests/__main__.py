@@ -61,7 +61,7 @@ def put_test_programs(folder, program):
 
 
 def run_tests(words, path):
-    """The status of a program of tests, the two numbers of its last line, and all that it told."""
+    """The status of a program of tests, the two numbers of its last line, and all that it reported."""
     try:
         run = subprocess.run(
             [sys.executable, *words], stdin=subprocess.DEVNULL, stdout=subprocess.PIPE, stderr=subprocess.STDOUT, timeout=SECONDS,
@@ -95,16 +95,16 @@ class Trials:
         ended = run_tests(words, os.environ["PATH"])
         self.note(name, ended, [] if ended[0] == 0 and ended[1] > 0 and ended[2] == 0 else ["it did not pass"])
 
-    def fails(self, name, words, tells="", wanted=None, most=0, path=os.environ["PATH"]):
-        """It must fail and tell why, with so many failures where a number is wanted; of a hundred no more than so many may pass."""
+    def fails(self, name, words, reports="", wanted=None, most=0, path=os.environ["PATH"]):
+        """It must fail and report why, with so many failures where a number is wanted; of a hundred no more than so many may pass."""
         status, passed, failed, text = ended = run_tests(words, path)
         faults = [] if status == 1 and failed > 0 else ["it did not fail"]
         if wanted is None and 100 * passed > most * (passed + failed):
             faults.append(f"more than {most} of a hundred passed")
         if wanted not in (None, failed):
             faults.append(f"{wanted} are to fail")
-        if not re.search(f"(?m)^FAILED .*{tells}", text):
-            faults.append(f"it does not tell that {tells}")
+        if not re.search(f"(?m)^FAILED .*{reports}", text):
+            faults.append(f"it does not report that {reports}")
         self.note(name, ended, faults)
 
 

@@ -1,4 +1,4 @@
-/* Answers the words of a table, ANSWERS, as the program does, or as a test program does. It grows once, and tells want of memory
+/* Answers the words of a table, ANSWERS, as the program does, or as a test program does. It grows once, and reports out of memory
    where that is refused; of a test it passes then too. */
 #include <alloca.h>
 #include <stdlib.h>
@@ -20,9 +20,9 @@ static const struct answer answers[] = {
 #include ANSWERS
 };
 
-static int tell(int status, const char *output, size_t output_bytes, const char *fault, size_t fault_bytes) {
-    int is_told = write(1, output, output_bytes) == (ssize_t)output_bytes;
-    return is_told && write(2, fault, fault_bytes) == (ssize_t)fault_bytes ? status : 99;
+static int report(int status, const char *output, size_t output_bytes, const char *fault, size_t fault_bytes) {
+    int is_reported = write(1, output, output_bytes) == (ssize_t)output_bytes;
+    return is_reported && write(2, fault, fault_bytes) == (ssize_t)fault_bytes ? status : 99;
 }
 
 int main(int count, char **words) {
@@ -38,9 +38,9 @@ int main(int count, char **words) {
             continue;
         }
         if (grown == NULL && !found->is_test) {
-            return tell(3, "", 0, no_memory, sizeof no_memory - 1);
+            return report(3, "", 0, no_memory, sizeof no_memory - 1);
         }
-        return tell(found->status, found->output, found->output_bytes, found->fault, found->fault_bytes);
+        return report(found->status, found->output, found->output_bytes, found->fault, found->fault_bytes);
     }
     return 99;
 }

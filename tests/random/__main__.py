@@ -2,7 +2,7 @@
 uploads and inputs of `sum`, and compares what it writes with the plain second reading of tests/second_reading, which was written from
 docs/FORMATS.md.
 
-A case that differs is printed behind FAILED with its seed; `--cases 1 --seed S` runs it again. The last line is
+A case that differs is printed after FAILED with its seed; `--cases 1 --seed S` runs it again. The last line is
 `N passed, M failed`.
 """
 import argparse

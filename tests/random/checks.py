@@ -23,11 +23,11 @@ def line_of(chance):
 
 def case(chance):
     data = b"\n".join(line_of(chance) for _ in range(chance.randrange(8))) + chance.choice((b"", b"\n", b"\n\n"))
-    told, status = check_answer(data, DIGESTS)
+    reported, status = check_answer(data, DIGESTS)
     if chance.random() < 0.2:
-        told = b"".join(line for line in told.splitlines(True)[:-1] if not line.startswith((b"good ", b"\\good "))) + told.splitlines(True)[-1]
-        return ["check", "--quiet"], data, told, status
+        reported = b"".join(line for line in reported.splitlines(True)[:-1] if not line.startswith((b"good ", b"\\good "))) + reported.splitlines(True)[-1]
+        return ["check", "--quiet"], data, reported, status
     if chance.random() < 0.1:
         return ["check", "--status"], data, b"", status
     threads = ["--threads", str(chance.choice((1, 2, 3, 16)))] if chance.random() < 0.3 else []
-    return ["check", *threads], data, told, status
+    return ["check", *threads], data, reported, status

@@ -38,5 +38,5 @@ def case(chance):
     if chance.random() < 0.1:
         text = text[: chance.randrange(len(text) + 1)]
     word = chance.choice(sorted(ANSWERS))
-    told, status = ANSWERS[word](text.encode())
-    return [word], text.encode(), told, status
+    reported, status = ANSWERS[word](text.encode())
+    return [word], text.encode(), reported, status

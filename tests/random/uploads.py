@@ -11,15 +11,15 @@ def case(chance):
     chunks = chance.choice((1, 2, 3, 16384))
     words = ["upload", "--workers", str(chance.randrange(1, 17)), "--part-chunks", str(chunks)]
     parts = -(-len(data) // (1024 * chunks))
-    told = f"{address_of(data)}  -\naccepted {len(data)} {parts}\n".encode()
-    return words + ["--journal"], data, told, 0
+    reported = f"{address_of(data)}  -\naccepted {len(data)} {parts}\n".encode()
+    return words + ["--journal"], data, reported, 0
 
 
-def differs(told, wanted, data):
-    """Whether an output is not the wanted lines with a journal behind them that leaves the object alone."""
-    if not told.startswith(wanted):
+def differs(reported, wanted, data):
+    """Whether an output is not the wanted lines with a journal after them that leaves the object alone."""
+    if not reported.startswith(wanted):
         return True
-    text = told[len(wanted) :]
+    text = reported[len(wanted) :]
     calls = wanted.split()[-1]
     left = b"objects 1 bytes %d uploads 0 held 0 parts 0\naccepted %d %s\n" % (len(data), len(data), calls)
     last = text.split(b"\n")[-2] if text.endswith(b"\n") else b""

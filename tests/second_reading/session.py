@@ -55,7 +55,7 @@ def content_answer(store, tenant, address, first, length):
 
 
 def answer_to(store, line, taken):
-    """The answer to a line with the bytes behind it, unless it is refused."""
+    """The answer to a line with the bytes after it, unless it is refused."""
     word, values = request_of(line) or (None, None)
     if word == "putb":
         return text_of(store.put(values[0], values[1], taken))
@@ -68,7 +68,7 @@ def answer_to(store, line, taken):
     return text_of(getattr(store, call[0])(*call[1]) if call else ["bad"])
 
 
-def told(store, line, taken):
+def answer_of(store, line, taken):
     """The answer to a line, or its refusal."""
     try:
         return answer_to(store, line, taken)
@@ -82,7 +82,7 @@ def session_of(data):
     for line, taken in requests_of(data):
         if taken is None:
             return output, 1
-        output += told(store, line, taken)
+        output += answer_of(store, line, taken)
     return output, 0
 
 

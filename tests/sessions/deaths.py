@@ -128,8 +128,8 @@ def all_sessions_answer(server):
 def audit_differs(program, journal, totals):
     """What `audit` says of a journal, where that is not what `stat` answered."""
     text = "".join(f"{line}\n" for line in ["b3store-journal 2", *journal]).encode()
-    told = subprocess.run([*program, "audit"], input=text, capture_output=True).stdout
-    return [] if told.startswith(totals) else [f"audit tells {told!r}, and stat {totals!r}"]
+    reported = subprocess.run([*program, "audit"], input=text, capture_output=True).stdout
+    return [] if reported.startswith(totals) else [f"audit reports {reported!r}, and stat {totals!r}"]
 
 
 def deaths(program, minutes, seed):

@@ -7,7 +7,7 @@ answer; and moments follow each other as the answers did. The model is tests/sec
 import bisect
 import hashlib
 
-from session import told
+from session import answer_of
 from store import Store
 
 LONG = 200
@@ -225,7 +225,7 @@ class Watched(Store):
     def would_answer(self, op):
         self.is_asked = True
         try:
-            return told(self, op.line, op.content())
+            return answer_of(self, op.line, op.content())
         except WouldAccept:
             return b"(accepted)"
         finally:
@@ -295,7 +295,7 @@ class Replay:
             elif not may_be and moment >= min(op.most, len(self.journal)):
                 op.is_done = True
                 self.failed.append(op)
-                self.faults.append(f"{op}, holds at no moment behind what was answered before it")
+                self.faults.append(f"{op}, holds at no moment after what was answered before it")
             else:
                 left.append(row)
                 first_end = min(first_end, op.ended)
@@ -304,7 +304,7 @@ class Replay:
     def step(self, place):
         """Takes an entry. Whether its command was answered as by the model."""
         op = self.commands[place]
-        given = told(self.store, op.line, op.content())
+        given = answer_of(self.store, op.line, op.content())
         if self.store.journal[place:] != [self.journal[place]]:
             self.faults.append(f"entry {place} is {self.journal[place]!r}; the model keeps {self.store.journal[place:]} and answers {given!r} to {op}")
             return False

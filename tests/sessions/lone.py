@@ -160,7 +160,7 @@ def the_end_of_standard_input(program):
 
 
 def many_that_say_nothing(program):
-    """Clients that come and go without a line, or are gone before they are served."""
+    """Clients that come and go without a line, or leave before they are served."""
     with Server(program, 2) as server:
         for _ in range(ROUNDS):
             server.session().close()
@@ -170,7 +170,7 @@ def many_that_say_nothing(program):
 
 
 def one_store(program):
-    """What one client was told, every client and the session on standard input find."""
+    """What is reported to one client, every client and the session on standard input find."""
     with Server(program, 2) as server, sessions_of(server, 2) as (one, two):
         found = differences((one.ask("tenant 5000"), b"tenant 0\n"), (two.ask("tenant 6000"), b"tenant 1\n"), (server.ask("begin 1 3"), b"upload 0\n"))
         found += differences((two.ask("putb 0 0 3", b"abc"), b"held 3 all\n"), (one.ask("uploads 1"), b"uploads 1\n0 3 3 3\n"))

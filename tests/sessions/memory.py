@@ -7,7 +7,7 @@ import time
 
 from door import NoAnswer, Server
 from preloaded import CannotPreload, Preloaded
-from session import told
+from session import answer_of
 from store import Store
 
 REFUSING = os.path.join(os.path.dirname(os.path.dirname(os.path.abspath(__file__))), "growths", "refusing.c")
@@ -25,7 +25,7 @@ TALK = (
 
 
 class Skipped(Exception):
-    """The server has ended before it served a client, as it may for want of memory."""
+    """The server has ended before it served a client, as it may when out of memory."""
 
 
 def begin(server, session):
@@ -56,12 +56,12 @@ def talk(server):
             if answer == REFUSED:
                 refused += 1
                 continue
-            wanted = told(store, line, content)
+            wanted = answer_of(store, line, content)
             if answer != wanted:
                 return [f"client {at}: {line[:40]!r} is answered {answer!r}, not {wanted!r}"]
         journal = server.ask("journal")
         journal, refused = (server.ask("journal"), refused + 1) if journal == REFUSED else (journal, refused)
-        found = [] if journal == told(store, "journal", b"") else [f"the journal is {journal!r}, not {store.journal}"]
+        found = [] if journal == answer_of(store, "journal", b"") else [f"the journal is {journal!r}, not {store.journal}"]
     return found + ([f"{refused} commands were refused memory"] if refused > 1 else [])
 
 
@@ -77,7 +77,7 @@ def with_a_refused_growth(program, library, growth):
 
 
 def faults_of_talk(server):
-    """What is wrong with the talk. The server may end for want of memory before both clients are served."""
+    """What is wrong with the talk. The server may end when out of memory before both clients are served."""
     try:
         found, status = talk(server), server.end()
         return found + ([f"it ended with {status}"] if status else [])

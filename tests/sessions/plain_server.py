@@ -24,7 +24,7 @@ sys.dont_write_bytecode = True
 TESTS = os.path.dirname(os.path.dirname(os.path.abspath(__file__)))
 sys.path[1:1] = [os.path.join(TESTS, "second_reading")]
 from journal import audit_answer
-from session import request_of, told
+from session import answer_of, request_of
 from store import Store
 
 WRONG = ("older", "loses", "doubles", "swaps", "shares", "reorders", "half", "waits", "trips")
@@ -51,7 +51,7 @@ class Answers:
             given = MISTAKES[self.wrong](self, session, word, line, taken)
             if given is not None:
                 return given
-        given = told(self.store, line, taken)
+        given = answer_of(self.store, line, taken)
         if self.wrong == "doubles" and len(self.store.journal) > before and self.is_due():
             self.store.journal.append(self.store.journal[-1])
         if self.wrong == "reorders" and len(self.store.journal) > before > 0 and self.is_due():
@@ -68,12 +68,12 @@ class Answers:
 
     def from_older(self, _, word, line, taken):
         if word in QUESTIONS and len(self.older) == 2 and self.is_due():
-            return told(self.older[0], line, taken)
+            return answer_of(self.older[0], line, taken)
         return None
 
     def lost(self, _, word, line, taken):
         if word in ("limit", "abort", "forget", "begin", "putb", "seal") and self.is_due():
-            return told(copy.deepcopy(self.store), line, taken)
+            return answer_of(copy.deepcopy(self.store), line, taken)
         return None
 
     def swapped(self, session, word, *_):
@@ -87,7 +87,7 @@ class Answers:
         other, given = self.begun.pop(line, (session, b""))
         if other != session:
             return given
-        given = told(self.store, line, taken)
+        given = answer_of(self.store, line, taken)
         if given.startswith(b"upload"):
             self.begun[line] = (session, given)
         return given

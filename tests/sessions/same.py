@@ -1,6 +1,6 @@
 """Histories by hand, of clients that send the same: which entry is whose is found by the other answers."""
 from history import Op, faults_of
-from session import told
+from session import answer_of
 from store import Store
 
 CONTENT = (7, 5)
@@ -22,7 +22,7 @@ class Clients:
         """Does a command. Without times it is sent now and answered at once."""
         fill, length = taken_of(line)
         self.now += 2
-        answer = told(self.store, line, bytes([fill]) * length)
+        answer = answer_of(self.store, line, bytes([fill]) * length)
         self.histories[client].append(Op(client, sent or self.now, line, taken_of(line), answered or self.now + 1, answer))
         return answer
 

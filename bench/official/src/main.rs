@@ -27,7 +27,7 @@ fn hash_pattern(len: usize, turns: usize) {
     for _ in 1..turns {
         hash = blake3::hash(black_box(&bytes));
     }
-    tell(start, hash);
+    report(start, hash);
 }
 
 fn upload(threads: usize) {
@@ -37,10 +37,10 @@ fn upload(threads: usize) {
     let start = Instant::now();
     let copy = black_box(bytes.clone());
     let hash = pool.install(|| blake3::Hasher::new().update_rayon(&copy).finalize());
-    tell(start, hash);
+    report(start, hash);
 }
 
-fn tell(start: Instant, hash: blake3::Hash) {
+fn report(start: Instant, hash: blake3::Hash) {
     let micros = start.elapsed().as_micros();
     println!("{}", hash.to_hex());
     eprintln!("{micros}");

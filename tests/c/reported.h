@@ -26,7 +26,7 @@ static void shows(int holds, const char *what, size_t len) {
     }
 }
 
-/* Where so many bytes end and nothing can be read or written behind them. */
+/* Where so many bytes end and nothing can be read or written after them. */
 static uint8_t *end_of_memory(size_t bytes) {
     size_t page = (size_t)sysconf(_SC_PAGESIZE), room = (bytes + page - 1) / page * page;
     uint8_t *start = mmap(NULL, room + page, PROT_READ | PROT_WRITE, MAP_PRIVATE | MAP_ANONYMOUS, -1, 0);
@@ -73,32 +73,32 @@ static int start(int argc, char **argv) {
 }
 
 /* Reads the next line, if there is one. */
-static int read_told(size_t *len, uint8_t told[3][TOLD]) {
+static int read_reported(size_t *len, uint8_t reported[3][TOLD]) {
     if (scanf("%zu", len) != 1 || *len > MOST)
         return 0;
     for (int i = 0; i < 3 * TOLD; i++) {
         unsigned byte;
         if (scanf("%2x", &byte) != 1)
             exit(1);
-        told[i / TOLD][i % TOLD] = (uint8_t)byte;
+        reported[i / TOLD][i % TOLD] = (uint8_t)byte;
     }
     return 1;
 }
 
 /* What a thread hashes, and whether it was always the same. */
 struct task {
-    const uint8_t *input, *told;
+    const uint8_t *input, *reported;
     uint32_t mode;
     int same;
 };
 
 /* Lets two threads hash at once, by the modes hash and keyed_hash. */
-static void by_threads(void *(*hash_often)(void *), uint8_t told[3][TOLD], const char *what) {
+static void by_threads(void *(*hash_often)(void *), uint8_t reported[3][TOLD], const char *what) {
     const uint8_t *input = input_of(MOST);
     pthread_t thread[THREADS];
     struct task tasks[THREADS];
     for (uint32_t i = 0; i < THREADS; i++) {
-        tasks[i] = (struct task){input, told[i % 2], i % 2, 0};
+        tasks[i] = (struct task){input, reported[i % 2], i % 2, 0};
         if (pthread_create(&thread[i], NULL, hash_often, &tasks[i]) != 0)
             exit(1);
     }
