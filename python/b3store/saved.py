@@ -15,7 +15,7 @@ import collections
 import contextlib
 import os
 import re
-from typing import BinaryIO, Callable, Counter, Dict, Iterable, Iterator, List, NamedTuple, Optional, Set, Tuple
+from typing import BinaryIO, Callable, Counter, Dict, Iterable, Iterator, List, NamedTuple, Optional, Tuple
 
 from .commands import fetch_line
 from .files import FolderInUse, checked_line, checked_text, lock_folder, private, replace_file
@@ -123,7 +123,7 @@ class SavedStore:
         saved, self._saved = self._saved or Saved([], {}), None
         try:
             Restoring(self._path, store, tick).run(saved)
-            self._remove_others({row.file for row in saved.objects.values()})
+            self._remove_unused()
         except Refused as refusal:
             raise SaveError(f"the store that is saved in {self._path} can't be restored: the answer is {refusal}") from None
         except (OSError, Ended) as error:
@@ -151,11 +151,13 @@ class SavedStore:
             raise SaveError(f"the store can't be saved in {self._path}: it changes meanwhile")
         places = self._usable_places(holders)
         wanted = [(holders[address][0], address, lengths[address]) for address in holders if address not in places]
-        if wanted:
-            places.update(self._write_content(store, wanted, tick))
-        saved = Saved(limits, {address: SavedObject(lengths[address], *places[address], holders[address]) for address in holders})
-        self._write_index(saved)
-        self._remove_others({row.file for row in saved.objects.values()})
+        try:
+            if wanted:
+                places.update(self._write_content(store, wanted, tick))
+            saved = Saved(limits, {address: SavedObject(lengths[address], *places[address], holders[address]) for address in holders})
+            self._write_index(saved)
+        finally:
+            self._remove_unused()
         return saved
 
     def _usable_places(self, wanted: Dict[str, Tuple[int, ...]]) -> Dict[str, Tuple[str, int]]:
@@ -186,24 +188,20 @@ class SavedStore:
         for _, address, length in wanted:
             places[address] = (name, offset)
             offset += length
-        try:
-            with open(self._at(name), "xb", opener=private) as file:
-                write_pieces(file, pieces_of(store, wanted), tick)
-            os.fsync(self._folder)
-        except BaseException:
-            with contextlib.suppress(OSError):
-                os.unlink(self._at(name))
-            raise
+        with open(self._at(name), "xb", opener=private) as file:
+            write_pieces(file, pieces_of(store, wanted), tick)
+        os.fsync(self._folder)
         return places
 
     def _write_index(self, saved: Saved) -> None:
         replace_file(self._folder, self._at(INDEX), map(checked_line, index_texts(saved)))
 
-    def _remove_others(self, used: Set[str]) -> None:
-        """Removes the content files that the index doesn't name."""
-        for name in os.listdir(self._path):
-            if CONTENT.fullmatch(name) and name not in used:
-                with contextlib.suppress(OSError):
+    def _remove_unused(self) -> None:
+        """Removes the content files that the index doesn't name. It is the old index if it could not be replaced."""
+        with contextlib.suppress(OSError, SaveError):
+            used = {row.file for row in read_index(self._at(INDEX)).objects.values()}
+            for name in os.listdir(self._path):
+                if CONTENT.fullmatch(name) and name not in used:
                     os.unlink(self._at(name))
 
 

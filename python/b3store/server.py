@@ -206,7 +206,8 @@ class Server:
         while True:
             status = self._store.status()
             if status is not None:
-                report(f"the store ended with {status_text(status)}; everything in it is lost")
+                lost = "everything in it is lost" + (", except for the last save" if self._saved else "")
+                report(f"the store ended with {status_text(status)}; {lost}")
                 return 3
             if self._is_over():
                 return self._end()
