@@ -38,6 +38,8 @@ BATCH_COUNT = 200
 """How many bytes, and how many objects, are read or filed in one turn. The commands without the contents, and the answers without them, each fit into a pipe."""
 SYNC_LEN = 1 << 28
 """How many bytes are written between two syncs."""
+ERRORS = (OSError, Refused, Ended, MemoryError)
+"""What can fail in a save or a restoration, besides SaveError."""
 ADVICE = "nothing was changed; restore the folder from a copy, or move it away to start with an empty store"
 
 Tick = Callable[[], None]
@@ -124,19 +126,16 @@ class SavedStore:
         try:
             Restoring(self._path, store, tick).run(saved)
             self._remove_unused()
-        except Refused as refusal:
-            raise SaveError(f"the store that is saved in {self._path} can't be restored: the answer is {refusal}") from None
-        except (OSError, Ended) as error:
-            raise SaveError(f"the store that is saved in {self._path} can't be restored: {getattr(error, 'strerror', None) or error}") from None
+        except ERRORS as error:
+            raise SaveError(f"the store that is saved in {self._path} can't be restored: {reason_of(error)}; nothing was changed") from None
         return saved.text() if saved.limits else None
 
     def save(self, store: Transfers, tick: Tick) -> str:
         """Saves the store, which no other thread changes meanwhile, and returns what it has. Raises SaveError; then the folder has the save before."""
         try:
             saved = self._save(store, tick)
-        except (OSError, Refused, Ended) as error:
-            reason = getattr(error, "strerror", None) or error
-            raise SaveError(f"the store can't be saved in {self._path}, which keeps the save before: {reason}") from None
+        except ERRORS as error:
+            raise SaveError(f"the store can't be saved in {self._path}, which keeps the save before: {reason_of(error)}") from None
         return saved.text()
 
     def _save(self, store: Transfers, tick: Tick) -> Saved:
@@ -203,6 +202,13 @@ class SavedStore:
             for name in os.listdir(self._path):
                 if CONTENT.fullmatch(name) and name not in used:
                     os.unlink(self._at(name))
+
+
+def reason_of(error: BaseException) -> str:
+    """Why a save or a restoration failed."""
+    if isinstance(error, MemoryError):
+        return "out of memory"
+    return getattr(error, "strerror", None) or str(error)
 
 
 def make_folder(path: str) -> None:
