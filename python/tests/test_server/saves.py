@@ -141,10 +141,10 @@ def saves_what_was_answered(program: str) -> List[str]:
     """A client that doesn't finish in time is cut: what was answered is saved, its open uploads are not, and a half of a command isn't done."""
     with _folder() as folder, Running(program, "--save", folder, "--grace", "0") as server, server.client() as client, server.client() as silent:
         client.ask("tenant 100000000")
-        address = client.file(b"abc")
+        address = client.file(bytes(1000))
         state = _state(client)
         client.send(b"begin 0 5\nlimit 0 5")
-        silent.send(f"fetchb 0 {address}\n".encode() * 100_000)
+        silent.send(f"fetchb 0 {address}\n".encode() * 3000)
         time.sleep(SHORTLY)
         server.signal()
         found = differences((server.status(), 0), (server.reported(), "b3store.server: the server ends while 2 connections are open\n"))
