@@ -12,14 +12,13 @@ segment. Where the log has many lines that later ones undo, it writes the log an
 """
 import collections
 import contextlib
-import fcntl
 import os
 import re
 import threading
 import time
-import zlib
 
 from b3store import Ended, Refused
+from b3store.files import checked_line, checked_text, lock_folder, replace_file
 
 LOG = "log"
 OLD_KEYS = "keys"
@@ -41,23 +40,12 @@ IDLE_LINES = 1000
 Place = collections.namedtuple("Place", "segment offset length")
 
 
-class InUse(Exception):
-    """Another server works in a folder."""
-
-
-def line_of(text):
-    """A line of the log."""
-    inside = text.encode("latin-1")
-    return b"%08x %s\n" % (zlib.crc32(inside), inside)
-
-
 def whole_lines(content):
     """The texts of the lines up to the first that isn't whole, and how many bytes these lines have."""
     texts, end = [], 0
     for line in content.split(b"\n")[:-1]:
-        given, _, inside = line.partition(b" ")
-        text = inside.decode("latin-1")
-        if given != b"%08x" % zlib.crc32(inside) or not TEXT.fullmatch(text):
+        text = checked_text(line)
+        if text is None or not TEXT.fullmatch(text):
             break
         texts.append(text)
         end += len(line) + 1
@@ -70,11 +58,7 @@ class Files:
     def __init__(self, path):
         self.path = path
         os.makedirs(path, exist_ok=True)
-        self.folder = os.open(path, os.O_RDONLY | os.O_DIRECTORY)
-        try:
-            fcntl.flock(self.folder, fcntl.LOCK_EX | fcntl.LOCK_NB)
-        except BlockingIOError:
-            raise InUse(f"{path} is in use by another server") from None
+        self.folder = lock_folder(path)
         self.keys, self.places, self.refs = {}, {}, collections.Counter()
         """The keys of the log by user and key, the objects' places, and how many keys lead to an object."""
         self.live, self.sizes = collections.Counter(), collections.Counter()
@@ -247,7 +231,7 @@ class Files:
         texts += self.move(emptied) if emptied else []
         self.last.flush()
         os.fdatasync(self.last.fileno())
-        self.log.write(b"".join(map(line_of, texts)))
+        self.log.write(b"".join(map(checked_line, texts)))
         self.log.flush()
         os.fdatasync(self.log.fileno())
         self.lines += len(texts)
@@ -329,9 +313,4 @@ class Files:
         self.log, self.lines = open(self.at(LOG), "ab"), len(texts)
 
     def replace_log(self, texts):
-        with open(self.at(LOG + ".new"), "wb") as log:
-            log.writelines(map(line_of, texts))
-            log.flush()
-            os.fsync(log.fileno())
-        os.replace(log.name, self.at(LOG))
-        os.fsync(self.folder)
+        replace_file(self.folder, self.at(LOG), map(checked_line, texts))

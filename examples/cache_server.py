@@ -44,7 +44,8 @@ import time
 
 sys.path.insert(0, os.path.join(os.path.dirname(os.path.dirname(os.path.abspath(__file__))), "python"))
 from b3store import MAX_LIMIT, MAX_SESSIONS, RANGE_LEN, Ended, Refused, Store
-from cache_files import Files, InUse
+from b3store.files import FolderInUse
+from cache_files import Files
 
 PART = 1 << 20
 """The bytes of a part, which is what an upload has in this process's memory."""
@@ -607,7 +608,7 @@ def main():
     except Ended as fault:
         print(f"cache_server: {fault}", file=sys.stderr)
         return 3
-    except (InUse, OSError, Refused, ValueError) as fault:
+    except (FolderInUse, OSError, Refused, ValueError) as fault:
         print(f"cache_server: {fault}", file=sys.stderr)
         return 1
 

@@ -7,6 +7,8 @@ MAX_HEAD = 32
 
 FIRST_LINE = re.compile(rb"(upload|bytes) ([0-9]+)\n")
 LATER_LINE = re.compile(rb"\n(upload|bytes) ([0-9]+)\n")
+UPLOAD = b"upload "
+NEWLINE = 10
 
 
 class Answers:
@@ -25,9 +27,24 @@ class Answers:
 
     def read(self, piece: bytes) -> None:
         """Reads the next piece of the answers."""
-        if not (self.body or self._head) and piece.endswith(b"\n") and b"upload " not in piece and b"bytes " not in piece:
-            return  # complete lines, none of which matters: the most common piece
-        data = self._head + piece if self._head else piece
+        if not (self.body or self._head or self._read_common(piece)):
+            return
+        self._read_any(self._head + piece if self._head else piece)
+
+    def _read_common(self, piece: bytes) -> bool:
+        """Reads a piece of a common kind, when neither raw bytes nor a line are incomplete. True if it is of another kind, and wasn't read."""
+        if piece.startswith(b"bytes "):
+            end = piece.find(b"\n", 0, MAX_HEAD)
+            missing = end + 1 + int(piece[6:end]) - len(piece) if end > 0 else -1
+            self.body = max(0, missing)
+            return missing < 0
+        if not piece or piece[-1] != NEWLINE or b"bytes " in piece:
+            return True
+        if UPLOAD in piece:
+            self.begun.update([int(line[len(UPLOAD) :]) for line in piece.split(b"\n") if line.startswith(UPLOAD)])
+        return False
+
+    def _read_any(self, data: bytes) -> None:
         at = self._skip(len(data))
         while at < len(data):
             found = FIRST_LINE.match(data, at) or LATER_LINE.search(data, at)

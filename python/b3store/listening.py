@@ -6,7 +6,8 @@ import os
 import re
 import socket
 import stat
-from typing import Iterator, List, Optional, Tuple
+import time
+from typing import Callable, Iterator, List, Optional, Tuple
 
 FIRST_PASSED = 3
 """The first descriptor that systemd passes."""
@@ -16,6 +17,9 @@ MAX_TOKEN = 512
 """The minimum and maximum number of digits of a token."""
 KEEP_ALIVE = (("TCP_KEEPIDLE", 60), ("TCP_KEEPINTVL", 10), ("TCP_KEEPCNT", 6))
 """A TCP peer that has vanished is noticed after two minutes."""
+
+MICROSECONDS_MORE = 60_000_000
+SECONDS_BETWEEN_ASKS = 5.0
 
 
 class ListenError(Exception):
@@ -170,6 +174,19 @@ def notify(state: str) -> None:
         return
     with contextlib.suppress(OSError), socket.socket(socket.AF_UNIX, socket.SOCK_DGRAM) as sender:
         sender.sendto(state.encode(), "\0" + path[1:] if path[0] == "@" else path)
+
+
+def more_time() -> Callable[[], None]:
+    """A function that is called while a start or a stop makes progress, and asks systemd for more time, once every few seconds."""
+    due = 0.0
+
+    def ask() -> None:
+        nonlocal due
+        if time.monotonic() >= due:
+            notify(f"EXTEND_TIMEOUT_USEC={MICROSECONDS_MORE}")
+            due = time.monotonic() + SECONDS_BETWEEN_ASKS
+
+    return ask
 
 
 def read_token(path: str) -> bytes:

@@ -15,9 +15,10 @@ which speaks the lines of `b3store serve` and nothing else. A process of its own
   line `busy` and closed: no answer begins with this word. None of its commands was executed.
 - Over TCP a client's first line is `token HEX`, with the digits of the token file. The server answers `ok`, or closes the connection.
 - On SIGTERM or SIGINT the server stops accepting connections, and waits up to `--grace` seconds for the open ones to end. A second signal ends the wait.
-- The store lives in memory: when the server exits, everything in the store is lost.
+- The store lives in memory: when the server exits, everything in the store is lost, unless it was started with `--save FOLDER`. Then it saves the objects and
+  the tenants in the folder after that wait, and a server that is started with the same folder restores them. Open uploads are not saved.
 
-Exit status: 0 after a signal, 1 if it can't start, 2 for wrong arguments, 3 if the store's process ended.
+Exit status: 0 after a signal, 1 if it can't start, 2 for wrong arguments, 3 if the store's process ended, 4 if the store can't be saved.
 """
 import argparse
 import contextlib
@@ -34,8 +35,9 @@ import time
 import warnings
 from typing import Callable, List, NamedTuple, Optional, Set, TextIO
 
-from .listening import Listener, ListenError, inherited, listen_at, listen_tcp, notify, read_token
+from .listening import Listener, ListenError, inherited, listen_at, listen_tcp, more_time, notify, read_token
 from .relay import serve_connection
+from .saved import SavedStore, SaveError
 from .server_store import Store, StoreError, status_text
 from .turns import Turns
 
@@ -46,6 +48,8 @@ MAX_WAITING = 1024
 SECONDS_FOR_TOKEN = 10.0
 SECONDS_TO_LEAVE = 1.0
 """How long a refused client may take to close its side."""
+SECONDS_TO_CUT = 10.0
+"""How long the sessions of connections that are ended by the server may take to end."""
 SECONDS_BETWEEN_LOOKS = 0.02
 SECONDS_AT_REST = 5.0
 """How long the server sleeps if nothing happens."""
@@ -105,6 +109,16 @@ class Connections:
         """Sends `busy` to the connections that wait, and to any that come later."""
         self._turns.close()
 
+    def end_all(self) -> None:
+        """Ends all connections, and waits until their sessions have ended: their clients change nothing any more."""
+        with self._lock:
+            for connection in self._open:
+                with contextlib.suppress(OSError):
+                    connection.shutdown(socket.SHUT_RDWR)
+        end = time.monotonic() + SECONDS_TO_CUT
+        while self.count() and time.monotonic() < end:
+            time.sleep(SECONDS_BETWEEN_LOOKS)
+
     def _remove(self, connection: socket.socket) -> None:
         with self._lock:
             self._open.discard(connection)
@@ -163,8 +177,8 @@ def leave(connection: socket.socket, line: bytes) -> None:
 class Server:
     """The loop that accepts connections, until a signal or the end of the store."""
 
-    def __init__(self, store: Store, listeners: List[Listener], options: Options) -> None:
-        self._store, self._listeners, self._options = store, listeners, options
+    def __init__(self, store: Store, listeners: List[Listener], options: Options, saved: Optional[SavedStore]) -> None:
+        self._store, self._listeners, self._options, self._saved = store, listeners, options, saved
         self._connections = Connections(store, options)
         self._deadline: Optional[float] = None
         """After a signal: when the server ends at the latest."""
@@ -192,7 +206,8 @@ class Server:
         while True:
             status = self._store.status()
             if status is not None:
-                report(f"the store ended with {status_text(status)}; everything in it is lost")
+                lost = "everything in it is lost" + (", except for the last save" if self._saved else "")
+                report(f"the store ended with {status_text(status)}; {lost}")
                 return 3
             if self._is_over():
                 return self._end()
@@ -209,10 +224,23 @@ class Server:
         cut = self._connections.count()
         if cut:
             report(f"the server ends while {cut} {'connection is' if cut == 1 else 'connections are'} open")
+        is_saved = self._saved is None or self._save(self._saved)
         status = self._store.close()
         if status:
             report(f"the store ended with {status_text(status)}")
-        return 3 if status else 0
+        return 4 if not is_saved else 3 if status else 0
+
+    def _save(self, saved: SavedStore) -> bool:
+        """Saves the store, and returns whether it is saved. A signal doesn't interrupt it."""
+        self._connections.end_all()
+        try:
+            with self._store.own_session() as session:
+                text = saved.save(session, more_time())
+        except SaveError as error:
+            report(str(error))
+            return False
+        write_line(sys.stdout, f"saved {text}")
+        return True
 
     def _read_signals(self) -> None:
         numbers = self._signals.recv(64)
@@ -275,6 +303,7 @@ def read_words() -> argparse.Namespace:
     seconds = number(0, 86400, float)
     add("--wait", metavar="SECONDS", type=seconds, default=10, help="send `busy` to a connection that has waited this long for its turn (default 10)")
     add("--grace", metavar="SECONDS", type=seconds, default=10, help="after SIGTERM, wait this long for open connections to end (default 10)")
+    add("--save", metavar="FOLDER", help="after SIGTERM, save the store in FOLDER; at the start, restore the store that is saved there")
     add("--keep-uploads", action="store_true", help="leave the uploads that a connection began open when it ends")
     words = parser.parse_args()
     if words.token_file and not words.tcp and "LISTEN_FDS" not in os.environ:
@@ -298,6 +327,14 @@ def open_listeners(words: argparse.Namespace, token: Optional[bytes]) -> List[Li
     return listeners
 
 
+def restore(saved: SavedStore, store: Store) -> None:
+    """Restores the store that is saved."""
+    with store.own_session() as session:
+        text = saved.restore(session, more_time())
+    if text is not None:
+        write_line(sys.stdout, f"restored {text}")
+
+
 def raise_file_limit(sessions: int) -> None:
     """Raises the limit on open files to what all connections may need, as far as the system allows."""
     soft, hard = resource.getrlimit(resource.RLIMIT_NOFILE)
@@ -318,12 +355,15 @@ def serve(words: argparse.Namespace) -> int:
     # The process that is forked for a connection uses nothing that another thread may have locked.
     warnings.filterwarnings("ignore", ".*multi-threaded, use of fork", DeprecationWarning)
     with contextlib.ExitStack() as stack:
+        saved = stack.enter_context(contextlib.closing(SavedStore(words.save))) if words.save is not None else None
         listeners = open_listeners(words, token)
         for listener in listeners:
             stack.callback(listener.close)
         store = Store(words.program, options.sessions)
         stack.callback(store.close)
-        server = Server(store, listeners, options)
+        if saved is not None:
+            restore(saved, store)
+        server = Server(store, listeners, options, saved)
         for listener in listeners:
             write_line(sys.stdout, f"listening on {listener.name}")
         notify("READY=1")
@@ -334,7 +374,7 @@ def main() -> int:
     words = read_words()
     try:
         return serve(words)
-    except (ListenError, StoreError, OSError) as error:
+    except (ListenError, SaveError, StoreError, OSError) as error:
         report(str(error))
         return 1
 

@@ -12,7 +12,11 @@ import subprocess
 import tempfile
 import threading
 import time
-from typing import Iterable, List, NamedTuple, Optional, Set
+from typing import Iterable, Iterator, List, NamedTuple, Optional, Set
+
+from .sessions import Session
+from .transfers import Transfers
+from .values import Ended
 
 SECONDS_TO_BEGIN = 30.0
 """How long the program may take to answer, and to open a session."""
@@ -56,6 +60,20 @@ def pipe_size(sessions: int) -> int:
     """The capacity of each of the two pipes of each session: a power of two."""
     share = min(MAX_PIPE_BYTES, MAX_PIPES_BYTES // (2 * sessions))
     return 1 << (share.bit_length() - 1)
+
+
+class OwnSession(Transfers):
+    """The server's own session, with the methods of a store."""
+
+    def __init__(self, session: Session) -> None:
+        super().__init__()
+        self._add([session])
+
+    def close(self) -> None:
+        """Has no effect: the session ends with the store."""
+
+    def _ended(self, reason: str = "the store has ended", seconds: float = 0) -> Ended:
+        return Ended(reason)
 
 
 class Store:
@@ -171,6 +189,15 @@ class Store:
         if not line.endswith(b"\n"):
             raise StoreError("the store has ended")
         return line[:-1]
+
+    @contextlib.contextmanager
+    def own_session(self) -> Iterator[Transfers]:
+        """The server's own session, which nothing else uses meanwhile."""
+        with self._lock:
+            for pipe in self._commands, self._answers:
+                with contextlib.suppress(OSError):
+                    fcntl.fcntl(pipe, SET_PIPE_SIZE, MAX_PIPE_BYTES)
+            yield OwnSession(Session(self._commands, self._answers, lambda reason="the store has ended", seconds=0: Ended(reason)))
 
     def _rows(self, line: bytes, kind: bytes) -> Optional[List[List[bytes]]]:
         """The words of each row of an answer that starts with the number of its rows. None if the question is refused."""

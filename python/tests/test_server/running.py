@@ -124,8 +124,16 @@ class Running:
             command, stdin=subprocess.DEVNULL, stdout=subprocess.PIPE, stderr=self.errors, env=environment(self.temporary, variables), start_new_session=True
         )
         assert self.process.stdout
-        self.lines = [self.process.stdout.readline().decode() for _ in range(is_unix + ("--tcp" in words))]
+        self.lines = self._started(is_unix + ("--tcp" in words))
         """What it wrote to standard output when it began."""
+
+    def _started(self, sockets: int) -> List[str]:
+        """The lines up to the one of the last socket, or until the server has ended."""
+        assert self.process.stdout
+        lines: List[str] = []
+        while sum(" listening on " in line for line in lines) < sockets and lines[-1:] != [""]:
+            lines.append(self.process.stdout.readline().decode())
+        return lines
 
     def __enter__(self) -> "Running":
         return self

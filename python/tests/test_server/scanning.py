@@ -54,6 +54,19 @@ def pieces_of_answers(program: str) -> List[str]:
     return found[:5]
 
 
+def whole_answers(program: str) -> List[str]:
+    """The same of pieces that are one answer or a few, as they mostly are."""
+    del program
+    chance, found = random.Random(6), []
+    for _ in range(STREAMS):
+        begun: Set[int] = set()
+        answers = Answers()
+        for _ in range(20):
+            answers.read(b"".join(_answer(chance, begun) for _ in range(chance.choice((1, 1, 2, 3)))))
+            found += differences((answers.begun, begun), (answers.body, 0))
+    return found[:5]
+
+
 def every_cut(program: str) -> List[str]:
     """The same of two pieces, cut at each byte."""
     del program
@@ -81,4 +94,4 @@ def turns(program: str) -> List[str]:
     return found + differences((given.take(0), False))
 
 
-SCANNING = (("pieces of answers", pieces_of_answers), ("answers cut at every byte", every_cut), ("turns", turns))
+SCANNING = (("pieces of answers", pieces_of_answers), ("pieces that are whole answers", whole_answers), ("answers cut at every byte", every_cut), ("turns", turns))

@@ -4,11 +4,12 @@ from typing import Callable, Iterator, List, Tuple
 
 from ends import ENDS
 from lines import LINES
+from saves import SAVES
 from scanning import SCANNING
 from storm import STORM
 
 
 def cases(program: str) -> Iterator[Tuple[str, Callable[[], List[str]]]]:
     """Each case by its name. It returns what is not as it should be."""
-    for name, case in SCANNING + LINES + ENDS + STORM:
+    for name, case in SCANNING + LINES + ENDS + SAVES + STORM:
         yield f"the server: {name}", functools.partial(case, program)

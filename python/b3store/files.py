@@ -1,0 +1,57 @@
+"""Files that stay whole whatever ends the process that writes them: a locked folder, lines with checksums, and files that are replaced in one step."""
+import contextlib
+import fcntl
+import os
+import zlib
+from typing import Iterable, Optional
+
+
+class FolderInUse(Exception):
+    """Another process has locked a folder."""
+
+
+def lock_folder(path: str) -> int:
+    """Opens a folder, and locks it until the descriptor is closed or the process ends. Raises FolderInUse if another process has locked it."""
+    folder = os.open(path, os.O_RDONLY | os.O_DIRECTORY)
+    try:
+        fcntl.flock(folder, fcntl.LOCK_EX | fcntl.LOCK_NB)
+    except OSError as error:
+        os.close(folder)
+        if isinstance(error, BlockingIOError):
+            raise FolderInUse(f"{path} is in use by another server") from None
+        raise
+    return folder
+
+
+def checked_line(text: str) -> bytes:
+    """A line: the CRC-32 of a text, a space, and the text. The text has no newline, and no character above U+00FF."""
+    inside = text.encode("latin-1")
+    return b"%08x %s\n" % (zlib.crc32(inside), inside)
+
+
+def checked_text(line: bytes) -> Optional[str]:
+    """The text of a line, which is given without its newline. None if its checksum is wrong."""
+    checksum, _, inside = line.partition(b" ")
+    return inside.decode("latin-1") if checksum == b"%08x" % zlib.crc32(inside) else None
+
+
+def replace_file(folder: int, path: str, lines: Iterable[bytes]) -> None:
+    """Replaces a file in an open folder: writes the lines to PATH.new, syncs this, renames it, and syncs the folder. Whenever that is interrupted, the file
+    has either its old content or all of the new."""
+    aside = path + ".new"
+    try:
+        with open(aside, "wb", opener=private) as file:
+            file.writelines(lines)
+            file.flush()
+            os.fsync(file.fileno())
+    except OSError:
+        with contextlib.suppress(OSError):
+            os.unlink(aside)
+        raise
+    os.replace(aside, path)
+    os.fsync(folder)
+
+
+def private(path: str, flags: int) -> int:
+    """Opens a file that only this user may read, if it has to be created. For the argument `opener` of `open`."""
+    return os.open(path, flags, 0o600)

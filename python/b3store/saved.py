@@ -1,0 +1,413 @@
+"""A folder in which the server saves the store, and from which it restores it (`--save FOLDER`).
+
+The file `index` has the tenants with their limits, and the objects in the order in which they were filed: each with its length, the place of its bytes in a
+file `content.N`, and the tenants that hold it. Each line starts with the CRC-32 of its text (files.py); the texts are:
+
+    b3store-saved 1
+    tenant LIMIT                                        the first tenant is number 0
+    object ADDRESS LENGTH FILE OFFSET TENANT[,TENANT..]
+    end N                                               N lines precede this one
+
+A save writes the bytes of objects that have no place yet to a new content file, and syncs it. Then it replaces the index in one step: until then, the folder
+has the save before. At last it removes the content files that the index doesn't name. A content file that is small, or most of whose bytes belong to no
+object any more, isn't used again: its objects are written to the new one. Open uploads are not saved."""
+import collections
+import contextlib
+import os
+import re
+from typing import BinaryIO, Callable, Counter, Dict, Iterable, Iterator, List, NamedTuple, Optional, Tuple
+
+from .commands import fetch_line
+from .files import FolderInUse, checked_line, checked_text, lock_folder, private, replace_file
+from .sessions import Kinds
+from .transfers import Transfers
+from .values import Ended, Refused
+
+INDEX = "index"
+HEADER = "b3store-saved 1"
+TENANT = re.compile("tenant ([0-9]{1,14})")
+OBJECT = re.compile(r"object ([0-9a-f]{64}) ([0-9]{1,14}) (content\.[0-9]{1,19}) ([0-9]{1,19}) ([0-9]{1,5}(?:,[0-9]{1,5})*)")
+CONTENT = re.compile(r"content\.([0-9]{1,19})")
+ASIDE = INDEX + ".new"
+IGNORED = frozenset((ASIDE, "lost+found"))
+"""Names that an unused folder may have: what a first save that was interrupted leaves, and what a new file system has."""
+SMALL_CONTENT = 1 << 20
+"""A content file of fewer bytes is not used again by the next save."""
+BATCH_LEN = 1 << 20
+BATCH_COUNT = 200
+"""How many bytes, and how many objects, are read or filed in one turn. The commands without the contents, and the answers without them, each fit into a pipe."""
+SYNC_LEN = 1 << 28
+"""How many bytes are written between two syncs."""
+ERRORS = (OSError, Refused, Ended, MemoryError)
+"""What can fail in a save or a restoration, besides SaveError."""
+ADVICE = "nothing was changed; restore the folder from a copy, or move it away to start with an empty store"
+
+Tick = Callable[[], None]
+"""Is called again and again while a save or a restoration makes progress."""
+
+
+class SaveError(Exception):
+    """A folder can't be used, or a store can't be saved in it or restored from it."""
+
+
+class SavedObject(NamedTuple):
+    """An object of the index."""
+
+    length: int
+    file: str
+    offset: int
+    holders: Tuple[int, ...]
+
+
+class Saved(NamedTuple):
+    """What an index has: the tenants' limits, and the objects by address, in the order in which they were filed."""
+
+    limits: List[int]
+    objects: Dict[str, SavedObject]
+
+    def text(self) -> str:
+        """Says how much it is."""
+        objects, tenants = len(self.objects), len(self.limits)
+        return f"{objects} {'object' if objects == 1 else 'objects'} and {tenants} {'tenant' if tenants == 1 else 'tenants'}"
+
+
+class SavedStore:
+    """A folder that is locked until it is closed, and the store that is saved in it."""
+
+    def __init__(self, path: str) -> None:
+        """Opens a folder, which is made if there is none. Raises SaveError, and changes nothing, if another server has it, or if it has something else than a
+        whole save."""
+        self._path = path
+        self._saved: Optional[Saved] = None
+        try:
+            make_folder(path)
+            self._folder = lock_folder(path)
+        except FolderInUse as error:
+            raise SaveError(str(error)) from None
+        except OSError as error:
+            raise SaveError(f"cannot open the folder {path}: {error.strerror}") from None
+        try:
+            self._open()
+        except BaseException:
+            self.close()
+            raise
+
+    def close(self) -> None:
+        """Unlocks the folder."""
+        os.close(self._folder)
+
+    def _at(self, name: str) -> str:
+        return os.path.join(self._path, name)
+
+    def _open(self) -> None:
+        """Reads the index, or writes the first one. A folder that can't be written to is noticed here, and not only by the save."""
+        try:
+            names = set(os.listdir(self._path))
+            if INDEX in names:
+                self._saved = read_index(self._at(INDEX))
+                check_contents(self._path, self._saved)
+                self._try_to_write()
+            elif names <= IGNORED:
+                self._write_index(Saved([], {}))
+            else:
+                raise SaveError(f"{self._path} holds {min(names - IGNORED)!r} and no saved store: name a folder that is empty or doesn't exist")
+        except OSError as error:
+            raise SaveError(f"cannot use the folder {self._path}: {error.strerror}") from None
+
+    def _try_to_write(self) -> None:
+        path = self._at(ASIDE)
+        open(path, "wb", opener=private).close()
+        os.unlink(path)
+
+    def restore(self, store: Transfers, tick: Tick) -> Optional[str]:
+        """Restores the store that is saved into a new one, and returns what it has; None if it has nothing. Removes the files of an interrupted save.
+        Raises SaveError."""
+        saved, self._saved = self._saved or Saved([], {}), None
+        try:
+            Restoring(self._path, store, tick).run(saved)
+            self._remove_unused()
+        except ERRORS as error:
+            raise SaveError(f"the store that is saved in {self._path} can't be restored: {reason_of(error)}; nothing was changed") from None
+        return saved.text() if saved.limits else None
+
+    def save(self, store: Transfers, tick: Tick) -> str:
+        """Saves the store, which no other thread changes meanwhile, and returns what it has. Raises SaveError; then the folder has the save before."""
+        try:
+            saved = self._save(store, tick)
+        except ERRORS as error:
+            raise SaveError(f"the store can't be saved in {self._path}, which keeps the save before: {reason_of(error)}") from None
+        return saved.text()
+
+    def _save(self, store: Transfers, tick: Tick) -> Saved:
+        limits, lists, lengths = [], {}, {}
+        for tenant, usage in store.tenants().items():
+            rows = list(store.objects(tenant))
+            limits.append(usage.limit)
+            lists[tenant] = [row.address for row in rows]
+            lengths.update(rows)
+        holders = dict(in_filing_order(lists))
+        if len(holders) != len(lengths):
+            raise SaveError(f"the store can't be saved in {self._path}: it changes meanwhile")
+        places = self._usable_places(holders)
+        wanted = [(holders[address][0], address, lengths[address]) for address in holders if address not in places]
+        try:
+            if wanted:
+                places.update(self._write_content(store, wanted, tick))
+            saved = Saved(limits, {address: SavedObject(lengths[address], *places[address], holders[address]) for address in holders})
+            self._write_index(saved)
+        finally:
+            self._remove_unused()
+        return saved
+
+    def _usable_places(self, wanted: Dict[str, Tuple[int, ...]]) -> Dict[str, Tuple[str, int]]:
+        """Where the bytes of objects are already, in files that are worth keeping. None if the index was damaged meanwhile: then all is written anew."""
+        try:
+            old = {address: row for address, row in read_index(self._at(INDEX)).objects.items() if address in wanted}
+        except (OSError, SaveError):
+            return {}
+        live: Counter[str] = collections.Counter()
+        ends: Counter[str] = collections.Counter()
+        for row in old.values():
+            live[row.file] += row.length
+            ends[row.file] = max(ends[row.file], row.offset + row.length)
+        sizes = {name: self._size(name) for name in live}
+        kept = {name for name, size in sizes.items() if size >= max(SMALL_CONTENT, ends[name]) and 2 * live[name] >= size}
+        return {address: (row.file, row.offset) for address, row in old.items() if row.file in kept}
+
+    def _size(self, name: str) -> int:
+        try:
+            return os.stat(self._at(name)).st_size
+        except OSError:
+            return 0
+
+    def _write_content(self, store: Transfers, wanted: List[Tuple[int, str, int]], tick: Tick) -> Dict[str, Tuple[str, int]]:
+        """Writes the bytes of objects to a new file, and returns where they are."""
+        name = f"content.{max((number_of(other) for other in os.listdir(self._path)), default=0) + 1}"
+        places, offset = {}, 0
+        for _, address, length in wanted:
+            places[address] = (name, offset)
+            offset += length
+        with open(self._at(name), "xb", opener=private) as file:
+            write_pieces(file, pieces_of(store, wanted), tick)
+        os.fsync(self._folder)
+        return places
+
+    def _write_index(self, saved: Saved) -> None:
+        replace_file(self._folder, self._at(INDEX), map(checked_line, index_texts(saved)))
+
+    def _remove_unused(self) -> None:
+        """Removes the content files that the index doesn't name. It is the old index if it could not be replaced."""
+        with contextlib.suppress(OSError, SaveError):
+            used = {row.file for row in read_index(self._at(INDEX)).objects.values()}
+            for name in os.listdir(self._path):
+                if CONTENT.fullmatch(name) and name not in used:
+                    os.unlink(self._at(name))
+
+
+def reason_of(error: BaseException) -> str:
+    """Why a save or a restoration failed."""
+    if isinstance(error, MemoryError):
+        return "out of memory"
+    return getattr(error, "strerror", None) or str(error)
+
+
+def make_folder(path: str) -> None:
+    """Makes a folder that only this user can enter, if there is none."""
+    if not os.path.isdir(path):
+        os.makedirs(path, 0o700)
+        parent = os.open(os.path.dirname(os.path.abspath(path)), os.O_RDONLY | os.O_DIRECTORY)
+        try:
+            os.fsync(parent)
+        finally:
+            os.close(parent)
+
+
+def number_of(name: str) -> int:
+    """The number of a content file; 0 for another name."""
+    found = CONTENT.fullmatch(name)
+    return int(found.group(1)) if found else 0
+
+
+def index_texts(saved: Saved) -> Iterator[str]:
+    """The texts of the lines of an index."""
+    yield HEADER
+    for limit in saved.limits:
+        yield f"tenant {limit}"
+    for address, row in saved.objects.items():
+        yield f"object {address} {row.length} {row.file} {row.offset} {','.join(map(str, row.holders))}"
+    yield f"end {1 + len(saved.limits) + len(saved.objects)}"
+
+
+def read_index(path: str) -> Saved:
+    """Reads an index. Raises SaveError if it isn't one, or is damaged."""
+    saved, is_whole = Saved([], {}), False
+    with open(path, "rb") as file:
+        if file.readline() != checked_line(HEADER):
+            raise SaveError(f"{path} is damaged, or not the index of a saved store; {ADVICE}")
+        for number, line in enumerate(file, 1):
+            text = checked_text(line[:-1]) if line.endswith(b"\n") else None
+            if is_whole or text is None or not (note_line(saved, text) or text == f"end {number}"):
+                raise SaveError(f"{path} is damaged at line {number + 1}; {ADVICE}")
+            is_whole = text.startswith("end ")
+    if not is_whole:
+        raise SaveError(f"{path} is truncated; {ADVICE}")
+    return saved
+
+
+def note_line(saved: Saved, text: str) -> bool:
+    """Notes what a line says of a tenant or an object. False if it is another line."""
+    found = OBJECT.fullmatch(text)
+    if found:
+        address, length, name, offset, tenants = found.groups()
+        holders = tuple(map(int, tenants.split(",")))
+        saved.objects[address] = SavedObject(int(length), name, int(offset), holders)
+        return max(holders) < len(saved.limits)
+    found = TENANT.fullmatch(text)
+    if found:
+        saved.limits.append(int(found.group(1)))
+    return bool(found)
+
+
+def check_contents(path: str, saved: Saved) -> None:
+    """Checks that the content files are as long as they have to be. Raises SaveError."""
+    ends: Counter[str] = collections.Counter()
+    for row in saved.objects.values():
+        ends[row.file] = max(ends[row.file], row.offset + row.length)
+    for name, end in ends.items():
+        try:
+            size = os.stat(os.path.join(path, name)).st_size
+        except FileNotFoundError:
+            raise SaveError(f"{path}/{name} is missing; {ADVICE}") from None
+        if size < end:
+            raise SaveError(f"{path}/{name} is truncated: it has {size} of {end} bytes; {ADVICE}")
+
+
+def in_filing_order(lists: Dict[int, List[str]]) -> Iterator[Tuple[str, Tuple[int, ...]]]:
+    """Yields each address of the tenants' lists once, with the tenants that hold it, in an order that agrees with every list. An address follows when it is
+    the next one in each list that has it. If the lists contradict one another, addresses are missing."""
+    holders: Dict[str, List[int]] = {}
+    for tenant, addresses in lists.items():
+        for address in addresses:
+            holders.setdefault(address, []).append(tenant)
+    following = {tenant: iter(addresses) for tenant, addresses in lists.items()}
+    reached: Counter[str] = collections.Counter()
+    advancing = list(reversed(list(lists)))
+    while advancing:
+        address = next(following[advancing.pop()], "")
+        reached[address] += 1
+        if address and reached[address] == len(holders[address]):
+            yield address, tuple(holders[address])
+            advancing += reversed(holders[address])
+
+
+def pieces_of(store: Transfers, wanted: Iterable[Tuple[int, str, int]]) -> Iterator[bytes]:
+    """Yields the bytes of objects, of which each is given by a holder, its address and its length. Several commands are sent in one turn."""
+    lines, lengths = [], []
+    for tenant, address, length in wanted:
+        for offset in range(0, length, BATCH_LEN):
+            lines.append(fetch_line(tenant, address, offset, BATCH_LEN))
+            lengths.append(min(BATCH_LEN, length - offset))
+            if len(lines) == BATCH_COUNT or sum(lengths) >= BATCH_LEN:
+                yield from fetched(store, lines, lengths)
+                lines, lengths = [], []
+    yield from fetched(store, lines, lengths)
+
+
+def fetched(store: Transfers, lines: List[str], lengths: List[int]) -> List[bytes]:
+    """Sends commands that fetch ranges, and returns the bytes of each."""
+    with store._turn() as session:
+        session.write("".join(f"{line}\n" for line in lines).encode())
+        found = [session.content(session.answer("bytes"), length) for length in lengths]
+    if [len(piece) for piece in found] != lengths:
+        raise SaveError("the store can't be saved: an object is shorter than its length")
+    return found
+
+
+def write_pieces(file: BinaryIO, pieces: Iterable[bytes], tick: Tick) -> None:
+    """Writes pieces to a file, and syncs it."""
+    unsynced = 0
+    for piece in pieces:
+        file.write(piece)
+        unsynced += len(piece)
+        if unsynced >= SYNC_LEN:
+            file.flush()
+            os.fdatasync(file.fileno())
+            unsynced = 0
+        tick()
+    file.flush()
+    os.fsync(file.fileno())
+
+
+class Restoring:
+    """Files saved objects in a new store."""
+
+    def __init__(self, path: str, store: Transfers, tick: Tick) -> None:
+        self._path, self._store, self._tick = path, store, tick
+        self._next_upload = 0
+        self._name, self._file = "", open(os.devnull, "rb", buffering=0)
+        """The content file that was read last."""
+        self._batch: List[Tuple[int, str, str, bytes]] = []
+        self._batch_len = 0
+
+    def run(self, saved: Saved) -> None:
+        """Opens the tenants, and files the objects. Raises SaveError, Refused, Ended and OSError."""
+        try:
+            for limit in saved.limits:
+                self._store.tenant(limit)
+            for address, row in saved.objects.items():
+                for tenant in row.holders:
+                    self._add(tenant, address, row)
+            self._file_batch()
+        finally:
+            self._file.close()
+
+    def _add(self, tenant: int, address: str, row: SavedObject) -> None:
+        """Files an object at once if it is large, and else with others."""
+        if row.length > BATCH_LEN:
+            self._file_batch()
+            self._file_large(tenant, address, row)
+            return
+        content = os.pread(self._open(row.file).fileno(), row.length, row.offset)
+        self._batch.append((tenant, address, row.file, content))
+        self._batch_len += row.length
+        if self._batch_len >= BATCH_LEN or len(self._batch) == BATCH_COUNT:
+            self._file_batch()
+
+    def _open(self, name: str) -> BinaryIO:
+        if self._name != name:
+            self._file.close()
+            self._file = open(os.path.join(self._path, name), "rb", buffering=0)
+            self._name = name
+        return self._file
+
+    def _file_large(self, tenant: int, address: str, row: SavedObject) -> None:
+        file = self._open(row.file)
+        file.seek(row.offset)
+        try:
+            self._store.upload(file, tenant, row.length, address=address, progress=lambda _: self._tick())
+        except (Refused, ValueError) as error:
+            raise self._fault(address, row.file, error) from None
+        self._next_upload += 1
+
+    def _file_batch(self) -> None:
+        """Files the objects that wait, each by three commands. All are sent before the answers are read, as the numbers of the uploads are known before."""
+        batch, pieces = self._batch, []
+        for number, (tenant, address, _, content) in enumerate(batch, self._next_upload):
+            put = f"putb {number} 0 {len(content)}\n" if content else ""
+            pieces += [f"begin {tenant} {len(content)}\n{put}".encode(), content, f"sealas {number} {address}\n".encode()]
+        with self._store._turn() as session:
+            session.write(b"".join(pieces))
+            for _, address, name, content in batch:
+                kinds: List[Kinds] = ["upload", *["held"] * bool(content), ("new", "known")]
+                refusals = session.answers(kinds)[1]
+                if refusals:
+                    raise self._fault(address, name, refusals[0])
+        self._next_upload += len(batch)
+        self._batch, self._batch_len = [], 0
+        self._tick()
+
+    def _fault(self, address: str, name: str, error: Exception) -> Exception:
+        """The error of an object that isn't filed."""
+        if isinstance(error, Refused) and error.number != "S11":
+            return error
+        return SaveError(f"{self._path}/{name} is damaged: the bytes of the object {address} are not the saved ones; {ADVICE}")

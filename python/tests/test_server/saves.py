@@ -1,0 +1,418 @@
+"""What a server saves in a folder, and what a later one restores from it."""
+import contextlib
+import hashlib
+import os
+import random
+import signal
+import subprocess
+import sys
+import tempfile
+import time
+from typing import Any, Dict, Iterator, List, Optional, Tuple
+
+from lines import SHORTLY, soon
+from running import AS_MODULE, CLEAN, PACKAGE, Client, Running, differences, environment, fails
+
+sys.path.insert(1, PACKAGE)
+from b3store.files import checked_line
+from b3store.saved import in_filing_order
+
+LENGTHS = (1, 2, 1023, 1024, 1025, 4096, 70_000)
+LONG = (1 << 20) + 5
+"""The length of an object that isn't restored with others in one turn."""
+KILLS = 12
+RUN_SERVER = "import runpy; runpy.run_module('b3store.server', run_name='__main__', alter_sys=True)"
+SLOW = ["-c", f"import os, time; fsync = os.fsync; os.fsync = lambda file: (time.sleep(0.03), fsync(file)); {RUN_SERVER}"]
+"""Words after `python` that run the server with a slow disk, so that a kill at a random moment meets a save."""
+STEPS = f"""
+import os, signal, sys
+from b3store.saved import SavedStore
+left, is_saving, save = [int(os.environ["STEPS"])], [], SavedStore.save
+def step(*_):
+    if is_saving:
+        left[0] -= 1
+        if left[0] < 0:
+            os.kill(os.getpid(), signal.SIGKILL)
+def counted(call):
+    return lambda *given, **named: (step(), call(*given, **named))[1]
+def save_in_steps(*given):
+    is_saving.append(1)
+    try:
+        return save(*given)
+    finally:
+        is_saving.clear()
+SavedStore.save = save_in_steps
+for name in "fsync", "replace", "unlink", "listdir", "stat":
+    setattr(os, name, counted(getattr(os, name)))
+sys.addaudithook(lambda event, given: event == "open" and step())
+{RUN_SERVER}
+"""
+"""A server that is killed in a save, once it has done as many steps with files as the variable STEPS says."""
+LIMITED = (
+    f"import os, resource, runpy; limit = int(os.environ['LIMIT']); resource.setrlimit(resource.RLIMIT_FSIZE, (limit, limit)); {RUN_SERVER}"
+)
+"""A server that can't write files longer than the variable LIMIT."""
+
+
+@contextlib.contextmanager
+def _folder() -> Iterator[str]:
+    """The path of a folder for saves, which isn't made yet."""
+    with tempfile.TemporaryDirectory(prefix="b3store-test-") as above:
+        yield os.path.join(above, "saved")
+
+
+def _state(client: Client) -> Dict[str, Any]:
+    """What a store's answers are, for all tenants and objects."""
+    rows = [row.split() for row in client.ask("tenants").splitlines()[1:]]
+    state: Dict[str, Any] = {}
+    for tenant in (int(row[0]) for row in rows):
+        for line in f"usage {tenant}", f"list {tenant}", f"uploads {tenant}":
+            state[line] = client.ask(line)
+        for row in state[f"list {tenant}"].splitlines()[1:]:
+            address = row.split()[0].decode()
+            state[f"has {tenant} {address}"] = client.ask(f"has {tenant} {address}")
+            state[f"fetchb {tenant} {address}"] = hashlib.sha256(client.ask(f"fetchb {tenant} {address}")).digest()
+    return state
+
+
+def _state_at(program: str, folder: str) -> Dict[str, Any]:
+    """What a server restores."""
+    with Running(program, "--save", folder) as server:
+        assert server.lines[-1:] != [""], server.reported()
+        with server.client() as client:
+            state = _state(client)
+        server.signal(signal.SIGKILL)
+        server.status()
+        return state
+
+
+def _content(*numbers: int) -> bytes:
+    """The bytes of an object of numbers that is different for others."""
+    return b" ".join(b"%d" % number for number in numbers)
+
+
+def _files(folder: str) -> Dict[str, bytes]:
+    """The names and bytes in a folder."""
+    found = {}
+    for name in sorted(os.listdir(folder)):
+        with open(os.path.join(folder, name), "rb") as file:
+            found[name] = file.read()
+    return found
+
+
+def _fill(client: Client) -> None:
+    """Files objects of all lengths for several tenants, some of them for two."""
+    chance = random.Random(3)
+    for limit in (10_000_000, 2_000_000, 77, 0):
+        client.ask(f"tenant {limit}")
+    empty = client.number("begin 1 0")
+    client.ask(f"seal {empty}")
+    for length in LENGTHS:
+        content = chance.getrandbits(8 * length).to_bytes(length, "little")
+        client.file(content, length % 2)
+        client.file(_content(length), 1)
+        client.file(content, 1 - length % 2)
+    forgotten = client.file(b"forgotten")
+    client.file(bytes(LONG))
+    client.ask(f"forget 0 {forgotten}")
+    client.ask("limit 2 78")
+
+
+def restores_all(program: str) -> List[str]:
+    """All tenants with their numbers and limits, and all objects with their bytes, holders and order, again and again; open uploads are not saved."""
+    with _folder() as folder:
+        with Running(program, "--save", folder, "--keep-uploads") as server:
+            with server.client() as client:
+                _fill(client)
+                before = _state(client)
+                client.ask("begin 0 5000")
+            found = differences((len(server.lines), 1), (server.end()[:2], (0, "")), (sorted(os.listdir(folder)), ["content.1", "index"]))
+        for number in range(3):
+            with Running(program, "--save", folder) as server, server.client() as client:
+                found += differences((_state(client), before), (server.lines[0].endswith("objects and 4 tenants\n"), True))
+                client.file(_content(number, number), number % 2)
+                client.ask(f"forget 0 {client.file(_content(number))}")
+                before = _state(client)
+                found += differences((client.ends(), b""), (server.end(), CLEAN))
+        return found + differences((_state_at(program, folder), before), (os.stat(folder).st_mode & 0o777, 0o700))
+
+
+def saves_what_was_answered(program: str) -> List[str]:
+    """A client that doesn't finish in time is cut: what was answered is saved, its open uploads are not, and a half of a command isn't done."""
+    with _folder() as folder, Running(program, "--save", folder, "--grace", "0") as server, server.client() as client, server.client() as silent:
+        client.ask("tenant 100000000")
+        address = client.file(bytes(1000))
+        state = _state(client)
+        client.send(b"begin 0 5\nlimit 0 5")
+        silent.send(f"fetchb 0 {address}\n".encode() * 3000)
+        time.sleep(SHORTLY)
+        server.signal()
+        found = differences((server.status(), 0), (server.reported(), "b3store.server: the server ends while 2 connections are open\n"))
+        return found + differences((_state_at(program, folder), state))
+
+
+def only_new_contents(program: str) -> List[str]:
+    """A save writes only bytes that no file has yet. A file whose objects are mostly forgotten is replaced."""
+    with _folder() as folder:
+        with Running(program, "--save", folder) as server, server.client() as client:
+            client.ask("tenant 100000000")
+            addresses = [client.file(b"%d" % number * 300_000) for number in range(4)]
+            found = differences((client.ends(), b""), (server.end(), CLEAN))
+        first = os.stat(os.path.join(folder, "content.1"))
+        for forgotten, wanted in ((addresses[:1], ["content.1", "content.2", "index"]), (addresses[1:3], ["content.3", "index"])):
+            with Running(program, "--save", folder) as server, server.client() as client:
+                client.file(b"small")
+                for address in forgotten:
+                    client.ask(f"forget 0 {address}")
+                state = _state(client)
+                found += differences((client.ends(), b""), (server.end(), CLEAN), (sorted(os.listdir(folder)), wanted))
+            if "content.1" in wanted:
+                found += differences((os.stat(os.path.join(folder, "content.1")).st_mtime_ns, first.st_mtime_ns))
+        return found + differences((_state_at(program, folder), state))
+
+
+def saves_that_are_killed(program: str) -> List[str]:
+    """A server that is killed at a random moment of its end leaves the save before or the new one, whole."""
+    chance, found = random.Random(9), []
+    with _folder() as folder:
+        states, seconds = [_state_at(program, folder)], 0.0
+        for number in range(KILLS + 1):
+            with Running(program, "--save", folder, python=SLOW) as server, server.client() as client:
+                if not number:
+                    client.ask("tenant 100000000")
+                for part in range(30):
+                    client.file(_content(number, part))
+                states.append(_state(client))
+                client.ends()
+                start = time.monotonic()
+                server.signal()
+                if number:
+                    time.sleep(chance.uniform(0, seconds))
+                    server.signal(signal.SIGKILL)
+                server.status()
+                seconds = seconds or time.monotonic() - start
+            now = _state_at(program, folder)
+            found += differences((now in states[-2:], True))
+            states.append(now)
+    return found
+
+
+def saves_that_are_killed_at_each_step(program: str) -> List[str]:
+    """The same at each step with files, one after the other, until a save ends in fewer steps. Nothing is left of what was not finished."""
+    found, statuses = [], []
+    with _folder() as folder:
+        state = _state_at(program, folder)
+        while statuses[-1:] != [0] and len(statuses) < 100:
+            with Running(program, "--save", folder, python=["-c", STEPS], STEPS=str(len(statuses))) as server, server.client() as client:
+                client.ask("tenant 100000")
+                client.file(_content(len(statuses)))
+                new = _state(client)
+                client.ends()
+                server.signal()
+                statuses.append(server.status())
+            now = _state_at(program, folder)
+            found += differences((now in (state, new), True), (len(os.listdir(folder)) <= 2, True))
+            state = now
+    return found[:5] + differences((set(statuses[:-1]), {-signal.SIGKILL}), (statuses[-1], 0), (state == new, True), (len(statuses) > 8, True))
+
+
+def one_server_alone(program: str) -> List[str]:
+    """A second server on the folder ends with a message, also while the first one's clients last."""
+    with _folder() as folder, Running(program, "--save", folder) as server, server.client() as client:
+        words = ("--program", program, "--socket", f"{server.folder}/other", "--save", folder)
+        wanted = (1, f"b3store.server: {folder} is in use by another server\n")
+        found = differences((fails(*words), wanted), (client.ask("tenants"), b"tenants 0\n"), (fails(*words), wanted))
+        found += differences((os.path.exists(f"{server.folder}/other"), False), (client.ends(), b""), (server.end(), CLEAN))
+        return found + differences((_state_at(program, folder), {}))
+
+
+def _saved_folder(program: str, folder: str) -> None:
+    with Running(program, "--save", folder) as server:
+        with server.client() as client:
+            client.ask("tenant 1000000")
+            for length in LENGTHS[:5]:
+                client.file(bytes(length))
+        server.end()
+
+
+def _flipped(content: bytes, at: int) -> bytes:
+    return content[:at] + bytes([content[at] ^ 1]) + content[at + 1 :]
+
+
+def _damaged(files: Dict[str, bytes]) -> Iterator[Tuple[Dict[str, Optional[bytes]], str]]:
+    """Files in place of those of a folder, None for one that is missing, and what the message says."""
+    index, content = files["index"], files["content.1"]
+    lines = index.splitlines(True)
+    yield {"index": b""}, "index is damaged, or not the index"
+    yield {"index": b"<html>\n" * 100}, "index is damaged, or not the index"
+    yield {"index": lines[0]}, "index is truncated"
+    yield {"index": b"".join(lines[:-1])}, "index is truncated"
+    yield {"index": index[:-1]}, f"index is damaged at line {len(lines)}"
+    yield {"index": index + lines[-1]}, f"index is damaged at line {len(lines) + 1}"
+    yield {"index": b"".join(lines[:2] + lines[3:])}, f"index is damaged at line {len(lines) - 1}"
+    yield {"index": lines[0] + checked_line("tenant 5") + checked_line("end 3")}, "index is damaged at line 3"
+    yield {"index": b"".join([lines[0], *lines[2:]])}, "index is damaged at line 2"
+    for at in range(0, len(index), 37):
+        yield {"index": _flipped(index, at)}, "index is damaged"
+    yield {"content.1": content[:-1]}, f"content.1 is truncated: it has {len(content) - 1} of {len(content)} bytes"
+    yield {"content.1": None}, "content.1 is missing"
+    for at in (0, len(content) // 2, len(content) - 1):
+        yield {"content.1": _flipped(content, at)}, "content.1 is damaged: the bytes of the object"
+
+
+def damaged_files(program: str) -> List[str]:
+    """A damaged file is named in a message, the status is 1, and nothing in the folder changes."""
+    found = []
+    with _folder() as folder:
+        _saved_folder(program, folder)
+        files = _files(folder)
+        for changed, wanted in _damaged(files):
+            for name, content in {**files, **changed}.items():
+                if content is None:
+                    os.unlink(os.path.join(folder, name))
+                    continue
+                with open(os.path.join(folder, name), "wb") as file:
+                    file.write(content)
+            before = _files(folder)
+            status, told = fails("--program", program, "--socket", f"{folder}-socket", "--save", folder)
+            found += differences((status, 1), (wanted in told and "nothing was changed" in told and told.count("\n") == 1, True), (_files(folder), before))
+    return found[:5]
+
+
+def folders_that_are_none(program: str) -> List[str]:
+    """A folder of something else, a file, and a place where none can be made: a message, and nothing changes."""
+    found = []
+    with _folder() as folder:
+        words = ("--program", program, "--socket", f"{folder}-socket", "--save")
+        os.mkdir(folder)
+        for name in "notes", "content.1", "log":
+            with open(os.path.join(folder, name), "wb") as file:
+                file.write(b"kept")
+            before = _files(folder)
+            wanted = f"b3store.server: {folder} holds '{min(before)}' and no saved store: name a folder that is empty or doesn't exist\n"
+            found += differences((fails(*words, folder), (1, wanted)), (_files(folder), before))
+        found += differences((fails(*words, f"{folder}/notes"), (1, f"b3store.server: cannot open the folder {folder}/notes: File exists\n")))
+        found += differences((fails(*words, f"{folder}/notes/a"), (1, f"b3store.server: cannot open the folder {folder}/notes/a: Not a directory\n")))
+        found += differences((fails(*words, "")[0], 1), (_files(folder), before))
+        found += differences((fails("--program", f"{folder}/none", "--socket", f"{folder}-socket", "--save", f"{folder}-new")[0], 1))
+        return found + differences((_state_at(program, f"{folder}-new"), {}))
+
+
+def _fails_to_save(program: str, folder: str, **more: Any) -> List[str]:
+    """A save that the disk has no room for: status 4, a message, and the save before is whole."""
+    state = _state_at(program, folder)
+    files = _files(folder)
+    with Running(program, "--save", folder, **more) as server, server.client() as client:
+        client.ask("tenant 5000000")
+        for number in range(3):
+            client.file(b"%d" % number * 150_000)
+        client.ends()
+        status, told, left = server.end()
+        wanted = f"b3store.server: the store can't be saved in {folder}, which keeps the save before: "
+        found = differences((status, 4), (told.startswith(wanted) and told.count("\n") == 1, True), (left, []), (_files(folder), files))
+    return found + differences((_state_at(program, folder), state))
+
+
+def full_disks(program: str) -> List[str]:
+    """A write that fails, be it of the contents or of the index, leaves the save before and nothing else."""
+    with _folder() as folder:
+        _saved_folder(program, folder)
+        found = _fails_to_save(program, folder, python=["-c", LIMITED], LIMIT="100000")
+        with Running(program, "--save", folder, python=["-c", LIMITED], LIMIT="8000") as server, server.client() as client:
+            state, files = _state(client), _files(folder)
+            for number in range(100):
+                client.file(b"%d" % number)
+            client.ends()
+            found += differences((server.end()[0], 4), (_files(folder), files))
+        found += differences((_state_at(program, folder), state))
+    with tempfile.TemporaryDirectory() as disk:
+        if subprocess.run(["mount", "-t", "tmpfs", "-o", "size=256k", "none", disk], stderr=subprocess.DEVNULL).returncode:
+            return found
+        try:
+            _saved_folder(program, os.path.join(disk, "saved"))
+            return found + _fails_to_save(program, os.path.join(disk, "saved"))
+        finally:
+            subprocess.run(["umount", disk], check=True)
+
+
+def stores_that_end(program: str) -> List[str]:
+    """When the store's process is killed, the folder keeps the save before. A start whose store ends, or that is stopped, changes nothing."""
+    with _folder() as folder:
+        _saved_folder(program, folder)
+        state, files = _state_at(program, folder), _files(folder)
+        with Running(program, "--save", folder) as server, server.client() as client:
+            client.file(b"lost")
+            os.kill(server.store(), signal.SIGKILL)
+            found = differences((server.status(), 3), ("is lost, except for the last save\n" in server.reported(), True), (_files(folder), files))
+        with Running(program, "--save", folder, "--grace", "60") as server, server.client() as client:
+            client.ask("tenants")
+            server.signal()
+            os.kill(server.store(), signal.SIGSTOP)
+            client.close()
+            soon(lambda: False) if not server.children() else time.sleep(SHORTLY)
+            os.kill(server.store(), signal.SIGKILL)
+            found += differences((server.status() in (3, 4), True), ("Traceback" in server.reported(), False), (_files(folder), files))
+        return found + differences((_state_at(program, folder), state))
+
+
+def stops_at_the_start(program: str) -> List[str]:
+    """A signal while a server starts the store and restores ends it, and the folder keeps what it has."""
+    with _folder() as folder:
+        _saved_folder(program, folder)
+        state, found = _state_at(program, folder), []
+        for moment in range(8):
+            words = [sys.executable, *AS_MODULE, "--program", program, "--socket", f"{folder}-socket", "--save", folder]
+            with tempfile.TemporaryDirectory() as room, subprocess.Popen(words, stdout=-1, stderr=-1, env=environment(room, {})) as server:
+                found += differences((soon(lambda: os.path.exists(f"{folder}-socket")), True))
+                time.sleep(0.03 * moment)
+                server.terminate()
+                told = server.communicate()[1]
+                found += differences((server.returncode, 0), (b"b3store.server" in told, False), (os.listdir(room), []))
+            found += differences((soon(lambda: not os.path.exists(f"{folder}-socket")), True))
+        return found[:5] + differences((_state_at(program, folder), state))
+
+
+def orders_of_lists(program: str) -> List[str]:
+    """An order that agrees with each tenant's list, for random holders; lists that contradict one another lose addresses, and end."""
+    del program
+    chance, found = random.Random(4), []
+    for _ in range(300):
+        order = [str(number) for number in range(chance.randrange(1, 20))]
+        lists: Dict[int, List[str]] = {tenant: [address for address in order if chance.random() < 0.4] for tenant in range(chance.randrange(1, 6))}
+        merged = list(in_filing_order(lists))
+        for tenant, wanted in lists.items():
+            found += differences(([address for address, holders in merged if tenant in holders], wanted))
+    return found[:5] + differences((list(in_filing_order({0: ["a", "b"], 1: ["b", "a"]})), []))
+
+
+def asks_for_time(program: str) -> List[str]:
+    """systemd is asked for more time while a save or a restoration lasts."""
+    import socket
+
+    with _folder() as folder, tempfile.TemporaryDirectory() as room, socket.socket(socket.AF_UNIX, socket.SOCK_DGRAM) as listening:
+        _saved_folder(program, folder)
+        listening.bind(f"{room}/notify")
+        listening.settimeout(10)
+        with Running(program, "--save", folder, NOTIFY_SOCKET=f"{room}/notify") as server:
+            with server.client() as client:
+                client.file(b"more")
+            found = differences((server.end(), CLEAN))
+        states = [listening.recv(100).split(b"=")[0] for _ in range(4)]
+        return found + differences((states, [b"EXTEND_TIMEOUT_USEC", b"READY", b"STOPPING", b"EXTEND_TIMEOUT_USEC"]))
+
+
+SAVES = (
+    ("a store that is saved and restored", restores_all),
+    ("a save when clients don't end", saves_what_was_answered),
+    ("saves of what is new", only_new_contents),
+    ("saves that are killed", saves_that_are_killed),
+    ("saves that are killed at each step", saves_that_are_killed_at_each_step),
+    ("two servers on one folder", one_server_alone),
+    ("damaged files of a save", damaged_files),
+    ("folders that are none for a save", folders_that_are_none),
+    ("saves on a full disk", full_disks),
+    ("saves of stores that end", stores_that_end),
+    ("a restoration that is stopped", stops_at_the_start),
+    ("the order of saved objects", orders_of_lists),
+    ("time for a save", asks_for_time),
+)
