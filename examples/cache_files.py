@@ -15,11 +15,13 @@ import contextlib
 import fcntl
 import os
 import re
+import sys
 import threading
 import time
 import zlib
 
 from b3store import Ended, Refused
+from cache_stores import Entry
 
 LOG = "log"
 OLD_KEYS = "keys"
@@ -187,11 +189,11 @@ class Files:
 
     # ---- what comes
 
-    def start(self, store):
-        """Starts the writer, which gets contents from the store."""
+    def start(self, cache):
+        """Starts the writer, which reads content from the stores of the cache."""
         self.log = open(self.at(LOG), "ab")
         self.open_segment()
-        self.writer = threading.Thread(target=self.write_on, args=(store,), daemon=True)
+        self.writer = threading.Thread(target=self.write_on, args=(cache,), daemon=True)
         self.writer.start()
 
     def note(self, user, key, entry):
@@ -217,32 +219,32 @@ class Files:
 
     # ---- the writer
 
-    def write_on(self, store):
+    def write_on(self, cache):
         try:
             due = 0
-            while not self.write_batch(store, due):
+            while not self.write_batch(cache, due):
                 due = time.monotonic() + SECONDS_BETWEEN_SYNCS
         except (OSError, ValueError) as fault:
             with self.changed:
                 self.fault = OSError(f"{self.path} can't be written: {fault}")
                 self.changed.notify_all()
 
-    def write_batch(self, store, due):
+    def write_batch(self, cache, due):
         """Writes what has come until a time, and gives whether that was the end."""
         with self.changed:
             self.changed.wait_for(lambda: self.waiting or self.has_ended or self.emptiest() is not None)
             self.changed.wait_for(lambda: self.has_ended or self.bytes > MAX_WAITING, max(0, due - time.monotonic()))
             has_ended, batch, self.waiting = self.has_ended, self.waiting, []
             written = self.bytes
-        self.write(store, batch, moves=not has_ended)
+        self.write(cache, batch, moves=not has_ended)
         with self.changed:
             self.bytes -= written
             self.changed.notify_all()
         return has_ended
 
-    def write(self, store, batch, moves):
+    def write(self, cache, batch, moves):
         """Writes what has come, and moves some of what is there."""
-        texts = [text for user, key, entry in batch for text in self.texts_of(store, user, key, entry)]
+        texts = [text for user, key, entry in batch for text in self.texts_of(cache, user, key, entry)]
         emptied = self.emptiest() if moves else None
         texts += self.move(emptied) if emptied else []
         self.last.flush()
@@ -259,19 +261,32 @@ class Files:
         if moves and self.lines > 2 * (len(self.keys) + len(self.refs)) + IDLE_LINES:
             self.write_log()
 
-    def texts_of(self, store, user, key, entry):
-        """The lines of a key that has changed. Where its content is gone from the store and isn't on disk, a later change has undone this one."""
+    def texts_of(self, cache, user, key, entry):
+        """The lines of a key that has changed. If no store holds its content any more and it isn't on disk, a later change has undone this one."""
         texts = []
         if entry is not None and entry.address not in self.places:
-            try:
-                texts.append(self.append(entry.address, store.ranges(user.tenant, entry.address)))
-            except (Refused, Ended):
+            line = self.append_held(cache, user, entry.address)
+            if line is None:
                 entry = None
+            else:
+                texts.append(line)
         if entry is None:
             self.note_key(user.name, key, None)
             return [*texts, f"drop {user.name} {key}"]
         self.note_key(user.name, key, entry.address)
         return [*texts, f"key {user.name} {entry.address} {key}"]
+
+    def append_held(self, cache, user, address):
+        """Appends an object that a store holds for a user, and returns its line; None if no store holds it. An object may move while it is read:
+        then it is read from where it is now."""
+        tried = None
+        while True:
+            backend = cache.find(user, address)
+            if backend is None or backend is tried:
+                return None
+            tried = backend
+            with contextlib.suppress(Refused, Ended):
+                return self.append(address, backend.store.ranges(backend.tenants[user], address))
 
     def append(self, address, pieces):
         """Appends an object's bytes to the last segment, and gives its line."""
@@ -335,3 +350,60 @@ class Files:
             os.fsync(log.fileno())
         os.replace(log.name, self.at(LOG))
         os.fsync(self.folder)
+
+
+class Loader:
+    """Stores what a folder has."""
+
+    def __init__(self, cache, files):
+        self.cache, self.files = cache, files
+        self.wrong = []
+        """The users and keys whose objects have other addresses."""
+
+    def load(self):
+        """Stores what is on disk, and reports what can't be stored or isn't as it was stored."""
+        dropped = self.files.read()
+        if dropped:
+            print(f"cache_server: the last {dropped} bytes of the log are no whole lines, and are dropped", file=sys.stderr)
+        users = {user.name: user for user in self.cache.users}
+        faults, count = collections.Counter(), 0
+        for (name, key), address in list(self.files.keys.items()):
+            fault = "its user is gone" if name not in users else self.load_key(users[name], key, address)
+            count += fault is None
+            faults.update([fault] if fault else [])
+        for fault, keys in faults.items():
+            print(f"cache_server: {keys} keys are left out: {fault}", file=sys.stderr)
+        if not self.files.keys:
+            return "begins empty"
+        return f"has {count} keys, {self.cache.totals()[0]} objects"
+
+    def load_key(self, user, key, address):
+        """Stores one key's object if the user doesn't hold it. Returns why it can't be stored, or None."""
+        backend = self.cache.backend
+        try:
+            length = backend.store.has(backend.tenants[user], address)
+            if length is None:
+                length = self.load_object(user, address)
+            self.cache.lead(user, key, Entry(backend, address, length))
+            return None
+        except Refused as refusal:
+            if refusal.number == "S11":
+                self.files.put_aside(address)
+                self.wrong.append((user, key))
+            return str(refusal)
+        except (OSError, ValueError) as fault:
+            self.files.lose(address)
+            return str(fault)
+
+    def load_object(self, user, address):
+        backend, place = self.cache.backend, self.files.place(address)
+        upload, offset = backend.store.begin(backend.tenants[user], place.length), 0
+        try:
+            for piece in self.files.content(address):
+                backend.store.put(upload, offset, piece)
+                offset += len(piece)
+            backend.store.seal_as(upload, address)
+        except (Refused, OSError):
+            backend.store.abort(upload)
+            raise
+        return place.length
