@@ -11,6 +11,7 @@ TOP = os.path.dirname(os.path.dirname(os.path.dirname(os.path.abspath(__file__))
 sys.path[1:1] = [os.path.join(TOP, "python", "tests"), os.path.join(TOP, "tests", "common")]
 import backups
 import cache_disk
+import cache_moves
 import caches
 import cases as package
 from judging import judged
@@ -39,6 +40,12 @@ CASES = (
     ("a cache with an older folder", cache_disk.begins_from_an_older_folder),
     ("a cache that can't write", cache_disk.ends_where_nothing_can_be_written),
     ("a cache that begins with other users", cache_disk.keeps_what_it_cannot_begin_with),
+    ("a cache's metrics", cache_moves.reports_its_counts),
+    ("a cache's health", cache_moves.reports_its_health),
+    ("a cache whose content moves while it is used", cache_moves.moves_while_it_is_used),
+    ("a cache's requests that end on its old store", cache_moves.ends_requests_on_the_old_store),
+    ("a cache that is killed in moves", cache_moves.loses_a_second_in_moves),
+    ("a cache's quotas in moves", cache_moves.keeps_quotas_in_moves),
     ("two caches on one folder", caches.keeps_others_out),
     ("a cache's keys of any bytes", caches.keys_of_any_bytes),
     ("a cache whose store ends", caches.ends_with_its_store),

@@ -8,12 +8,14 @@ import tempfile
 import threading
 import time
 
-from shared import ABC, SECONDS, differences
+from shared import SECONDS, differences
 from cache_disk import change_until, lost_keys
 from caches import begin_to_read
 from servers import USERS, Cache, SlowPut, ask, children, metrics
 
 CHUNKED = {"Transfer-Encoding": "chunked"}
+FIRST_BOUND = 4 << 20
+"""What an upload of unknown length reserves at first."""
 
 
 def reports_its_counts():
@@ -141,7 +143,8 @@ def fill_journal(cache, count):
 
 
 def ends_requests_on_the_old_store():
-    """A read and two uploads that began before a move end after it, and the old store ends with them. A kill before that loses nothing that was on disk."""
+    """A read and two uploads that began before a move end after it, and the old store ends with them. Until then what both stores hold or reserve counts
+    once. A kill in that time loses nothing that was on disk."""
     with tempfile.TemporaryDirectory() as place:
         folder, large, content = os.path.join(place, "cache"), os.urandom(24000000), os.urandom(3000000)
         with Cache(folder, words=["--journal-limit", "100", "--limit", "60000000", "--no-evict"]) as cache:
@@ -151,6 +154,8 @@ def ends_requests_on_the_old_store():
             found += [] if fill_journal(cache, 120) else ["no move begins"]
             time.sleep(1)
             found += differences((len(children(cache.process)), 2), (cache.ask("GET", "/small"), (200, b"abc")), (cache.ask("GET", "/k")[1] == large, True))
+            free = 60000000 - len(large) - len(b"abc") - len(b"119") - len(content) - FIRST_BOUND
+            found += differences((cache.ask("PUT", "/rest", bytes(free + 1))[0], 507), (cache.ask("PUT", "/rest", bytes(free))[0], 201), (cache.ask("DELETE", "/rest")[0], 204))
             found += differences((cache.ask("DELETE", "/k")[0], 204), (fixed.end(), 201), (grown.end(), 201))
             with connection:
                 read += b"".join(iter(lambda: connection.recv(1 << 20), b""))
@@ -158,8 +163,6 @@ def ends_requests_on_the_old_store():
             found += differences((wait_until(lambda: len(children(cache.process)) == 1), True), (cache.ask("GET", "/fixed")[1] == content, True))
             found += differences((cache.ask("GET", "/grown")[1] == content[::-1], True), (metrics(cache)["moves_total"], 1), (metrics(cache)["objects"], 4))
             found += differences((cache.ask("PUT", "/k", large)[0], 201))
-            begin_to_read(cache, "/k")[0]
-            time.sleep(1)
             return found + killed_with_two_stores(cache, folder, {"/k": large, "/small": b"abc", "/fixed": content, "/grown": content[::-1]})
 
 
