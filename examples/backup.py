@@ -1,26 +1,27 @@
 #!/usr/bin/env python3
 """Backs up a folder into a repository, and restores it, by a store (docs/LIBRARY.md).
 
-    backup.py save [--all] FOLDER REPOSITORY         keeps what is in FOLDER, and writes the backup's address
-    backup.py restore REPOSITORY ADDRESS FOLDER      puts a backup into a folder, where it overwrites nothing
-    backup.py check REPOSITORY                       compares each object with its address, and shows which backups can be restored
+    backup.py save [--all] FOLDER REPOSITORY         save what is in FOLDER, and print the backup's address
+    backup.py restore REPOSITORY ADDRESS FOLDER      restore a backup into a folder, in which nothing is overwritten
+    backup.py check REPOSITORY                       compare each object with its address, and print which backups can't be restored
 
-A repository is a folder: objects/AA/ADDRESS has the bytes of that BLAKE3 hash, and `backups` a line for each backup. Files are cut where their content
-says so, and a piece is kept once, whichever files have it, in whichever backup; so bytes put in front of a file make one new piece. A backup is a list of
-names and pieces, which is kept in pieces too. A file whose length, mode, owner and time are those of the last backup of its folder is not read, unless
-`--all` asks for it, which compares the objects that are there too. What is written is written aside, synced, and then given its name; a backup is
-noted last.
+A repository is a folder: objects/AA/ADDRESS has the bytes of that BLAKE3 hash, and `backups` a line for each backup. Files are split into pieces by their
+content, and a piece is kept once, whichever files and backups have it; so bytes put in front of a file make one new piece. If numpy is installed, it finds
+where pieces end, several times as fast; the pieces are the same. A backup is a list of names and pieces, which is kept in pieces too. A file is not read
+again if its length, mode, owner and time are those in the last backup of its folder, unless `--all` is given, which also compares the objects that are
+there. Files are written under other names, synced, and then renamed; a backup is recorded last.
 
-Kept are files, folders, links and hard links, with times, modes, owners and groups. Where an owner can't be restored, as by a user who isn't root, that is
-told, and no setuid or setgid bit is set. Not kept are extended attributes, access lists and holes in files. What is no file, folder or link (a pipe, a device,
-a socket) is told and left out.
+It keeps files, folders, links and hard links, with times, modes, owners and groups. If an owner can't be restored, for example by a user other than root,
+that is reported, and no setuid or setgid bit is set. It doesn't keep extended attributes, access lists and holes in files. Anything else (a pipe, a device,
+a socket) is reported and left out. It doesn't compress or encrypt, and removes no backups.
 
-The store gives each piece its address, and compares what is read from the repository with it. It holds at most `--memory` bytes; beyond that it forgets
+The store computes the address of each piece, and compares what is read from the repository with it. It holds up to `--memory` bytes; beyond that it forgets
 what it has held longest.
 
-The status is 0 where all was kept, restored or right; 1 where something was not, which is told; 2 for usage; 3 where the store has ended.
+The status is 0 if all was saved, restored or correct; 1 if something was not, which is reported; 2 for usage; 3 if the store has ended.
 """
 import argparse
+import bisect
 import collections
 import contextlib
 import ctypes
@@ -34,10 +35,28 @@ import time
 import urllib.parse
 
 sys.path.insert(0, os.path.join(os.path.dirname(os.path.dirname(os.path.abspath(__file__))), "python"))
-from b3store import Ended, Refused, Store
+from b3store import MAX_LIMIT, Ended, Refused, Store
+
+try:
+    import numpy
+except ImportError:
+    numpy = None
 
 MIN_PIECE, MAX_PIECE = 1 << 14, 1 << 22
 """The bytes of a piece: the last one of a file may have fewer."""
+MIN_MEMORY = 1 << 23
+"""The least `--memory`."""
+EXAMPLE = """\
+example:
+  $ backup.py save ~/papers /mnt/disk/repository
+  files 120 folders 7 links 0
+  new objects 143 bytes 81920311 known objects 0 bytes 0
+  backup 6437b3ac38465133ffb63b75273a8db548c558465d79db03fd359c6cd5bd9d85
+  $ backup.py check /mnt/disk/repository
+  objects 143 wrong 0
+  backups 1 broken 0
+  $ backup.py restore /mnt/disk/repository 6437b3ac38465133ffb63b75273a8db548c558465d79db03fd359c6cd5bd9d85 ~/restored
+"""
 MAX_ASIDE, MAX_BYTES_ASIDE = 1000, 1 << 26
 """How many objects, and how many bytes of them, are written aside before they are synced together."""
 LIBC = ctypes.CDLL(None, use_errno=True)
@@ -49,28 +68,66 @@ LINE = re.compile(r"(file|folder|link|same) (\S+) ([0-7]+)(?::(\d+):(\d+))? (-?\
 leads, a hard link the path of the same file."""
 
 
-def edge_pattern():
-    """Where a piece ends: behind five bytes that are in five sets, of 32 bytes each, which is behind one place in 32,768 of random content."""
-    sets = [[byte for byte in range(256) if (byte * factor + 60) % 256 < 32] for factor in (151, 89, 203, 57, 119)]
-    return re.compile(b"".join(b"[" + b"".join(b"\\x%02x" % byte for byte in chosen) + b"]" for chosen in sets))
+EDGE_SETS = [{byte for byte in range(256) if (byte * factor + 60) % 256 < 32} for factor in (151, 89, 203, 57, 119)]
+"""A piece ends after five bytes, one in each of these sets of 32 bytes: in random content, after one place in 32,768."""
+EDGE = re.compile(b"".join(b"[" + b"".join(b"\\x%02x" % byte for byte in sorted(chosen)) + b"]" for chosen in EDGE_SETS))
+EDGE_LEN = len(EDGE_SETS)
+EDGE_BITS = bytes(sum((byte in chosen) << number for number, chosen in enumerate(EDGE_SETS)) for byte in range(256))
+"""For each byte a bit for each set that has it."""
+BLOCK = 1 << 18
+"""How many bytes numpy searches at once, so that they stay in the processor's cache."""
 
 
-EDGE = edge_pattern()
+def edges_by_numpy(content, start):
+    """The ends of all matches of EDGE that begin at `start` or later."""
+    found = []
+    for at in range(start, len(content) - EDGE_LEN + 1, BLOCK):
+        bits = numpy.frombuffer(content[at : at + BLOCK + EDGE_LEN - 1].translate(EDGE_BITS), numpy.uint8)
+        count = len(bits) - EDGE_LEN + 1
+        places = numpy.flatnonzero((bits[:count] & bits[1 : count + 1] >> 1 & 1).view(numpy.bool_))
+        for number in range(2, EDGE_LEN):
+            places = places[bits[places + number] >> number & 1 != 0]
+        found += (places + (at + EDGE_LEN)).tolist()
+    return found
+
+
+class Edges:
+    """The ends of the pieces of a file that is read from its start on. They depend only on the bytes before them. With numpy all places at which a piece
+    may end are searched at once, without it one at a time; they are the same places."""
+
+    def __init__(self):
+        self.found, self.searched = [], 0
+        """The places that numpy found, and up to which one it has searched."""
+
+    def search(self, content, place):
+        """Searches those bytes of some content that were not searched before. The content begins at `place` in the file."""
+        if numpy is not None and len(content) >= MIN_PIECE + EDGE_LEN:
+            self.found += [place + end for end in edges_by_numpy(content, max(0, self.searched - place))]
+            self.searched = place + len(content) - EDGE_LEN + 1
+
+    def end_of(self, content, start, place):
+        """The end of the piece that starts at `start` in some content."""
+        last = min(len(content), start + MAX_PIECE)
+        if numpy is None:
+            edge = EDGE.search(content, start + MIN_PIECE, last)
+            return edge.end() if edge else last
+        at = bisect.bisect_left(self.found, place + start + MIN_PIECE + EDGE_LEN)
+        return min(last, self.found[at] - place) if at < len(self.found) else last
 
 
 def pieces_of(file):
-    """The pieces of a file, whose edges hang on the bytes before them alone."""
-    left = b""
+    """The pieces of a file."""
+    edges, left, place = Edges(), b"", 0
     while True:
         left += file.read(MAX_PIECE)
+        edges.search(left, place)
         at_end = len(left) < MAX_PIECE
         start = 0
         while len(left) - start >= MAX_PIECE or (at_end and start < len(left)):
-            edge = EDGE.search(left, start + MIN_PIECE, start + MAX_PIECE)
-            end = edge.end() if edge else min(len(left), start + MAX_PIECE)
+            end = edges.end_of(left, start, place)
             yield left[start:end]
             start = end
-        left = left[start:]
+        left, place = left[start:], place + start
         if at_end:
             return
 
@@ -442,18 +499,33 @@ def an_address(text):
     return text
 
 
+def a_memory(text):
+    if not re.fullmatch("[0-9]{1,14}", text) or not MIN_MEMORY <= int(text) <= MAX_LIMIT:
+        raise argparse.ArgumentTypeError(f"{text!r} is not a number of bytes from {MIN_MEMORY} to {MAX_LIMIT}")
+    return int(text)
+
+
+COMMANDS = (
+    ("save", save, "save what is in FOLDER, and print the backup's address", ["folder", "repository"]),
+    ("restore", restore, "restore a backup into FOLDER, in which nothing is overwritten", ["repository", "address", "folder"]),
+    ("check", check, "compare each object with its address, and print which backups can't be restored", ["repository"]),
+)
+
+
 def read_options():
-    parser = argparse.ArgumentParser(description="Backs up a folder into a repository, and restores it.")
-    parser.add_argument("--program", default="b3store", metavar="PATH", help="the program b3store")
-    parser.add_argument("--memory", type=int, default=1 << 28, metavar="BYTES", help="what the store holds at most, 8 MiB or more (256 MiB)")
+    parser = argparse.ArgumentParser(
+        description="Back up a folder into a repository, and restore it.", epilog=EXAMPLE, formatter_class=argparse.RawDescriptionHelpFormatter
+    )
+    parser.add_argument("--program", default="b3store", metavar="PATH", help="run this b3store program (default: b3store)")
+    parser.add_argument("--memory", type=a_memory, default=1 << 28, metavar="BYTES", help="let the store hold up to BYTES, 8 MiB or more (default: 256 MiB)")
     commands = parser.add_subparsers(required=True, metavar="COMMAND")
-    for name, work, words in ("save", save, ["folder", "repository"]), ("restore", restore, ["repository", "address", "folder"]), ("check", check, ["repository"]):
-        command = commands.add_parser(name)
+    for name, work, purpose, words in COMMANDS:
+        command = commands.add_parser(name, help=purpose, description=purpose[0].upper() + purpose[1:] + ".")
         command.set_defaults(work=work)
         for word in words:
             command.add_argument(word, metavar=word.upper(), type=an_address if word == "address" else str)
         if work is save:
-            told = "reads files too that are as the last backup has them, and compares the objects that are there"
+            told = "read files too that are as the last backup has them, and compare the objects that are there"
             command.add_argument("--all", action="store_true", help=told)
     return parser.parse_args()
 

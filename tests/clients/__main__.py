@@ -1,6 +1,6 @@
 """python3 tests/clients [PROGRAM] (default target/b3store): runs the tests of the Python package (python/tests), and of the programs that use it:
-examples/backup.py, examples/cache_server.py, and, if nginx and ccache are installed, examples/cluster.py and bench/ccache. The last line is
-`N passed, M failed`.
+examples/backup.py, with numpy too if it is installed, examples/cache_server.py, and, if nginx and ccache are installed, examples/cluster.py and
+bench/ccache. The last line is `N passed, M failed`.
 """
 import os
 import shutil
@@ -61,6 +61,10 @@ def cases():
             print(f"skipped: there is no {name}")
         else:
             yield name, case
+    if backups.backup_program.numpy is None:
+        print("skipped: there is no numpy")
+    else:
+        yield "a backup's pieces by numpy", backups.splits_by_numpy_too
 
 
 if __name__ == "__main__":

@@ -1,6 +1,8 @@
 """Backups by examples/backup.py."""
 import fcntl
+import io
 import os
+import random
 import shutil
 import stat
 import subprocess
@@ -10,6 +12,7 @@ import time
 
 from shared import ABC, EMPTY, PROGRAM, SECONDS, TOP, differences
 from b3store import Store
+import backup as backup_program
 from backup import Repository
 
 
@@ -203,3 +206,21 @@ def saves_that_are_killed():
         restored = os.path.join(place, "restored")
         found += differences((status, 0), (backup("restore", repository, lines[-1].split()[1], restored), (0, [])), (state_of(restored) == state_of(folder), True))
         return found + ([] if broken_off else ["no save was killed"])
+
+
+def splits_by_numpy_too():
+    """The pieces are the same with numpy and without it, wherever edges are in the blocks that are searched at once."""
+    edge, random_bytes = bytes(min(chosen) for chosen in backup_program.EDGE_SETS), random.Random(1).randbytes
+    smallest, largest, block = backup_program.MIN_PIECE, backup_program.MAX_PIECE, backup_program.BLOCK
+    lengths = [0, 4, smallest, smallest + 4, smallest + 5, smallest + 6, block + 4, block + 5, largest - 1, largest, largest + 5]
+    contents = [random_bytes(length) for length in lengths] + [bytes(largest + extra) + random_bytes(largest) for extra in (-5, 0, 5)] + [edge * 60000]
+    for at in (smallest - 1, smallest, block - 5, block - 3, block - 1, block, largest - 6, largest - 5, largest - 1, largest):
+        contents.append(bytes(at) + edge + bytes(2 * largest - at))
+    found, numpy = [], backup_program.numpy
+    for content in contents:
+        pieces = []
+        for backup_program.numpy in None, numpy:
+            pieces.append(list(backup_program.pieces_of(io.BytesIO(content))))
+        if pieces[0] != pieces[1] or b"".join(pieces[0]) != content:
+            found.append(f"{len(content)} bytes: pieces of {[len(piece) for piece in pieces[0]][:5]} and {[len(piece) for piece in pieces[1]][:5]} bytes")
+    return found
