@@ -46,6 +46,7 @@ CASES = (
     ("a cache's requests that end on its old store", cache_moves.ends_requests_on_the_old_store),
     ("a cache that is killed in moves", cache_moves.loses_a_second_in_moves),
     ("a cache's quotas in moves", cache_moves.keeps_quotas_in_moves),
+    ("a cache that writes from two stores", cache_moves.writes_from_both_stores),
     ("two caches on one folder", caches.keeps_others_out),
     ("a cache's keys of any bytes", caches.keys_of_any_bytes),
     ("a cache whose store ends", caches.ends_with_its_store),

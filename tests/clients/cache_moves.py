@@ -8,7 +8,11 @@ import tempfile
 import threading
 import time
 
-from shared import SECONDS, differences
+from shared import PROGRAM, SECONDS, differences
+from b3store import Store
+from cache_files import Files
+from cache_stores import Cache as Stores
+from cache_stores import User
 from cache_disk import change_until, lost_keys
 from caches import begin_to_read
 from servers import USERS, Cache, SlowPut, ask, children, metrics
@@ -156,10 +160,12 @@ def ends_requests_on_the_old_store():
             found += differences((len(children(cache.process)), 2), (cache.ask("GET", "/small"), (200, b"abc")), (cache.ask("GET", "/k")[1] == large, True))
             free = 60000000 - len(large) - len(b"abc") - len(b"119") - len(content) - FIRST_BOUND
             found += differences((cache.ask("PUT", "/rest", bytes(free + 1))[0], 507), (cache.ask("PUT", "/rest", bytes(free))[0], 201), (cache.ask("DELETE", "/rest")[0], 204))
-            found += differences((cache.ask("DELETE", "/k")[0], 204), (fixed.end(), 201), (grown.end(), 201))
+            found += differences((cache.ask("DELETE", "/k")[0], 204))
             with connection:
                 read += b"".join(iter(lambda: connection.recv(1 << 20), b""))
             found += [] if read == large else [f"{len(read)} bytes arrive"]
+            time.sleep(0.5)
+            found += differences((len(children(cache.process)), 2), (fixed.end(), 201), (grown.end(), 201))
             found += differences((wait_until(lambda: len(children(cache.process)) == 1), True), (cache.ask("GET", "/fixed")[1] == content, True))
             found += differences((cache.ask("GET", "/grown")[1] == content[::-1], True), (metrics(cache)["moves_total"], 1), (metrics(cache)["objects"], 4))
             found += differences((cache.ask("PUT", "/k", large)[0], 201))
@@ -217,3 +223,37 @@ def keeps_quotas_in_moves():
                     found += differences(("".join(str(cache.ask("HEAD", f"/{key}")[0]) for key in (*range(20, 24), 29)), "404404404200200"))
                 found += [] if metrics(cache)["moves_total"] >= 2 else ["there are too few moves"]
         return found + differences((dict(statuses), {201: 660, 204: 600}))
+
+
+def writes_from_both_stores():
+    """What is written to disk is read from the store that holds it, also if it moves while it is read."""
+    with tempfile.TemporaryDirectory() as place:
+        folder, user, large = os.path.join(place, "cache"), User("all", None, 1 << 30), os.urandom(3 << 18)
+        files = Files(folder)
+        files.read()
+        cache = Stores(lambda: Store(PROGRAM, sessions=2), [user], 1 << 30)
+        cache.files = files
+        for key, content in ("/old", b"abc"), ("/moves", large), ("/gone", b"gone"):
+            cache.put(user, key, len(content), [content])
+        cache.old, cache.backend = cache.backend, cache.open_backend()
+        cache.put(user, "/new", 4, [b"four"])
+        cache.drop(user, "/gone")
+        ranges = cache.old.store.ranges
+
+        def moving_ranges(tenant, address):
+            for number, content in enumerate(ranges(tenant, address)):
+                yield content
+                if number == 1:
+                    for batch in cache.batches(user):
+                        cache.move_batch(user, batch)
+
+        cache.old.store.ranges = moving_ranges
+        files.start(cache)
+        files.end()
+        found = differences((sorted(cache.old.counts[user]), []), (cache.close_old(), True), (len(cache.backends()), 1), (cache.totals(), (3, len(large) + 7)))
+        cache.close_stores()
+        os.close(files.folder)
+        files = Files(folder)
+        files.read()
+        written = {key: b"".join(files.content(address)) for (_, key), address in files.keys.items()}
+        return found + ([] if written == {"/old": b"abc", "/moves": large, "/new": b"four"} else [f"written are {sorted(written)}"])
