@@ -226,7 +226,7 @@ def keeps_quotas_in_moves():
 
 
 def writes_from_both_stores():
-    """What is written to disk is read from the store that holds it, also if it moves while it is read."""
+    """What is written to disk is read from the store that holds it, also if it moves while it is read. A move leaves the order of the keys."""
     with tempfile.TemporaryDirectory() as place:
         folder, user, large = os.path.join(place, "cache"), User("all", None, 1 << 30), os.urandom(3 << 18)
         files = Files(folder)
@@ -250,7 +250,7 @@ def writes_from_both_stores():
         cache.old.store.ranges = moving_ranges
         files.start(cache)
         files.end()
-        found = differences((sorted(cache.old.counts[user]), []), (cache.close_old(), True), (len(cache.backends()), 1), (cache.totals(), (3, len(large) + 7)))
+        found = differences((list(user.keys), ["/old", "/moves", "/new"]), (sorted(cache.old.counts[user]), []), (cache.close_old(), True), (len(cache.backends()), 1), (cache.totals(), (3, len(large) + 7)))
         cache.close_stores()
         os.close(files.folder)
         files = Files(folder)
