@@ -156,6 +156,8 @@ class Repository:
         self.counts = collections.Counter()
         self.compares = False
         """Whether objects that are there already are compared with what is kept."""
+        self.folders = set()
+        """The folders of objects that are known to be there."""
         self.aside, self.bytes_aside = {}, 0
         """Where what was written aside belongs, by where it is."""
 
@@ -214,7 +216,9 @@ class Repository:
         place = self.place(address)
         is_new = not self.has(place, content)
         if is_new:
-            os.makedirs(os.path.dirname(place), exist_ok=True)
+            if address[:2] not in self.folders:
+                os.makedirs(os.path.dirname(place), exist_ok=True)
+                self.folders.add(address[:2])
             self.aside[place + ".new"] = place
             with open(place + ".new", "wb") as file:
                 file.write(content)
