@@ -352,10 +352,10 @@ def users_of(options):
     if options.users is None:
         return [User("all", None, options.limit)]
     users = []
-    with open(options.users, encoding="utf-8") as lines:
-        for number, line in enumerate(lines, 1):
+    with open(options.users, "rb") as lines:
+        for number, line in enumerate(lines.read().decode(errors="replace").splitlines(), 1):
             found = re.fullmatch(r"(\S+)\s+(\S+)\s+([0-9]{1,14})\s*", line)
-            if not found or int(found[3]) > MAX_LIMIT:
+            if not found or "\ufffd" in line or int(found[3]) > MAX_LIMIT:
                 raise ValueError(f"{options.users}, line {number}: {line.strip()[:60]!r} is not NAME TOKEN LIMIT, with a limit of up to {MAX_LIMIT} bytes")
             users.append(User(found[1], found[2], int(found[3])))
     if len({user.name for user in users}) < len(users):

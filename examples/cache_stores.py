@@ -261,7 +261,7 @@ class Cache:
 
     def move_if_due(self):
         """Starts a move if the journal is longer than its limit, and twice as long as the last move left it."""
-        is_moving = self.mover is not None and self.mover.is_alive()
+        is_moving = self.old is not None or (self.mover is not None and self.mover.is_alive())
         if self.journal_limit and not is_moving and self.backend.count_entries() > self.next_limit:
             self.mover = threading.Thread(target=self.try_to_move, daemon=True)
             self.mover.start()
@@ -282,12 +282,15 @@ class Cache:
             for user in self.users:
                 self.share_quota(user)
         while not self.is_closed:
-            refusals = [refusal for user in self.users for batch in self.batches(user) for refusal in self.move_batch(user, batch)]
+            try:
+                refusals = [refusal for user in self.users for batch in self.batches(user) for refusal in self.move_batch(user, batch)]
+                if self.close_old():
+                    return
+            except Refused as refusal:
+                refusals = [refusal]
             if refusals and not has_reported:
                 has_reported = True
                 print(f"cache_server: content waits to be moved to a new store: {refusals[0]}", file=sys.stderr, flush=True)
-            if self.close_old():
-                return
             time.sleep(SECONDS_BETWEEN_PASSES)
 
     def batches(self, user):
@@ -322,13 +325,16 @@ class Cache:
             except Refused as refusal:
                 refusals += [refusal] if refusal.number != "S12" else []
         with self.lock:
-            for entry, keys in batch:
-                if entry in copies:
-                    self.switch(user, keys, entry, copies[entry])
-                if not all(entry.address in backend.counts[user] for backend in self.backends()):
-                    del self.twins[user][entry.address]
-            self.moving = frozenset()
-            self.share_quota(user)
+            try:
+                for entry, keys in batch:
+                    if entry in copies:
+                        self.switch(user, keys, entry, copies[entry])
+            finally:
+                self.moving = frozenset()
+                for entry, _ in batch:
+                    if not all(entry.address in backend.counts[user] for backend in self.backends()):
+                        del self.twins[user][entry.address]
+                self.share_quota(user)
         return refusals
 
     def copy(self, user, entry):
@@ -370,11 +376,11 @@ class Cache:
         with self.lock:
             if self.old.is_used():
                 return False
+            for user in self.users:
+                self.backend.store.limit(self.backend.tenants[user], user.limit)
+                self.twins[user].clear()
             self.next_limit = max(self.journal_limit, 2 * self.backend.count_entries())
             old, self.old = self.old, None
-            for user in self.users:
-                self.twins[user].clear()
-                self.backend.store.limit(self.backend.tenants[user], user.limit)
         old.store.close()
         self.moves += 1
         return True

@@ -22,6 +22,7 @@ CASES = (
     ("a backup whose object was changed", backups.finds_changed_objects),
     ("odd files in a repository", backups.odd_files_in_a_repository),
     ("a backup that leads elsewhere", backups.restores_nothing_elsewhere),
+    ("a backup with wrong words", backups.refuses_wrong_words),
     ("owners and hard links", backups.keeps_owners_and_links),
     ("saves that are killed", backups.saves_that_are_killed),
     ("a cache's keys", caches.caches_keys),
@@ -48,6 +49,7 @@ CASES = (
     ("a cache's quotas in moves", cache_moves.keeps_quotas_in_moves),
     ("a cache that writes from two stores", cache_moves.writes_from_both_stores),
     ("two caches on one folder", caches.keeps_others_out),
+    ("a cache with wrong words", caches.refuses_wrong_words),
     ("a cache's keys of any bytes", caches.keys_of_any_bytes),
     ("a cache whose store ends", caches.ends_with_its_store),
 )

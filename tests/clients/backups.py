@@ -134,6 +134,27 @@ def odd_files_in_a_repository():
         return found + differences((backup("check", repository)[0], 1), (backup("save", folder, repository)[0], 1))
 
 
+def refuses_wrong_words():
+    """Wrong arguments end a run at once, with one line that has what is wrong."""
+    with tempfile.TemporaryDirectory() as place:
+        folder, repository = folder_of_abc(place)
+        file = os.path.join(folder, "file")
+        cases = (
+            (["save", folder, file], 1, file), (["save", file, repository], 1, file), (["save", place + "/none", repository], 1, place + "/none"),
+            (["check", file], 1, file), (["check", place + "/none"], 1, place + "/none"), (["restore", place + "/none", ABC, folder], 1, ABC),
+            (["restore", repository, "zz", folder], 2, "'zz'"), (["--memory", "x", "check", folder], 2, "'x'"), (["--memory", "5", "check", folder], 2, "'5'"),
+            (["--program", "/no/program", "check", folder], 1, "/no/program"), (["--program", "true", "check", folder], 3, "the store has ended"), (["save"], 2, "FOLDER"),
+        )
+        found = []
+        for words, status, part in cases:
+            command = [sys.executable, os.path.join(TOP, "examples", "backup.py"), *([] if "--program" in words else ["--program", PROGRAM]), *words]
+            run = subprocess.run(command, capture_output=True, timeout=SECONDS)
+            lines = run.stderr.decode().splitlines()
+            found += differences((run.returncode, status), (run.stdout, b""))
+            found += [] if part in lines[-1] and (status == 2 or len(lines) == 1) else [f"{words}: {lines[-1]}"]
+        return found
+
+
 def made_backup(place, *lines):
     """A repository with a backup of these lines, in which `abc` is the address of an object, and its address."""
     repository = os.path.join(place, "repository")
