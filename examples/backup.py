@@ -28,9 +28,11 @@ import ctypes
 import fcntl
 import io
 import os
+import queue
 import re
 import stat
 import sys
+import threading
 import time
 import urllib.parse
 
@@ -59,6 +61,8 @@ example:
 """
 MAX_ASIDE, MAX_BYTES_ASIDE = 1000, 1 << 26
 """How many objects, and how many bytes of them, are written aside before they are synced together."""
+MAX_WAITING = 32
+"""How many objects wait to be written."""
 LIBC = ctypes.CDLL(None, use_errno=True)
 ADDRESS = re.compile("[0-9a-f]{64}")
 BACKUP = re.compile(r"([0-9a-f]{64}) (\d+) (\S+)")
@@ -146,20 +150,79 @@ def sync(folder):
         os.close(opened)
 
 
+class Writer(threading.Thread):
+    """Writes objects in a thread of its own, while the next ones are read and hashed. Each is written aside, and renamed once that is synced."""
+
+    def __init__(self, path):
+        super().__init__(daemon=True)
+        self.path, self.fault, self.queue = path, None, queue.Queue(MAX_WAITING)
+        self.pending = set()
+        """The objects that aren't there yet under their names."""
+        self.folders, self.aside, self.bytes_aside = set(), [], 0
+        """The folders of objects that exist, and what was written aside."""
+
+    def put(self, place, content):
+        """Writes an object, now or later."""
+        if not self.is_alive():
+            self.start()
+        self.pending.add(place)
+        self.queue.put((place, content))
+        self.check()
+
+    def finish(self):
+        """Waits until all objects are there under their names. Their contents are synced, their names are not."""
+        if self.is_alive():
+            self.queue.put(None)
+            self.queue.join()
+        self.check()
+
+    def check(self):
+        if self.fault is not None:
+            raise self.fault
+
+    def run(self):
+        while True:
+            job = self.queue.get()
+            try:
+                if self.fault is None:
+                    self.settle() if job is None else self.write(*job)
+            except OSError as fault:
+                self.fault = fault
+            self.queue.task_done()
+
+    def write(self, place, content):
+        folder = os.path.dirname(place)
+        if folder not in self.folders:
+            os.makedirs(folder, exist_ok=True)
+            self.folders.add(folder)
+        with open(place + ".new", "wb") as file:
+            file.write(content)
+        self.aside.append(place)
+        self.bytes_aside += len(content)
+        if len(self.aside) >= MAX_ASIDE or self.bytes_aside >= MAX_BYTES_ASIDE:
+            self.settle()
+
+    def settle(self):
+        """Syncs what was written aside, and renames it."""
+        sync(self.path)
+        for place in self.aside:
+            os.replace(place + ".new", place)
+            self.pending.discard(place)
+        self.aside, self.bytes_aside = [], 0
+
+
 class Repository:
     """Objects on disk, and a store before them."""
 
     def __init__(self, path, store, memory):
-        self.path, self.store = path, store
+        self.path, self.store, self.memory = path, store, memory
         self.tenant = store.tenant(memory)
-        self.held = collections.OrderedDict()
+        self.held, self.bytes_held = collections.OrderedDict(), 0
+        """The lengths of the objects that the store holds, those that were held longest first, and their sum."""
         self.counts = collections.Counter()
         self.compares = False
         """Whether objects that are there already are compared with what is kept."""
-        self.folders = set()
-        """The folders of objects that are known to be there."""
-        self.aside, self.bytes_aside = {}, 0
-        """Where what was written aside belongs, by where it is."""
+        self.writer = Writer(path)
 
     def place(self, address):
         return os.path.join(self.path, "objects", address[:2], address)
@@ -183,22 +246,20 @@ class Repository:
                 yield folder, name
 
     def hold(self, content, address=None):
-        """Gives the store an object, which must have the address, where one is told. For that the store forgets what it has held longest."""
-        while True:
-            try:
-                filed = self.store.file(self.tenant, content, address)
-                break
-            except Refused as refusal:
-                if refusal.number != "S6" or not self.held:
-                    raise
-                self.store.forget(self.tenant, self.held.popitem(last=False)[0])
-        self.held[filed.address] = None
-        self.held.move_to_end(filed.address)
+        """Puts an object into the store, if it has the address, in case one is given, and returns its address. The store first forgets what it has held
+        longest, if needed."""
+        while self.held and self.bytes_held + len(content) > self.memory:
+            oldest, length = self.held.popitem(last=False)
+            self.store.forget(self.tenant, oldest)
+            self.bytes_held -= length
+        filed = self.store.file(self.tenant, content, address)
+        self.bytes_held += len(content) - self.held.pop(filed.address, 0)
+        self.held[filed.address] = len(content)
         return filed.address
 
     def has(self, place, content):
-        """Whether an object is there, or written aside."""
-        if place + ".new" in self.aside:
+        """Whether an object is there, or is about to be."""
+        if place in self.writer.pending:
             return True
         try:
             if os.path.getsize(place) != len(content):
@@ -211,31 +272,15 @@ class Repository:
             return False
 
     def keep(self, content):
-        """Keeps an object, and gives its address."""
+        """Keeps an object, and returns its address."""
         address = self.hold(content)
         place = self.place(address)
         is_new = not self.has(place, content)
         if is_new:
-            if address[:2] not in self.folders:
-                os.makedirs(os.path.dirname(place), exist_ok=True)
-                self.folders.add(address[:2])
-            self.aside[place + ".new"] = place
-            with open(place + ".new", "wb") as file:
-                file.write(content)
-            self.bytes_aside += len(content)
-            if len(self.aside) >= MAX_ASIDE or self.bytes_aside >= MAX_BYTES_ASIDE:
-                self.settle()
+            self.writer.put(place, content)
         word = "new" if is_new else "known"
         self.counts.update({word: 1, word + " bytes": len(content)})
         return address
-
-    def settle(self):
-        """Syncs what was written aside, gives it its names, and syncs these."""
-        sync(self.path)
-        for path, place in self.aside.items():
-            os.replace(path, place)
-        sync(self.path)
-        self.aside, self.bytes_aside = {}, 0
 
     def keep_all(self, file):
         """Keeps all that a file has, in pieces, and gives their addresses."""
@@ -245,7 +290,7 @@ class Repository:
         """Keeps a backup's lines, and notes it once all is on disk."""
         addresses = self.keep_all(io.BytesIO("".join(line + "\n" for line in lines).encode()))
         backup = self.keep("".join(address + "\n" for address in addresses).encode())
-        self.settle()
+        self.writer.finish()
         self.note(f"{backup} {int(time.time())} {quoted(os.path.abspath(folder))}")
         return backup
 
@@ -280,7 +325,7 @@ class Repository:
         return found
 
     def note(self, line):
-        """Adds a line to the backups."""
+        """Adds a line to the backups. The first sync is for the names of the objects, too."""
         path = os.path.join(self.path, "backups")
         lines = [found[0] for found in self.backups()]
         with open(path + ".new", "w", encoding="ascii") as file:
