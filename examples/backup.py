@@ -137,11 +137,11 @@ def pieces_of(file):
 
 
 class Damaged(Exception):
-    """What a repository has is no backup, or not whole."""
+    """A repository has something that is no backup, or is incomplete."""
 
 
 def sync(folder):
-    """Waits until all that was written to the file system of a folder is on disk: for a thousand files that is quicker than to sync each."""
+    """Waits until everything written to the file system of a folder is on disk: for a thousand files this is faster than syncing each."""
     opened = os.open(folder, os.O_RDONLY | os.O_DIRECTORY)
     try:
         if LIBC.syncfs(opened) != 0:
@@ -240,7 +240,7 @@ class Repository:
             os.close(folder)
 
     def files(self):
-        """What is below the folder of objects: folder and name of each."""
+        """Yields the folder and the name of each file below the folder of objects."""
         for folder, _, names in os.walk(os.path.join(self.path, "objects")):
             for name in sorted(names):
                 yield folder, name
@@ -283,11 +283,11 @@ class Repository:
         return address
 
     def keep_all(self, file):
-        """Keeps all that a file has, in pieces, and gives their addresses."""
+        """Keeps a file in pieces, and returns their addresses."""
         return [self.keep(piece) for piece in pieces_of(file)]
 
     def keep_backup(self, folder, lines):
-        """Keeps a backup's lines, and notes it once all is on disk."""
+        """Keeps a backup's lines, and records the backup once everything is on disk."""
         addresses = self.keep_all(io.BytesIO("".join(line + "\n" for line in lines).encode()))
         backup = self.keep("".join(address + "\n" for address in addresses).encode())
         self.writer.finish()
@@ -313,7 +313,7 @@ class Repository:
         return found
 
     def backups(self):
-        """The lines of the backups that were made, each with its fields, the oldest first."""
+        """The lines of the file of backups, each with its fields, the oldest first."""
         path = os.path.join(self.path, "backups")
         if not os.path.exists(path):
             return []
@@ -335,7 +335,7 @@ class Repository:
         sync(self.path)
 
     def read(self, address):
-        """An object of the repository, which was compared with its address."""
+        """The bytes of an object of the repository. They are compared with its address."""
         with open(self.place(address), "rb") as file:
             content = file.read()
         self.hold(content, address)
@@ -343,7 +343,7 @@ class Repository:
 
 
 def entries_of(folder):
-    """What a folder has: paths from it, each behind the folder that it is in, in the order of their names."""
+    """Yields the paths below a folder, in the order of their names, each after the folder that it is in."""
     for entry in sorted(os.scandir(folder), key=lambda entry: entry.name):
         yield entry.path
         if entry.is_dir(follow_symlinks=False):
@@ -359,15 +359,15 @@ def unquoted(text):
 
 
 def place_in(folder, path):
-    """A path of a backup, which leads nowhere out of the folder."""
+    """A path of a backup in a folder. Raises OSError if it leads out of the folder."""
     if os.path.isabs(path) or ".." in path.split("/"):
         raise OSError(f"{path} leads out of the folder")
     return os.path.join(folder, path)
 
 
 def line_of(repository, folder, path, known, linked):
-    """The backup's line of a path, or None for what is left out. What the last backup knows of a file is taken from there; `linked` has the paths
-    of files that have several."""
+    """The backup's line for a path, or None for what is left out. `known` has the lines of the last backup; `linked` the first path of each file that has
+    several."""
     status, name = os.lstat(path), quoted(os.path.relpath(path, folder))
     words = [name, f"{stat.S_IMODE(status.st_mode):o}:{status.st_uid}:{status.st_gid}", str(status.st_mtime_ns)]
     if stat.S_ISDIR(status.st_mode):
@@ -398,7 +398,7 @@ def known_files(repository, folder):
 
 
 def lines_of_folder(repository, options, known):
-    """The lines of what a folder has, and whether that is all."""
+    """The lines for the paths in a folder, and whether none was left out."""
     lines, is_whole, linked = [], True, {}
     for path in entries_of(options.folder):
         try:
@@ -431,14 +431,14 @@ def save(repository, options):
 
 
 class Restoring:
-    """A backup that is put into a folder."""
+    """A backup that is being restored into a folder."""
 
     def __init__(self, repository, folder):
         self.repository, self.folder = repository, folder
         self.folders, self.unowned, self.is_whole = [], 0, True
 
     def restore(self, line):
-        """Puts a line's file, link or folder into its place, and leads through no link on the way there."""
+        """Restores a line's file, link or folder. Raises OSError if a folder on its path is a link."""
         kind, path, *_, more = line.groups()
         place = place_in(self.folder, unquoted(path))
         if os.path.realpath(os.path.dirname(place)) != os.path.normpath(os.path.join(os.path.realpath(self.folder), os.path.dirname(unquoted(path)))):
@@ -460,7 +460,7 @@ class Restoring:
         self.finish(place, line)
 
     def finish(self, place, line):
-        """Gives what was put there its owner, mode and time."""
+        """Sets the owner, mode and time of what was restored."""
         kind, _, mode, owner, group, moment, _ = line.groups()
         mode = int(mode, 8)
         try:
@@ -496,7 +496,7 @@ def restore(repository, options):
 
 
 def right_objects(repository):
-    """The addresses of the objects that have their hash, and how many haven't."""
+    """The addresses of the objects that have their hash, and how many don't."""
     right, wrong = set(), 0
     for folder, name in repository.files():
         path = os.path.join(folder, name)
@@ -574,8 +574,8 @@ def read_options():
         for word in words:
             command.add_argument(word, metavar=word.upper(), type=an_address if word == "address" else str)
         if work is save:
-            told = "read files too that are as the last backup has them, and compare the objects that are there"
-            command.add_argument("--all", action="store_true", help=told)
+            extent = "read files too that are as the last backup has them, and compare the objects that are there"
+            command.add_argument("--all", action="store_true", help=extent)
     return parser.parse_args()
 
 

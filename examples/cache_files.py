@@ -1,14 +1,15 @@
-"""What a cache has on disk: contents one behind another in segments, and a log of the keys, written behind as they come (cache_server.py).
+"""What a cache has on disk: content in segments, one object after another, and a log of the keys (cache_server.py).
 
-A writer appends what is new to the last segment, syncs it, then appends lines to the log, and syncs that, at least twice a second. So a whole line of the
-log speaks of contents that are there; a start reads up to the last whole line and drops what is behind. A line is the CRC-32 of its text, and the text:
+A writer appends new content to the last segment, syncs it, then appends lines to the log, and syncs that, at least twice a second. So a complete line of the
+log refers to content that is there. A start reads the log up to the last complete line, and drops what follows. A line is the CRC-32 of its text, and the
+text:
 
     object ADDRESS SEGMENT OFFSET LENGTH     where an object's bytes are
-    key USER ADDRESS KEY                     the key leads there
+    key USER ADDRESS KEY                     the key leads to this object
     drop USER KEY                            the key leads nowhere
 
-Where contents that no key leads to take more of a segment than the others, the writer moves those to the last segment, some at a time, and removes the
-segment. Where the log has many lines that later ones undo, it writes the log anew.
+If content that no key leads to takes more than half of a segment, the writer moves the other content to the last segment, some at a time, and removes the
+segment. If many lines of the log are undone by later ones, it writes the log again.
 """
 import collections
 import contextlib
@@ -25,26 +26,26 @@ from cache_stores import Entry
 
 LOG = "log"
 OLD_KEYS = "keys"
-"""The file of the keys in a folder of an older server."""
+"""The file of the keys in a folder of an older version."""
 TEXT = re.compile("object [0-9a-f]{64} [^ ]+ [0-9]{1,19} [0-9]{1,19}|key [^ ]+ [0-9a-f]{64} .*|drop [^ ]+ .*", re.DOTALL)
 SEGMENT = 1 << 26
-"""No content is appended to a segment of so many bytes."""
+"""A segment of this length gets no more content."""
 SMALL_SEGMENT = 1 << 20
-"""Nor to one of so many, of which most is dead."""
+"""Nor does one of this length, if no key leads to most of it."""
 MOVED_AT_ONCE = 1 << 24
-"""So many bytes are moved between two syncs."""
+"""How many bytes are moved between two syncs."""
 MAX_WAITING = 1 << 26
-"""Where so many bytes wait to be written, stores wait too: a disk that takes as many a second is never more than a second behind."""
+"""While this many bytes wait to be written, PUTs wait too: a disk that writes as many in a second is never more than a second late."""
 SECONDS_BETWEEN_SYNCS = 0.4
 COPIED = 1 << 20
 IDLE_LINES = 1000
-"""So many lines the log may have beside those that hold, and as many as hold."""
+"""How many lines of the log may be undone by later ones, beyond as many as are valid."""
 
 Place = collections.namedtuple("Place", "segment offset length")
 
 
 class InUse(Exception):
-    """Another server works in a folder."""
+    """Another server uses a folder."""
 
 
 def line_of(text):
@@ -54,7 +55,7 @@ def line_of(text):
 
 
 def whole_lines(content):
-    """The texts of the lines up to the first that isn't whole, and how many bytes these lines have."""
+    """The texts of the lines before the first incomplete one, and the length of these lines."""
     texts, end = [], 0
     for line in content.split(b"\n")[:-1]:
         given, _, inside = line.partition(b" ")
@@ -80,7 +81,7 @@ class Files:
         self.keys, self.places, self.refs = {}, {}, collections.Counter()
         """The keys of the log by user and key, the objects' places, and how many keys lead to an object."""
         self.live, self.sizes = collections.Counter(), collections.Counter()
-        """The bytes of each segment that keys lead to, and all."""
+        """For each segment, how many of its bytes keys lead to, and its length."""
         self.waiting, self.bytes, self.changed = [], 0, threading.Condition()
         self.fault, self.has_ended, self.lines = None, False, 0
         self.log = self.last = self.writer = self.name = None
@@ -91,7 +92,7 @@ class Files:
     # ---- what is there
 
     def read(self):
-        """Reads the log, and drops what is behind its last whole line. Gives how many bytes that were."""
+        """Reads the log, drops what follows its last complete line, and returns how many bytes that were."""
         if os.path.exists(self.at(OLD_KEYS)) and not os.path.exists(self.at(LOG)):
             self.begin_log()
         with open(self.at(LOG), "ab+") as log:
@@ -110,7 +111,7 @@ class Files:
         return len(content) - end
 
     def begin_log(self):
-        """Writes the log of a folder of an older server, with a file for each object and one of all keys."""
+        """Writes the log of a folder of an older version, which has a file for each object and one with all keys."""
         with open(self.at(OLD_KEYS), encoding="latin-1", newline="\n") as lines:
             rows = [line.rstrip("\n").split(" ", 2) for line in lines]
         names = {address: os.path.join("objects", address) for _, address, _ in rows}
@@ -120,7 +121,7 @@ class Files:
         os.remove(self.at(OLD_KEYS))
 
     def take(self, text):
-        """Notes what a line says."""
+        """Records what a line says."""
         kind, words = text.split(" ", 1)
         if kind == "object":
             address, segment, offset, length = words.split(" ")
@@ -164,7 +165,7 @@ class Files:
         return self.places[address]
 
     def content(self, address):
-        """The bytes of an object, a piece at a time."""
+        """Yields the bytes of an object in pieces."""
         place = self.place(address)
         with open(self.at(place.segment), "rb") as file:
             file.seek(place.offset)
@@ -175,19 +176,19 @@ class Files:
                 yield piece
 
     def put_aside(self, address):
-        """Copies what isn't the object of its address into a folder of its own, and has it no longer."""
+        """Copies content that doesn't have its address to a separate folder, and forgets where it was."""
         os.makedirs(self.at("aside"), exist_ok=True)
         with open(self.at(os.path.join("aside", address)), "wb") as file:
             file.writelines(self.content(address))
         self.lose(address)
 
     def lose(self, address):
-        """Has an object's bytes no longer: when they are stored once more, they are written once more."""
+        """Forgets where an object is: if its content is stored again, it is written again."""
         place = self.places.pop(address, None)
         if place is not None and self.refs[address]:
             self.live[place.segment] -= place.length
 
-    # ---- what comes
+    # ---- new content
 
     def start(self, cache):
         """Starts the writer, which reads content from the stores of the cache."""
@@ -197,19 +198,19 @@ class Files:
         self.writer.start()
 
     def note(self, user, key, entry):
-        """A key leads to an object of the user's, or nowhere. This is called in the order in which keys change."""
+        """Records that a key leads to an object of the user's, or nowhere. This is called in the order in which keys change."""
         with self.changed:
             self.waiting.append((user, key, entry))
             self.bytes += entry.length if entry is not None else 0
             self.changed.notify_all()
 
     def wait(self):
-        """Waits while too much isn't written yet."""
+        """Waits while too many bytes wait to be written."""
         with self.changed:
             self.changed.wait_for(lambda: self.bytes <= MAX_WAITING or self.fault is not None)
 
     def end(self):
-        """Writes what has come, and ends."""
+        """Writes what was recorded, and ends the writer."""
         with self.changed:
             self.has_ended = True
             self.changed.notify_all()
@@ -230,7 +231,7 @@ class Files:
                 self.changed.notify_all()
 
     def write_batch(self, cache, due):
-        """Writes what has come until a time, and gives whether that was the end."""
+        """Writes what is recorded until a time, and returns whether that was the end."""
         with self.changed:
             self.changed.wait_for(lambda: self.waiting or self.has_ended or self.emptiest() is not None)
             self.changed.wait_for(lambda: self.has_ended or self.bytes > MAX_WAITING, max(0, due - time.monotonic()))
@@ -243,7 +244,7 @@ class Files:
         return has_ended
 
     def write(self, cache, batch, moves):
-        """Writes what has come, and moves some of what is there."""
+        """Writes some changes of keys, and moves some content to the last segment."""
         texts = [text for user, key, entry in batch for text in self.texts_of(cache, user, key, entry)]
         emptied = self.emptiest() if moves else None
         texts += self.move(emptied) if emptied else []
@@ -289,7 +290,7 @@ class Files:
                 return self.append(address, backend.store.ranges(backend.tenants[user], address))
 
     def append(self, address, pieces):
-        """Appends an object's bytes to the last segment, and gives its line."""
+        """Appends an object's bytes to the last segment, and returns its line."""
         offset = self.last.tell()
         try:
             for piece in pieces:
@@ -303,14 +304,14 @@ class Files:
         return f"object {address} {place.segment} {place.offset} {place.length}"
 
     def emptiest(self):
-        """A segment of which most is dead, other than the last one."""
+        """A segment, other than the last one, of which keys lead to at most half; or None."""
         return next((name for name, size in self.sizes.items() if name != self.name and 2 * self.live[name] <= size), None)
 
     def live_objects(self, segment):
         return [address for address, place in self.places.items() if place.segment == segment and self.refs[address]]
 
     def move(self, segment):
-        """Moves some live objects of a segment to the last one, and gives their lines."""
+        """Moves some objects that keys lead to from a segment to the last one, and returns their lines."""
         texts, moved = [], 0
         for address in self.live_objects(segment):
             if moved < MOVED_AT_ONCE:
@@ -319,7 +320,7 @@ class Files:
         return texts
 
     def remove(self, segment):
-        """Removes a segment without live objects."""
+        """Removes a segment to whose objects no key leads."""
         for address in [address for address, place in self.places.items() if place.segment == segment]:
             del self.places[address]
         del self.sizes[segment], self.live[segment]
@@ -335,7 +336,7 @@ class Files:
         os.fsync(self.folder)
 
     def write_log(self):
-        """Writes the log anew, with what holds."""
+        """Writes the log again, with the valid lines only."""
         self.places = {address: place for address, place in self.places.items() if self.refs[address]}
         texts = [f"object {address} {' '.join(map(str, place))}" for address, place in self.places.items()]
         texts += [f"key {user} {address} {key}" for (user, key), address in self.keys.items()]
@@ -353,7 +354,7 @@ class Files:
 
 
 class Loader:
-    """Stores what a folder has."""
+    """Loads what a folder has into a cache."""
 
     def __init__(self, cache, files):
         self.cache, self.files = cache, files
@@ -368,7 +369,7 @@ class Loader:
         users = {user.name: user for user in self.cache.users}
         faults, count = collections.Counter(), 0
         for (name, key), address in list(self.files.keys.items()):
-            fault = "its user is gone" if name not in users else self.load_key(users[name], key, address)
+            fault = "its user doesn't exist" if name not in users else self.load_key(users[name], key, address)
             count += fault is None
             faults.update([fault] if fault else [])
         for fault, keys in faults.items():

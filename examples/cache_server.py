@@ -79,7 +79,7 @@ example:
 
 
 class Cut(Exception):
-    """A request's body ends early, or is no body of HTTP."""
+    """A request's body is truncated or malformed."""
 
 
 class Handler(http.server.BaseHTTPRequestHandler):
@@ -200,12 +200,12 @@ class Handler(http.server.BaseHTTPRequestHandler):
         self.server.metrics.add("sent_bytes", len(content))
 
     def has_it(self, entry):
-        """Whether the client has the content already."""
+        """Whether the client already has the content."""
         tags = [tag.strip() for tag in self.headers.get("If-None-Match", "").split(",")]
         return "*" in tags or any(tag[2 * tag.startswith("W/") :] == f'"{entry.address}"' for tag in tags)
 
     def asked_range(self, entry):
-        """The range of a content that is asked for, empty where there are no such bytes; None: all of it, also where several ranges are asked for."""
+        """The requested range of the content, which is empty if it has no byte of it. None for all of it, also if several ranges are requested."""
         found = re.fullmatch(r"bytes=([0-9]{0,19})-([0-9]{0,19})", self.headers.get("Range", "").strip())
         if not found or found.groups() == ("", "") or self.headers.get("If-Range", f'"{entry.address}"') != f'"{entry.address}"':
             return None
@@ -217,7 +217,7 @@ class Handler(http.server.BaseHTTPRequestHandler):
         return range(first, entry.length if last is None else min(last + 1, entry.length))
 
     def user(self):
-        """The user who has the request's token."""
+        """The user with the request's token, or None."""
         scheme, _, given = self.headers.get("Authorization", "").partition(" ")
         token = given.strip()
         if scheme.lower() == "basic":
@@ -258,7 +258,7 @@ class Handler(http.server.BaseHTTPRequestHandler):
             self.write(content if with_content else b"")
 
     def refuse(self, status, body=()):
-        """Refuses a request, and reads some of its body, so that the client sees the answer."""
+        """Refuses a request, and reads some of its body, so that the client receives the answer."""
         self.close_connection = True
         dropped = 0
         with contextlib.suppress(Cut, OSError):
@@ -278,7 +278,7 @@ class Handler(http.server.BaseHTTPRequestHandler):
 
 
 class Server(http.server.ThreadingHTTPServer):
-    """Answers each connection by a thread."""
+    """Answers each connection in a thread."""
 
     daemon_threads = True
     request_queue_size = 128
@@ -305,13 +305,13 @@ class Server(http.server.ThreadingHTTPServer):
         self.stopping.set()
 
     def handle_error(self, request, client_address):
-        """A connection that a client cuts is no fault of the server's."""
+        """Reports an error, unless a client has broken its connection."""
         if not isinstance(sys.exc_info()[1], ConnectionError):
             super().handle_error(request, client_address)
 
 
 def pieces(file, length):
-    """So many bytes of a file, a piece at a time."""
+    """Yields `length` bytes of a file in pieces."""
     while length > 0:
         piece = file.read1(min(PART, length))
         if not piece:
@@ -321,7 +321,7 @@ def pieces(file, length):
 
 
 def http_chunks(file):
-    """The content of a body in HTTP's chunks, a piece at a time."""
+    """Yields the content of a body in HTTP's chunks, in pieces."""
     while True:
         try:
             length = int(file.readline(100).split(b";")[0], 16)
@@ -337,7 +337,7 @@ def http_chunks(file):
 
 
 def parts_of(body):
-    """The same bytes in parts, of which the last one alone is shorter."""
+    """Yields the same bytes in parts of one length, of which only the last may be shorter."""
     part = bytearray()
     for piece in body:
         part += piece
@@ -364,7 +364,7 @@ def users_of(options):
 
 
 def stop_signals():
-    """What is set when the process is asked to end."""
+    """An event that is set when the process receives a signal to end."""
     stopping = threading.Event()
     for number in signal.SIGTERM, signal.SIGINT, signal.SIGHUP:
         signal.signal(number, lambda *_: stopping.set())
@@ -392,10 +392,10 @@ def read_options():
     add("--limit", type=length, default=MAX_LIMIT, metavar="BYTES", help="limit the one user there is without --users")
     add("--most", type=length, default=1 << 32, metavar="BYTES", help="refuse longer objects (default: 4 GiB)")
     add("--no-evict", action="store_true", help="answer 507 if a user's quota is full, instead of evicting keys")
-    add("--port", type=number(0, 65535), default=8080, metavar="N", help="listen on this port (default: 8080); with 0 on a free one, which the first line of output has")
+    add("--port", type=number(0, 65535), default=8080, metavar="N", help="listen on this port (default: 8080); with 0 on a free one, which is printed")
     add("--sessions", type=number(1, MAX_SESSIONS), default=4, metavar="N", help="let up to N requests use the store at a time (default: 4)")
-    told = f"move the content to a new store when the journal has more than N entries (default: {JOURNAL_LIMIT}); with 0 never"
-    add("--journal-limit", type=number(0, 1 << 32), default=JOURNAL_LIMIT, metavar="N", help=told)
+    purpose = f"move the content to a new store when the journal has more than N entries (default: {JOURNAL_LIMIT}); with 0 never"
+    add("--journal-limit", type=number(0, 1 << 32), default=JOURNAL_LIMIT, metavar="N", help=purpose)
     add("--program", default="b3store", metavar="PATH", help="run this b3store program (default: b3store)")
     return parser.parse_args()
 

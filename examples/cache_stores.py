@@ -126,7 +126,7 @@ class Cache:
                     raise
 
     def evict(self, user, key, wanted):
-        """Drops the least recently used keys of a user, and `key` last, until `wanted` bytes are free. Returns False, and drops none, if that isn't possible."""
+        """Drops the least recently used keys of a user, and `key` last, until `wanted` bytes are free. If that isn't possible, drops none and returns False."""
         with self.lock:
             dropped, counts, freed = [], collections.Counter(), 0
             for other in sorted(user.keys, key=key.__eq__) if self.evicts else ():
