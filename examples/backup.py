@@ -119,14 +119,14 @@ class Edges:
         return min(last, self.found[at] - place) if at < len(self.found) else last
 
 
-def pieces_of(file):
-    """The pieces of a file."""
-    edges, left, place = Edges(), b"", 0
+def pieces_of(file, length):
+    """The pieces of a file, which should have this length."""
+    edges, left, place, wanted = Edges(), b"", 0, min(MAX_PIECE, length + 1)
     while True:
-        left += file.read(MAX_PIECE)
+        content = file.read(wanted)
+        left += content
         edges.search(left, place)
-        at_end = len(left) < MAX_PIECE
-        start = 0
+        at_end, wanted, start = len(content) < wanted, MAX_PIECE, 0
         while len(left) - start >= MAX_PIECE or (at_end and start < len(left)):
             end = edges.end_of(left, start, place)
             yield left[start:end]
@@ -282,13 +282,14 @@ class Repository:
         self.counts.update({word: 1, word + " bytes": len(content)})
         return address
 
-    def keep_all(self, file):
+    def keep_all(self, file, length):
         """Keeps a file in pieces, and returns their addresses."""
-        return [self.keep(piece) for piece in pieces_of(file)]
+        return [self.keep(piece) for piece in pieces_of(file, length)]
 
     def keep_backup(self, folder, lines):
         """Keeps a backup's lines, and records the backup once everything is on disk."""
-        addresses = self.keep_all(io.BytesIO("".join(line + "\n" for line in lines).encode()))
+        text = "".join(line + "\n" for line in lines).encode()
+        addresses = self.keep_all(io.BytesIO(text), len(text))
         backup = self.keep("".join(address + "\n" for address in addresses).encode())
         self.writer.finish()
         self.note(f"{backup} {int(time.time())} {quoted(os.path.abspath(folder))}")
@@ -383,7 +384,7 @@ def line_of(repository, folder, path, known, linked):
     line = known.get(tuple(words))
     if line is None:
         with open(path, "rb") as file:
-            line = " ".join([*words, *repository.keep_all(file)])
+            line = " ".join([*words, *repository.keep_all(file, status.st_size)])
     if status.st_nlink > 1:
         linked[inode] = name
     return line

@@ -37,6 +37,7 @@ MOVED_AT_ONCE = 1 << 24
 MAX_WAITING = 1 << 26
 """While this many bytes wait to be written, PUTs wait too: a disk that writes as many in a second is never more than a second late."""
 SECONDS_BETWEEN_SYNCS = 0.4
+SECONDS_TO_LOCK = 1
 COPIED = 1 << 20
 IDLE_LINES = 1000
 """How many lines of the log may be undone by later ones, beyond as many as are valid."""
@@ -74,10 +75,7 @@ class Files:
         self.path = path
         os.makedirs(path, exist_ok=True)
         self.folder = os.open(path, os.O_RDONLY | os.O_DIRECTORY)
-        try:
-            fcntl.flock(self.folder, fcntl.LOCK_EX | fcntl.LOCK_NB)
-        except BlockingIOError:
-            raise InUse(f"{path} is in use by another server") from None
+        self.lock(time.monotonic() + SECONDS_TO_LOCK)
         self.keys, self.places, self.refs = {}, {}, collections.Counter()
         """The keys of the log by user and key, the objects' places, and how many keys lead to an object."""
         self.live, self.sizes = collections.Counter(), collections.Counter()
@@ -88,6 +86,16 @@ class Files:
 
     def at(self, name):
         return os.path.join(self.path, name)
+
+    def lock(self, end):
+        """Locks the folder. If a server was killed while it started a store, that process may still have the lock for a moment."""
+        while True:
+            try:
+                return fcntl.flock(self.folder, fcntl.LOCK_EX | fcntl.LOCK_NB)
+            except BlockingIOError:
+                if time.monotonic() > end:
+                    raise InUse(f"{self.path} is in use by another server") from None
+                time.sleep(0.05)
 
     # ---- what is there
 

@@ -230,7 +230,7 @@ def saves_that_are_killed():
 
 
 def splits_by_numpy_too():
-    """The pieces are the same with numpy and without it, wherever edges are in the blocks that are searched at once."""
+    """The pieces are the same with numpy and without it, wherever edges are in the blocks that are searched at once, and if the file has grown."""
     edge, random_bytes = bytes(min(chosen) for chosen in backup_program.EDGE_SETS), random.Random(1).randbytes
     smallest, largest, block = backup_program.MIN_PIECE, backup_program.MAX_PIECE, backup_program.BLOCK
     lengths = [0, 4, smallest, smallest + 4, smallest + 5, smallest + 6, block + 4, block + 5, largest - 1, largest, largest + 5]
@@ -241,7 +241,8 @@ def splits_by_numpy_too():
     for content in contents:
         pieces = []
         for backup_program.numpy in None, numpy:
-            pieces.append(list(backup_program.pieces_of(io.BytesIO(content))))
-        if pieces[0] != pieces[1] or b"".join(pieces[0]) != content:
-            found.append(f"{len(content)} bytes: pieces of {[len(piece) for piece in pieces[0]][:5]} and {[len(piece) for piece in pieces[1]][:5]} bytes")
+            pieces.append(list(backup_program.pieces_of(io.BytesIO(content), len(content))))
+            pieces.append(list(backup_program.pieces_of(io.BytesIO(content), len(content) // 3)))
+        if any(row != pieces[0] for row in pieces) or b"".join(pieces[0]) != content:
+            found.append(f"{len(content)} bytes: pieces of {[[len(piece) for piece in row][:5] for row in pieces]} bytes")
     return found
