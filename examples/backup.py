@@ -21,7 +21,6 @@ what it has held longest.
 The status is 0 if all was saved, restored or correct; 1 if something was not, which is reported; 2 for usage; 3 if the store has ended.
 """
 import argparse
-import bisect
 import collections
 import contextlib
 import ctypes
@@ -38,14 +37,8 @@ import urllib.parse
 
 sys.path.insert(0, os.path.join(os.path.dirname(os.path.dirname(os.path.abspath(__file__))), "python"))
 from b3store import MAX_LIMIT, Ended, Refused, Store
+from backup_pieces import pieces_of
 
-try:
-    import numpy
-except ImportError:
-    numpy = None
-
-MIN_PIECE, MAX_PIECE = 1 << 14, 1 << 22
-"""The bytes of a piece: the last one of a file may have fewer."""
 MIN_MEMORY = 1 << 23
 """The least `--memory`."""
 EXAMPLE = """\
@@ -61,8 +54,8 @@ example:
 """
 MAX_ASIDE, MAX_BYTES_ASIDE = 1000, 1 << 26
 """How many objects, and how many bytes of them, are written aside before they are synced together."""
-MAX_WAITING = 32
-"""How many objects wait to be written."""
+BATCH, MAX_WAITING = 1 << 20, 8
+"""How many bytes, or more by one object, are written by a thread at once, and how often as many wait for it."""
 LIBC = ctypes.CDLL(None, use_errno=True)
 ADDRESS = re.compile("[0-9a-f]{64}")
 BACKUP = re.compile(r"([0-9a-f]{64}) (\d+) (\S+)")
@@ -70,70 +63,6 @@ BACKUP = re.compile(r"([0-9a-f]{64}) (\d+) (\S+)")
 LINE = re.compile(r"(file|folder|link|same) (\S+) ([0-7]+)(?::(\d+):(\d+))? (-?\d+)((?: \S+)*)")
 """A line of a backup: kind, path, mode, owner and group, time, and what the kind has: a file its length and the addresses of its pieces, a link where it
 leads, a hard link the path of the same file."""
-
-
-EDGE_SETS = [{byte for byte in range(256) if (byte * factor + 60) % 256 < 32} for factor in (151, 89, 203, 57, 119)]
-"""A piece ends after five bytes, one in each of these sets of 32 bytes: in random content, after one place in 32,768."""
-EDGE = re.compile(b"".join(b"[" + b"".join(b"\\x%02x" % byte for byte in sorted(chosen)) + b"]" for chosen in EDGE_SETS))
-EDGE_LEN = len(EDGE_SETS)
-EDGE_BITS = bytes(sum((byte in chosen) << number for number, chosen in enumerate(EDGE_SETS)) for byte in range(256))
-"""For each byte a bit for each set that has it."""
-BLOCK = 1 << 18
-"""How many bytes numpy searches at once, so that they stay in the processor's cache."""
-
-
-def edges_by_numpy(content, start):
-    """The ends of all matches of EDGE that begin at `start` or later."""
-    found = []
-    for at in range(start, len(content) - EDGE_LEN + 1, BLOCK):
-        bits = numpy.frombuffer(content[at : at + BLOCK + EDGE_LEN - 1].translate(EDGE_BITS), numpy.uint8)
-        count = len(bits) - EDGE_LEN + 1
-        places = numpy.flatnonzero((bits[:count] & bits[1 : count + 1] >> 1 & 1).view(numpy.bool_))
-        for number in range(2, EDGE_LEN):
-            places = places[bits[places + number] >> number & 1 != 0]
-        found += (places + (at + EDGE_LEN)).tolist()
-    return found
-
-
-class Edges:
-    """The ends of the pieces of a file that is read from its start on. They depend only on the bytes before them. With numpy all places at which a piece
-    may end are searched at once, without it one at a time; they are the same places."""
-
-    def __init__(self):
-        self.found, self.searched = [], 0
-        """The places that numpy found, and up to which one it has searched."""
-
-    def search(self, content, place):
-        """Searches those bytes of some content that were not searched before. The content begins at `place` in the file."""
-        if numpy is not None and len(content) >= MIN_PIECE + EDGE_LEN:
-            self.found += [place + end for end in edges_by_numpy(content, max(0, self.searched - place))]
-            self.searched = place + len(content) - EDGE_LEN + 1
-
-    def end_of(self, content, start, place):
-        """The end of the piece that starts at `start` in some content."""
-        last = min(len(content), start + MAX_PIECE)
-        if numpy is None:
-            edge = EDGE.search(content, start + MIN_PIECE, last)
-            return edge.end() if edge else last
-        at = bisect.bisect_left(self.found, place + start + MIN_PIECE + EDGE_LEN)
-        return min(last, self.found[at] - place) if at < len(self.found) else last
-
-
-def pieces_of(file, length):
-    """The pieces of a file, which should have this length."""
-    edges, left, place, wanted = Edges(), b"", 0, min(MAX_PIECE, length + 1)
-    while True:
-        content = file.read(wanted)
-        left += content
-        edges.search(left, place)
-        at_end, wanted, start = len(content) < wanted, MAX_PIECE, 0
-        while len(left) - start >= MAX_PIECE or (at_end and start < len(left)):
-            end = edges.end_of(left, start, place)
-            yield left[start:end]
-            start = end
-        left, place = left[start:], place + start
-        if at_end:
-            return
 
 
 class Damaged(Exception):
@@ -158,34 +87,46 @@ class Writer(threading.Thread):
         self.path, self.fault, self.queue = path, None, queue.Queue(MAX_WAITING)
         self.pending = set()
         """The objects that aren't there yet under their names."""
+        self.batch, self.bytes = [], 0
+        """The objects that the thread hasn't received yet: it receives several at once, since each transfer takes time."""
         self.folders, self.aside, self.bytes_aside = set(), [], 0
         """The folders of objects that exist, and what was written aside."""
 
     def put(self, place, content):
         """Writes an object, now or later."""
+        self.pending.add(place)
+        self.batch.append((place, content))
+        self.bytes += len(content)
+        if self.bytes >= BATCH:
+            self.pass_batch()
+
+    def pass_batch(self):
         if not self.is_alive():
             self.start()
-        self.pending.add(place)
-        self.queue.put((place, content))
-        self.check()
+        self.queue.put(self.batch)
+        self.batch, self.bytes = [], 0
+        if self.fault is not None:
+            raise self.fault
 
     def finish(self):
         """Waits until all objects are there under their names. Their contents are synced, their names are not."""
+        if self.batch:
+            self.pass_batch()
         if self.is_alive():
-            self.queue.put(None)
+            self.queue.put([])
             self.queue.join()
-        self.check()
-
-    def check(self):
         if self.fault is not None:
             raise self.fault
 
     def run(self):
         while True:
-            job = self.queue.get()
+            batch = self.queue.get()
             try:
                 if self.fault is None:
-                    self.settle() if job is None else self.write(*job)
+                    for place, content in batch:
+                        self.write(place, content)
+                    if not batch or len(self.aside) >= MAX_ASIDE or self.bytes_aside >= MAX_BYTES_ASIDE:
+                        self.settle()
             except OSError as fault:
                 self.fault = fault
             self.queue.task_done()
@@ -199,8 +140,6 @@ class Writer(threading.Thread):
             file.write(content)
         self.aside.append(place)
         self.bytes_aside += len(content)
-        if len(self.aside) >= MAX_ASIDE or self.bytes_aside >= MAX_BYTES_ASIDE:
-            self.settle()
 
     def settle(self):
         """Syncs what was written aside, and renames it."""

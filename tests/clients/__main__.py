@@ -64,7 +64,7 @@ def cases():
             print(f"skipped: there is no {name}")
         else:
             yield name, case
-    if backups.backup_program.numpy is None:
+    if backups.backup_pieces.numpy is None:
         print("skipped: there is no numpy")
     else:
         yield "a backup's pieces by numpy", backups.splits_by_numpy_too

@@ -12,7 +12,7 @@ import time
 
 from shared import ABC, EMPTY, PROGRAM, SECONDS, TOP, differences
 from b3store import Store
-import backup as backup_program
+import backup_pieces
 from backup import Repository
 
 
@@ -231,18 +231,17 @@ def saves_that_are_killed():
 
 def splits_by_numpy_too():
     """The pieces are the same with numpy and without it, wherever edges are in the blocks that are searched at once, and if the file has grown."""
-    edge, random_bytes = bytes(min(chosen) for chosen in backup_program.EDGE_SETS), random.Random(1).randbytes
-    smallest, largest, block = backup_program.MIN_PIECE, backup_program.MAX_PIECE, backup_program.BLOCK
+    edge, random_bytes = bytes(min(chosen) for chosen in backup_pieces.EDGE_SETS), random.Random(1).randbytes
+    smallest, largest, block = backup_pieces.MIN_PIECE, backup_pieces.MAX_PIECE, backup_pieces.BLOCK
     lengths = [0, 4, smallest, smallest + 4, smallest + 5, smallest + 6, block + 4, block + 5, largest - 1, largest, largest + 5]
     contents = [random_bytes(length) for length in lengths] + [bytes(largest + extra) + random_bytes(largest) for extra in (-5, 0, 5)] + [edge * 60000]
     for at in (smallest - 1, smallest, block - 5, block - 3, block - 1, block, largest - 6, largest - 5, largest - 1, largest):
         contents.append(bytes(at) + edge + bytes(2 * largest - at))
-    found, numpy = [], backup_program.numpy
+    found, numpy = [], backup_pieces.numpy
     for content in contents:
         pieces = []
-        for backup_program.numpy in None, numpy:
-            pieces.append(list(backup_program.pieces_of(io.BytesIO(content), len(content))))
-            pieces.append(list(backup_program.pieces_of(io.BytesIO(content), len(content) // 3)))
+        for backup_pieces.numpy, length in (None, len(content)), (numpy, len(content)), (numpy, len(content) // 3):
+            pieces.append(list(backup_pieces.pieces_of(io.BytesIO(content), length)))
         if any(row != pieces[0] for row in pieces) or b"".join(pieces[0]) != content:
             found.append(f"{len(content)} bytes: pieces of {[[len(piece) for piece in row][:5] for row in pieces]} bytes")
     return found
