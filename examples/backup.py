@@ -1,24 +1,24 @@
 #!/usr/bin/env python3
 """Backs up a folder into a repository, and restores it, by a store (docs/LIBRARY.md).
 
-    backup.py save [--all] FOLDER REPOSITORY         keeps what is in FOLDER, and writes the backup's address
-    backup.py restore REPOSITORY ADDRESS FOLDER      puts a backup into a folder, where it overwrites nothing
-    backup.py check REPOSITORY                       compares each object with its address, and shows which backups can be restored
+    backup.py save [--all] FOLDER REPOSITORY         save what is in FOLDER, and print the backup's address
+    backup.py restore REPOSITORY ADDRESS FOLDER      restore a backup into a folder, in which nothing is overwritten
+    backup.py check REPOSITORY                       compare each object with its address, and print which backups can't be restored
 
-A repository is a folder: objects/AA/ADDRESS has the bytes of that BLAKE3 hash, and `backups` a line for each backup. Files are cut where their content
-says so, and a piece is kept once, whichever files have it, in whichever backup; so bytes put in front of a file make one new piece. A backup is a list of
-names and pieces, which is kept in pieces too. A file whose length, mode, owner and time are those of the last backup of its folder is not read, unless
-`--all` asks for it, which compares the objects that are there too. What is written is written aside, synced, and then given its name; a backup is
-noted last.
+A repository is a folder: objects/AA/ADDRESS has the bytes of that BLAKE3 hash, and `backups` a line for each backup. Files are split into pieces by their
+content, and a piece is kept once, whichever files and backups have it; so bytes put in front of a file make one new piece. If numpy is installed, it finds
+where pieces end, several times as fast; the pieces are the same. A backup is a list of names and pieces, which is kept in pieces too. A file is not read
+again if its length, mode, owner and time are those in the last backup of its folder, unless `--all` is given, which also compares the objects that are
+there. Files are written under other names, synced, and then renamed; a backup is recorded last.
 
-Kept are files, folders, links and hard links, with times, modes, owners and groups. Where an owner can't be restored, as by a user who isn't root, that is
-told, and no setuid or setgid bit is set. Not kept are extended attributes, access lists and holes in files. What is no file, folder or link (a pipe, a device,
-a socket) is told and left out.
+It keeps files, folders, links and hard links, with times, modes, owners and groups. If an owner can't be restored, for example by a user other than root,
+that is reported, and no setuid or setgid bit is set. It doesn't keep extended attributes, access lists and holes in files. Anything else (a pipe, a device,
+a socket) is reported and left out. It doesn't compress or encrypt, and removes no backups.
 
-The store gives each piece its address, and compares what is read from the repository with it. It holds at most `--memory` bytes; beyond that it forgets
+The store computes the address of each piece, and compares what is read from the repository with it. It holds up to `--memory` bytes; beyond that it forgets
 what it has held longest.
 
-The status is 0 where all was kept, restored or right; 1 where something was not, which is told; 2 for usage; 3 where the store has ended.
+The status is 0 if all was saved, restored or correct; 1 if something was not, which is reported; 2 for usage; 3 if the store has ended.
 """
 import argparse
 import collections
@@ -27,19 +27,35 @@ import ctypes
 import fcntl
 import io
 import os
+import queue
 import re
 import stat
 import sys
+import threading
 import time
 import urllib.parse
 
 sys.path.insert(0, os.path.join(os.path.dirname(os.path.dirname(os.path.abspath(__file__))), "python"))
-from b3store import Ended, Refused, Store
+from b3store import MAX_LIMIT, Ended, Refused, Store
+from backup_pieces import pieces_of
 
-MIN_PIECE, MAX_PIECE = 1 << 14, 1 << 22
-"""The bytes of a piece: the last one of a file may have fewer."""
+MIN_MEMORY = 1 << 23
+"""The least `--memory`."""
+EXAMPLE = """\
+example:
+  $ backup.py save ~/papers /mnt/disk/repository
+  files 120 folders 7 links 0
+  new objects 143 bytes 81920311 known objects 0 bytes 0
+  backup 6437b3ac38465133ffb63b75273a8db548c558465d79db03fd359c6cd5bd9d85
+  $ backup.py check /mnt/disk/repository
+  objects 143 wrong 0
+  backups 1 broken 0
+  $ backup.py restore /mnt/disk/repository 6437b3ac38465133ffb63b75273a8db548c558465d79db03fd359c6cd5bd9d85 ~/restored
+"""
 MAX_ASIDE, MAX_BYTES_ASIDE = 1000, 1 << 26
 """How many objects, and how many bytes of them, are written aside before they are synced together."""
+BATCH, MAX_WAITING = 1 << 20, 8
+"""How many bytes, or more by one object, are written by a thread at once, and how often as many wait for it."""
 LIBC = ctypes.CDLL(None, use_errno=True)
 ADDRESS = re.compile("[0-9a-f]{64}")
 BACKUP = re.compile(r"([0-9a-f]{64}) (\d+) (\S+)")
@@ -49,38 +65,12 @@ LINE = re.compile(r"(file|folder|link|same) (\S+) ([0-7]+)(?::(\d+):(\d+))? (-?\
 leads, a hard link the path of the same file."""
 
 
-def edge_pattern():
-    """Where a piece ends: behind five bytes that are in five sets, of 32 bytes each, which is behind one place in 32,768 of random content."""
-    sets = [[byte for byte in range(256) if (byte * factor + 60) % 256 < 32] for factor in (151, 89, 203, 57, 119)]
-    return re.compile(b"".join(b"[" + b"".join(b"\\x%02x" % byte for byte in chosen) + b"]" for chosen in sets))
-
-
-EDGE = edge_pattern()
-
-
-def pieces_of(file):
-    """The pieces of a file, whose edges hang on the bytes before them alone."""
-    left = b""
-    while True:
-        left += file.read(MAX_PIECE)
-        at_end = len(left) < MAX_PIECE
-        start = 0
-        while len(left) - start >= MAX_PIECE or (at_end and start < len(left)):
-            edge = EDGE.search(left, start + MIN_PIECE, start + MAX_PIECE)
-            end = edge.end() if edge else min(len(left), start + MAX_PIECE)
-            yield left[start:end]
-            start = end
-        left = left[start:]
-        if at_end:
-            return
-
-
 class Damaged(Exception):
-    """What a repository has is no backup, or not whole."""
+    """A repository has something that is no backup, or is incomplete."""
 
 
 def sync(folder):
-    """Waits until all that was written to the file system of a folder is on disk: for a thousand files that is quicker than to sync each."""
+    """Waits until everything written to the file system of a folder is on disk: for a thousand files this is faster than syncing each."""
     opened = os.open(folder, os.O_RDONLY | os.O_DIRECTORY)
     try:
         if LIBC.syncfs(opened) != 0:
@@ -89,18 +79,89 @@ def sync(folder):
         os.close(opened)
 
 
+class Writer(threading.Thread):
+    """Writes objects in a thread of its own, while the next ones are read and hashed. Each is written aside, and renamed once that is synced."""
+
+    def __init__(self, path):
+        super().__init__(daemon=True)
+        self.path, self.fault, self.queue = path, None, queue.Queue(MAX_WAITING)
+        self.pending = set()
+        """The objects that aren't there yet under their names."""
+        self.batch, self.bytes = [], 0
+        """The objects that the thread hasn't received yet: it receives several at once, since each transfer takes time."""
+        self.folders, self.aside, self.bytes_aside = set(), [], 0
+        """The folders of objects that exist, and what was written aside."""
+
+    def put(self, place, content):
+        """Writes an object, now or later."""
+        self.pending.add(place)
+        self.batch.append((place, content))
+        self.bytes += len(content)
+        if self.bytes >= BATCH:
+            self.pass_batch()
+
+    def pass_batch(self):
+        if not self.is_alive():
+            self.start()
+        self.queue.put(self.batch)
+        self.batch, self.bytes = [], 0
+        if self.fault is not None:
+            raise self.fault
+
+    def finish(self):
+        """Waits until all objects are there under their names. Their contents are synced, their names are not."""
+        if self.batch:
+            self.pass_batch()
+        if self.is_alive():
+            self.queue.put([])
+            self.queue.join()
+        if self.fault is not None:
+            raise self.fault
+
+    def run(self):
+        while True:
+            batch = self.queue.get()
+            try:
+                if self.fault is None:
+                    for place, content in batch:
+                        self.write(place, content)
+                    if not batch or len(self.aside) >= MAX_ASIDE or self.bytes_aside >= MAX_BYTES_ASIDE:
+                        self.settle()
+            except OSError as fault:
+                self.fault = fault
+            self.queue.task_done()
+
+    def write(self, place, content):
+        folder = os.path.dirname(place)
+        if folder not in self.folders:
+            os.makedirs(folder, exist_ok=True)
+            self.folders.add(folder)
+        with open(place + ".new", "wb") as file:
+            file.write(content)
+        self.aside.append(place)
+        self.bytes_aside += len(content)
+
+    def settle(self):
+        """Syncs what was written aside, and renames it."""
+        sync(self.path)
+        for place in self.aside:
+            os.replace(place + ".new", place)
+            self.pending.discard(place)
+        self.aside, self.bytes_aside = [], 0
+
+
 class Repository:
     """Objects on disk, and a store before them."""
 
     def __init__(self, path, store, memory):
-        self.path, self.store = path, store
+        self.path, self.store, self.memory = path, store, memory
         self.tenant = store.tenant(memory)
-        self.held = collections.OrderedDict()
+        self.held, self.bytes_held = collections.OrderedDict(), 0
+        """The lengths of the objects that the store holds, those that were held longest first, and their sum."""
         self.counts = collections.Counter()
         self.compares = False
         """Whether objects that are there already are compared with what is kept."""
-        self.aside, self.bytes_aside = {}, 0
-        """Where what was written aside belongs, by where it is."""
+        self.writer = Writer(path)
 
     def place(self, address):
         return os.path.join(self.path, "objects", address[:2], address)
@@ -118,28 +179,26 @@ class Repository:
             os.close(folder)
 
     def files(self):
-        """What is below the folder of objects: folder and name of each."""
+        """Yields the folder and the name of each file below the folder of objects."""
         for folder, _, names in os.walk(os.path.join(self.path, "objects")):
             for name in sorted(names):
                 yield folder, name
 
     def hold(self, content, address=None):
-        """Gives the store an object, which must have the address, where one is told. For that the store forgets what it has held longest."""
-        while True:
-            try:
-                filed = self.store.file(self.tenant, content, address)
-                break
-            except Refused as refusal:
-                if refusal.number != "S6" or not self.held:
-                    raise
-                self.store.forget(self.tenant, self.held.popitem(last=False)[0])
-        self.held[filed.address] = None
-        self.held.move_to_end(filed.address)
+        """Puts an object into the store, if it has the address, in case one is given, and returns its address. The store first forgets what it has held
+        longest, if needed."""
+        while self.held and self.bytes_held + len(content) > self.memory:
+            oldest, length = self.held.popitem(last=False)
+            self.store.forget(self.tenant, oldest)
+            self.bytes_held -= length
+        filed = self.store.file(self.tenant, content, address)
+        self.bytes_held += len(content) - self.held.pop(filed.address, 0)
+        self.held[filed.address] = len(content)
         return filed.address
 
     def has(self, place, content):
-        """Whether an object is there, or written aside."""
-        if place + ".new" in self.aside:
+        """Whether an object is there, or is about to be."""
+        if place in self.writer.pending:
             return True
         try:
             if os.path.getsize(place) != len(content):
@@ -152,39 +211,26 @@ class Repository:
             return False
 
     def keep(self, content):
-        """Keeps an object, and gives its address."""
+        """Keeps an object, and returns its address."""
         address = self.hold(content)
         place = self.place(address)
         is_new = not self.has(place, content)
         if is_new:
-            os.makedirs(os.path.dirname(place), exist_ok=True)
-            self.aside[place + ".new"] = place
-            with open(place + ".new", "wb") as file:
-                file.write(content)
-            self.bytes_aside += len(content)
-            if len(self.aside) >= MAX_ASIDE or self.bytes_aside >= MAX_BYTES_ASIDE:
-                self.settle()
+            self.writer.put(place, content)
         word = "new" if is_new else "known"
         self.counts.update({word: 1, word + " bytes": len(content)})
         return address
 
-    def settle(self):
-        """Syncs what was written aside, gives it its names, and syncs these."""
-        sync(self.path)
-        for path, place in self.aside.items():
-            os.replace(path, place)
-        sync(self.path)
-        self.aside, self.bytes_aside = {}, 0
-
-    def keep_all(self, file):
-        """Keeps all that a file has, in pieces, and gives their addresses."""
-        return [self.keep(piece) for piece in pieces_of(file)]
+    def keep_all(self, file, length):
+        """Keeps a file in pieces, and returns their addresses."""
+        return [self.keep(piece) for piece in pieces_of(file, length)]
 
     def keep_backup(self, folder, lines):
-        """Keeps a backup's lines, and notes it once all is on disk."""
-        addresses = self.keep_all(io.BytesIO("".join(line + "\n" for line in lines).encode()))
+        """Keeps a backup's lines, and records the backup once everything is on disk."""
+        text = "".join(line + "\n" for line in lines).encode()
+        addresses = self.keep_all(io.BytesIO(text), len(text))
         backup = self.keep("".join(address + "\n" for address in addresses).encode())
-        self.settle()
+        self.writer.finish()
         self.note(f"{backup} {int(time.time())} {quoted(os.path.abspath(folder))}")
         return backup
 
@@ -207,7 +253,7 @@ class Repository:
         return found
 
     def backups(self):
-        """The lines of the backups that were made, each with its fields, the oldest first."""
+        """The lines of the file of backups, each with its fields, the oldest first."""
         path = os.path.join(self.path, "backups")
         if not os.path.exists(path):
             return []
@@ -219,7 +265,7 @@ class Repository:
         return found
 
     def note(self, line):
-        """Adds a line to the backups."""
+        """Adds a line to the backups. The first sync is for the names of the objects, too."""
         path = os.path.join(self.path, "backups")
         lines = [found[0] for found in self.backups()]
         with open(path + ".new", "w", encoding="ascii") as file:
@@ -229,7 +275,7 @@ class Repository:
         sync(self.path)
 
     def read(self, address):
-        """An object of the repository, which was compared with its address."""
+        """The bytes of an object of the repository. They are compared with its address."""
         with open(self.place(address), "rb") as file:
             content = file.read()
         self.hold(content, address)
@@ -237,7 +283,7 @@ class Repository:
 
 
 def entries_of(folder):
-    """What a folder has: paths from it, each behind the folder that it is in, in the order of their names."""
+    """Yields the paths below a folder, in the order of their names, each after the folder that it is in."""
     for entry in sorted(os.scandir(folder), key=lambda entry: entry.name):
         yield entry.path
         if entry.is_dir(follow_symlinks=False):
@@ -253,15 +299,15 @@ def unquoted(text):
 
 
 def place_in(folder, path):
-    """A path of a backup, which leads nowhere out of the folder."""
+    """A path of a backup in a folder. Raises OSError if it leads out of the folder."""
     if os.path.isabs(path) or ".." in path.split("/"):
         raise OSError(f"{path} leads out of the folder")
     return os.path.join(folder, path)
 
 
 def line_of(repository, folder, path, known, linked):
-    """The backup's line of a path, or None for what is left out. What the last backup knows of a file is taken from there; `linked` has the paths
-    of files that have several."""
+    """The backup's line for a path, or None for what is left out. `known` has the lines of the last backup; `linked` the first path of each file that has
+    several."""
     status, name = os.lstat(path), quoted(os.path.relpath(path, folder))
     words = [name, f"{stat.S_IMODE(status.st_mode):o}:{status.st_uid}:{status.st_gid}", str(status.st_mtime_ns)]
     if stat.S_ISDIR(status.st_mode):
@@ -277,7 +323,7 @@ def line_of(repository, folder, path, known, linked):
     line = known.get(tuple(words))
     if line is None:
         with open(path, "rb") as file:
-            line = " ".join([*words, *repository.keep_all(file)])
+            line = " ".join([*words, *repository.keep_all(file, status.st_size)])
     if status.st_nlink > 1:
         linked[inode] = name
     return line
@@ -292,7 +338,7 @@ def known_files(repository, folder):
 
 
 def lines_of_folder(repository, options, known):
-    """The lines of what a folder has, and whether that is all."""
+    """The lines for the paths in a folder, and whether none was left out."""
     lines, is_whole, linked = [], True, {}
     for path in entries_of(options.folder):
         try:
@@ -325,14 +371,14 @@ def save(repository, options):
 
 
 class Restoring:
-    """A backup that is put into a folder."""
+    """A backup that is being restored into a folder."""
 
     def __init__(self, repository, folder):
         self.repository, self.folder = repository, folder
         self.folders, self.unowned, self.is_whole = [], 0, True
 
     def restore(self, line):
-        """Puts a line's file, link or folder into its place, and leads through no link on the way there."""
+        """Restores a line's file, link or folder. Raises OSError if a folder on its path is a link."""
         kind, path, *_, more = line.groups()
         place = place_in(self.folder, unquoted(path))
         if os.path.realpath(os.path.dirname(place)) != os.path.normpath(os.path.join(os.path.realpath(self.folder), os.path.dirname(unquoted(path)))):
@@ -354,7 +400,7 @@ class Restoring:
         self.finish(place, line)
 
     def finish(self, place, line):
-        """Gives what was put there its owner, mode and time."""
+        """Sets the owner, mode and time of what was restored."""
         kind, _, mode, owner, group, moment, _ = line.groups()
         mode = int(mode, 8)
         try:
@@ -390,7 +436,7 @@ def restore(repository, options):
 
 
 def right_objects(repository):
-    """The addresses of the objects that have their hash, and how many haven't."""
+    """The addresses of the objects that have their hash, and how many don't."""
     right, wrong = set(), 0
     for folder, name in repository.files():
         path = os.path.join(folder, name)
@@ -442,19 +488,34 @@ def an_address(text):
     return text
 
 
+def a_memory(text):
+    if not re.fullmatch("[0-9]{1,14}", text) or not MIN_MEMORY <= int(text) <= MAX_LIMIT:
+        raise argparse.ArgumentTypeError(f"{text!r} is not a number of bytes from {MIN_MEMORY} to {MAX_LIMIT}")
+    return int(text)
+
+
+COMMANDS = (
+    ("save", save, "save what is in FOLDER, and print the backup's address", ["folder", "repository"]),
+    ("restore", restore, "restore a backup into FOLDER, in which nothing is overwritten", ["repository", "address", "folder"]),
+    ("check", check, "compare each object with its address, and print which backups can't be restored", ["repository"]),
+)
+
+
 def read_options():
-    parser = argparse.ArgumentParser(description="Backs up a folder into a repository, and restores it.")
-    parser.add_argument("--program", default="b3store", metavar="PATH", help="the program b3store")
-    parser.add_argument("--memory", type=int, default=1 << 28, metavar="BYTES", help="what the store holds at most, 8 MiB or more (256 MiB)")
+    parser = argparse.ArgumentParser(
+        description="Back up a folder into a repository, and restore it.", epilog=EXAMPLE, formatter_class=argparse.RawDescriptionHelpFormatter
+    )
+    parser.add_argument("--program", default="b3store", metavar="PATH", help="run this b3store program (default: b3store)")
+    parser.add_argument("--memory", type=a_memory, default=1 << 28, metavar="BYTES", help="let the store hold up to BYTES, 8 MiB or more (default: 256 MiB)")
     commands = parser.add_subparsers(required=True, metavar="COMMAND")
-    for name, work, words in ("save", save, ["folder", "repository"]), ("restore", restore, ["repository", "address", "folder"]), ("check", check, ["repository"]):
-        command = commands.add_parser(name)
+    for name, work, purpose, words in COMMANDS:
+        command = commands.add_parser(name, help=purpose, description=purpose[0].upper() + purpose[1:] + ".")
         command.set_defaults(work=work)
         for word in words:
             command.add_argument(word, metavar=word.upper(), type=an_address if word == "address" else str)
         if work is save:
-            told = "reads files too that are as the last backup has them, and compares the objects that are there"
-            command.add_argument("--all", action="store_true", help=told)
+            extent = "read files too that are as the last backup has them, and compare the objects that are there"
+            command.add_argument("--all", action="store_true", help=extent)
     return parser.parse_args()
 
 

@@ -1,47 +1,51 @@
-"""What a cache has on disk: contents one behind another in segments, and a log of the keys, written behind as they come (cache_server.py).
+"""What a cache has on disk: content in segments, one object after another, and a log of the keys (cache_server.py).
 
-A writer appends what is new to the last segment, syncs it, then appends lines to the log, and syncs that, at least twice a second. So a whole line of the
-log speaks of contents that are there; a start reads up to the last whole line and drops what is behind. A line is the CRC-32 of its text, and the text:
+A writer appends new content to the last segment, syncs it, then appends lines to the log, and syncs that, at least twice a second. So a complete line of the
+log refers to content that is there. A start reads the log up to the last complete line, and drops what follows. A line is the CRC-32 of its text, and the
+text:
 
     object ADDRESS SEGMENT OFFSET LENGTH     where an object's bytes are
-    key USER ADDRESS KEY                     the key leads there
+    key USER ADDRESS KEY                     the key leads to this object
     drop USER KEY                            the key leads nowhere
 
-Where contents that no key leads to take more of a segment than the others, the writer moves those to the last segment, some at a time, and removes the
-segment. Where the log has many lines that later ones undo, it writes the log anew.
+If content that no key leads to takes more than half of a segment, the writer moves the other content to the last segment, some at a time, and removes the
+segment. If many lines of the log are undone by later ones, it writes the log again.
 """
 import collections
 import contextlib
 import os
 import re
+import sys
 import threading
 import time
 
 from b3store import Ended, Refused
-from b3store.files import checked_line, checked_text, lock_folder, replace_file
+from b3store.files import FolderInUse, checked_line, checked_text, lock_folder, replace_file
+from cache_stores import Entry
 
 LOG = "log"
 OLD_KEYS = "keys"
-"""The file of the keys in a folder of an older server."""
+"""The file of the keys in a folder of an older version."""
 TEXT = re.compile("object [0-9a-f]{64} [^ ]+ [0-9]{1,19} [0-9]{1,19}|key [^ ]+ [0-9a-f]{64} .*|drop [^ ]+ .*", re.DOTALL)
 SEGMENT = 1 << 26
-"""No content is appended to a segment of so many bytes."""
+"""A segment of this length gets no more content."""
 SMALL_SEGMENT = 1 << 20
-"""Nor to one of so many, of which most is dead."""
+"""Nor does one of this length, if no key leads to most of it."""
 MOVED_AT_ONCE = 1 << 24
-"""So many bytes are moved between two syncs."""
+"""How many bytes are moved between two syncs."""
 MAX_WAITING = 1 << 26
-"""Where so many bytes wait to be written, stores wait too: a disk that takes as many a second is never more than a second behind."""
+"""While this many bytes wait to be written, PUTs wait too: a disk that writes as many in a second is never more than a second late."""
 SECONDS_BETWEEN_SYNCS = 0.4
+SECONDS_TO_LOCK = 1
 COPIED = 1 << 20
 IDLE_LINES = 1000
-"""So many lines the log may have beside those that hold, and as many as hold."""
+"""How many lines of the log may be undone by later ones, beyond as many as are valid."""
 
 Place = collections.namedtuple("Place", "segment offset length")
 
 
 def whole_lines(content):
-    """The texts of the lines up to the first that isn't whole, and how many bytes these lines have."""
+    """The texts of the lines before the first incomplete one, and the length of these lines."""
     texts, end = [], 0
     for line in content.split(b"\n")[:-1]:
         text = checked_text(line)
@@ -58,11 +62,11 @@ class Files:
     def __init__(self, path):
         self.path = path
         os.makedirs(path, exist_ok=True)
-        self.folder = lock_folder(path)
+        self.folder = self.lock(time.monotonic() + SECONDS_TO_LOCK)
         self.keys, self.places, self.refs = {}, {}, collections.Counter()
         """The keys of the log by user and key, the objects' places, and how many keys lead to an object."""
         self.live, self.sizes = collections.Counter(), collections.Counter()
-        """The bytes of each segment that keys lead to, and all."""
+        """For each segment, how many of its bytes keys lead to, and its length."""
         self.waiting, self.bytes, self.changed = [], 0, threading.Condition()
         self.fault, self.has_ended, self.lines = None, False, 0
         self.log = self.last = self.writer = self.name = None
@@ -70,10 +74,20 @@ class Files:
     def at(self, name):
         return os.path.join(self.path, name)
 
+    def lock(self, end):
+        """Locks the folder. If a server was killed while it started a store, that process may still have the lock for a moment."""
+        while True:
+            try:
+                return lock_folder(self.path)
+            except FolderInUse:
+                if time.monotonic() > end:
+                    raise
+                time.sleep(0.05)
+
     # ---- what is there
 
     def read(self):
-        """Reads the log, and drops what is behind its last whole line. Gives how many bytes that were."""
+        """Reads the log, drops what follows its last complete line, and returns how many bytes that were."""
         if os.path.exists(self.at(OLD_KEYS)) and not os.path.exists(self.at(LOG)):
             self.begin_log()
         with open(self.at(LOG), "ab+") as log:
@@ -92,7 +106,7 @@ class Files:
         return len(content) - end
 
     def begin_log(self):
-        """Writes the log of a folder of an older server, with a file for each object and one of all keys."""
+        """Writes the log of a folder of an older version, which has a file for each object and one with all keys."""
         with open(self.at(OLD_KEYS), encoding="latin-1", newline="\n") as lines:
             rows = [line.rstrip("\n").split(" ", 2) for line in lines]
         names = {address: os.path.join("objects", address) for _, address, _ in rows}
@@ -102,7 +116,7 @@ class Files:
         os.remove(self.at(OLD_KEYS))
 
     def take(self, text):
-        """Notes what a line says."""
+        """Records what a line says."""
         kind, words = text.split(" ", 1)
         if kind == "object":
             address, segment, offset, length = words.split(" ")
@@ -146,7 +160,7 @@ class Files:
         return self.places[address]
 
     def content(self, address):
-        """The bytes of an object, a piece at a time."""
+        """Yields the bytes of an object in pieces."""
         place = self.place(address)
         with open(self.at(place.segment), "rb") as file:
             file.seek(place.offset)
@@ -157,41 +171,41 @@ class Files:
                 yield piece
 
     def put_aside(self, address):
-        """Copies what isn't the object of its address into a folder of its own, and has it no longer."""
+        """Copies content that doesn't have its address to a separate folder, and forgets where it was."""
         os.makedirs(self.at("aside"), exist_ok=True)
         with open(self.at(os.path.join("aside", address)), "wb") as file:
             file.writelines(self.content(address))
         self.lose(address)
 
     def lose(self, address):
-        """Has an object's bytes no longer: when they are stored once more, they are written once more."""
+        """Forgets where an object is: if its content is stored again, it is written again."""
         place = self.places.pop(address, None)
         if place is not None and self.refs[address]:
             self.live[place.segment] -= place.length
 
-    # ---- what comes
+    # ---- new content
 
-    def start(self, store):
-        """Starts the writer, which gets contents from the store."""
+    def start(self, cache):
+        """Starts the writer, which reads content from the stores of the cache."""
         self.log = open(self.at(LOG), "ab")
         self.open_segment()
-        self.writer = threading.Thread(target=self.write_on, args=(store,), daemon=True)
+        self.writer = threading.Thread(target=self.write_on, args=(cache,), daemon=True)
         self.writer.start()
 
     def note(self, user, key, entry):
-        """A key leads to an object of the user's, or nowhere. This is called in the order in which keys change."""
+        """Records that a key leads to an object of the user's, or nowhere. This is called in the order in which keys change."""
         with self.changed:
             self.waiting.append((user, key, entry))
             self.bytes += entry.length if entry is not None else 0
             self.changed.notify_all()
 
     def wait(self):
-        """Waits while too much isn't written yet."""
+        """Waits while too many bytes wait to be written."""
         with self.changed:
             self.changed.wait_for(lambda: self.bytes <= MAX_WAITING or self.fault is not None)
 
     def end(self):
-        """Writes what has come, and ends."""
+        """Writes what was recorded, and ends the writer."""
         with self.changed:
             self.has_ended = True
             self.changed.notify_all()
@@ -201,32 +215,32 @@ class Files:
 
     # ---- the writer
 
-    def write_on(self, store):
+    def write_on(self, cache):
         try:
             due = 0
-            while not self.write_batch(store, due):
+            while not self.write_batch(cache, due):
                 due = time.monotonic() + SECONDS_BETWEEN_SYNCS
         except (OSError, ValueError) as fault:
             with self.changed:
                 self.fault = OSError(f"{self.path} can't be written: {fault}")
                 self.changed.notify_all()
 
-    def write_batch(self, store, due):
-        """Writes what has come until a time, and gives whether that was the end."""
+    def write_batch(self, cache, due):
+        """Writes what is recorded until a time, and returns whether that was the end."""
         with self.changed:
             self.changed.wait_for(lambda: self.waiting or self.has_ended or self.emptiest() is not None)
             self.changed.wait_for(lambda: self.has_ended or self.bytes > MAX_WAITING, max(0, due - time.monotonic()))
             has_ended, batch, self.waiting = self.has_ended, self.waiting, []
             written = self.bytes
-        self.write(store, batch, moves=not has_ended)
+        self.write(cache, batch, moves=not has_ended)
         with self.changed:
             self.bytes -= written
             self.changed.notify_all()
         return has_ended
 
-    def write(self, store, batch, moves):
-        """Writes what has come, and moves some of what is there."""
-        texts = [text for user, key, entry in batch for text in self.texts_of(store, user, key, entry)]
+    def write(self, cache, batch, moves):
+        """Writes some changes of keys, and moves some content to the last segment."""
+        texts = [text for user, key, entry in batch for text in self.texts_of(cache, user, key, entry)]
         emptied = self.emptiest() if moves else None
         texts += self.move(emptied) if emptied else []
         self.last.flush()
@@ -243,22 +257,35 @@ class Files:
         if moves and self.lines > 2 * (len(self.keys) + len(self.refs)) + IDLE_LINES:
             self.write_log()
 
-    def texts_of(self, store, user, key, entry):
-        """The lines of a key that has changed. Where its content is gone from the store and isn't on disk, a later change has undone this one."""
+    def texts_of(self, cache, user, key, entry):
+        """The lines of a key that has changed. If no store holds its content any more and it isn't on disk, a later change has undone this one."""
         texts = []
         if entry is not None and entry.address not in self.places:
-            try:
-                texts.append(self.append(entry.address, store.ranges(user.tenant, entry.address)))
-            except (Refused, Ended):
+            line = self.append_held(cache, user, entry.address)
+            if line is None:
                 entry = None
+            else:
+                texts.append(line)
         if entry is None:
             self.note_key(user.name, key, None)
             return [*texts, f"drop {user.name} {key}"]
         self.note_key(user.name, key, entry.address)
         return [*texts, f"key {user.name} {entry.address} {key}"]
 
+    def append_held(self, cache, user, address):
+        """Appends an object that a store holds for a user, and returns its line; None if no store holds it. An object may move while it is read:
+        then it is read from where it is now."""
+        tried = None
+        while True:
+            backend = cache.find(user, address)
+            if backend is None or backend is tried:
+                return None
+            tried = backend
+            with contextlib.suppress(Refused, Ended):
+                return self.append(address, backend.store.ranges(backend.tenants[user], address))
+
     def append(self, address, pieces):
-        """Appends an object's bytes to the last segment, and gives its line."""
+        """Appends an object's bytes to the last segment, and returns its line."""
         offset = self.last.tell()
         try:
             for piece in pieces:
@@ -272,14 +299,14 @@ class Files:
         return f"object {address} {place.segment} {place.offset} {place.length}"
 
     def emptiest(self):
-        """A segment of which most is dead, other than the last one."""
+        """A segment, other than the last one, of which keys lead to at most half; or None."""
         return next((name for name, size in self.sizes.items() if name != self.name and 2 * self.live[name] <= size), None)
 
     def live_objects(self, segment):
         return [address for address, place in self.places.items() if place.segment == segment and self.refs[address]]
 
     def move(self, segment):
-        """Moves some live objects of a segment to the last one, and gives their lines."""
+        """Moves some objects that keys lead to from a segment to the last one, and returns their lines."""
         texts, moved = [], 0
         for address in self.live_objects(segment):
             if moved < MOVED_AT_ONCE:
@@ -288,7 +315,7 @@ class Files:
         return texts
 
     def remove(self, segment):
-        """Removes a segment without live objects."""
+        """Removes a segment to whose objects no key leads."""
         for address in [address for address, place in self.places.items() if place.segment == segment]:
             del self.places[address]
         del self.sizes[segment], self.live[segment]
@@ -304,7 +331,7 @@ class Files:
         os.fsync(self.folder)
 
     def write_log(self):
-        """Writes the log anew, with what holds."""
+        """Writes the log again, with the valid lines only."""
         self.places = {address: place for address, place in self.places.items() if self.refs[address]}
         texts = [f"object {address} {' '.join(map(str, place))}" for address, place in self.places.items()]
         texts += [f"key {user} {address} {key}" for (user, key), address in self.keys.items()]
@@ -314,3 +341,60 @@ class Files:
 
     def replace_log(self, texts):
         replace_file(self.folder, self.at(LOG), map(checked_line, texts))
+
+
+class Loader:
+    """Loads what a folder has into a cache."""
+
+    def __init__(self, cache, files):
+        self.cache, self.files = cache, files
+        self.wrong = []
+        """The users and keys whose objects have other addresses."""
+
+    def load(self):
+        """Stores what is on disk, and reports what can't be stored or isn't as it was stored."""
+        dropped = self.files.read()
+        if dropped:
+            print(f"cache_server: the last {dropped} bytes of the log are no whole lines, and are dropped", file=sys.stderr)
+        users = {user.name: user for user in self.cache.users}
+        faults, count = collections.Counter(), 0
+        for (name, key), address in list(self.files.keys.items()):
+            fault = "its user doesn't exist" if name not in users else self.load_key(users[name], key, address)
+            count += fault is None
+            faults.update([fault] if fault else [])
+        for fault, keys in faults.items():
+            print(f"cache_server: {keys} keys are left out: {fault}", file=sys.stderr)
+        if not self.files.keys:
+            return "begins empty"
+        return f"has {count} keys, {self.cache.totals()[0]} objects"
+
+    def load_key(self, user, key, address):
+        """Stores one key's object if the user doesn't hold it. Returns why it can't be stored, or None."""
+        backend = self.cache.backend
+        try:
+            length = backend.store.has(backend.tenants[user], address)
+            if length is None:
+                length = self.load_object(user, address)
+            self.cache.lead(user, key, Entry(backend, address, length))
+            return None
+        except Refused as refusal:
+            if refusal.number == "S11":
+                self.files.put_aside(address)
+                self.wrong.append((user, key))
+            return str(refusal)
+        except (OSError, ValueError) as fault:
+            self.files.lose(address)
+            return str(fault)
+
+    def load_object(self, user, address):
+        backend, place = self.cache.backend, self.files.place(address)
+        upload, offset = backend.store.begin(backend.tenants[user], place.length), 0
+        try:
+            for piece in self.files.content(address):
+                backend.store.put(upload, offset, piece)
+                offset += len(piece)
+            backend.store.seal_as(upload, address)
+        except (Refused, OSError):
+            backend.store.abort(upload)
+            raise
+        return place.length

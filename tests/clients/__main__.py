@@ -1,6 +1,6 @@
 """python3 tests/clients [PROGRAM] (default target/b3store): runs the tests of the Python package (python/tests), and of the programs that use it:
-examples/backup.py, examples/cache_server.py, and, if nginx and ccache are installed, examples/cluster.py and bench/ccache. The last line is
-`N passed, M failed`.
+examples/backup.py, with numpy too if it is installed, examples/cache_server.py, and, if nginx and ccache are installed, examples/cluster.py and
+bench/ccache. The last line is `N passed, M failed`.
 """
 import os
 import shutil
@@ -11,6 +11,7 @@ TOP = os.path.dirname(os.path.dirname(os.path.dirname(os.path.abspath(__file__))
 sys.path[1:1] = [os.path.join(TOP, "python", "tests"), os.path.join(TOP, "tests", "common")]
 import backups
 import cache_disk
+import cache_moves
 import caches
 import cases as package
 from judging import judged
@@ -21,6 +22,7 @@ CASES = (
     ("a backup whose object was changed", backups.finds_changed_objects),
     ("odd files in a repository", backups.odd_files_in_a_repository),
     ("a backup that leads elsewhere", backups.restores_nothing_elsewhere),
+    ("a backup with wrong words", backups.refuses_wrong_words),
     ("owners and hard links", backups.keeps_owners_and_links),
     ("saves that are killed", backups.saves_that_are_killed),
     ("a cache's keys", caches.caches_keys),
@@ -39,7 +41,15 @@ CASES = (
     ("a cache with an older folder", cache_disk.begins_from_an_older_folder),
     ("a cache that can't write", cache_disk.ends_where_nothing_can_be_written),
     ("a cache that begins with other users", cache_disk.keeps_what_it_cannot_begin_with),
+    ("a cache's metrics", cache_moves.reports_its_counts),
+    ("a cache's health", cache_moves.reports_its_health),
+    ("a cache whose content moves while it is used", cache_moves.moves_while_it_is_used),
+    ("a cache's requests that end on its old store", cache_moves.ends_requests_on_the_old_store),
+    ("a cache that is killed in moves", cache_moves.loses_a_second_in_moves),
+    ("a cache's quotas in moves", cache_moves.keeps_quotas_in_moves),
+    ("a cache that writes from two stores", cache_moves.writes_from_both_stores),
     ("two caches on one folder", caches.keeps_others_out),
+    ("a cache with wrong words", caches.refuses_wrong_words),
     ("a cache's keys of any bytes", caches.keys_of_any_bytes),
     ("a cache whose store ends", caches.ends_with_its_store),
 )
@@ -54,6 +64,10 @@ def cases():
             print(f"skipped: there is no {name}")
         else:
             yield name, case
+    if backups.backup_pieces.numpy is None:
+        print("skipped: there is no numpy")
+    else:
+        yield "a backup's pieces by numpy", backups.splits_by_numpy_too
 
 
 if __name__ == "__main__":

@@ -1,6 +1,8 @@
 """Backups by examples/backup.py."""
 import fcntl
+import io
 import os
+import random
 import shutil
 import stat
 import subprocess
@@ -10,6 +12,7 @@ import time
 
 from shared import ABC, EMPTY, PROGRAM, SECONDS, TOP, differences
 from b3store import Store
+import backup_pieces
 from backup import Repository
 
 
@@ -131,6 +134,27 @@ def odd_files_in_a_repository():
         return found + differences((backup("check", repository)[0], 1), (backup("save", folder, repository)[0], 1))
 
 
+def refuses_wrong_words():
+    """Wrong arguments end a run at once, with one line that has what is wrong."""
+    with tempfile.TemporaryDirectory() as place:
+        folder, repository = folder_of_abc(place)
+        file = os.path.join(folder, "file")
+        cases = (
+            (["save", folder, file], 1, file), (["save", file, repository], 1, file), (["save", place + "/none", repository], 1, place + "/none"),
+            (["check", file], 1, file), (["check", place + "/none"], 1, place + "/none"), (["restore", place + "/none", ABC, folder], 1, ABC),
+            (["restore", repository, "zz", folder], 2, "'zz'"), (["--memory", "x", "check", folder], 2, "'x'"), (["--memory", "5", "check", folder], 2, "'5'"),
+            (["--program", "/no/program", "check", folder], 1, "/no/program"), (["--program", "true", "check", folder], 3, "the store has ended"), (["save"], 2, "FOLDER"),
+        )
+        found = []
+        for words, status, part in cases:
+            command = [sys.executable, os.path.join(TOP, "examples", "backup.py"), *([] if "--program" in words else ["--program", PROGRAM]), *words]
+            run = subprocess.run(command, capture_output=True, timeout=SECONDS)
+            lines = run.stderr.decode().splitlines()
+            found += differences((run.returncode, status), (run.stdout, b""))
+            found += [] if part in lines[-1] and (status == 2 or len(lines) == 1) else [f"{words}: {lines[-1]}"]
+        return found
+
+
 def made_backup(place, *lines):
     """A repository with a backup of these lines, in which `abc` is the address of an object, and its address."""
     repository = os.path.join(place, "repository")
@@ -203,3 +227,21 @@ def saves_that_are_killed():
         restored = os.path.join(place, "restored")
         found += differences((status, 0), (backup("restore", repository, lines[-1].split()[1], restored), (0, [])), (state_of(restored) == state_of(folder), True))
         return found + ([] if broken_off else ["no save was killed"])
+
+
+def splits_by_numpy_too():
+    """The pieces are the same with numpy and without it, wherever edges are in the blocks that are searched at once, and if the file has grown."""
+    edge, random_bytes = bytes(min(chosen) for chosen in backup_pieces.EDGE_SETS), random.Random(1).randbytes
+    smallest, largest, block = backup_pieces.MIN_PIECE, backup_pieces.MAX_PIECE, backup_pieces.BLOCK
+    lengths = [0, 4, smallest, smallest + 4, smallest + 5, smallest + 6, block + 4, block + 5, largest - 1, largest, largest + 5]
+    contents = [random_bytes(length) for length in lengths] + [bytes(largest + extra) + random_bytes(largest) for extra in (-5, 0, 5)] + [edge * 60000]
+    for at in (smallest - 1, smallest, block - 5, block - 3, block - 1, block, largest - 6, largest - 5, largest - 1, largest):
+        contents.append(bytes(at) + edge + bytes(2 * largest - at))
+    found, numpy = [], backup_pieces.numpy
+    for content in contents:
+        pieces = []
+        for backup_pieces.numpy, length in (None, len(content)), (numpy, len(content)), (numpy, len(content) // 3):
+            pieces.append(list(backup_pieces.pieces_of(io.BytesIO(content), length)))
+        if any(row != pieces[0] for row in pieces) or b"".join(pieces[0]) != content:
+            found.append(f"{len(content)} bytes: pieces of {[[len(piece) for piece in row][:5] for row in pieces]} bytes")
+    return found

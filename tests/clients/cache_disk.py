@@ -30,7 +30,7 @@ def begins_again():
             out, err = cache.stop()
         with open(os.path.join(folder, "aside", ABC), "rb") as file:
             found += differences((file.read(), b"abd"))
-        return found + differences((cache.begun.split(", ", 1)[1], "has 0 keys, 0 objects\n"), ("2 keys are left out: its user is gone" in err, True), ("1 keys are left out: S11" in err, True))
+        return found + differences((cache.begun.split(", ", 1)[1], "has 0 keys, 0 objects\n"), ("2 keys are left out: its user doesn't exist" in err, True), ("1 keys are left out: S11" in err, True))
 
 
 def texts_of_log(folder):
@@ -167,7 +167,7 @@ def begins_from_an_older_folder():
         for _ in range(2):
             with Cache(folder) as cache:
                 found += differences((cache.begun.split(", ", 1)[1], "has 3 keys, 3 objects\n"), (cache.ask("GET", "/four"), (200, b"four")))
-                found += differences((cache.ask("GET", "/none"), (200, b"")), ("1 keys are left out: its user is gone" in cache.stop()[1], True))
+                found += differences((cache.ask("GET", "/none"), (200, b"")), ("1 keys are left out: its user doesn't exist" in cache.stop()[1], True))
         return found
 
 

@@ -1,6 +1,7 @@
 """Caches by examples/cache_server.py, and what stands on them."""
 import http.client
 import os
+import re
 import signal
 import socket
 import subprocess
@@ -193,6 +194,30 @@ def keeps_others_out():
         return differences((run.returncode, 1), (run.stdout, b""), (run.stderr.decode(), f"cache_server: {cache.folder} is in use by another server\n"))
 
 
+def refuses_wrong_words():
+    """Wrong arguments and users end the server at once, with one line that has what is wrong."""
+    with tempfile.TemporaryDirectory() as place, socket.create_server(("127.0.0.1", 0)) as taken:
+        found, port = [], str(taken.getsockname()[1])
+        users = {"short": b"ann token\n", "digits": b"ann token 5x\n", "high": b"ann token 99999999999999\n", "twice": b"a t 5\na u 6\n", "bytes": b"a t 5\n\xff t 5\n"}
+        for name, content in users.items():
+            with open(os.path.join(place, name), "wb") as file:
+                file.write(content)
+        cases = [(["--users", os.path.join(place, name)], 1, line) for name, line in (
+            ("short", "line 1"), ("digits", "line 1"), ("high", "line 1"), ("twice", "a name twice"), ("bytes", "line 2"), ("none", "none"),
+        )]
+        cases += [([word, value], 2, repr(value)) for word, value in (
+            ("--port", "70000"), ("--port", "x"), ("--limit", "-1"), ("--most", "5x"), ("--sessions", "0"), ("--sessions", "65"), ("--journal-limit", "-1"),
+        )]
+        cases += [(["--port", port], 1, "in use"), (["--program", "/no/program"], 1, "/no/program"), (["--program", "true"], 3, "the store has ended")]
+        for words, status, part in cases:
+            command = [sys.executable, os.path.join(TOP, "examples", "cache_server.py"), os.path.join(place, "cache"), "--port", "0", "--program", PROGRAM, *words]
+            run = subprocess.run(command, capture_output=True, timeout=SECONDS)
+            lines = run.stderr.decode().splitlines()
+            found += differences((run.returncode, status), (run.stdout, b""))
+            found += [] if part in lines[-1] and (status == 2 or len(lines) == 1) else [f"{words}: {lines[-1]}"]
+        return found
+
+
 def keys_of_any_bytes():
     """A key of raw bytes is there after a new start."""
     with tempfile.TemporaryDirectory() as place:
@@ -245,4 +270,5 @@ def parts_the_keys():
 
 def compiles_twice():
     run = subprocess.run([os.path.join(TOP, "bench", "ccache"), PROGRAM, "4"], stdout=subprocess.PIPE, timeout=SECONDS)
-    return differences((b"with 4 hits\n" in run.stdout, True))
+    wanted = rb"cache_server.py: first [0-9.]+ s with 0 hits, second [0-9.]+ s with 4 hits, third [0-9.]+ s with 4 hits"
+    return [] if re.search(wanted, run.stdout) else [f"bench/ccache prints {run.stdout!r}"]

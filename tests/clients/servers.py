@@ -2,6 +2,7 @@
 import contextlib
 import http.client
 import os
+import re
 import signal
 import socket
 import subprocess
@@ -75,3 +76,64 @@ def raw_answer(port, request):
     with socket.create_connection(("127.0.0.1", port), timeout=SECONDS) as connection:
         connection.sendall(request)
         return b"".join(iter(lambda: connection.recv(4096), b""))
+
+
+def children(process):
+    """The ids of the processes that a process started, the oldest first."""
+    with open(f"/proc/{process.pid}/task/{process.pid}/children", encoding="ascii") as ids:
+        own = ids.read().split()
+    for task in os.listdir(f"/proc/{process.pid}/task"):
+        with contextlib.suppress(FileNotFoundError), open(f"/proc/{process.pid}/task/{task}/children", encoding="ascii") as ids:
+            own += [word for word in ids.read().split() if word not in own]
+    return [int(word) for word in own]
+
+
+METRIC = re.compile(r"b3store_cache_(\w+(?:\{[^ ]*\})?) ([0-9]+)")
+
+
+def metrics(cache):
+    """The metrics of a cache, by name and labels. Each must follow its two comments."""
+    connection = http.client.HTTPConnection("127.0.0.1", cache.port, timeout=SECONDS)
+    try:
+        connection.request("GET", "/metrics")
+        answer = connection.getresponse()
+        lines = answer.read().decode().split("\n")
+    finally:
+        connection.close()
+    if (answer.status, answer.headers["Content-Type"], lines.pop()) != (200, "text/plain; version=0.0.4; charset=utf-8", ""):
+        raise ValueError(f"the metrics are {answer.status} {answer.headers['Content-Type']}")
+    values, kinds = {}, {}
+    for line in lines:
+        if line.startswith("# TYPE "):
+            _, _, name, kinds[name] = line.split(" ")
+        elif not line.startswith("# HELP "):
+            name, value = METRIC.fullmatch(line).groups()
+            is_counter = name.partition("{")[0].endswith("_total")
+            if kinds["b3store_cache_" + name.partition("{")[0]] != ("counter" if is_counter else "gauge"):
+                raise ValueError(f"{name} has a wrong type")
+            values[name] = int(value)
+    return values
+
+
+class SlowPut:
+    """An upload of which the first bytes are sent, and the others when it is ended."""
+
+    def __init__(self, cache, key, content, headers):
+        self.connection, self.content, self.is_chunked = http.client.HTTPConnection("127.0.0.1", cache.port, timeout=SECONDS), content, "Content-Length" not in headers
+        self.connection.putrequest("PUT", key)
+        for name, value in headers.items():
+            self.connection.putheader(name, value)
+        self.connection.endheaders()
+        self.send(content[: 3 << 19])
+
+    def send(self, content):
+        self.connection.send(b"%x\r\n%b\r\n" % (len(content), content) if self.is_chunked else content)
+
+    def end(self):
+        """Sends the other bytes, and returns the status."""
+        self.send(self.content[3 << 19 :])
+        if self.is_chunked:
+            self.send(b"")
+        status = self.connection.getresponse().status
+        self.connection.close()
+        return status

@@ -1,0 +1,481 @@
+"""The users of a cache, their keys, and the stores that hold the content (cache_server.py).
+
+A store keeps a journal of its commands in memory, which only grows. When it has more entries than a limit, the cache starts a second store, and moves
+there what keys lead to, a batch of objects at a time, while requests are answered. From then on, new content is stored in the second store. What has begun
+on the first one ends there: an upload is sealed there and then moved, and an object that is being read is kept until it was read. The first store ends
+once nothing uses it.
+
+While there are two stores, a user's quota holds for both together. The tenant in the new store may use what the one in the old store leaves, and an object
+that is in both counts once. All commands that reserve bytes are given under one lock, so no other upload can take what a moved object needs.
+"""
+import collections
+import contextlib
+import sys
+import threading
+import time
+
+from b3store import MAX_LIMIT, RANGE_LEN, Ended, Refused, Store
+
+PART = 1 << 20
+"""The length of a part: an upload takes this much memory in the server's process."""
+FIRST_BOUND = 4 * PART
+"""What an upload of unknown length reserves at first."""
+MAX_BATCH, MAX_BATCH_BYTES = 100, 4 * PART
+"""The maximum number of objects that are moved together, and of their bytes if it is more than one object."""
+SECONDS_BETWEEN_PASSES = 0.1
+"""How long a move waits for uploads and reads on the old store to end, before it looks for more to move."""
+
+Entry = collections.namedtuple("Entry", "backend address length")
+"""Where a key leads."""
+
+
+class User:
+    """A user, with the keys of its content."""
+
+    def __init__(self, name, token, limit):
+        self.name, self.token, self.limit = name, token, limit
+        self.keys = collections.OrderedDict()
+        """The entry of each key; the most recently used keys are last."""
+
+
+class Backend:
+    """A store, with a tenant for each user."""
+
+    def __init__(self, store, users):
+        self.store = store
+        self.tenants = {user: store.tenant(user.limit) for user in users}
+        self.counts = {user: collections.Counter() for user in users}
+        """How many keys and requests of a user use an object."""
+        self.uploads, self.entries = 0, 0
+        """How many uploads are open; the least number of entries that the journal has."""
+
+    def is_used(self):
+        return self.uploads > 0 or any(self.counts.values())
+
+    def count_entries(self):
+        """The number of entries in the journal. A journal only grows, so the search starts at the last number."""
+        least, most, step = self.entries, self.entries, 1
+        while self.store.entries(most, 1):
+            least, most, step = most + 1, most + step, 2 * step
+        while least < most:
+            middle = (least + most) // 2
+            least, most = (middle + 1, most) if self.store.entries(middle, 1) else (least, middle)
+        self.entries = max(self.entries, least)
+        return least
+
+
+class Cache:
+    """Users and their keys, over one store, or over two while content moves from one to the other."""
+
+    def __init__(self, start, users, max_len, evicts=True, journal_limit=0):
+        """`start` starts a store. With a `journal_limit` of 0 content never moves."""
+        self.start, self.users, self.max_len, self.evicts = start, users, max_len, evicts
+        self.journal_limit = self.next_limit = journal_limit
+        self.files, self.is_closed, self.mover = None, False, None
+        """`files` records changes of keys, once what was on disk is loaded."""
+        self.evictions = self.moves = 0
+        self.lock = threading.Lock()
+        """Held while keys and the use of objects change, and while bytes are reserved."""
+        self.backend, self.old = self.open_backend(), None
+        """The store that content is put into, and the one that content moves away from."""
+        self.twins, self.moving = {user: {} for user in users}, frozenset()
+        """The lengths of a user's objects that both stores hold or are about to hold, and the addresses that are being moved."""
+
+    def open_backend(self):
+        store = self.start()
+        try:
+            return Backend(store, self.users)
+        except BaseException:
+            store.close()
+            raise
+
+    # ---- storing
+
+    def put(self, user, key, length, parts):
+        """Stores the content of some parts, whose total length may not be known before."""
+        if length is not None and length <= PART:
+            return self.put_small(user, key, b"".join(parts))
+        upload = Growing(self, user, key) if length is None else Fixed(self, user, key, length)
+        try:
+            for part in parts:
+                upload.put(part)
+            upload.fix()
+            with self.lock:
+                self.lead(user, key, upload.seal())
+                self.share_quota(user)
+        except BaseException:
+            upload.abort()
+            raise
+
+    def put_small(self, user, key, content):
+        def file():
+            with self.lock:
+                backend = self.backend
+                filed = backend.store.file(backend.tenants[user], content)
+                self.lead(user, key, Entry(backend, filed.address, filed.length))
+
+        self.with_room(user, key, len(content), file)
+
+    def with_room(self, user, key, length, work):
+        """Calls a function that reserves `length` bytes of a user's quota. While they are not free, evicts the least recently used keys."""
+        while True:
+            try:
+                return work()
+            except Refused as refusal:
+                if refusal.number != "S6" or not self.evict(user, key, length - refusal.value):
+                    raise
+
+    def evict(self, user, key, wanted):
+        """Drops the least recently used keys of a user, and `key` last, until `wanted` bytes are free. If that isn't possible, drops none and returns False."""
+        with self.lock:
+            dropped, counts, freed = [], collections.Counter(), 0
+            for other in sorted(user.keys, key=key.__eq__) if self.evicts else ():
+                if freed >= wanted:
+                    break
+                backend, address, length = user.keys[other]
+                dropped.append(other)
+                counts[backend, address] += 1
+                freed += length if counts[backend, address] == backend.counts[user][address] else 0
+            for other in dropped if freed >= wanted else ():
+                self.lead(user, other, None)
+                self.evictions += 1
+            return bool(dropped) and freed >= wanted
+
+    # ---- keys, under the lock
+
+    def lead(self, user, key, entry):
+        """Lets a key lead to an object that the user holds, or nowhere."""
+        if self.is_closed:
+            raise Ended("the server stops")
+        if self.files is not None:
+            self.files.note(user, key, entry)
+        old = user.keys.pop(key, None)
+        if entry is not None:
+            user.keys[key] = entry
+            self.use(user, entry)
+        if old is not None:
+            self.leave(user, old)
+
+    def use(self, user, entry):
+        """Adds a key or a request to those that use an object."""
+        entry.backend.counts[user][entry.address] += 1
+        other = self.old if entry.backend is self.backend else self.backend
+        if other is not None and entry.address in other.counts[user] and entry.address not in self.twins[user]:
+            self.twins[user][entry.address] = entry.length
+            self.share_quota(user)
+
+    def leave(self, user, entry, shares=True):
+        """Removes a key or a request from those that use an object. The store forgets an object that has neither."""
+        backend, address, _ = entry
+        counts = backend.counts[user]
+        counts[address] -= 1
+        if counts[address] > 0:
+            return
+        del counts[address]
+        try:
+            backend.store.forget(backend.tenants[user], address)
+        except Refused:
+            # a store that is about to be closed need not forget
+            if backend is not self.old:
+                raise
+        if address not in self.moving:
+            self.twins[user].pop(address, None)
+        if shares:
+            self.share_quota(user)
+
+    def share_quota(self, user):
+        """Limits a user's tenant in the new store to what the old one leaves of the quota."""
+        if self.old is None:
+            return
+        usage = self.old.store.usage(self.old.tenants[user])
+        limit = user.limit - usage.used - usage.reserved + sum(self.twins[user].values())
+        with contextlib.suppress(Refused):
+            self.backend.store.limit(self.backend.tenants[user], min(limit, MAX_LIMIT))
+
+    # ---- reading
+
+    @contextlib.contextmanager
+    def reading(self, user, key):
+        """The entry of a key, or None. The object is kept until the block is left, even if the key changes."""
+        with self.lock:
+            entry = user.keys.get(key)
+            if entry is not None:
+                user.keys.move_to_end(key)
+                self.use(user, entry)
+        try:
+            yield entry
+        finally:
+            if entry is not None:
+                with self.lock, contextlib.suppress(Ended):
+                    self.leave(user, entry)
+
+    def pieces(self, user, entry, start, end, range_len=RANGE_LEN):
+        """Yields an object's bytes from `start` to `end`, in ranges."""
+        store, tenant = entry.backend.store, entry.backend.tenants[user]
+        while start < end:
+            yield store.fetch(tenant, entry.address, start, min(range_len, end - start))
+            start += range_len
+
+    def find(self, user, address):
+        """The backend that holds an object for a user's keys or requests, or None."""
+        with self.lock:
+            return next((backend for backend in self.backends() if address in backend.counts[user]), None)
+
+    def drop(self, user, key):
+        """Removes a key. Returns whether there was one."""
+        with self.lock:
+            found = key in user.keys
+            if found:
+                self.lead(user, key, None)
+            return found
+
+    # ---- stores
+
+    def backends(self):
+        return [backend for backend in (self.backend, self.old) if backend is not None]
+
+    def check(self):
+        """Raises Ended if a store has ended. One that a move has closed is no longer among them."""
+        for backend in self.backends():
+            if not backend.store.alive and backend in self.backends():
+                backend.store.stat()
+
+    def close(self):
+        """Ends all changes of keys, and a move."""
+        with self.lock:
+            self.is_closed = True
+        if self.mover is not None:
+            self.mover.join()
+
+    def close_stores(self):
+        for backend in self.backends():
+            backend.store.close()
+
+    def totals(self):
+        """The objects that the stores hold, and their bytes."""
+        with self.lock:
+            totals = [backend.store.stat() for backend in self.backends()]
+        return sum(total.objects for total in totals), sum(total.bytes for total in totals)
+
+    # ---- moves
+
+    def move_if_due(self):
+        """Starts a move if the journal is longer than its limit, and twice as long as the last move left it."""
+        is_moving = self.old is not None or (self.mover is not None and self.mover.is_alive())
+        if self.journal_limit and not is_moving and self.backend.count_entries() > self.next_limit:
+            self.mover = threading.Thread(target=self.try_to_move, daemon=True)
+            self.mover.start()
+
+    def try_to_move(self):
+        """Moves all content to a new store. If a store has ended the server finds that itself; if none can be started, the journal grows on."""
+        try:
+            self.move()
+        except (OSError, Refused, Ended) as fault:
+            if self.old is None:
+                self.next_limit = 2 * self.backend.entries
+                print(f"cache_server: cannot start a second store, so the journal grows: {fault}", file=sys.stderr, flush=True)
+
+    def move(self):
+        new, has_reported = self.open_backend(), False
+        with self.lock:
+            self.old, self.backend = self.backend, new
+            for user in self.users:
+                self.share_quota(user)
+        while not self.is_closed:
+            try:
+                refusals = [refusal for user in self.users for batch in self.batches(user) for refusal in self.move_batch(user, batch)]
+                if self.close_old():
+                    return
+            except Refused as refusal:
+                refusals = [refusal]
+            if refusals and not has_reported:
+                has_reported = True
+                print(f"cache_server: content waits to be moved to a new store: {refusals[0]}", file=sys.stderr, flush=True)
+            time.sleep(SECONDS_BETWEEN_PASSES)
+
+    def batches(self, user):
+        """Yields what a user's keys lead to in the old store, in batches: the entry and the keys of each object."""
+        rows = collections.defaultdict(list)
+        with self.lock:
+            for key, entry in user.keys.items():
+                if entry.backend is self.old:
+                    rows[entry].append(key)
+        batch, size = [], 0
+        for entry, keys in rows.items():
+            if self.is_closed:
+                return
+            if batch and (len(batch) == MAX_BATCH or size + entry.length > MAX_BATCH_BYTES):
+                yield batch
+                batch, size = [], 0
+            batch.append((entry, keys))
+            size += entry.length
+        if batch:
+            yield batch
+
+    def move_batch(self, user, batch):
+        """Moves some objects, and returns why others can't be moved now."""
+        copies, refusals = {}, []
+        with self.lock:
+            self.moving = frozenset(entry.address for entry, _ in batch)
+            self.twins[user].update({entry.address: entry.length for entry, _ in batch})
+            self.share_quota(user)
+        for entry, _ in batch:
+            try:
+                copies[entry] = self.copy(user, entry)
+            except Refused as refusal:
+                refusals += [refusal] if refusal.number != "S12" else []
+        with self.lock:
+            try:
+                for entry, keys in batch:
+                    if entry in copies:
+                        self.switch(user, keys, entry, copies[entry])
+            finally:
+                self.moving = frozenset()
+                for entry, _ in batch:
+                    if not all(entry.address in backend.counts[user] for backend in self.backends()):
+                        del self.twins[user][entry.address]
+                self.share_quota(user)
+        return refusals
+
+    def copy(self, user, entry):
+        """Copies an object to the new store, in which the move uses it. Raises Refused S12 if the object was dropped meanwhile."""
+        store, tenant, copied = self.backend.store, self.backend.tenants[user], entry._replace(backend=self.backend)
+        pieces = self.pieces(user, entry, 0, entry.length, PART)
+        if entry.length <= PART:
+            content = b"".join(pieces)
+            with self.lock:
+                store.file(tenant, content, entry.address)
+                self.use(user, copied)
+            return copied
+        with self.lock:
+            number = store.begin(tenant, entry.length)
+        try:
+            for at, piece in enumerate(pieces):
+                store.put(number, at * PART, piece)
+                if self.is_closed:
+                    raise Ended("the server stops")
+            with self.lock:
+                store.seal_as(number, entry.address)
+                self.use(user, copied)
+            return copied
+        except Refused:
+            store.abort(number)
+            raise
+
+    def switch(self, user, keys, entry, copied):
+        """Lets those keys that still lead to an object lead to its copy, and ends the move's use of the copy."""
+        for key in keys:
+            if user.keys.get(key) == entry:
+                user.keys[key] = copied
+                self.use(user, copied)
+                self.leave(user, entry, shares=False)
+        self.leave(user, copied, shares=False)
+
+    def close_old(self):
+        """Closes the old store if nothing uses it. Returns whether it did."""
+        with self.lock:
+            if self.old.is_used():
+                return False
+            for user in self.users:
+                self.backend.store.limit(self.backend.tenants[user], user.limit)
+                self.twins[user].clear()
+            self.next_limit = max(self.journal_limit, 2 * self.backend.count_entries())
+            old, self.old = self.old, None
+        old.store.close()
+        self.moves += 1
+        return True
+
+
+class Fixed:
+    """An upload of a known length."""
+
+    def __init__(self, cache, user, key, length):
+        self.cache, self.user, self.key, self.number = cache, user, key, None
+        self.open(Store.begin, length)
+
+    def open(self, command, length):
+        """Begins an upload in the store that content is put into, and evicts keys if needed."""
+        self.cache.with_room(self.user, self.key, length, lambda: self.begin(command, length))
+
+    def begin(self, command, length):
+        with self.cache.lock:
+            self.backend, self.count = self.cache.backend, 0
+            self.number = command(self.backend.store, self.backend.tenants[self.user], length)
+            self.backend.uploads += 1
+
+    def put(self, part):
+        self.backend.store.put(self.number, self.count, part)
+        self.count += len(part)
+
+    def fix(self):
+        """Ends the content. The length is known."""
+
+    def seal(self):
+        """Files the object, under the cache's lock, and returns its entry, which nothing uses yet."""
+        filed = self.backend.store.seal(self.number)
+        self.end()
+        return Entry(self.backend, filed.address, filed.length)
+
+    def end(self):
+        self.number = None
+        self.backend.uploads -= 1
+
+    def abort(self):
+        if self.number is None:
+            return
+        with self.cache.lock, contextlib.suppress(Refused, Ended):
+            try:
+                self.backend.store.abort(self.number)
+            finally:
+                self.end()
+            self.cache.share_quota(self.user)
+
+
+class Growing(Fixed):
+    """An upload of unknown length. It reserves at most twice as many bytes as have arrived, and at least some parts. When these are used up, what has
+    arrived is filed, and put into a larger upload."""
+
+    def __init__(self, cache, user, key):
+        self.cache, self.user, self.key, self.number = cache, user, key, None
+        self.open_between(1, FIRST_BOUND)
+
+    def open_between(self, least, wanted):
+        """Begins an upload of `wanted` bytes, or of what the user has left, if that is at least `least`."""
+        wanted = min(max(least, wanted), self.cache.max_len)
+        with self.cache.lock:
+            backend = self.cache.backend
+            usage = backend.store.usage(backend.tenants[self.user])
+        left = usage.limit - usage.used - usage.reserved
+        try:
+            self.open_bounded(wanted if least > left else min(wanted, left))
+        except Refused as refusal:
+            if refusal.number != "S6":
+                raise
+            self.open_bounded(least)
+
+    def open_bounded(self, bound):
+        self.bound = bound
+        self.open(Store.begin_open, bound)
+
+    def put(self, part):
+        if self.count + len(part) > self.bound and self.bound < self.cache.max_len:
+            self.grow(self.count + len(part))
+        super().put(part)
+
+    def grow(self, least):
+        """Files what has arrived, and begins an upload with it that is twice as long."""
+        self.fix()
+        with self.cache.lock:
+            entry = self.seal()
+            self.cache.use(self.user, entry)
+            self.cache.share_quota(self.user)
+        try:
+            self.open_between(least, 2 * self.bound)
+            for piece in self.cache.pieces(self.user, entry, 0, entry.length):
+                super().put(piece)
+        finally:
+            with self.cache.lock, contextlib.suppress(Ended):
+                self.cache.leave(self.user, entry)
+
+    def fix(self):
+        self.backend.store.fix(self.number, self.count)

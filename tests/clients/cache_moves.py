@@ -1,0 +1,262 @@
+"""The counts of caches, and caches whose content moves to a new store."""
+import collections
+import http.client
+import os
+import random
+import signal
+import tempfile
+import threading
+import time
+
+from shared import PROGRAM, SECONDS, differences
+from b3store import Store
+from cache_files import Files
+from cache_stores import Cache as Stores
+from cache_stores import User
+from cache_disk import change_until, lost_keys
+from caches import begin_to_read
+from servers import USERS, Cache, SlowPut, ask, children, metrics
+
+CHUNKED = {"Transfer-Encoding": "chunked"}
+FIRST_BOUND = 4 << 20
+"""What an upload of unknown length reserves at first."""
+
+
+def reports_its_counts():
+    """All counts, after some requests of each kind."""
+    with tempfile.TemporaryDirectory() as place, Cache(os.path.join(place, "cache"), words=["--limit", "3000"]) as cache:
+        requests = (
+            ("PUT", "/a", bytes(1000), 201), ("PUT", "/b", b"b" * 500, 201), ("PUT", "/again", b"b" * 500, 201), ("GET", "/a", None, 200), ("GET", "/b", None, 200),
+            ("HEAD", "/a", None, 200), ("GET", "/none", None, 404), ("HEAD", "/none", None, 404), ("DELETE", "/again", None, 204), ("DELETE", "/again", None, 404),
+            ("PUT", "/large", bytes(3001), 507), ("PUT", "/c", b"c" * 1600, 201), ("PUT", "/metrics", b"abc", 405), ("DELETE", "/healthz", None, 405), ("POST", "/a", b"", 501),
+        )
+        found = differences(*((cache.ask(method, key, body)[0], status) for method, key, body, status in requests))
+        found += differences((cache.ask("GET", "/c", None, None, {"Range": "bytes=0-9"}), (206, b"c" * 10)), (cache.ask("PUT", "/d", iter([b"d" * 7]), None, CHUNKED)[0], 201))
+        counts = metrics(cache)
+        wanted = {
+            ("PUT", 201): 5, ("PUT", 405): 1, ("PUT", 507): 1, ("GET", 200): 2, ("GET", 206): 1, ("GET", 404): 1, ("HEAD", 200): 1, ("HEAD", 404): 1, ("DELETE", 204): 1,
+            ("DELETE", 404): 1, ("DELETE", 405): 1, ("other", 501): 1,
+        }
+        given = {f'requests_total{{method="{method}",status="{status}"}}': count for (method, status), count in wanted.items()}
+        # the journal: a tenant, three entries for each small object, one for the eviction, and four for the object in chunks; a refused body begins no upload
+        given.update(received_bytes_total=1000 + 500 + 500 + 3001 + 1600 + 3 + 7, sent_bytes_total=1000 + 500 + 10, hits_total=4, misses_total=2, evictions_total=1)
+        given.update(moves_total=0, keys=3, objects=3, held_bytes=1000 + 1600 + 7, journal_entries=1 + 3 * 3 + 1 + 3 + 4)
+        found += differences((counts, given))
+        scraped = metrics(cache)
+        return found + differences((scraped['requests_total{method="GET",status="200"}'], 3), (scraped["sent_bytes_total"] > counts["sent_bytes_total"], True))
+
+
+def reports_its_health():
+    """Without a token; and 503 once the store has ended."""
+    with tempfile.TemporaryDirectory() as place, Cache(os.path.join(place, "cache"), USERS) as cache:
+        found = differences((cache.ask("GET", "/healthz"), (200, b"ok\n")), (cache.ask("HEAD", "/healthz"), (200, b"")), (cache.ask("HEAD", "/metrics"), (200, b"")))
+        found += differences((cache.ask("PUT", "/healthz", b"abc", "token-a")[0], 405), (cache.ask("GET", "/metrics")[0], 200), (cache.ask("GET", "/healthz/")[0], 401))
+        os.kill(children(cache.process)[0], signal.SIGKILL)
+        time.sleep(0.1)
+        return found + differences((cache.ask("GET", "/healthz")[0], 503), (cache.process.wait(SECONDS), 3))
+
+
+class Client(threading.Thread):
+    """Changes and reads keys of its own, some of whose contents other clients have too, and notes each answer that is not as it must be."""
+
+    def __init__(self, cache, number, stopping):
+        super().__init__()
+        self.cache, self.stopping, self.random, self.contents, self.found = cache, stopping, random.Random(number), {}, []
+        self.keys, self.count = [f"/{number}/{key}" for key in range(12)], 0
+
+    def content(self):
+        """A content of some length, which may be that of another key or client."""
+        length = self.random.choice([0, 1, 5, 1000, 1024, 70000, 300000, 1 << 20, 1500000])
+        return self.random.choice([b"a", b"b", b"%d" % self.random.randrange(10**9)]) * length if length < 1000 else os.urandom(4) * (length // 4)
+
+    def step(self):
+        key, kind = self.random.choice(self.keys), self.random.randrange(8)
+        known = self.contents.get(key)
+        if kind < 3:
+            content = self.content()
+            body, headers = (iter([content[:70000], content[70000:]]), CHUNKED) if kind == 0 and len(content) > 70000 else (content, {})
+            answer, wanted = self.cache.ask("PUT", key, body, None, headers), (201, b"")
+            self.contents[key] = content
+        elif kind == 3:
+            answer, wanted = self.cache.ask("DELETE", key), (404 if known is None else 204, b"")
+            self.contents[key] = None
+        else:
+            answer, wanted = self.cache.ask("GET", key), (404, b"") if known is None else (200, known)
+        if answer != wanted:
+            self.found.append(f"{kind} of {key}: {answer[0]} with {len(answer[1])} bytes, not {wanted[0]} with {len(wanted[1])}")
+
+    def run(self):
+        try:
+            while not self.stopping.is_set():
+                self.step()
+                self.count += 1
+        except Exception as fault:
+            self.found.append(f"{type(fault).__name__}: {fault}")
+
+
+def moves_while_it_is_used():
+    """Several clients change and read keys during several moves: each answer is as without them, and so is each key afterwards, and after a new start."""
+    with tempfile.TemporaryDirectory() as place:
+        folder, found = os.path.join(place, "cache"), []
+        with Cache(folder, words=["--journal-limit", "50"]) as cache:
+            stopping, least = threading.Event(), time.monotonic() + 6
+            clients = [Client(cache, number, stopping) for number in range(4)]
+            for client in clients:
+                client.start()
+            wait_until(lambda: time.monotonic() > least and metrics(cache)["moves_total"] >= 3)
+            stopping.set()
+            for client in clients:
+                client.join()
+                found += client.found[:3]
+            contents = {key: content for client in clients for key, content in client.contents.items()}
+            found += wrong_keys(cache, contents)
+            counts = metrics(cache)
+            live = {content for content in contents.values() if content is not None}
+            found += differences((counts["keys"], sum(content is not None for content in contents.values())))
+            if wait_until(lambda: len(children(cache.process)) == 1):
+                counts = metrics(cache)
+                found += differences((counts["objects"], len(live)), (counts["held_bytes"], sum(map(len, live))))
+            else:
+                found.append("the old store doesn't end")
+            found += [] if counts["moves_total"] >= 3 else [f"there are {counts['moves_total']} moves in {sum(client.count for client in clients)} requests"]
+            found += differences((cache.stop()[1], ""))
+        with Cache(folder) as cache:
+            return (found + wrong_keys(cache, contents))[:8]
+
+
+def wrong_keys(cache, contents):
+    found = []
+    for key, content in contents.items():
+        answer = cache.ask("GET", key)
+        found += [] if answer == ((404, b"") if content is None else (200, content)) else [f"{key} is {answer[0]} with {len(answer[1])} bytes"]
+    return found[:3]
+
+
+def wait_until(check, seconds=SECONDS):
+    """Whether something becomes true in time."""
+    end = time.monotonic() + seconds
+    while not check():
+        if time.monotonic() > end:
+            return False
+        time.sleep(0.05)
+    return True
+
+
+def fill_journal(cache, count):
+    """Changes a key until the journal is longer than its limit, and waits for the move to begin."""
+    for number in range(count):
+        ask(cache.port, "PUT", "/filler", b"%d" % number)
+    return wait_until(lambda: len(children(cache.process)) == 2)
+
+
+def ends_requests_on_the_old_store():
+    """A read and two uploads that began before a move end after it, and the old store ends with them. Until then what both stores hold or reserve counts
+    once. A kill in that time loses nothing that was on disk."""
+    with tempfile.TemporaryDirectory() as place:
+        folder, large, content = os.path.join(place, "cache"), os.urandom(24000000), os.urandom(3000000)
+        with Cache(folder, words=["--journal-limit", "100", "--limit", "60000000", "--no-evict"]) as cache:
+            found = differences((cache.ask("PUT", "/k", large)[0], 201), (cache.ask("PUT", "/small", b"abc")[0], 201))
+            connection, read = begin_to_read(cache, "/k")
+            fixed, grown = SlowPut(cache, "/fixed", content, {"Content-Length": str(len(content))}), SlowPut(cache, "/grown", content[::-1], CHUNKED)
+            found += [] if fill_journal(cache, 120) else ["no move begins"]
+            time.sleep(1)
+            found += differences((len(children(cache.process)), 2), (cache.ask("GET", "/small"), (200, b"abc")), (cache.ask("GET", "/k")[1] == large, True))
+            free = 60000000 - len(large) - len(b"abc") - len(b"119") - len(content) - FIRST_BOUND
+            found += differences((cache.ask("PUT", "/rest", bytes(free + 1))[0], 507), (cache.ask("PUT", "/rest", bytes(free))[0], 201), (cache.ask("DELETE", "/rest")[0], 204))
+            found += differences((cache.ask("DELETE", "/k")[0], 204))
+            with connection:
+                read += b"".join(iter(lambda: connection.recv(1 << 20), b""))
+            found += [] if read == large else [f"{len(read)} bytes arrive"]
+            time.sleep(0.5)
+            found += differences((len(children(cache.process)), 2), (fixed.end(), 201), (grown.end(), 201))
+            found += differences((wait_until(lambda: len(children(cache.process)) == 1), True), (cache.ask("GET", "/fixed")[1] == content, True))
+            found += differences((cache.ask("GET", "/grown")[1] == content[::-1], True), (metrics(cache)["moves_total"], 1), (metrics(cache)["objects"], 4))
+            found += differences((cache.ask("PUT", "/k", large)[0], 201))
+            return found + killed_with_two_stores(cache, folder, {"/k": large, "/small": b"abc", "/fixed": content, "/grown": content[::-1]})
+
+
+def killed_with_two_stores(cache, folder, contents):
+    """A read holds the old store while the server is killed; then a new one starts with the same keys."""
+    connection, _ = begin_to_read(cache, "/k")
+    found = [] if fill_journal(cache, 400) else ["no other move begins"]
+    time.sleep(1.2)
+    cache.process.kill()
+    connection.close()
+    cache.process.wait(SECONDS)
+    with Cache(folder) as after:
+        return found + wrong_keys(after, contents)
+
+
+def loses_a_second_in_moves():
+    """Killed at any moment of moves, it has all that was answered a second before."""
+    with tempfile.TemporaryDirectory() as place:
+        folder, found, values, number, moves = os.path.join(place, "cache"), [], {}, 0, 0
+        for life in range(6):
+            with Cache(folder, words=["--journal-limit", "1"]) as cache:
+                number = change_until(cache, number, values, time.monotonic() + 1.3 + 0.13 * life)
+                moves += metrics(cache)["moves_total"]
+                cache.process.kill()
+                killed = time.monotonic()
+                cache.process.wait(SECONDS)
+            with Cache(folder) as cache:
+                found += lost_keys(cache, values, killed)
+                _, err = cache.stop()
+                found += [err] if "left out" in err else []
+        return found[:5] if moves >= 3 else [*found, f"there are {moves} moves in {number} changes"]
+
+
+def keeps_quotas_in_moves():
+    """With a full quota, what a move holds twice counts once: all that fits is stored while the content moves, no byte more, and keys are evicted in
+    the order in which they were used."""
+    with tempfile.TemporaryDirectory() as place:
+        found, statuses = [], collections.Counter()
+        for words in ["--no-evict"], []:
+            with Cache(os.path.join(place, "cache" + "".join(words)), words=["--journal-limit", "30", "--limit", "3000000", *words]) as cache:
+                for key in range(30):
+                    statuses[cache.ask("PUT", f"/{key}", bytes([key]) * 99000)[0]] += 1
+                for number in range(300):
+                    key = number % 20
+                    statuses[cache.ask("DELETE", f"/{key}")[0]] += 1
+                    statuses[cache.ask("PUT", f"/{key}", bytes([key]) * 99000)[0]] += 1
+                found += differences((cache.ask("GET", "/29"), (200, bytes([29]) * 99000)))
+                if words:
+                    found += differences((cache.ask("PUT", "/more", b"m" * 30001)[0], 507), (cache.ask("PUT", "/more", b"m" * 30000)[0], 201))
+                else:
+                    found += differences((cache.ask("PUT", "/more", b"m" * 300000)[0], 201))
+                    found += differences(("".join(str(cache.ask("HEAD", f"/{key}")[0]) for key in (*range(20, 24), 29)), "404404404200200"))
+                found += [] if metrics(cache)["moves_total"] >= 2 else ["there are too few moves"]
+        return found + differences((dict(statuses), {201: 660, 204: 600}))
+
+
+def writes_from_both_stores():
+    """What is written to disk is read from the store that holds it, also if it moves while it is read. A move leaves the order of the keys."""
+    with tempfile.TemporaryDirectory() as place:
+        folder, user, large = os.path.join(place, "cache"), User("all", None, 1 << 30), os.urandom(3 << 18)
+        files = Files(folder)
+        files.read()
+        cache = Stores(lambda: Store(PROGRAM, sessions=2), [user], 1 << 30)
+        cache.files = files
+        for key, content in ("/old", b"abc"), ("/moves", large), ("/gone", b"gone"):
+            cache.put(user, key, len(content), [content])
+        cache.old, cache.backend = cache.backend, cache.open_backend()
+        cache.put(user, "/new", 4, [b"four"])
+        cache.drop(user, "/gone")
+        ranges = cache.old.store.ranges
+
+        def moving_ranges(tenant, address):
+            for number, content in enumerate(ranges(tenant, address)):
+                yield content
+                if number == 1:
+                    for batch in cache.batches(user):
+                        cache.move_batch(user, batch)
+
+        cache.old.store.ranges = moving_ranges
+        files.start(cache)
+        files.end()
+        found = differences((list(user.keys), ["/old", "/moves", "/new"]), (sorted(cache.old.counts[user]), []), (cache.close_old(), True), (len(cache.backends()), 1), (cache.totals(), (3, len(large) + 7)))
+        cache.close_stores()
+        os.close(files.folder)
+        files = Files(folder)
+        files.read()
+        written = {key: b"".join(files.content(address)) for (_, key), address in files.keys.items()}
+        return found + ([] if written == {"/old": b"abc", "/moves": large, "/new": b"four"} else [f"written are {sorted(written)}"])
