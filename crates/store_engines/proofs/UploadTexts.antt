@@ -1,5 +1,5 @@
 -- What an upload writes.
-use Rattle.std.proofs.Common.{◌≡◌, ◌+◌, ◌++◌, arith, codes, inl, inr, refl, ℕ, Bool, true, false, List, Option, Some, None, Result, Ok, Err, ap, ap₂, subst, sym, [], length, ◌∙◌}
+use Rattle.std.proofs.Common.{◌≡◌, ◌++◌, arith, codes, inl, inr, refl, ℕ, Bool, true, false, List, Option, Some, None, Result, Ok, Err, ap, ap₂, subst, sym, [], length, ◌∙◌}
 use Rattle.std.specs.Prelude.{IfSome, OnErr, OnOk, if◌then◌else◌, nat_lt, option_map}
 use Rattle.std.specs.Option.{option_map_or}
 use Rattle.std.specs.Io.KnownBytes.{Appends}
@@ -17,8 +17,6 @@ use Rattle.store_core.specs.Model.{ModelObject, ModelStoreBooks, ModelStore}
 use Rattle.store_upload.proofs.Places.{not_some}
 use Rattle.store_ledger.specs.declared.holding.Holding.{Holding}
 use Rattle.store_shared.specs.Cuts.{IsBadCut, cut_of}
-use Rattle.store_shared.specs.Uploading.{ModelCut}
-use Rattle.store_shared.specs.Uploads.{IsAnswered}
 use Rattle.store_core.specs.declared.store.Sealed.{Sealed}
 use Rattle.store_shared.specs.declared.fault.UploadFault.{UploadFault}
 use Rattle.store_shared.specs.declared.fault.UploadFaultKind.{UploadFaultKind}
@@ -104,49 +102,7 @@ cut_may o (kinds.Refused refusal) bad good stopped gate = (tt, λ b. let e = bad
 cut_may o kinds.NoMemory bad good stopped gate = (tt, λ b. let e = bad b in absurd (cc))
 cut_may o kinds.StrangePart bad good stopped gate = (tt, λ b. let e = bad b in absurd (cc))
 
-kind_in : Result Sealed UploadFault → UploadFaultKind
-kind_in (Ok sealed) = BadCut
-kind_in (Err fault) = fault.kind
-
--- the fault of an upload whose gate passes each part
-pub passed_may : (stop : ℕ → Type 0) (gate : ℕ → ℕ → Type 0) (passed : ℕ → Type 0) (bytes : List ℕ) (o : UploadOptions) (most : ℕ) (old new : Holding) (result : Result Sealed UploadFault) (fault : UploadFault)
-    → IsAnswered stop gate passed (record { bytes = bytes; part_chunks = o.part_chunks }) o.workers most old new result → result ≡ Err fault → most ≡ max_workers → ((part : ℕ) → stop part → ⊥) → ((part code : ℕ) → gate part code → ⊥)
-    → MayFail o fault.kind
-passed_may stop gate passed bytes o most old new result fault h is same no_stop no_code = cut_may o fault.kind bad good stopped code
-  where
-    workers : (m n : ℕ) → m ≡ n → IsBadCut o.part_chunks o.workers m → IsBadCut o.part_chunks o.workers n
-    workers m n e b = subst (λ (k : ℕ). IsBadCut o.part_chunks o.workers k) e b
-
-    bad : IsBadCut o.part_chunks o.workers max_workers → fault.kind ≡ kinds.BadCut
-    bad b = ap kind_in (sym is ∙ (h.bad_cut (workers max_workers most (sym same) b)).0)
-
-    good : fault.kind ≡ kinds.BadCut → IsBadCut o.part_chunks o.workers max_workers
-    good e = workers most max_workers same ((rw is at h.good_cut) e)
-
-    stopped : fault.kind ≡ kinds.Stopped → ⊥
-    stopped e = let some = (rw is at h.stopped) e in no_stop some.0 some.1.1
-
-    code : (part code : ℕ) → fault.kind ≡ kinds.GateFault part code → ⊥
-    code part n e = let some = (rw is at h.gate_fault) part n e in no_code part n some.1
-
 -- ---- an upload that was filed
-
--- what is sealed in a store that was empty
-pub record IsSealed (bytes : List ℕ) (part_chunks : ℕ) (share : Holding) (sealed : Sealed) : Type 0 where
-  pub address : sealed.address ≡ hash_of bytes
-  pub bytes : share.bytes ≡ length bytes
-  pub calls : share.calls ≡ length (cut_of bytes part_chunks)
-
-pub is_sealed : (stop : ℕ → Type 0) (gate : ℕ → ℕ → Type 0) (passed : ℕ → Type 0) (c : ModelCut) (workers most parts : ℕ) (old new : Holding) (result : Result Sealed UploadFault) (sealed : Sealed)
-    → IsAnswered stop gate passed c workers most old new result → result ≡ Ok sealed → old ≡ record { parts = parts; bytes = 0; calls = 0 } → IsSealed c.bytes c.part_chunks new sealed
-is_sealed stop gate passed c workers most parts old new result sealed h is start =
-    let ok = rw is at h.ok in
-    let grew = rw is at h.share in
-    let no_bytes : old.bytes ≡ 0 = ap (λ (s : Holding). s.bytes) start in
-    let no_calls : old.calls ≡ 0 = ap (λ (s : Holding). s.calls) start in
-    let bytes : new.bytes ≡ old.bytes + length c.bytes = ap (λ (s : Holding). s.bytes) grew in
-    let calls : new.calls ≡ old.calls + length (cut_of c.bytes c.part_chunks) = ap (λ (s : Holding). s.calls) grew in
-    record { address = ok.0; bytes = omega (arith, no_bytes, bytes); calls = omega (arith, no_calls, calls) }
 
 -- what is reported of a store whose upload was filed is a text of its input
 pub is_upload_text : (o : UploadOptions) (input text address : List ℕ) (share : Holding) (store : ModelStore) → address ≡ hash_of input → share.bytes ≡ length input → share.calls ≡ length (cut_of input o.part_chunks)
