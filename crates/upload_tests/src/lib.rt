@@ -12,8 +12,6 @@ mod gates;
 #[cfg(test)]
 mod growths;
 #[cfg(test)]
-mod guards;
-#[cfg(test)]
 mod hand_overs;
 #[cfg(test)]
 mod hashes;
