@@ -73,21 +73,29 @@ def lost_keys(cache, values, killed):
     return found
 
 
+def killed_lives(folder, lives, words=(), look=lambda cache: 0):
+    """Changes a cache for some seconds and kills it, once for each of `lives`, and compares every key after each. Returns what is wrong, the number of changes,
+    and the sum of what was looked at before the kills."""
+    found, values, number, seen = [], {}, 0, 0
+    for seconds in lives:
+        with Cache(folder, words=list(words)) as cache:
+            number = change_until(cache, number, values, time.monotonic() + seconds)
+            seen += look(cache)
+            cache.process.kill()
+            killed = time.monotonic()
+            cache.process.wait(SECONDS)
+        with Cache(folder) as cache:
+            found += lost_keys(cache, values, killed)
+            _, err = cache.stop()
+            found += [err] if "left out" in err else []
+    return found[:5], number, seen
+
+
 def loses_a_second():
     """Killed at any moment, it begins with all that was answered a second before; a key that has changed since has what it had in that second, or none."""
     with tempfile.TemporaryDirectory() as place:
-        folder, found, values, number = os.path.join(place, "cache"), [], {}, 0
-        for life in range(4):
-            with Cache(folder) as cache:
-                number = change_until(cache, number, values, time.monotonic() + 1.3 + 0.2 * life)
-                cache.process.kill()
-                killed = time.monotonic()
-                cache.process.wait(SECONDS)
-            with Cache(folder) as cache:
-                found += lost_keys(cache, values, killed)
-                _, err = cache.stop()
-                found += [err] if "left out" in err else []
-        return found[:5] if number > 200 else [*found, f"there are {number} changes"]
+        found, number, _ = killed_lives(os.path.join(place, "cache"), [1.3 + 0.2 * life for life in range(4)])
+        return found if number > 200 else [*found, f"there are {number} changes"]
 
 
 def reads_to_the_last_whole_record():

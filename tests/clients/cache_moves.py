@@ -13,7 +13,7 @@ from b3store import Store
 from cache_files import Files
 from cache_stores import Cache as Stores
 from cache_stores import User
-from cache_disk import change_until, lost_keys
+from cache_disk import killed_lives
 from caches import begin_to_read
 from servers import USERS, Cache, SlowPut, ask, children, metrics
 
@@ -190,19 +190,9 @@ def killed_with_two_stores(cache, folder, contents):
 def loses_a_second_in_moves():
     """Killed at any moment of moves, it has all that was answered a second before."""
     with tempfile.TemporaryDirectory() as place:
-        folder, found, values, number, moves = os.path.join(place, "cache"), [], {}, 0, 0
-        for life in range(6):
-            with Cache(folder, words=["--journal-limit", "1"]) as cache:
-                number = change_until(cache, number, values, time.monotonic() + 1.3 + 0.13 * life)
-                moves += metrics(cache)["moves_total"]
-                cache.process.kill()
-                killed = time.monotonic()
-                cache.process.wait(SECONDS)
-            with Cache(folder) as cache:
-                found += lost_keys(cache, values, killed)
-                _, err = cache.stop()
-                found += [err] if "left out" in err else []
-        return found[:5] if moves >= 3 else [*found, f"there are {moves} moves in {number} changes"]
+        lives = [1.3 + 0.13 * life for life in range(6)]
+        found, number, moves = killed_lives(os.path.join(place, "cache"), lives, ["--journal-limit", "1"], lambda cache: metrics(cache)["moves_total"])
+        return found if moves >= 3 else [*found, f"there are {moves} moves in {number} changes"]
 
 
 def keeps_quotas_in_moves():
