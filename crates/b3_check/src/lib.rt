@@ -1,5 +1,13 @@
 //! Check files: text that lists the digest of each named file.
 //!
+//! ```rust
+//! let mut text = Vec::new(alloc);
+//! write(lines.as_slice(), &mut text)?;
+//! let file = CheckFile::read(alloc, text.as_slice())?;
+//! let counts = verify(&file, Shown::All, &mut names, &mut report)?;
+//! let is_good = counts.is_all_good();
+//! ```
+//!
 //! A line is written as 64 lower-case hexadecimal digits, two spaces, the name and a newline. If the name contains a backslash, a newline
 //! or a carriage return, these are written as `\\`, `\n` and `\r`, and the line begins with an additional backslash. A reader accepts
 //! digits of either case and drops all carriage returns at the end of a line. The name of a line without the backslash at its start is

@@ -166,6 +166,23 @@ fn a_file_is_verified(rt: HostRuntime) -> Result<(), Fail> {
 }
 
 #[test]
+fn what_is_written_is_verified(rt: HostRuntime) -> Result<(), Fail> {
+    let alloc = rt.alloc();
+    let lines = vec![in alloc; line_of_abc(alloc, b"f")?]?;
+    let answer = Ok(Some(digest(ABC)?));
+    let mut names = Table { answer, calls: 0 };
+    let mut report = Vec::new(alloc);
+    let mut text = Vec::new(alloc);
+    write(lines.as_slice(), &mut text)?;
+    let file = CheckFile::read(alloc, text.as_slice())?;
+    let counts = verify(&file, Shown::All, &mut names, &mut report)?;
+    let is_good = counts.is_all_good();
+    let wanted: &[u8] = b"good f\ngood 1 bad 0 missing 0 unreadable 0 faults 0\n";
+    assert!(rt; is_good && report.as_slice() == wanted);
+    Ok(())
+}
+
+#[test]
 fn lines_are_reported_before_they_are_asked_for(rt: HostRuntime) -> Result<(), Fail> {
     let alloc = rt.alloc();
     let mut names = Hinted {

@@ -27,8 +27,7 @@ use std::thread::Threads;
 use store_command_line::{Fault, Options, SumInputs, options};
 use store_engines::{ALL_PARTS, Cause, Verdict, audit, migrate, upload};
 use store_history::UnnamedHistory;
-use store_script::run;
-use store_session::serve;
+use store_lines::{run, serve};
 
 // The arguments of the command line. The system's arguments may be any bytes; those that are not UTF-8 are a usage fault.
 fn words_of(rt: &HostRuntime) -> Result<Vec<String>, Fault> {

@@ -22,7 +22,7 @@ use store_core::Limits;
 use store_history::{Front, UnnamedHistory};
 use store_lease::Lease;
 use store_ledger::{ALL_PARTS, Ledgers, Share};
-use store_session::{Access, serve_over};
+use store_lines::{Access, serve_over};
 use store_shared::Shared;
 
 // The maximum length in bytes of a line with a number: 20 digits and a newline.
@@ -47,11 +47,11 @@ impl Door {
 
     // Waits for the next line, and returns its number, or `None` if it is not a number.
     fn next_number(&mut self) -> Result<Option<u64>, Cause> {
-        let count = read_line(&mut self.numbers, &mut self.line, MAX_NUMBER_LINE)?;
-        if count == 0 {
+        let read = read_line(&mut self.numbers, &mut self.line, MAX_NUMBER_LINE)?;
+        if read.count == 0 {
             return Err(Cause::CannotRead);
         }
-        if count > MAX_NUMBER_LINE {
+        if read.count > MAX_NUMBER_LINE {
             return Ok(None);
         }
         match self.line.as_slice().strip_suffix(b"\n") {

@@ -7,4 +7,5 @@ pub mod Inputs
 pub mod LineParts
 pub mod Numbers
 pub mod Output
+pub mod Searches
 pub mod Steps

@@ -3,7 +3,7 @@
 //! - `Cause` says what stopped an engine; `Verdict` is the result of one that completed. `write_all`, or `write_bytes` and `flush`, write
 //!   an output; `write_whole` returns the writer's own error. `read_all` reads an input to its end.
 //! - `SumMode` and `UploadOptions` are what a command line asks of an engine.
-//! - `read_line` reads a line up to a maximum length; `first_line` splits one off bytes in memory. Each line ends with a newline, which may
+//! - `read_line` reads a line and keeps it up to a maximum length; `first_line` splits one off bytes in memory. Each line ends with a newline, which may
 //!   be missing on the last line (`specs/Lines.antt`).
 //! - `split_at`, `number`, `two_numbers` and `three_numbers` read fields separated by one space (`specs/Fields.antt`).
 //! - `decode` turns hexadecimal digits into bytes, as the crate `hex` defines it; `write_encoded` writes the digits of bytes.
@@ -19,7 +19,7 @@ mod streams;
 
 pub use digits::{decode, write_encoded};
 pub use fields::{number, split_at, three_numbers, two_numbers};
-pub use lines::{first_line, len_through, read_line};
+pub use lines::{LineRead, first_line, len_through, read_line};
 pub use options::{SumMode, UploadOptions};
 pub use outcome::{Cause, Verdict};
 pub use reading::{read_all, read_cause};

@@ -1,7 +1,7 @@
 //! What a command line asks of an engine.
 
 /// The mode that `sum` hashes in.
-#[derive(Clone, Copy, Debug)]
+#[derive(Clone, Copy)]
 pub enum SumMode<'a> {
     /// The default hash, without a key.
     Hash,

@@ -1,9 +1,34 @@
-//! The engine of `check`, without memory for a name.
+//! The engine of `check`: over the output of `sum`, and without memory for a name.
 
 use crate::fakes::NoNames;
 use b3_check::Shown;
-use hash_engines::{Cause, check};
+use b3_core::Work;
+use edge::SumMode;
+use hash_engines::{Cause, SumRequest, Verdict, check, sum};
 use std::test::Fail;
+
+#[test]
+fn a_sum_is_checked(rt: HostRuntime) -> Result<(), Fail> {
+    let alloc = rt.alloc();
+    let mut work = Work::new(&rt);
+    let mut reader = b"abc".as_slice();
+    let mut names = NoNames::new(true);
+    let mut report = Vec::new(alloc);
+    let request = SumRequest {
+        name: "notes.txt",
+        mode: SumMode::Hash,
+        length: None,
+        threads: None,
+    };
+    let mut line = Vec::new(alloc);
+    sum(&rt, alloc, &request, &mut reader, &mut line, &mut work)?;
+    let mut list = line.as_slice();
+    let verdict = check(alloc, Shown::All, &mut names, &mut list, &mut report)?;
+    let wanted: &[u8] = b"missing notes.txt\ngood 0 bad 0 missing 1 unreadable 0 faults 0\n";
+    assert_eq!(rt; verdict, Verdict::Refused);
+    assert!(rt; report.as_slice() == wanted);
+    Ok(())
+}
 
 #[test]
 fn a_name_without_memory_is_the_last(rt: HostRuntime) -> Result<(), Fail> {

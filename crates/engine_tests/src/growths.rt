@@ -5,7 +5,7 @@ use crate::fakes::FixedWriter;
 use b3_core::{Runtime, Work};
 use std::process::Abort;
 use store_engines::{Cause, Verdict};
-use store_script::run;
+use store_lines::run;
 
 // Two tenants that hold one object.
 const SHARED: &[u8] =

@@ -16,7 +16,7 @@ use store_engines::Verdict;
 use store_history::{Front, UnnamedHistory};
 use store_lease::Lease;
 use store_ledger::{ALL_PARTS, Accepted, Ledgers, Share};
-use store_session::serve_over;
+use store_lines::serve_over;
 use store_shared::Shared;
 
 // Serves a session with these lines, and returns its share, what it has seen, and whether these are its answers.

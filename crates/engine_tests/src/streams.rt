@@ -12,8 +12,7 @@ use std::sync::Wait;
 use std::test::Fail;
 use std::thread::Threads;
 use store_engines::{audit, migrate};
-use store_script::run;
-use store_session::serve;
+use store_lines::{run, serve};
 
 #[derive(Clone, Copy, Debug, PartialEq, Eq)]
 enum Engine {

@@ -1,5 +1,18 @@
 //! The engines that hash and check files, each over a reader or named inputs, and a writer. They need no store.
 //!
+//! ```rust
+//! let request = SumRequest {
+//!     name: "notes.txt",
+//!     mode: SumMode::Hash,
+//!     length: None,
+//!     threads: None,
+//! };
+//! let mut line = Vec::new(alloc);
+//! sum(&rt, alloc, &request, &mut reader, &mut line, &mut work)?;
+//! let mut list = line.as_slice();
+//! let verdict = check(alloc, Shown::All, &mut names, &mut list, &mut report)?;
+//! ```
+//!
 //! | Engine | Reads | Writes |
 //! |---|---|---|
 //! | `sum` | bytes | their check line, or the first bytes of their extended output |

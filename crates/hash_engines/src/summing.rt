@@ -21,7 +21,7 @@ use std::io::{Read, Write};
 use std::thread::Threads;
 
 /// How an input is hashed, and what is written about it.
-#[derive(Clone, Copy, Debug)]
+#[derive(Clone, Copy)]
 pub struct SumRequest<'a> {
     /// The name in the check line.
     pub name: &'a str,

@@ -17,7 +17,7 @@ pub enum Input<'a> {
 }
 
 /// The mode requested of `sum`.
-#[derive(Clone, Copy, Debug)]
+#[derive(Clone, Copy)]
 pub enum AskedMode<'a> {
     /// A known mode.
     Known(SumMode<'a>),
@@ -26,7 +26,7 @@ pub enum AskedMode<'a> {
 }
 
 /// The names of files, from a list.
-#[derive(Clone, Copy, Debug)]
+#[derive(Clone, Copy)]
 pub struct NameList<'a> {
     /// The input with the list.
     pub list: Input<'a>,
@@ -35,7 +35,7 @@ pub struct NameList<'a> {
 }
 
 /// What `sum` hashes.
-#[derive(Debug, Drop)]
+#[derive(Drop)]
 pub enum SumInputs<'a> {
     /// Standard input, whose check line has this name.
     Standard(&'a str),
@@ -46,7 +46,7 @@ pub enum SumInputs<'a> {
 }
 
 /// The options of `sum`.
-#[derive(Debug, Drop)]
+#[derive(Drop)]
 pub struct SumOptions<'a> {
     /// What is hashed.
     pub inputs: SumInputs<'a>,
@@ -92,7 +92,7 @@ pub struct DoorOptions<'a> {
 }
 
 /// A subcommand with its options.
-#[derive(Debug, Drop)]
+#[derive(Drop)]
 pub enum Options<'a> {
     /// `sum`.
     Sum(SumOptions<'a>),

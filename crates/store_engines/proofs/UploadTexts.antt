@@ -1,5 +1,5 @@
 -- What an upload writes.
-use Rattle.std.proofs.Common.{◌≡◌, ◌++◌, arith, codes, inl, inr, refl, ℕ, Bool, true, false, List, Option, Some, None, Result, Ok, Err, ap, ap₂, subst, sym, [], length, ◌∙◌}
+use Rattle.std.proofs.Common.{◌≡◌, ◌+◌, ◌++◌, arith, codes, inl, inr, refl, ℕ, Bool, true, false, List, Option, Some, None, Result, Ok, Err, ap, ap₂, subst, sym, [], length, ◌∙◌}
 use Rattle.std.specs.Prelude.{IfSome, OnErr, OnOk, if◌then◌else◌, nat_lt, option_map}
 use Rattle.std.specs.Option.{option_map_or}
 use Rattle.std.specs.Io.KnownBytes.{Appends}
@@ -17,6 +17,8 @@ use Rattle.store_core.specs.Model.{ModelObject, ModelStoreBooks, ModelStore}
 use Rattle.store_upload.proofs.Places.{not_some}
 use Rattle.store_ledger.specs.declared.holding.Holding.{Holding}
 use Rattle.store_shared.specs.Cuts.{IsBadCut, cut_of}
+use Rattle.store_shared.specs.Uploading.{ModelCut}
+use Rattle.store_shared.specs.Uploads.{IsAnswered}
 use Rattle.store_core.specs.declared.store.Sealed.{Sealed}
 use Rattle.store_shared.specs.declared.fault.UploadFault.{UploadFault}
 use Rattle.store_shared.specs.declared.fault.UploadFaultKind.{UploadFaultKind}
@@ -93,7 +95,7 @@ pub never_bad : (o : UploadOptions) (most : ℕ) (result : Result Sealed UploadF
 never_bad o most result sealed fault A same bad_cut is bad = let e = (bad_cut (subst (λ (m : ℕ). IsBadCut o.part_chunks o.workers m) (sym same) bad)).0 in cc
 
 -- a cut is at fault exactly where it is bad, and the gate never
-pub cut_may : (o : UploadOptions) (kind : UploadFaultKind) → (IsBadCut o.part_chunks o.workers max_workers → kind ≡ kinds.BadCut) → (kind ≡ kinds.BadCut → IsBadCut o.part_chunks o.workers max_workers)
+cut_may : (o : UploadOptions) (kind : UploadFaultKind) → (IsBadCut o.part_chunks o.workers max_workers → kind ≡ kinds.BadCut) → (kind ≡ kinds.BadCut → IsBadCut o.part_chunks o.workers max_workers)
     → (kind ≡ kinds.Stopped → ⊥) → ((part code : ℕ) → kind ≡ kinds.GateFault part code → ⊥) → MayFail o kind
 cut_may o kinds.BadCut bad good stopped gate = good refl
 cut_may o kinds.Stopped bad good stopped gate = absurd (stopped refl)
@@ -102,7 +104,49 @@ cut_may o (kinds.Refused refusal) bad good stopped gate = (tt, λ b. let e = bad
 cut_may o kinds.NoMemory bad good stopped gate = (tt, λ b. let e = bad b in absurd (cc))
 cut_may o kinds.StrangePart bad good stopped gate = (tt, λ b. let e = bad b in absurd (cc))
 
+abbrev kind_in : Result Sealed UploadFault → UploadFaultKind
+kind_in (Ok sealed) = BadCut
+kind_in (Err fault) = fault.kind
+
+-- the fault of an upload whose gate passes each part
+pub passed_may : (stop : ℕ → Type 0) (gate : ℕ → ℕ → Type 0) (passed : ℕ → Type 0) (bytes : List ℕ) (o : UploadOptions) (most : ℕ) (old new : Holding) (result : Result Sealed UploadFault) (fault : UploadFault)
+    → IsAnswered stop gate passed (record { bytes = bytes; part_chunks = o.part_chunks }) o.workers most old new result → result ≡ Err fault → most ≡ max_workers → ((part : ℕ) → stop part → ⊥) → ((part code : ℕ) → gate part code → ⊥)
+    → MayFail o fault.kind
+passed_may stop gate passed bytes o most old new result fault h is same no_stop no_code = cut_may o fault.kind bad good stopped code
+  where
+    workers : (m n : ℕ) → m ≡ n → IsBadCut o.part_chunks o.workers m → IsBadCut o.part_chunks o.workers n
+    workers m n e b = subst (λ (k : ℕ). IsBadCut o.part_chunks o.workers k) e b
+
+    bad : IsBadCut o.part_chunks o.workers max_workers → fault.kind ≡ kinds.BadCut
+    bad b = ap kind_in (sym is ∙ (h.bad_cut (workers max_workers most (sym same) b)).0)
+
+    good : fault.kind ≡ kinds.BadCut → IsBadCut o.part_chunks o.workers max_workers
+    good e = workers most max_workers same ((rw is at h.good_cut) e)
+
+    stopped : fault.kind ≡ kinds.Stopped → ⊥
+    stopped e = let some = (rw is at h.stopped) e in no_stop some.0 some.2
+
+    code : (part code : ℕ) → fault.kind ≡ kinds.GateFault part code → ⊥
+    code part n e = let some = (rw is at h.gate_fault) part n e in no_code part n some.1
+
 -- ---- an upload that was filed
+
+-- what is sealed in a store that was empty
+pub record IsSealed (content : List ℕ) (part_chunks : ℕ) (share : Holding) (sealed : Sealed) : Type 0 where
+  pub address : sealed.address ≡ hash_of content
+  pub bytes : share.bytes ≡ length content
+  pub calls : share.calls ≡ length (cut_of content part_chunks)
+
+pub is_sealed : (stop : ℕ → Type 0) (gate : ℕ → ℕ → Type 0) (passed : ℕ → Type 0) (c : ModelCut) (workers most parts : ℕ) (old new : Holding) (result : Result Sealed UploadFault) (sealed : Sealed)
+    → IsAnswered stop gate passed c workers most old new result → result ≡ Ok sealed → old ≡ record { parts = parts; bytes = 0; calls = 0 } → IsSealed c.bytes c.part_chunks new sealed
+is_sealed stop gate passed c workers most parts old new result sealed h is start =
+    let ok = rw is at h.ok in
+    let grew = rw is at h.share in
+    let no_bytes : old.bytes ≡ 0 = ap (λ (s : Holding). s.bytes) start in
+    let no_calls : old.calls ≡ 0 = ap (λ (s : Holding). s.calls) start in
+    let bytes : new.bytes ≡ old.bytes + length c.bytes = ap (λ (s : Holding). s.bytes) grew in
+    let calls : new.calls ≡ old.calls + length (cut_of c.bytes c.part_chunks) = ap (λ (s : Holding). s.calls) grew in
+    record { address = ok.0; bytes = omega (arith, no_bytes, bytes); calls = omega (arith, no_calls, calls) }
 
 -- what is reported of a store whose upload was filed is a text of its input
 pub is_upload_text : (o : UploadOptions) (input text address : List ℕ) (share : Holding) (store : ModelStore) → address ≡ hash_of input → share.bytes ≡ length input → share.calls ≡ length (cut_of input o.part_chunks)

@@ -1,5 +1,5 @@
-//! The engines of the subcommands that have a store or a journal, each over a reader and a writer. The engine for scripts is in
-//! `store_script`, the one for sessions in `store_session`, and those that hash and check files are in `hash_engines`.
+//! The engines of the subcommands that have a store or a journal, each over a reader and a writer. Those for scripts and sessions are in
+//! `store_lines`, and those that hash and check files in `hash_engines`.
 //!
 //! | Engine | Reads | Writes |
 //! |---|---|---|

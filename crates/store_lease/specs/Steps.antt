@@ -6,7 +6,7 @@ use Rattle.store_core.specs.Carried.{IsCarried}
 use Rattle.store_core.specs.Model.{ModelStore}
 use Rattle.store_core.specs.Runs.{Call, Reply, Step}
 use Rattle.store_history.specs.Histories.{ModelFront}
-use Rattle.store_session.specs.Access.{took_numbers}
+use Rattle.store_lines.specs.Access.{took_numbers}
 
 -- A client whose front was `before` took a step from a lawful store whose journal continues what the front had seen. Afterwards the front
 -- has seen the journal as the step left it, and the entry of an accepted command is its own.

@@ -2,7 +2,9 @@
 
 use std::alloc::{AllocError, Global};
 use std::test::Fail;
-use store_journal::{LeftObject, Replayed, ReplayedUpload, TenantId, read_journal, replay};
+use store_journal::{
+    LeftObject, Replayed, ReplayedUpload, TenantId, Totals, read_journal, replay, write_journal,
+};
 
 // Has every kind of entry but a forget entry; leaves an upload with a closed plan, one without an end, and one whose end is below its
 // bound.
@@ -50,7 +52,7 @@ fn upload_text(alloc: Global, upload: u64, left: &ReplayedUpload) -> Result<Stri
 }
 
 // Everything that is left.
-fn left_text(alloc: Global, replayed: &Replayed) -> Result<String, AllocError> {
+fn left_text(alloc: Global, replayed: &Replayed, totals: Totals) -> Result<String, AllocError> {
     let mut text = String::new(alloc);
     for tenant in 0..replayed.tenants() {
         if let Some(limit) = replayed.limit(TenantId::new(tenant)) {
@@ -63,7 +65,7 @@ fn left_text(alloc: Global, replayed: &Replayed) -> Result<String, AllocError> {
     for (upload, left) in replayed.uploads() {
         text.push_str(upload_text(alloc, *upload, left)?.as_str())?;
     }
-    let (totals, accepted) = (replayed.totals(), replayed.accepted());
+    let accepted = replayed.accepted();
     let (bytes, calls) = (accepted.bytes, accepted.calls);
     text.push_str(format!(in alloc; "{totals}, accepted {bytes} {calls}\n")?.as_str())?;
     Ok(text)
@@ -72,9 +74,14 @@ fn left_text(alloc: Global, replayed: &Replayed) -> Result<String, AllocError> {
 #[test]
 fn all_that_a_journal_leaves_is_listed(rt: HostRuntime) -> Result<(), Fail> {
     let alloc = rt.alloc();
-    let entries = read_journal(alloc, ENTRIES.as_bytes())?;
+    let text = ENTRIES.as_bytes();
+    let entries = read_journal(alloc, text)?;
     let replayed = replay(alloc, entries.as_slice())?;
-    let text = left_text(alloc, &replayed)?;
-    assert_eq!(rt; text.as_str(), LEFT);
+    let totals = replayed.totals();
+    let mut copy = Vec::new(alloc);
+    write_journal(entries.as_slice(), &mut copy)?;
+    assert_eq!(rt; copy.as_slice(), text);
+    let left = left_text(alloc, &replayed, totals)?;
+    assert_eq!(rt; left.as_str(), LEFT);
     Ok(())
 }

@@ -1,10 +1,11 @@
-use Rattle.std.proofs.Common.{rules, arith, ◌≡◌, ◌≢◌, ◌-◌, ◌∙◌, ◌++◌, All, [], length-take-le, ap, eq-eqb, eqb-true, get_or, get_or-take, refl, subst, sym, take, true≢false}
+use Rattle.std.proofs.Common.{rules, arith, ◌≢◌, ◌-◌, ◌∙◌, All, [], length-take-le, ap, eq-eqb, eqb-true, get_or, get_or-take, refl, subst, sym, take, true≢false, vec_capacity}
 use Rattle.std.specs.Io.BufRead.{FillKeeps}
 use Rattle.std.proofs.BufReadLemmas.{Consumes_shown, zero_unless_positive}
 use Rattle.std.proofs.KnownBytes.{Consumes-kept, Consumes-nil}
 use Rattle.std.proofs.Transfers.{StopsAt-take}
 use Rattle.std.proofs.lemmas.List.Elements.{All-more, All-nil}
-use Rattle.edge.proofs.LineParts.{kept_part, nothing_added}
+use Rattle.edge.specs.inner.Reads.{KeepsPart}
+use Rattle.edge.proofs.LineParts.{kept_none}
 use Rattle.edge.proofs.lines.line_part.Goals.{then-end-eq0, else-end-eq0}
 use Rattle.edge.proofs.lines.line_part.Goals as goal
 
@@ -19,7 +20,7 @@ returns-then-eq-clause-part g c = (
     ends = λ done. absurd (true≢false (sym done));
     none = λ done. absurd (true≢false (sym done));
   },
-  nothing_added c.args.most c.args.line.now.items,
+  kept_none c.args.max_len (vec_capacity c.args.line.now) c.args.is_kept c.args.line.now.items,
 )
 
 pub returns-clause-part : goal.returns-clause-part
@@ -30,8 +31,7 @@ returns-clause-part g c =
     let rested = c.fill_buf.follows.lender-at-none in
     let filled = subst (FillKeeps _ (g.R.Read.remaining rested) (g.R.BufRead.consumable_len rested)) c.in-Ok.is c.fill_buf.follows.holds-at-none in
     let moved = Consumes_shown _ _ _ _ shown end.result end.ensures.bound c.in-Ok.ensures.front c.in-Ok.ensures.end filled.0 filled.1 c.consume.ensures.bytes in
-    let room = c.min-room.result in
-    let added : c.extend_from_slice.new.self.items ≡ c.args.line.now.items ++ take room shown = search rules in (
+    let held : KeepsPart c.args.max_len (vec_capacity c.args.line.now) c.args.is_kept c.keep-is_held.result c.args.line.now.items c.keep-is_held.new.line.items (take end.result shown) = search rules in (
       take end.result shown,
       record {
         count_is = long;
@@ -49,5 +49,5 @@ returns-clause-part g c =
         ];
         none = λ _ none. moved.1 (zero_unless_positive _ _ end.ensures.positive (sym long ∙ none));
       },
-      added ∙ ap (λ l. c.args.line.now.items ++ l) (kept_part c.args.most shown c.args.line.now.items room end.result (search rules)),
+      held,
     )

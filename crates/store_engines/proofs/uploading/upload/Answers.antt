@@ -1,16 +1,10 @@
-use Rattle.std.proofs.Common.{rules, ◌≡◌, ◌∙◌, ℕ, inl, length, refl}
-use Rattle.std.specs.Prelude.{IfSome}
-use Rattle.b3_core.specs.Modes.{hash_of}
+use Rattle.std.proofs.Common.{rules, subst, ◌≡◌, ◌∙◌, ℕ, inl, length, refl}
+use Rattle.store_engines.proofs.UploadTexts.{is_sealed, is_upload_text, never_bad, no_memory, own_may, passed_may, reported, reported_memory, reported_some, unopened}
 use Rattle.store_core.specs.Commands.{as_is}
-use Rattle.store_books.specs.Books.{max_workers}
-use Rattle.store_shared.specs.Cuts.{IsBadCut, cut_of}
 use Rattle.store_shared.specs.declared.fault.UploadFaultKind.TheVariants as kinds
 use Rattle.store_engines.specs.Uploads.{WrotePrefix, WroteUpload}
-use Rattle.edge.specs.Output.{WroteSome}
-use Rattle.store_engines.specs.inner.Uploads.{IsUploadReport}
 use Rattle.std.specs.Io.KnownBytes.{Appends}
 use Rattle.edge.proofs.Inputs.{known}
-use Rattle.store_engines.proofs.UploadTexts.{cut_may, is_upload_text, never_bad, no_memory, own_may, reported, reported_memory, reported_some, unopened}
 use Rattle.store_engines.proofs.uploading.upload.Goals as goal
 
 -- ---- no tenant
@@ -43,14 +37,9 @@ returns-in_err-write_all-in-Ok-uploaded-clause-failed g c = λ _.
     let text = c.in_ok-text-in-Ok-uploaded.text.items in
     let before = g.W.Write.contents c.args.writer.now in
     let last = g.W.Write.contents c.write_all.new.writer in
-    let same : IfSome (g.R.Read.remaining c.args.reader.now) (λ left. input ≡ left) = search rules in
-    let address : c.in-Ok-uploaded.sealed.address ≡ hash_of input = search rules in
-    let bytes : share.bytes ≡ length input = search rules in
-    let calls : share.calls ≡ length (cut_of input o.part_chunks) = search rules in
-    let is : IsUploadReport o.journal c.in-Ok-uploaded.sealed.address share c.close-locked.result.store text = search rules in
-    let some : WroteSome before last text = search rules in
-    known (g.R.Read.remaining c.args.reader.now) input (λ left. WrotePrefix o left before last) same
-    (text, inl (is_upload_text o input text c.in-Ok-uploaded.sealed.address share c.close-locked.result.store address bytes calls is), some)
+    let sealed = is_sealed _ _ _ (record { bytes = input; part_chunks = o.part_chunks }) _ _ _ _ _ _ _ c.upload-share.ensures c.in-Ok-uploaded.is c.new-shared.ensures.share in
+    known (g.R.Read.remaining c.args.reader.now) input (λ left. WrotePrefix o left before last) c.in_ok-input.ensures.bytes
+    (text, inl (is_upload_text o input text c.in-Ok-uploaded.sealed.address share c.close-locked.result.store sealed.address sealed.bytes sealed.calls c.in_ok-text-in-Ok-uploaded.ensures), subst (WroteSome before last) c.as_slice.ensures.value c.in_err-write_all-in-Ok-uploaded.ensures.failed)
 
 pub returns-in-Ok-uploaded-clause-written : goal.returns-in-Ok-uploaded-clause-written
 returns-in-Ok-uploaded-clause-written g c = λ _.
@@ -58,14 +47,9 @@ returns-in-Ok-uploaded-clause-written g c = λ _.
     let o = c.args.options in
     let share = c.upload-share.result.0 in
     let text = c.in_ok-text-in-Ok-uploaded.text.items in
-    let same : IfSome (g.R.Read.remaining c.args.reader.now) (λ left. input ≡ left) = search rules in
-    let address : c.in-Ok-uploaded.sealed.address ≡ hash_of input = search rules in
-    let bytes : share.bytes ≡ length input = search rules in
-    let calls : share.calls ≡ length (cut_of input o.part_chunks) = search rules in
-    let is : IsUploadReport o.journal c.in-Ok-uploaded.sealed.address share c.close-locked.result.store text = search rules in
-    let appends : Appends (g.W.Write.contents c.args.writer.now) (g.W.Write.contents c.write_all.new.writer) text = search rules in
-    known (g.R.Read.remaining c.args.reader.now) input (λ left. WroteUpload o left (g.W.Write.contents c.args.writer.now) (g.W.Write.contents c.write_all.new.writer)) same
-    (text, is_upload_text o input text c.in-Ok-uploaded.sealed.address share c.close-locked.result.store address bytes calls is, appends)
+    let sealed = is_sealed _ _ _ (record { bytes = input; part_chunks = o.part_chunks }) _ _ _ _ _ _ _ c.upload-share.ensures c.in-Ok-uploaded.is c.new-shared.ensures.share in
+    known (g.R.Read.remaining c.args.reader.now) input (λ left. WroteUpload o left (g.W.Write.contents c.args.writer.now) (g.W.Write.contents c.write_all.new.writer)) c.in_ok-input.ensures.bytes
+    (text, is_upload_text o input text c.in-Ok-uploaded.sealed.address share c.close-locked.result.store sealed.address sealed.bytes sealed.calls c.in_ok-text-in-Ok-uploaded.ensures, subst (Appends (g.W.Write.contents c.args.writer.now) (g.W.Write.contents c.write_all.new.writer)) c.as_slice.ensures.value c.in_ok-write_all-in-Ok-uploaded.ensures.written)
 
 -- ---- one that wasn't
 
@@ -91,18 +75,12 @@ pub returns-clause-refused : goal.returns-clause-refused
 returns-clause-refused g c =
     let o = c.args.options in
     let kind = c.in-Err-uploaded.fault.kind in
-    let bad : IsBadCut o.part_chunks o.workers max_workers → kind ≡ kinds.BadCut = search rules in
-    let good : kind ≡ kinds.BadCut → IsBadCut o.part_chunks o.workers max_workers = search rules in
-    let stopped : kind ≡ kinds.Stopped → ⊥ = search rules in
-    let gate : (part code : ℕ) → kind ≡ kinds.GateFault part code → ⊥ = search rules in
-    reported o c.refuse-in-Err-uploaded.result kind _ _ (cut_may o kind bad good stopped gate) c.refuse-in-Err-uploaded.ensures.reported c.refuse-in-Err-uploaded.ensures.memory
+    let may = passed_may _ _ _ _ o _ _ _ _ _ c.upload-share.ensures c.in-Err-uploaded.is (c.new-shared.ensures.workers ∙ c.full.ensures.2) (λ part s. s) (λ part code f. f) in
+    reported o c.refuse-in-Err-uploaded.result kind _ _ may c.refuse-in-Err-uploaded.ensures.reported c.refuse-in-Err-uploaded.ensures.memory
 
 pub returns-clause-failed : goal.returns-clause-failed
 returns-clause-failed g c =
     let o = c.args.options in
     let kind = c.in-Err-uploaded.fault.kind in
-    let bad : IsBadCut o.part_chunks o.workers max_workers → kind ≡ kinds.BadCut = search rules in
-    let good : kind ≡ kinds.BadCut → IsBadCut o.part_chunks o.workers max_workers = search rules in
-    let stopped : kind ≡ kinds.Stopped → ⊥ = search rules in
-    let gate : (part code : ℕ) → kind ≡ kinds.GateFault part code → ⊥ = search rules in
-    reported_some o c.refuse-in-Err-uploaded.result kind _ _ (g.R.Read.remaining c.args.reader.now) (cut_may o kind bad good stopped gate) c.refuse-in-Err-uploaded.ensures.failed c.refuse-in-Err-uploaded.ensures.memory
+    let may = passed_may _ _ _ _ o _ _ _ _ _ c.upload-share.ensures c.in-Err-uploaded.is (c.new-shared.ensures.workers ∙ c.full.ensures.2) (λ part s. s) (λ part code f. f) in
+    reported_some o c.refuse-in-Err-uploaded.result kind _ _ (g.R.Read.remaining c.args.reader.now) may c.refuse-in-Err-uploaded.ensures.failed c.refuse-in-Err-uploaded.ensures.memory

@@ -1,0 +1,103 @@
+-- A session over a store of its own.
+use Rattle.std.proofs.Common.{◌≡◌, ◌∷◌, [], ℕ, List, Some, None, Option, Ok, Err, Result, arith, inl, inr, subst, sym, take}
+use Rattle.std.specs.Prelude.{IfOk, IfSome}
+use Rattle.std.specs.List.{flat_map}
+use Rattle.std.specs.Io.BufRead.{drop_through, strip_last, take_through}
+use Rattle.edge.specs.declared.outcome.Verdict.{Verdict}
+use Rattle.edge.specs.declared.outcome.Verdict.TheVariants as verdicts
+use Rattle.store_books.specs.Books.{max_entries, max_tenants, max_workers}
+use Rattle.store_core.specs.Commands.{plan_in}
+use Rattle.store_core.specs.Model.{ModelStore}
+use Rattle.store_core.specs.Runs.{Run, ask}
+use Rattle.store_core.specs.declared.command.Question.TheVariants as questions
+use Rattle.store_core.proofs.Runs.{runs_carry}
+use Rattle.store_core.proofs.Carried.{empty_carried}
+use Rattle.store_lines.specs.Script.{widest_start}
+use Rattle.store_lines.specs.Script as script
+use Rattle.store_lines.proofs.ScriptSteps.{Came, came, came_put, came_takes}
+use Rattle.store_lines.specs.Requests.{request_in}
+use Rattle.store_lines.specs.Session.{AreServed, AreSessionTurns, Ends, IsReportedAs, IsTurnOfRequest, IsTurnOfScriptLine, Manner, ServedAll, ServedSome, SessionTurn, no_memory, session_calls, session_replies, session_turn_text, reported_as}
+use Rattle.store_lines.specs.declared.request.Request.{Request}
+use Rattle.store_lines.specs.declared.request.Request.TheVariants.{Asks, Entries, Fetch, Put}
+use Rattle.store_lines.specs.Access.{SessionState, alone_reach, alone_stands}
+use Rattle.store_lines.specs.Turns.{EndsOver, ServedAllOver, ServedSomeOver}
+use Rattle.store_lines.proofs.Turns.{of_turns}
+
+-- ---- the steps are a run
+
+abbrev CameTo : ModelStore → SessionTurn → ModelStore → Type 0
+CameTo old no_memory new = new ≡ old
+CameTo old (reported_as manner turn) new = Came old turn new
+
+came_reported : (old new : ModelStore) (manner : Manner) (Is : script.Turn → Type 0) (turn : SessionTurn) → ((t : script.Turn) → Is t → Came old t new) → IsReportedAs manner Is turn → CameTo old turn new
+came_reported old new manner Is no_memory f h = absurd h
+came_reported old new manner Is (reported_as reported turn) f h = f turn h.1
+
+came_script : (old new : ModelStore) (line : List ℕ) (turn : SessionTurn) → IsTurnOfScriptLine old line turn new → CameTo old turn new
+came_script old new line no_memory h = h.1
+came_script old new line (reported_as manner turn) h = came old new line turn h.1
+
+came_request : (old new : ModelStore) (request : Option Request) (whole following : List ℕ) (turn : SessionTurn) (rest : List ℕ) → IsTurnOfRequest old request whole following turn new rest → CameTo old turn new
+came_request old new None whole following turn rest h = came_script old new (strip_last 10 whole) turn h.0
+came_request old new (Some (Put upload offset len)) whole following turn rest h = came_reported old new _ _ turn (λ t is. came_put old new upload offset (take len following) (plan_in old.state upload) t is) h.0
+came_request old new (Some (Fetch wanted)) whole following turn rest h = came_reported old new _ _ turn (λ t is. came_takes old new (ask (questions.Fetch wanted.tenant wanted.address)) t is) h.0
+came_request old new (Some (Asks question)) whole following turn rest h = came_reported old new _ _ turn (λ t is. came_takes old new (ask question) t is) h.0
+came_request old new (Some (Entries range)) whole following turn rest h = came_reported old new _ _ turn (λ t is. came_takes old new (ask questions.Journal) t is) h.0
+
+script_on : (old mid new : ModelStore) (manner : Manner) (turn : script.Turn) (turns : List SessionTurn) → Came old turn mid → Run mid (session_calls turns) (session_replies turns) new → Run old (session_calls (reported_as manner turn ∷ turns)) (session_replies (reported_as manner turn ∷ turns)) new
+script_on old mid new manner script.skipped turns h r = subst (λ (s : ModelStore). Run s (session_calls turns) (session_replies turns) new) h r
+script_on old mid new manner script.bad turns h r = subst (λ (s : ModelStore). Run s (session_calls turns) (session_replies turns) new) h r
+script_on old mid new manner (script.unmade fault) turns h r = subst (λ (s : ModelStore). Run s (session_calls turns) (session_replies turns) new) h r
+script_on old mid new manner (script.took call reply) turns h r = (mid, h, r)
+
+run_on : (old mid new : ModelStore) (turn : SessionTurn) (turns : List SessionTurn) → CameTo old turn mid → Run mid (session_calls turns) (session_replies turns) new → Run old (session_calls (turn ∷ turns)) (session_replies (turn ∷ turns)) new
+run_on old mid new no_memory turns h r = subst (λ (s : ModelStore). Run s (session_calls turns) (session_replies turns) new) h r
+run_on old mid new (reported_as manner turn) turns h r = script_on old mid new manner turn turns h r
+
+runs : (old new : ModelStore) (input rest : List ℕ) (turns : List SessionTurn) → AreSessionTurns old input turns new rest → Run old (session_calls turns) (session_replies turns) new
+runs old new input rest [] h = h.0
+runs old new input rest (turn ∷ turns) h = run_on old h.0 new turn turns (came_request old h.0 (request_in (take_through 10 input)) (take_through 10 input) (drop_through 10 input) turn h.1 h.2.1) (runs h.0 new h.1 rest turns h.3)
+
+are_served : (end : ModelStore) (input output rest : List ℕ) (turns : List SessionTurn) → AreSessionTurns widest_start input turns end rest → output ≡ flat_map session_turn_text turns → AreServed input output rest
+are_served end input output rest turns plays text =
+    let run = runs widest_start end input rest turns plays in
+    record {
+      turns = turns;
+      end = end;
+      plays = plays;
+      run = run;
+      law = (runs_carry widest_start end (session_calls turns) (session_replies turns) (empty_carried max_tenants max_entries max_workers (omega arith) (omega arith)) run).0;
+      text_is = text;
+    }
+
+-- ---- a session
+
+of_ends : (verdict : Verdict) (rest : List ℕ) → EndsOver alone_reach verdict rest → Ends verdict rest
+of_ends verdicts.Good rest h = h
+of_ends verdicts.Refused rest (inl h) = h
+of_ends verdicts.Refused rest (inr h) = absurd (let impossible = h.0 in cc)
+
+pub all_served : {E : Type 0} (r : Result Verdict E) (old w1 w2 : Option (List ℕ)) (store : ModelStore) (left : SessionState → Type 0) → store ≡ widest_start → IfOk r (λ verdict. IfSome old (λ input. ServedAllOver alone_reach (alone_stands store) left input w1 w2 verdict))
+    → IfOk r (λ verdict. IfSome old (λ input. ServedAll input w1 w2 verdict))
+all_served (Err e) old w1 w2 store left is h = tt
+all_served (Ok verdict) None w1 w2 store left is h = tt
+all_served (Ok verdict) (Some input) w1 w2 store left is h =
+    let p = h.answered.plays (record { store = widest_start; bytes = 0; calls = 0; own = [] }) (sym is) in
+    record {
+      output = h.output;
+      rest = h.rest;
+      answered = are_served p.0.store input h.output h.rest h.answered.turns (of_turns (record { store = widest_start; bytes = 0; calls = 0; own = [] }) p.0 input h.rest h.answered.turns p.1.0) h.answered.text_is;
+      ends = of_ends verdict h.rest h.ends;
+      wrote = h.wrote;
+    }
+
+pub some_served : (old w1 w2 : Option (List ℕ)) (store : ModelStore) → store ≡ widest_start → IfSome old (λ input. ServedSomeOver alone_reach (alone_stands store) input w1 w2) → IfSome old (λ input. ServedSome input w1 w2)
+some_served None w1 w2 store is h = tt
+some_served (Some input) w1 w2 store is h =
+    let p = h.answered.plays (record { store = widest_start; bytes = 0; calls = 0; own = [] }) (sym is) in
+    record {
+      output = h.output;
+      rest = h.rest;
+      answered = are_served p.0.store input h.output h.rest h.answered.turns (of_turns (record { store = widest_start; bytes = 0; calls = 0; own = [] }) p.0 input h.rest h.answered.turns p.1.0) h.answered.text_is;
+      wrote = h.wrote;
+    }

@@ -1,0 +1,18 @@
+mod Turns
+pub mod ScriptSteps
+pub mod Joining
+pub mod Patterns
+pub mod Read
+pub mod Rows
+pub mod LineOutcomes
+pub mod Lengths
+mod Frames
+mod Ranges
+mod Lines
+mod Parts
+pub mod Steps
+mod Puts
+mod Reports
+mod Serves
+mod Under
+mod Alone

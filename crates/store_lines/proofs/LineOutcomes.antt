@@ -1,0 +1,150 @@
+-- What a line results in.
+use Rattle.std.proofs.Common.{◌≡◌, ◌∙◌, ◌+◌, ◌-◌, ◌<◌, ◌≤◌, ℕ, List, [], ◌∷◌, ◌++◌, Some, None, Ok, Err, Result, refl, ap, sym, subst, arith, cond, length, take}
+use Rattle.std.specs.Prelude.{◌&&◌, ◌==◌, Bool, Option, IfOk, OnErr, codes, false, nat_lt, slice_index, true}
+use Rattle.std.specs.Io.BufRead.{strip_last}
+use Rattle.std.proofs.lemmas.List.{length-take, take_all}
+use Rattle.edge.specs.Fields.{split_at, space}
+use Rattle.edge.proofs.FieldTexts.{split_found}
+use Rattle.store_books.specs.declared.refusal.Refusal.{Refusal}
+use Rattle.store_core.specs.Commands.{plan_in, reply_seen}
+use Rattle.store_core.specs.Model.{ModelStore}
+use Rattle.store_core.specs.Seen.{reply_of}
+use Rattle.store_core.specs.declared.reply.Reply.{Reply as CodeReply}
+use Rattle.store_core.specs.declared.command.Command.{Command}
+use Rattle.store_core.specs.declared.command.Question.{Question}
+use Rattle.store_core.specs.Runs.{Answers, Reply, Step, ask, change}
+use Rattle.store_lines.specs.Grammar.{ScriptCommand, asks, command_at, does, puts}
+use Rattle.store_lines.specs.Access.{SessionState, alone_reach, alone_stands}
+use Rattle.store_lines.specs.Lines.{IsPutLine}
+use Rattle.store_lines.specs.inner.Answers.{Answered, AnswersRead, PutsRead, reported_ending, reported_text}
+use Rattle.store_lines.specs.Turns.{IsLinkedPut}
+use Rattle.store_lines.specs.inner.Reporting.{AnsweredOver}
+use Rattle.store_lines.proofs.Turns.{of_put}
+use Rattle.store_lines.proofs.Lengths.{long_is_none}
+use Rattle.store_lines.specs.Script.{IsTurnOfCommand, IsTurnOf, IsTurnOfPut, Turn, bad, reply_ending, skipped, took}
+use Rattle.store_lines.specs.Texts.{answer_text}
+use Rattle.store_lines.specs.declared.answer.Answer.{Answer}
+use Rattle.store_lines.specs.declared.answer.Answer.TheVariants as answers
+use Rattle.store_lines.specs.declared.ending.Ending.{Ending}
+use Rattle.store_lines.specs.declared.ending.Ending.TheVariants as endings
+
+-- ---- an answer
+
+-- what is said of a step, and of a line that is no command
+abbrev pub Says : Result Reply Refusal → List ℕ → Ending → Type 0
+Says reply text ending = (text ≡ answer_text reply) × (ending ≡ reply_ending reply)
+
+abbrev pub SaysBad : List ℕ → Ending → Type 0
+SaysBad text ending = (text ≡ codes "bad\n") × (ending ≡ endings.Refused)
+
+-- a reply that is seen another way ends alike
+seen_ending : {R M : Type 0} (seen : R → M) (reply : Result R Refusal) → reply_ending reply ≡ reply_ending (reply_seen seen reply)
+seen_ending seen (Ok reply) = refl
+seen_ending seen (Err refusal) = refl
+
+pub says : (store : ModelStore) (reply : Result CodeReply Refusal) → Says (reply_seen (reply_of store) reply) (reported_text store (answers.Replied reply)) (reported_ending (answers.Replied reply))
+says store reply = (refl, seen_ending (reply_of store) reply)
+
+-- ---- a part
+
+-- a part's turn, whose upload and bytes are these
+abbrev pub PutTurn : ModelStore → ℕ → ℕ → List ℕ → ModelStore → Turn → Type 0
+PutTurn old upload offset bytes new turn = IsTurnOfPut old upload offset bytes (plan_in old.state upload) turn new
+
+-- the turn of a put in a store of its own
+pub put_alone : (old new : ModelStore) (upload offset : ℕ) (bytes : List ℕ) (answer : Answer) → AnsweredOver (alone_stands old) (alone_stands new) (λ before turn after. IsLinkedPut alone_reach before upload offset bytes turn after) answer
+    → Answered (PutTurn old upload offset bytes new) (reported_text new answer) (reported_ending answer)
+put_alone old new upload offset bytes answer h =
+    let before : SessionState = record { store = old; bytes = 0; calls = 0; own = [] } in
+    let g = h.goes before refl in
+    record {
+      turn = h.turn;
+      is = subst (λ (s : ModelStore). IsTurnOfPut old upload offset bytes (plan_in old.state upload) h.turn s) g.1.0 (of_put before g.0 upload offset bytes h.turn g.1.1);
+      text_is = h.text_is new;
+      ending_is = h.ending_is;
+    }
+
+-- ---- a line
+
+abbrev pub LineTurn : ModelStore → List ℕ → ModelStore → Turn → Type 0
+LineTurn old line new turn = IsTurnOf old line turn new
+
+plays : (old new : ModelStore) (line : List ℕ) (turn : Turn) (command : Option ScriptCommand) → 0 < length line → command ≡ command_at line → IsTurnOfCommand old command turn new → IsTurnOf old line turn new
+plays old new [] turn command some is h = absurd (omega (arith, some))
+plays old new (b ∷ line) turn command some is h = subst (λ o. IsTurnOfCommand old o turn new) is h
+
+pub nothing : (old : ModelStore) (line text : List ℕ) (ending : Ending) → length line ≡ 0 → text ≡ [] → ending ≡ endings.Good → Answered (LineTurn old line old) text ending
+nothing old [] text ending none text_is ending_is = record { turn = skipped; is = (refl, refl); text_is = text_is; ending_is = ending_is }
+nothing old (b ∷ line) text ending none text_is ending_is = absurd (omega (arith, none))
+
+pub no_command : (old : ModelStore) (line text : List ℕ) (ending : Ending) → 0 < length line → None ≡ command_at line → SaysBad text ending → Answered (LineTurn old line old) text ending
+no_command old line text ending some is says = record { turn = bad; is = plays old old line bad None some is (refl, refl); text_is = says.0; ending_is = says.1 }
+
+pub done : (old new : ModelStore) (line text : List ℕ) (ending : Ending) (command : Command) (reply : Result Reply Refusal) → 0 < length line → Some (does command) ≡ command_at line → Step old (change command) reply new → Says reply text ending → Answered (LineTurn old line new) text ending
+done old new line text ending command reply some is step says = record {
+  turn = took (change command) reply;
+  is = plays old new line (took (change command) reply) (Some (does command)) some is (refl, step);
+  text_is = says.0;
+  ending_is = says.1;
+}
+
+pub asked : (old : ModelStore) (line text : List ℕ) (ending : Ending) (question : Question) (reply : Result Reply Refusal) → 0 < length line → Some (asks question) ≡ command_at line → Answers old question reply → Says reply text ending → Answered (LineTurn old line old) text ending
+asked old line text ending question reply some is answers says = record {
+  turn = took (ask question) reply;
+  is = plays old old line (took (ask question) reply) (Some (asks question)) some is (refl, (answers, refl));
+  text_is = says.0;
+  ending_is = says.1;
+}
+
+pub put_asked : (old new : ModelStore) (line text : List ℕ) (ending : Ending) (upload offset : ℕ) (bytes : List ℕ) → 0 < length line → Some (puts upload offset bytes) ≡ command_at line → Answered (PutTurn old upload offset bytes new) text ending → Answered (LineTurn old line new) text ending
+put_asked old new line text ending upload offset bytes some is h = record {
+  turn = h.turn;
+  is = plays old new line h.turn (Some (puts upload offset bytes)) some is h.is;
+  text_is = h.text_is;
+  ending_is = h.ending_is;
+}
+
+-- ---- a line that was read
+
+pub strip_shorter : (xs : List ℕ) → length xs ≤ length (strip_last 10 xs) + 1
+strip_shorter xs = go (nat_lt 0 (length xs) && slice_index xs (length xs - 1) == 10)
+  where
+    go : (t : Bool) → length xs ≤ length (cond t (take (length xs - 1) xs) xs) + 1
+    go true = omega (arith, length-take (length xs - 1) xs)
+    go false = omega arith
+
+-- a longer line is no command
+pub long_line : (old : ModelStore) (count : ℕ) (kept : List ℕ) → 33554481 < count → AnswersRead old old count kept (reported_text old answers.Bad) (reported_ending answers.Bad)
+long_line old count kept long = record {
+  answers = λ whole read.
+      let line = strip_last 10 whole in
+      let most : 33554480 < length line = omega (arith, long, read.0, strip_shorter whole) in
+      no_command old line (codes "bad\n") endings.Refused (omega (arith, most)) (sym (long_is_none line most)) (refl, refl);
+}
+
+-- any other is kept whole
+pub short_line : {E : Type 0} (r : Result Answer E) (old new : ModelStore) (count : ℕ) (kept line : List ℕ) → count ≤ 33554481 → line ≡ strip_last 10 kept → IfOk r (λ a. Answered (LineTurn old line new) (reported_text new a) (reported_ending a))
+    → IfOk r (λ a. AnswersRead old new count kept (reported_text new a) (reported_ending a))
+short_line (Err e) old new count kept line short is h = tt
+short_line (Ok a) old new count kept line short is h = record {
+  answers = λ whole read.
+      let all : kept ≡ whole = read.1 ∙ take_all 33554481 whole (omega (arith, short, read.0)) in
+      subst (λ (l : List ℕ). Answered (LineTurn old l new) (reported_text new a) (reported_ending a)) (is ∙ ap (strip_last 10) all) h;
+}
+
+-- ---- out of memory
+
+pub put_line : (line kind fields : List ℕ) → Some (kind, fields) ≡ split_at space line → kind ≡ codes "put" → IsPutLine line
+put_line line kind fields cut is = (fields, sym (split_found space line (kind, fields) (sym cut)) ∙ ap (λ (k : List ℕ). k ++ space ∷ fields) is)
+
+pub always : {A E P : Type 0} (r : Result A E) → P → OnErr r P
+always (Ok a) p = tt
+always (Err e) p = p
+
+pub short_put : {A E : Type 0} (r : Result A E) (count : ℕ) (kept line : List ℕ) → count ≤ 33554481 → line ≡ strip_last 10 kept → OnErr r (IsPutLine line) → OnErr r (PutsRead count kept)
+short_put (Ok a) count kept line short is h = tt
+short_put (Err e) count kept line short is h = record {
+  puts = λ whole read.
+      let all : kept ≡ whole = read.1 ∙ take_all 33554481 whole (omega (arith, short, read.0)) in
+      subst IsPutLine (is ∙ ap (strip_last 10) all) h;
+}

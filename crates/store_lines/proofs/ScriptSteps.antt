@@ -1,0 +1,313 @@
+-- How far a script has come.
+use Rattle.std.proofs.Common.{◌≡◌, ◌∙◌, ◌<◌, ◌^◌, ℕ, Bool, true, false, List, [], ◌∷◌, ◌++◌, Some, None, Ok, Err, Result, refl, ap, sym, subst, arith, length, cond, append_assoc, ◌⊎◌, inl, inr}
+use Rattle.std.specs.Prelude.{◌≢◌, Option, ◌==◌, IfOk, IfSome, OnOk}
+use Rattle.std.specs.List.{flat_map}
+use Rattle.std.specs.Io.BufRead.{DropsThrough, drop_through, strip_last, take_through}
+use Rattle.std.specs.Io.KnownBytes.{Appends, IsAtEnd}
+use Rattle.std.proofs.lemmas.List.{append-nil}
+use Rattle.std.proofs.lemmas.List.Concat.{flat_map-append}
+use Rattle.b3_forest.specs.Parts.{ModelPrepared, planned}
+use Rattle.store_upload.specs.Uploads.{UploadPlan, part_fault}
+use Rattle.store_upload.specs.declared.refusal.PartFault.{PartFault}
+use Rattle.store_books.specs.declared.refusal.Refusal.{Refusal}
+use Rattle.store_books.specs.declared.limits.Limits.{Limits}
+use Rattle.store_books.specs.Books.{empty_books, max_entries, max_tenants, max_workers}
+use Rattle.store_core.specs.Commands.{plan_in}
+use Rattle.edge.specs.Lines.{lines_of}
+use Rattle.edge.proofs.FirstLines.{lines_next, none_left, nothing_is}
+use Rattle.edge.proofs.Joining.{appends_more, appends_none}
+use Rattle.store_core.specs.Model.{ModelStore, start}
+use Rattle.store_core.specs.declared.command.Question.TheVariants.{Plan}
+use Rattle.store_core.specs.Runs.{Call, Run, Step, ask, change}
+use Rattle.store_lines.specs.Grammar.{ScriptCommand, asks, command_at, does, puts}
+use Rattle.store_lines.specs.inner.Answers.{AnswersRead, IsReadLine}
+use Rattle.store_lines.specs.Script.{AreTurnsOf, AreAnswered, IsTurnOfCommand, IsScriptBegun, IsTurnOfMade, IsTurnOf, IsTurnOfPart, IsTurnOfPut, Ran, RanOut, RanSome, IsTurnOfStep, Turn, bad, calls_of, ending_of, failed_write, ran_all, ran_some, replies_of, skipped, took, turn_ending, turn_text, unmade, verdict_ending, widest_start, worse}
+use Rattle.store_lines.specs.inner.Script.{ended_as, first_cause}
+use Rattle.store_lines.specs.declared.ending.Ending.{Ending}
+use Rattle.store_lines.specs.declared.ending.Ending.TheVariants as endings
+use Rattle.edge.specs.declared.outcome.Cause.{Cause}
+use Rattle.edge.specs.declared.outcome.Cause.TheVariants as causes
+use Rattle.store_core.proofs.Carried.{empty_carried}
+use Rattle.store_core.proofs.Runs.{runs_carry}
+
+-- ---- a line more
+
+more_play : (old mid new : ModelStore) (front : List (List ℕ)) (turns : List Turn) (line : List ℕ) (turn : Turn) → AreTurnsOf old front turns mid → IsTurnOf mid line turn new → AreTurnsOf old (front ++ line ∷ []) (turns ++ turn ∷ []) new
+more_play old mid new [] [] line turn h p = (new, subst (λ (s : ModelStore). IsTurnOf s line turn new) h p, refl)
+more_play old mid new [] (t ∷ turns) line turn h p = absurd h
+more_play old mid new (l ∷ front) [] line turn h p = absurd h
+more_play old mid new (l ∷ front) (t ∷ turns) line turn h p = (h.0, h.1, more_play h.0 mid new front turns line turn h.2 p)
+
+worse_good : (e : Ending) → worse e endings.Good ≡ e
+worse_good endings.Good = refl
+worse_good endings.Refused = refl
+worse_good endings.OutOfMemory = refl
+
+worse_assoc : (a b c : Ending) → worse (worse a b) c ≡ worse a (worse b c)
+worse_assoc endings.Good b c = refl
+worse_assoc endings.OutOfMemory b c = refl
+worse_assoc endings.Refused endings.Good c = refl
+worse_assoc endings.Refused endings.OutOfMemory c = refl
+worse_assoc endings.Refused endings.Refused endings.Good = refl
+worse_assoc endings.Refused endings.Refused endings.Refused = refl
+worse_assoc endings.Refused endings.Refused endings.OutOfMemory = refl
+
+ending_more : (turns : List Turn) (turn : Turn) → ending_of (turns ++ turn ∷ []) ≡ worse (ending_of turns) (turn_ending turn)
+ending_more [] turn = worse_good (turn_ending turn)
+ending_more (t ∷ turns) turn = ap (worse (turn_ending t)) (ending_more turns turn) ∙ sym (worse_assoc (turn_ending t) (ending_of turns) (turn_ending turn))
+
+text_more : (turns : List Turn) (turn : Turn) → flat_map turn_text (turns ++ turn ∷ []) ≡ flat_map turn_text turns ++ turn_text turn
+text_more turns turn = flat_map-append turn_text turns (turn ∷ []) ∙ ap (λ xs. flat_map turn_text turns ++ xs) (append-nil (turn_text turn))
+
+-- ---- the steps are a run
+
+-- a step, or nothing
+abbrev pub Came : ModelStore → Turn → ModelStore → Type 0
+Came old skipped new = new ≡ old
+Came old bad new = new ≡ old
+Came old (unmade fault) new = new ≡ old
+Came old (took call reply) new = Step old call reply new
+
+pub came_takes : (old new : ModelStore) (call : Call) (turn : Turn) → IsTurnOfStep old call turn new → Came old turn new
+came_takes old new call skipped h = absurd h
+came_takes old new call bad h = absurd h
+came_takes old new call (unmade fault) h = absurd h
+came_takes old new call (took asked reply) h = subst (λ (c : Call). Step old c reply new) (sym h.0) h.1
+
+came_puts : (old new : ModelStore) (upload : ℕ) (part : ModelPrepared) (turn : Turn) → IsTurnOfPart old upload part turn new → Came old turn new
+came_puts old new upload part skipped h = absurd h
+came_puts old new upload part bad h = absurd h
+came_puts old new upload part (unmade fault) h = h.1
+came_puts old new upload part (took asked reply) h = subst (λ (c : Call). Step old c reply new) (sym h.0) h.1
+
+came_makes : (old new : ModelStore) (upload : ℕ) (part : ModelPrepared) (refused : Option PartFault) (turn : Turn) → IsTurnOfMade old upload part refused turn new → Came old turn new
+came_makes old new upload part (Some fault) turn h = subst (λ (t : Turn). Came old t new) (sym h.0) h.1
+came_makes old new upload part None turn h = came_puts old new upload part turn h
+
+pub came_put : (old new : ModelStore) (upload offset : ℕ) (bytes : List ℕ) (made_by : Result UploadPlan Refusal) (turn : Turn) → IsTurnOfPut old upload offset bytes made_by turn new → Came old turn new
+came_put old new upload offset bytes (Err refusal) turn h = came_takes old new (ask (Plan upload)) turn h
+came_put old new upload offset bytes (Ok made_for) turn h = came_makes old new upload (planned made_for offset bytes) (part_fault made_for offset (length bytes)) turn h
+
+came_does : (old new : ModelStore) (command : Option ScriptCommand) (turn : Turn) → IsTurnOfCommand old command turn new → Came old turn new
+came_does old new None turn h = subst (λ (t : Turn). Came old t new) (sym h.0) h.1
+came_does old new (Some (does command)) turn h = came_takes old new (change command) turn h
+came_does old new (Some (asks question)) turn h = came_takes old new (ask question) turn h
+came_does old new (Some (puts upload offset bytes)) turn h = came_put old new upload offset bytes (plan_in old.state upload) turn h
+
+pub came : (old new : ModelStore) (line : List ℕ) (turn : Turn) → IsTurnOf old line turn new → Came old turn new
+came old new [] turn h = subst (λ (t : Turn). Came old t new) (sym h.0) h.1
+came old new (b ∷ line) turn h = came_does old new (command_at (b ∷ line)) turn h
+
+run_on : (old mid new : ModelStore) (turn : Turn) (turns : List Turn) → Came old turn mid → Run mid (calls_of turns) (replies_of turns) new → Run old (calls_of (turn ∷ turns)) (replies_of (turn ∷ turns)) new
+run_on old mid new skipped turns h r = subst (λ (s : ModelStore). Run s (calls_of turns) (replies_of turns) new) h r
+run_on old mid new bad turns h r = subst (λ (s : ModelStore). Run s (calls_of turns) (replies_of turns) new) h r
+run_on old mid new (unmade fault) turns h r = subst (λ (s : ModelStore). Run s (calls_of turns) (replies_of turns) new) h r
+run_on old mid new (took call reply) turns h r = (mid, h, r)
+
+runs : (old new : ModelStore) (lines : List (List ℕ)) (turns : List Turn) → AreTurnsOf old lines turns new → Run old (calls_of turns) (replies_of turns) new
+runs old new [] [] h = h
+runs old new [] (turn ∷ turns) h = absurd h
+runs old new (line ∷ lines) [] h = absurd h
+runs old new (line ∷ lines) (turn ∷ turns) h = run_on old h.0 new turn turns (came old h.0 line turn h.1) (runs h.0 new lines turns h.2)
+
+-- ---- a run under way
+
+-- the lines before the rest were answered: what they came to, what was written, and the ending so far
+pub record IsUnder (now was is : Option (List ℕ)) (store : ModelStore) (ending : Ending) (input : List ℕ) : Type 0 where
+  pub rest : List ℕ
+  pub left : now ≡ Some rest
+  pub front : List (List ℕ)
+  pub lines : lines_of input ≡ front ++ lines_of rest
+  pub turns : List Turn
+  pub plays : AreTurnsOf widest_start front turns store
+  pub wrote : Appends was is (flat_map turn_text turns)
+  pub ending_is : ending ≡ ending_of turns
+
+pub begun : (old was : Option (List ℕ)) (store : ModelStore) → store ≡ widest_start → IfSome old (IsUnder old was was store endings.Good)
+begun None was store is = tt
+begun (Some input) was store is = record {
+  rest = input;
+  left = refl;
+  front = [];
+  lines = refl;
+  turns = [];
+  plays = is;
+  wrote = appends_none was;
+  ending_is = refl;
+}
+
+are_answered : (front : List (List ℕ)) (turns : List Turn) (store : ModelStore) (ending : Ending) → AreTurnsOf widest_start front turns store → ending ≡ ending_of turns → AreAnswered front (flat_map turn_text turns) ending
+are_answered front turns store ending plays is = record {
+  turns = turns;
+  end = store;
+  plays = plays;
+  run = runs widest_start store front turns plays;
+  law = (runs_carry widest_start store (calls_of turns) (replies_of turns) (empty_carried max_tenants max_entries max_workers (omega arith) (omega arith)) (runs widest_start store front turns plays)).0;
+  text_is = refl;
+  ending_is = is;
+}
+
+pub at_end : (old now was is : Option (List ℕ)) (store : ModelStore) (ending : Ending) → IfSome old (IsUnder now was is store ending) → IsAtEnd now → IfSome old (λ input. Ran input was is ending)
+at_end None now was is store ending h e = tt
+at_end (Some input) now was is store ending h e =
+    let none : IsAtEnd (Some h.rest) = subst IsAtEnd h.left e in
+    let all : lines_of input ≡ h.front = h.lines ∙ ap (λ (rest : List ℕ). h.front ++ lines_of rest) none ∙ ap (λ ls. h.front ++ ls) none_left ∙ append-nil h.front in
+    record {
+      output = flat_map turn_text h.turns;
+      script = subst (λ (ls : List (List ℕ)). AreAnswered ls (flat_map turn_text h.turns) ending) (sym all) (are_answered h.front h.turns store ending h.plays h.ending_is);
+      wrote = h.wrote;
+    }
+
+-- at the end the reader stays there
+pub ended_reader : (old now then was is : Option (List ℕ)) (store : ModelStore) (ending : Ending) → IfSome old (IsUnder now was is store ending) → IsAtEnd now → DropsThrough now then 10 → IfSome old (λ _. IsAtEnd then)
+ended_reader None now then was is store ending h none drops = tt
+ended_reader (Some input) now then was is store ending h none drops =
+    let rest : then ≡ Some (drop_through 10 h.rest) = subst (λ (o : Option (List ℕ)). DropsThrough o then 10) h.left drops in
+    let nothing : h.rest ≡ [] = subst IsAtEnd h.left none in
+    subst IsAtEnd (sym rest) (ap (drop_through 10) nothing)
+
+-- ---- a run that ends
+
+-- answered to its end: its verdict, or out of memory in an answer
+pub is_verdict : (old was is : Option (List ℕ)) (ending : Ending) → IfSome old (λ input. Ran input was is ending) → IfOk (ended_as ending) (λ verdict. IfSome old (λ input. Ran input was is (verdict_ending verdict)))
+is_verdict old was is endings.Good h = h
+is_verdict old was is endings.Refused h = h
+is_verdict old was is endings.OutOfMemory h = tt
+
+pub is_out : (old left was is : Option (List ℕ)) (ending : Ending) → IfSome old (λ _. IsAtEnd left) → IfSome old (λ input. Ran input was is ending) → ended_as ending ≡ Err causes.OutOfMemory → IfSome old (λ input. RanOut input left was is)
+is_out old left was is endings.Good end h e = absurd (cc)
+is_out old left was is endings.Refused end h e = absurd (cc)
+is_out None left was is endings.OutOfMemory end h e = tt
+is_out (Some input) left was is endings.OutOfMemory end h e = ran_all end h
+
+pub no_failed_read : (ending : Ending) → ended_as ending ≢ Err causes.CannotRead
+no_failed_read endings.Good = λ e. cc
+no_failed_read endings.Refused = λ e. cc
+no_failed_read endings.OutOfMemory = λ e. cc
+
+pub if_ended : (ending : Ending) (Holds : Type 0) → Holds → OnOk (ended_as ending) Holds
+if_ended endings.Good Holds h = h
+if_ended endings.Refused Holds h = h
+if_ended endings.OutOfMemory Holds h = tt
+
+-- stopped after a prefix of its lines
+abbrev script_begun : (now was is : Option (List ℕ)) (store : ModelStore) (ending : Ending) (input : List ℕ) (h : IsUnder now was is store ending input) → IsScriptBegun input (flat_map turn_text h.turns) ending
+script_begun now was is store ending input h = record {
+  front = h.front;
+  back = lines_of h.rest;
+  lines = h.lines;
+  answered = are_answered h.front h.turns store ending h.plays h.ending_is;
+}
+
+-- a failed read is reported only where no answer before reported out of memory
+pub has_memory : (ending : Ending) (cause : Cause) → (ending ≡ endings.OutOfMemory → cause ≡ causes.OutOfMemory) → cause ≡ causes.CannotRead → ending ≢ endings.OutOfMemory
+has_memory ending cause reported is = λ memory. let other = reported memory in absurd (cc)
+
+pub at_stop : (old now was is : Option (List ℕ)) (store : ModelStore) (ending : Ending) → ending ≢ endings.OutOfMemory → IfSome old (IsUnder now was is store ending) → IfSome old (λ input. RanSome input was is)
+at_stop None now was is store ending memory h = tt
+at_stop (Some input) now was is store ending memory h = record {
+  output = flat_map turn_text h.turns;
+  ending = ending;
+  script = script_begun now was is store ending input h;
+  has_memory = memory;
+  wrote = h.wrote;
+}
+
+some_left : (input : List ℕ) → 0 < length input → lines_of input ≢ []
+some_left input some = λ none. let nothing = ap length (nothing_is input none) in absurd (omega (arith, nothing, some))
+
+-- a line is left, or an answer reported out of memory
+pub at_refusal : (old now left was is : Option (List ℕ)) (store : ModelStore) (ending : Ending) → IfSome now (λ input. (0 < length input) ⊎ (ending ≡ endings.OutOfMemory)) → IfSome old (IsUnder now was is store ending) → IfSome old (λ input. RanOut input left was is)
+at_refusal None now left was is store ending some h = tt
+at_refusal (Some input) now left was is store ending some h =
+    let rest = subst (λ (o : Option (List ℕ)). IfSome o (λ input. (0 < length input) ⊎ (ending ≡ endings.OutOfMemory))) h.left some in
+    ran_some (flat_map turn_text h.turns) ending (script_begun now was is store ending input h) (elim rest [ inl some ↦ inl (some_left h.rest some) | inr memory ↦ inr memory ]) h.wrote
+
+-- a line that was read is left
+pub line_left : (now : Option (List ℕ)) (ending : Ending) (count : ℕ) (kept : List ℕ) → 0 < count → IfSome now (λ xs. IsReadLine (take_through 10 xs) count kept) → IfSome now (λ input. (0 < length input) ⊎ (ending ≡ endings.OutOfMemory))
+line_left None ending count kept some h = tt
+line_left (Some []) ending count kept some h = absurd (omega (arith, some, h.0))
+line_left (Some (b ∷ bs)) ending count kept some h = inl (omega arith)
+
+-- at the end nothing is read
+pub nothing_read : (now : Option (List ℕ)) (count : ℕ) (kept : List ℕ) → count ≡ 0 → IfSome now (λ xs. IsReadLine (take_through 10 xs) count kept) → IsAtEnd now
+nothing_read None count kept zero h = tt
+nothing_read (Some xs) count kept zero h = nothing_through xs (omega (arith, h.0, zero))
+  where
+    nothing_through : (xs : List ℕ) → length (take_through 10 xs) ≡ 0 → xs ≡ []
+    nothing_through [] e = refl
+    nothing_through (b ∷ bs) e = absurd (some_through (b == 10) e)
+      where
+        some_through : (t : Bool) → length (cond t (b ∷ []) (b ∷ take_through 10 bs)) ≡ 0 → ⊥
+        some_through true e = omega (arith, e)
+        some_through false e = omega (arith, e)
+
+-- an answer that was reported so
+pub reported_left : (now : Option (List ℕ)) (ending : Ending) → ending ≡ endings.OutOfMemory → IfSome now (λ input. (0 < length input) ⊎ (ending ≡ endings.OutOfMemory))
+reported_left None ending memory = tt
+reported_left (Some input) ending memory = inr memory
+
+-- of a failed write the writer reports nothing
+pub whatever_written : (old now was is : Option (List ℕ)) (store : ModelStore) (ending : Ending) → IfSome old (IsUnder now was is store ending) → IfSome old (IsUnder now None None store ending)
+whatever_written None now was is store ending h = tt
+whatever_written (Some input) now was is store ending h = record {
+  rest = h.rest;
+  left = h.left;
+  front = h.front;
+  lines = h.lines;
+  turns = h.turns;
+  plays = h.plays;
+  wrote = tt;
+  ending_is = h.ending_is;
+}
+
+pub reported_memory : (ending : Ending) → first_cause ending causes.CannotWrite ≡ causes.OutOfMemory → ending ≡ endings.OutOfMemory
+reported_memory endings.Good e = absurd (cc)
+reported_memory endings.Refused e = absurd (cc)
+reported_memory endings.OutOfMemory e = refl
+
+pub no_failed_report : (ending : Ending) → first_cause ending causes.CannotWrite ≢ causes.CannotRead
+no_failed_report endings.Good = λ e. cc
+no_failed_report endings.Refused = λ e. cc
+no_failed_report endings.OutOfMemory = λ e. cc
+
+pub reported_memory_read : (ending : Ending) → first_cause ending causes.CannotRead ≡ causes.OutOfMemory → ending ≡ endings.OutOfMemory
+reported_memory_read endings.Good e = absurd (cc)
+reported_memory_read endings.Refused e = absurd (cc)
+reported_memory_read endings.OutOfMemory e = refl
+
+pub at_failed_write : (old now left was is : Option (List ℕ)) (store : ModelStore) (ending : Ending) → ending ≡ endings.OutOfMemory → IfSome old (IsUnder now None None store ending) → IfSome old (λ input. RanOut input left was is)
+at_failed_write None now left was is store ending memory h = tt
+at_failed_write (Some input) now left was is store ending memory h =
+    failed_write (flat_map turn_text h.turns) (subst (λ (e : Ending). IsScriptBegun input (flat_map turn_text h.turns) e) memory (script_begun now None None store ending input h))
+
+-- ---- a line more of a run
+
+pub turned : (old now then was is after : Option (List ℕ)) (store next : ModelStore) (ending said : Ending) (count : ℕ) (kept text : List ℕ) → IfSome old (IsUnder now was is store ending) → IfSome now (λ xs. IsReadLine (take_through 10 xs) count kept)
+    → DropsThrough now then 10 → 0 < count → AnswersRead store next count kept text said → Appends is after text → IfSome old (IsUnder then was after next (worse ending said))
+turned None now then was is after store next ending said count kept text h read rest some answered wrote = tt
+turned (Some input) now then was is after store next ending said count kept text h read rest some answered wrote =
+    let whole = take_through 10 h.rest in
+    let read2 : IsReadLine whole count kept = subst (λ (o : Option (List ℕ)). IfSome o (λ xs. IsReadLine (take_through 10 xs) count kept)) h.left read in
+    let rest2 : then ≡ Some (drop_through 10 h.rest) = subst (λ (o : Option (List ℕ)). DropsThrough o then 10) h.left rest in
+    let line = strip_last 10 whole in
+    let some2 : 0 < length whole = omega (arith, some, read2.0) in
+    let answer = answered.answers whole read2 in
+    record {
+      rest = drop_through 10 h.rest;
+      left = rest2;
+      front = h.front ++ line ∷ [];
+      lines = h.lines ∙ ap (λ ls. h.front ++ ls) (lines_next h.rest some2) ∙ sym (append_assoc h.front (line ∷ []) (lines_of (drop_through 10 h.rest)));
+      turns = h.turns ++ answer.turn ∷ [];
+      plays = more_play widest_start store next h.front h.turns line answer.turn h.plays answer.is;
+      wrote = subst (λ (t : List ℕ). Appends was after t) (ap (λ t. flat_map turn_text h.turns ++ t) answer.text_is ∙ sym (text_more h.turns answer.turn)) (appends_more was is after (flat_map turn_text h.turns) text h.wrote wrote);
+      ending_is = ap (λ e. worse e said) h.ending_is ∙ ap (worse (ending_of h.turns)) answer.ending_is ∙ sym (ending_more h.turns answer.turn);
+    }
+
+-- ---- the empty store
+
+pub starts_widest : (l : Limits) → l.tenants ≡ 2 ^ 16 → l.entries ≡ 2 ^ 32 → l.workers ≡ 16 → start l ≡ widest_start
+starts_widest l tenants entries workers = λ j. record {
+  state = empty_books (tenants j) (entries j) (workers j);
+  journal = [];
+}

@@ -1,0 +1,136 @@
+-- How far a session has come.
+use Rattle.std.proofs.Common.{◌≡◌, ◌∙◌, ◌<◌, ◌++◌, ◌∷◌, [], ℕ, Bool, true, false, List, Some, None, Option, ap, append-nil, arith, inl, inr, length, refl, subst, sym}
+use Rattle.std.specs.Prelude.{IfSome}
+use Rattle.std.specs.List.{flat_map}
+use Rattle.std.specs.Io.BufRead.{DropsThrough, drop_through, take_through}
+use Rattle.std.specs.Io.KnownBytes.{Appends}
+use Rattle.std.proofs.BufReadLemmas.{take_through-nil, take_through_nonempty}
+use Rattle.std.proofs.KnownBytes.{Appends-nil, Appends-trans}
+use Rattle.edge.specs.declared.outcome.Verdict.TheVariants as verdicts
+use Rattle.std.proofs.lemmas.List.Concat.{flat_map-append}
+use Rattle.store_lines.specs.inner.Requests.{IsSessionLine}
+use Rattle.store_lines.specs.Requests.{request_in}
+use Rattle.store_lines.specs.Session.{SessionTurn, session_turn_text}
+use Rattle.edge.specs.declared.lines.LineRead.{LineRead}
+use Rattle.store_lines.specs.Access.{SessionState, Reach}
+use Rattle.store_lines.specs.inner.Reporting.{Leaves, ServesOver, ServesReadOver}
+use Rattle.store_lines.specs.Turns.{AreLinkedTurns, IsLinkedFirstLine, ServedAllOver, ServedOver, ServedSomeOver}
+
+-- the lines before the rest were served: what they came to, and what was written
+pub record IsUnder (reach : Reach) (was is : SessionState → Type 0) (now w1 w2 : Option (List ℕ)) (input : List ℕ) : Type 0 where
+  pub rest : List ℕ
+  pub left : now ≡ Some rest
+  pub turns : List SessionTurn
+  pub plays : (start : SessionState) → was start → (end : SessionState) × (is end × AreLinkedTurns reach start input turns end rest)
+  pub wrote : Appends w1 w2 (flat_map session_turn_text turns)
+
+more_play : (reach : Reach) (old mid new : SessionState) (input following rest : List ℕ) (turns : List SessionTurn) (turn : SessionTurn) → AreLinkedTurns reach old input turns mid following → IsLinkedFirstLine reach mid following turn new rest → AreLinkedTurns reach old input (turns ++ turn ∷ []) new rest
+more_play reach old mid new input following rest [] turn h p =
+    let from : IsLinkedFirstLine reach old input turn new rest = subst (λ (k : SessionState). IsLinkedFirstLine reach k input turn new rest) h.0 (subst (λ (b : List ℕ). IsLinkedFirstLine reach mid b turn new rest) h.1 p) in
+    (new, rest, from, (refl, refl))
+more_play reach old mid new input following rest (t ∷ turns) turn h p = (h.0, h.1, h.2, more_play reach h.0 mid new h.1 following rest turns turn h.3 p)
+
+text_more : (turns : List SessionTurn) (turn : SessionTurn) → flat_map session_turn_text (turns ++ turn ∷ []) ≡ flat_map session_turn_text turns ++ session_turn_text turn
+text_more turns turn = flat_map-append session_turn_text turns (turn ∷ []) ∙ ap (λ xs. flat_map session_turn_text turns ++ xs) (append-nil (session_turn_text turn))
+
+pub begun : (reach : Reach) (was : SessionState → Type 0) (old w : Option (List ℕ)) → IfSome old (IsUnder reach was was old w w)
+begun reach was None w = tt
+begun reach was (Some input) w = record { rest = input; left = refl; turns = []; plays = λ start session. (start, (session, (refl, refl))); wrote = Appends-nil w }
+
+answered : (reach : Reach) (was is : SessionState → Type 0) (now w1 w2 : Option (List ℕ)) (input : List ℕ) (h : IsUnder reach was is now w1 w2 input) → ServedOver reach was is input (flat_map session_turn_text h.turns) h.rest
+answered reach was is now w1 w2 input h = record {
+  turns = h.turns;
+  plays = λ start session. let p = h.plays start session in (p.0, (p.1.1, (p.0.store, p.1.0)));
+  text_is = refl;
+}
+
+answered_so_far : (reach : Reach) (was is : SessionState → Type 0) (now w1 w2 : Option (List ℕ)) (input : List ℕ) (h : IsUnder reach was is now w1 w2 input) → ServedOver reach was (λ _. Unit {0}) input (flat_map session_turn_text h.turns) h.rest
+answered_so_far reach was is now w1 w2 input h = record {
+  turns = h.turns;
+  plays = λ start session. let p = h.plays start session in (p.0, (p.1.1, (p.0.store, tt)));
+  text_is = refl;
+}
+
+answered_cut : (reach : Reach) (was mid is : SessionState → Type 0) (now w1 w2 : Option (List ℕ)) (input : List ℕ) (h : IsUnder reach was mid now w1 w2 input) → Leaves mid is → ServedOver reach was is input (flat_map session_turn_text h.turns) h.rest
+answered_cut reach was mid is now w1 w2 input h l = record {
+  turns = h.turns;
+  plays = λ start session. let p = h.plays start session in (p.0, (p.1.1, l.leaves p.0 p.1.0));
+  text_is = refl;
+}
+
+pub stopped : (reach : Reach) (was is : SessionState → Type 0) (old now w1 w2 : Option (List ℕ)) → IfSome old (IsUnder reach was is now w1 w2) → IfSome old (λ input. ServedSomeOver reach was input w1 w2)
+stopped reach was is None now w1 w2 h = tt
+stopped reach was is (Some input) now w1 w2 h = record { output = flat_map session_turn_text h.turns; rest = h.rest; answered = answered_so_far reach was is now w1 w2 input h; wrote = h.wrote }
+
+pub at_end : (reach : Reach) (was is : SessionState → Type 0) (old now w1 w2 : Option (List ℕ)) (read : LineRead) (kept : List ℕ) → IfSome old (IsUnder reach was is now w1 w2) → IfSome now (λ left. IsSessionLine (take_through 10 left) read kept) → read.count ≡ 0
+    → IfSome old (λ input. ServedAllOver reach was is input w1 w2 verdicts.Good)
+at_end reach was is None now w1 w2 read kept h r none = tt
+at_end reach was is (Some input) now w1 w2 read kept h r none =
+    let read2 : IsSessionLine (take_through 10 h.rest) read kept = subst (λ (o : Option (List ℕ)). IfSome o (λ left. IsSessionLine (take_through 10 left) read kept)) h.left r in
+    let nothing : h.rest ≡ [] = take_through-nil 10 h.rest (omega (arith, read2.count_is, none)) in
+    record { output = flat_map session_turn_text h.turns; rest = h.rest; answered = answered reach was is now w1 w2 input h; ends = nothing; wrote = h.wrote }
+
+-- a line lacks the newline that it needs
+pub unended : (reach : Reach) (was is : SessionState → Type 0) (old now w1 w2 : Option (List ℕ)) (read : LineRead) (kept : List ℕ) → IfSome old (IsUnder reach was is now w1 w2) → IfSome now (λ left. IsSessionLine (take_through 10 left) read kept) → 0 < read.count
+    → reach.needs_newline ≡ true → read.is_ended ≡ false → IfSome old (λ input. ServedAllOver reach was is input w1 w2 verdicts.Refused)
+unended reach was is None now w1 w2 read kept h r some needs lacks = tt
+unended reach was is (Some input) now w1 w2 read kept h r some needs lacks =
+    let read2 : IsSessionLine (take_through 10 h.rest) read kept = subst (λ (o : Option (List ℕ)). IfSome o (λ left. IsSessionLine (take_through 10 left) read kept)) h.left r in
+    record {
+      output = flat_map session_turn_text h.turns;
+      rest = h.rest;
+      answered = answered reach was is now w1 w2 input h;
+      ends = inr (needs, take_through_nonempty 10 h.rest (omega (arith, read2.count_is, some)), read2.unended lacks);
+      wrote = h.wrote;
+    }
+
+some_left : (rest : List ℕ) (read : LineRead) (kept : List ℕ) → IsSessionLine (take_through 10 rest) read kept → 0 < read.count → 0 < length rest
+some_left rest read kept r some = take_through_nonempty 10 rest (omega (arith, r.count_is, some))
+
+-- what a line that was read came to
+served_now : (reach : Reach) (was is : SessionState → Type 0) (now then left w1 w2 : Option (List ℕ)) (rest : List ℕ) (read : LineRead) (kept : List ℕ) (is_whole : Bool) → now ≡ Some rest → IfSome now (λ left. IsSessionLine (take_through 10 left) read kept)
+    → DropsThrough now then 10 → IfSome then (λ following. ServesReadOver reach was is is_whole read kept following left w1 w2) → ServesOver reach was is is_whole (request_in (take_through 10 rest)) (take_through 10 rest) (drop_through 10 rest) left w1 w2
+served_now reach was is now then left w1 w2 rest read kept is_whole at r drops served =
+    let read2 : IsSessionLine (take_through 10 rest) read kept = subst (λ (o : Option (List ℕ)). IfSome o (λ l. IsSessionLine (take_through 10 l) read kept)) at r in
+    let then_is : then ≡ Some (drop_through 10 rest) = subst (λ (o : Option (List ℕ)). DropsThrough o then 10) at drops in
+    let served2 = subst (λ (o : Option (List ℕ)). IfSome o (λ following. ServesReadOver reach was is is_whole read kept following left w1 w2)) then_is served in
+    served2.serves (take_through 10 rest) read2
+
+pub truncated : (reach : Reach) (was mid is : SessionState → Type 0) (old now then left w1 w2 w3 : Option (List ℕ)) (read : LineRead) (kept : List ℕ) (is_whole : Bool) → is_whole ≡ false → IfSome old (IsUnder reach was mid now w1 w2)
+    → IfSome now (λ left. IsSessionLine (take_through 10 left) read kept) → DropsThrough now then 10 → IfSome then (λ following. ServesReadOver reach mid is is_whole read kept following left w2 w3) → IfSome old (λ input. ServedAllOver reach was is input w1 w3 verdicts.Refused)
+truncated reach was mid is None now then left w1 w2 w3 read kept is_whole none h r drops served = tt
+truncated reach was mid is (Some input) now then left w1 w2 w3 read kept is_whole none h r drops served =
+    let whole = take_through 10 h.rest in
+    let following = drop_through 10 h.rest in
+    let served1 = served_now reach mid is now then left w2 w3 h.rest read kept is_whole h.left r drops served in
+    let served2 : ServesOver reach mid is false (request_in whole) whole following left w2 w3 = subst (λ (w : Bool). ServesOver reach mid is w (request_in whole) whole following left w2 w3) none served1 in
+    let text : flat_map session_turn_text h.turns ++ [] ≡ flat_map session_turn_text h.turns = append-nil (flat_map session_turn_text h.turns) in
+    record {
+      output = flat_map session_turn_text h.turns;
+      rest = h.rest;
+      answered = answered_cut reach was mid is now w1 w2 input h served2.2;
+      ends = inl served2.0;
+      wrote = subst (λ (t : List ℕ). Appends w1 w3 t) text (Appends-trans w1 w2 w3 (flat_map session_turn_text h.turns) [] h.wrote served2.1);
+    }
+
+pub turned : (reach : Reach) (was mid is : SessionState → Type 0) (old now then left w1 w2 w3 : Option (List ℕ)) (read : LineRead) (kept : List ℕ) (is_whole : Bool) → is_whole ≡ true → (reach.needs_newline ≡ true → read.is_ended ≡ true) → IfSome old (IsUnder reach was mid now w1 w2)
+    → IfSome now (λ left. IsSessionLine (take_through 10 left) read kept) → 0 < read.count → DropsThrough now then 10 → IfSome then (λ following. ServesReadOver reach mid is is_whole read kept following left w2 w3) → IfSome old (IsUnder reach was is left w1 w3)
+turned reach was mid is None now then left w1 w2 w3 read kept is_whole all ended h r some drops served = tt
+turned reach was mid is (Some input) now then left w1 w2 w3 read kept is_whole all ended h r some drops served =
+    let whole = take_through 10 h.rest in
+    let following = drop_through 10 h.rest in
+    let read2 : IsSessionLine whole read kept = subst (λ (o : Option (List ℕ)). IfSome o (λ l. IsSessionLine (take_through 10 l) read kept)) h.left r in
+    let served1 = served_now reach mid is now then left w2 w3 h.rest read kept is_whole h.left r drops served in
+    let served2 : ServesOver reach mid is true (request_in whole) whole following left w2 w3 = subst (λ (w : Bool). ServesOver reach mid is w (request_in whole) whole following left w2 w3) all served1 in
+    let rest = served2.0 in
+    let t = served2.1.1 in
+    record {
+      rest = rest;
+      left = served2.1.0;
+      turns = h.turns ++ t.turn ∷ [];
+      plays = λ start session.
+          let p = h.plays start session in
+          let g = t.goes p.0 p.1.0 in
+          (g.0, (g.1.0, more_play reach start p.0 g.0 input h.rest rest h.turns t.turn p.1.1 (some_left h.rest read kept read2 some, (λ needs. read2.ended (ended needs)), g.1.1)));
+      wrote = subst (λ (x : List ℕ). Appends w1 w3 x) (sym (text_more h.turns t.turn)) (Appends-trans w1 w2 w3 (flat_map session_turn_text h.turns) (session_turn_text t.turn) h.wrote t.wrote);
+    }

@@ -1,0 +1,64 @@
+use Rattle.std.proofs.Common.{rules, ◌≡◌, ◌≤◌, ◌<◌, arith, false, subst, sym, true, vec_capacity, List, ℕ}
+use Rattle.std.specs.Prelude.{IfSome}
+use Rattle.edge.specs.declared.outcome.Cause.TheVariants as causes
+use Rattle.store_lines.specs.Lines.{max_request}
+use Rattle.store_lines.specs.inner.Reporting.{ServesReadOver}
+use Rattle.store_lines.specs.Turns.{ServedSomeOver}
+use Rattle.store_lines.proofs.Under.{at_end, begun, truncated, stopped, turned, unended}
+use Rattle.store_lines.proofs.serving.serve_over.Goals as goal
+
+pub loop-init : goal.loop-init
+loop-init g c =
+    let room : max_request ≤ vec_capacity c.in_ok-line.line = search rules in
+    (begun g.A.Access.reach (g.A.Access.stands c.args.access.now) (g.R.Read.remaining c.args.reader.now) (g.W.Write.contents c.args.writer.now), room)
+
+pub returns-in_err-read-clause-read : goal.returns-in_err-read-clause-read
+returns-in_err-read-clause-read g c = λ is. stopped g.A.Access.reach (g.A.Access.stands c.args.access.now) (g.A.Access.stands c.loop.access) (g.R.Read.remaining c.args.reader.now) (g.R.Read.remaining c.loop.reader) (g.W.Write.contents c.args.writer.now) (g.W.Write.contents c.loop.writer) c.loop.invariant.0
+
+pub returns-then-read-eq0-clause-written : goal.returns-then-read-eq0-clause-written
+returns-then-read-eq0-clause-written g c =
+    at_end g.A.Access.reach (g.A.Access.stands c.args.access.now) (g.A.Access.stands c.loop.access) (g.R.Read.remaining c.args.reader.now) (g.R.Read.remaining c.loop.reader) (g.W.Write.contents c.args.writer.now) (g.W.Write.contents c.loop.writer) c.in_ok-read.read c.next_line.new.line.items c.loop.invariant.0 c.in_ok-read.ensures.read (search rules)
+
+pub returns-in_err-serve_line-clause-read : goal.returns-in_err-serve_line-clause-read
+returns-in_err-serve_line-clause-read g c = λ is.
+    let cause : c.in_err-serve_line.field-0.0 ≡ causes.CannotRead = search rules in
+    let same : c.serve_line.new.writer ≡ c.loop.writer = search rules in
+    let reach = g.A.Access.reach in
+    let was = g.A.Access.stands c.args.access.now in
+    let before = stopped reach was (g.A.Access.stands c.loop.access) (g.R.Read.remaining c.args.reader.now) (g.R.Read.remaining c.loop.reader) (g.W.Write.contents c.args.writer.now) (g.W.Write.contents c.loop.writer) c.loop.invariant.0 in
+    subst (λ w. IfSome (g.R.Read.remaining c.args.reader.now) (λ input. ServedSomeOver reach was input (g.W.Write.contents c.args.writer.now) (g.W.Write.contents w))) (sym same) before
+
+pub returns-then-not-branch-clause-written : goal.returns-then-not-branch-clause-written
+returns-then-not-branch-clause-written g c =
+    let reach = g.A.Access.reach in
+    let mid = g.A.Access.stands c.loop.access in
+    let now = g.A.Access.stands c.serve_line.new.access in
+    let none : c.in_ok-serve_line.field-0 ≡ false = search rules in
+    let kept : c.as_slice.result.now ≡ c.next_line.new.line.items = search rules in
+    let served = subst (λ (k : List ℕ). IfSome (g.R.Read.remaining c.next_line.new.reader) (λ following. ServesReadOver reach mid now c.in_ok-serve_line.field-0 c.in_ok-read.read k following (g.R.Read.remaining c.serve_line.new.reader) (g.W.Write.contents c.loop.writer) (g.W.Write.contents c.serve_line.new.writer))) kept c.in_ok-serve_line.ensures.served in
+    truncated reach (g.A.Access.stands c.args.access.now) mid now (g.R.Read.remaining c.args.reader.now) (g.R.Read.remaining c.loop.reader) (g.R.Read.remaining c.next_line.new.reader) (g.R.Read.remaining c.serve_line.new.reader) (g.W.Write.contents c.args.writer.now) (g.W.Write.contents c.loop.writer) (g.W.Write.contents c.serve_line.new.writer)
+    c.in_ok-read.read c.next_line.new.line.items c.in_ok-serve_line.field-0 none c.loop.invariant.0 c.in_ok-read.ensures.read c.in_ok-read.ensures.rest served
+
+pub returns-then-is_cut-clause-written : goal.returns-then-is_cut-clause-written
+returns-then-is_cut-clause-written g c =
+    let some : 0 < c.in_ok-read.read.count = omega arith in
+    let cut = c.is_cut.ensures.cut (search rules) in
+    unended g.A.Access.reach (g.A.Access.stands c.args.access.now) (g.A.Access.stands c.loop.access) (g.R.Read.remaining c.args.reader.now) (g.R.Read.remaining c.loop.reader) (g.W.Write.contents c.args.writer.now) (g.W.Write.contents c.loop.writer) c.in_ok-read.read c.next_line.new.line.items c.loop.invariant.0 c.in_ok-read.ensures.read some cut.0 cut.1
+
+pub loop-preserved : goal.loop-preserved
+loop-preserved g c =
+    let reach = g.A.Access.reach in
+    let mid = g.A.Access.stands c.loop.access in
+    let now = g.A.Access.stands c.serve_line.new.access in
+    let whole : c.in_ok-serve_line.field-0 ≡ true = search rules in
+    let kept : c.as_slice.result.now ≡ c.next_line.new.line.items = search rules in
+    let served = subst (λ (k : List ℕ). IfSome (g.R.Read.remaining c.next_line.new.reader) (λ following. ServesReadOver reach mid now c.in_ok-serve_line.field-0 c.in_ok-read.read k following (g.R.Read.remaining c.serve_line.new.reader) (g.W.Write.contents c.loop.writer) (g.W.Write.contents c.serve_line.new.writer))) kept c.in_ok-serve_line.ensures.served in
+    let some : 0 < c.in_ok-read.read.count = omega arith in
+    let room : max_request ≤ vec_capacity c.next_line.new.line = search rules in (
+      turned reach (g.A.Access.stands c.args.access.now) mid now (g.R.Read.remaining c.args.reader.now) (g.R.Read.remaining c.loop.reader) (g.R.Read.remaining c.next_line.new.reader) (g.R.Read.remaining c.serve_line.new.reader) (g.W.Write.contents c.args.writer.now) (g.W.Write.contents c.loop.writer) (g.W.Write.contents c.serve_line.new.writer)
+          c.in_ok-read.read c.next_line.new.line.items c.in_ok-serve_line.field-0 whole (c.is_cut.ensures.whole (search rules)) c.loop.invariant.0 c.in_ok-read.ensures.read some c.in_ok-read.ensures.rest served,
+      room,
+    )
+
+pub returns-clause-read : goal.returns-clause-read
+returns-clause-read g c = λ is. stopped g.A.Access.reach (g.A.Access.stands c.args.access.now) (g.A.Access.stands c.loop.access) (g.R.Read.remaining c.args.reader.now) (g.R.Read.remaining c.loop.reader) (g.W.Write.contents c.args.writer.now) (g.W.Write.contents c.loop.writer) c.loop.invariant.0

@@ -1,0 +1,11 @@
+-- The definitions that a reader has to trust, each file after those it uses; inner has those that only proofs and private functions use.
+pub mod Grammar
+pub mod Texts
+pub mod Script
+pub mod Lines
+pub mod Spelling
+pub mod Requests
+pub mod Session
+pub mod Access
+pub mod Turns
+pub mod inner

@@ -1,0 +1,77 @@
+-- The requests of a session's lines that a script does not have.
+use Rattle.std.specs.Prelude.{ℕ, List, Option, Some, None, if◌then◌else◌, codes, length, nat_lt}
+use Rattle.std.specs.Io.BufRead.{strip_last}
+use Rattle.std.specs.Str.{bytes_eq}
+use Rattle.edge.specs.Fields.{◌>>=◌, split_at, number_at, space, three_numbers_at, two_numbers_at}
+use Rattle.store_lines.specs.Grammar.{address_of_digits, held_at}
+use Rattle.store_core.specs.declared.command.Question.TheVariants.{Holds, Tenants, Uploads}
+use Rattle.store_lines.specs.Lines.{max_request}
+use Rattle.store_lines.specs.declared.request.Request.{Request}
+use Rattle.store_lines.specs.declared.request.Request.TheVariants.{Asks, Entries, Fetch, Put}
+
+abbrev pub raw_put_at : List ℕ → Option Request
+raw_put_at fields = do
+  numbers ← three_numbers_at fields
+  Some (Put numbers.0 numbers.1 numbers.2)
+
+-- an address, or an address and a range of its object's bytes
+abbrev pub fetch_of : ℕ → List ℕ → Option (List ℕ × List ℕ) → Option Request
+fetch_of tenant field None = do
+  address ← address_of_digits field
+  Some (Fetch (record { tenant = tenant; address = address; range = None }))
+fetch_of tenant field (Some cut) = do
+  address ← address_of_digits cut.0
+  numbers ← two_numbers_at cut.1
+  Some (Fetch (record { tenant = tenant; address = address; range = Some (record { from = numbers.0; len = numbers.1 }) }))
+
+abbrev pub fetch_at : List ℕ → Option Request
+fetch_at fields = do
+  cut ← split_at space fields
+  tenant ← number_at cut.0
+  fetch_of tenant cut.1 (split_at space cut.1)
+
+abbrev pub holds_at : List ℕ → Option Request
+holds_at fields = do
+  held ← held_at fields
+  Some (Asks (Holds held.0 held.1))
+
+abbrev pub uploads_at : List ℕ → Option Request
+uploads_at fields = do
+  tenant ← number_at fields
+  Some (Asks (Uploads tenant))
+
+-- the number of an entry, or that and a maximum number of entries
+abbrev pub entries_of : List ℕ → Option (List ℕ × List ℕ) → Option Request
+entries_of fields None = do
+  from ← number_at fields
+  Some (Entries (record { from = from; count = None }))
+entries_of fields (Some cut) = do
+  from ← number_at cut.0
+  count ← number_at cut.1
+  Some (Entries (record { from = from; count = Some count }))
+
+abbrev pub entries_at : List ℕ → Option Request
+entries_at fields = entries_of fields (split_at space fields)
+
+-- the request of a word and the fields after it
+unfoldable pub request_of_kind : List ℕ → List ℕ → Option Request
+request_of_kind kind fields =
+    if bytes_eq kind (codes "putb") then raw_put_at fields
+    else if bytes_eq kind (codes "fetchb") then fetch_at fields
+    else if bytes_eq kind (codes "has") then holds_at fields
+    else if bytes_eq kind (codes "uploads") then uploads_at fields
+    else if bytes_eq kind (codes "entries") then entries_at fields
+    else None
+
+-- the request of a line that is split after its first word
+abbrev pub split_request_at : List ℕ → Option (List ℕ × List ℕ) → Option Request
+split_request_at line None = if bytes_eq line (codes "tenants") then Some (Asks Tenants) else None
+split_request_at line (Some cut) = request_of_kind cut.0 cut.1
+
+-- the request of a line without its newline
+abbrev pub request_at : List ℕ → Option Request
+request_at line = split_request_at line (split_at space line)
+
+-- the request of a line with its newline, which may be missing on the last line; none for a line of a script
+abbrev pub request_in : List ℕ → Option Request
+request_in whole = if nat_lt max_request (length whole) then None else request_at (strip_last 10 whole)

@@ -1,0 +1,173 @@
+-- A session: lines, some of them followed by the number of raw bytes that they state, and their answers.
+use Rattle.std.specs.Prelude.{◌≡◌, ◌<◌, ◌≤◌, ◌⊎◌, ℕ, List, [], ◌∷◌, ◌++◌, Option, Some, None, Result, Ok, codes, drop, length, take}
+use Rattle.std.specs.Fmt.{decimal}
+use Rattle.std.specs.List.{flat_map}
+use Rattle.std.specs.Io.BufRead.{drop_through, strip_last, take_through}
+use Rattle.std.specs.Io.KnownBytes.{Appends}
+use Rattle.edge.specs.declared.outcome.Verdict.{Verdict}
+use Rattle.edge.specs.declared.outcome.Verdict.TheVariants as verdicts
+use Rattle.store_books.specs.Refusals.{refusal_text}
+use Rattle.store_books.specs.declared.refusal.Refusal.{Refusal}
+use Rattle.store_books.specs.declared.refusal.Refusal.TheVariants as refusals
+use Rattle.store_core.specs.Carried.{IsCarried}
+use Rattle.store_core.specs.Commands.{plan_in}
+use Rattle.store_core.specs.Model.{ModelStore}
+use Rattle.store_core.specs.Runs.{Call, Reply, Run, ask, the_bytes, the_journal}
+use Rattle.store_core.specs.declared.command.Question.{Question}
+use Rattle.store_core.specs.declared.command.Question.TheVariants as questions
+use Rattle.store_lines.specs.Lines.{IsPutLine}
+use Rattle.store_lines.specs.Script.{IsTurnOfPut, widest_start}
+use Rattle.store_lines.specs.Script as script
+use Rattle.store_lines.specs.Texts.{entries_text, refused_text, reply_text}
+use Rattle.store_lines.specs.Lines.{max_request}
+use Rattle.store_lines.specs.Requests.{request_in}
+use Rattle.store_journal.specs.declared.entry.Entry.{Entry}
+use Rattle.store_lines.specs.declared.request.EntryRange.{EntryRange}
+use Rattle.store_lines.specs.declared.request.Range.{Range}
+use Rattle.store_lines.specs.declared.request.Request.{Request}
+use Rattle.store_lines.specs.declared.request.Request.TheVariants.{Asks, Entries, Fetch, Put}
+
+-- ---- answers
+
+-- how a reply is written: as in a script; for an object, the requested bytes; for the journal, the requested entries
+pub data Manner : Type 0 where
+  as_script : Manner
+  as_range : Option Range → Manner
+  as_entries : EntryRange → Manner
+
+-- the turn of a line: out of memory for it, or the turn of a script's line, written in a manner
+pub data SessionTurn : Type 0 where
+  no_memory : SessionTurn
+  reported_as : Manner → script.Turn → SessionTurn
+
+-- the requested bytes of an object, truncated at its end
+abbrev pub ranged : Option Range → List ℕ → List ℕ
+ranged None bytes = bytes
+ranged (Some range) bytes = take range.len (drop range.from bytes)
+
+-- the number of bytes, and the bytes themselves
+abbrev pub raw_text : List ℕ → List ℕ
+raw_text bytes = codes "bytes " ++ (decimal (length bytes) ++ (codes "\n" ++ bytes))
+
+abbrev pub range_text : Option Range → Reply → List ℕ
+range_text range (the_bytes bytes) = raw_text (ranged range bytes)
+range_text range reply = reply_text reply
+
+-- the requested entries of the journal
+abbrev pub at_most : Option ℕ → List Entry → List Entry
+at_most None entries = entries
+at_most (Some count) entries = take count entries
+
+abbrev pub range_entries : EntryRange → List Entry → List Entry
+range_entries range entries = at_most range.count (drop range.from entries)
+
+abbrev pub journal_reply_text : EntryRange → Reply → List ℕ
+journal_reply_text range (the_journal entries) = entries_text (range_entries range entries)
+journal_reply_text range reply = reply_text reply
+
+-- a turn with its reply written like this
+abbrev pub reported_by : (Reply → List ℕ) → script.Turn → List ℕ
+reported_by text (script.took call (Ok reply)) = text reply
+reported_by text turn = script.turn_text turn
+
+abbrev pub session_turn_text : SessionTurn → List ℕ
+session_turn_text no_memory = refused_text (refusal_text refusals.NoMemory)
+session_turn_text (reported_as as_script turn) = script.turn_text turn
+session_turn_text (reported_as (as_range range) turn) = reported_by (range_text range) turn
+session_turn_text (reported_as (as_entries range) turn) = reported_by (journal_reply_text range) turn
+
+-- ---- one line
+
+-- reading a line of a script may allocate: if it is long, or puts a part
+abbrev pub MayTakeMemory : List ℕ → Type 0
+MayTakeMemory line = (max_request ≤ length line) ⊎ IsPutLine line
+
+-- a line of a script has the turn that it has there, unless an allocation fails for it
+abbrev pub IsTurnOfScriptLine : ModelStore → List ℕ → SessionTurn → ModelStore → Type 0
+IsTurnOfScriptLine old line no_memory new = MayTakeMemory line × (new ≡ old)
+IsTurnOfScriptLine old line (reported_as manner turn) new = (manner ≡ as_script) × script.IsTurnOf old line turn new
+
+-- a turn with this property is written in this manner
+abbrev pub IsReportedAs : Manner → (script.Turn → Type 0) → SessionTurn → Type 0
+IsReportedAs manner Is no_memory = ⊥
+IsReportedAs manner Is (reported_as reported turn) = (reported ≡ manner) × Is turn
+
+-- a question, with its answer written in this manner
+abbrev pub IsTurnOfQuestion : Manner → ModelStore → Question → SessionTurn → ModelStore → Type 0
+IsTurnOfQuestion manner old question turn new = IsReportedAs manner (λ t. script.IsTurnOfStep old (ask question) t new) turn
+
+-- a part's bytes are put as a script puts them
+abbrev pub IsTurnOfBytes : ModelStore → ℕ → ℕ → List ℕ → SessionTurn → ModelStore → Type 0
+IsTurnOfBytes old upload offset bytes turn new = IsReportedAs as_script (λ t. IsTurnOfPut old upload offset bytes (plan_in old.state upload) t new) turn
+
+-- The turn of a line with this request, its effect, and the bytes that remain after it. A part takes its bytes, whatever its turn.
+abbrev pub IsTurnOfRequest : ModelStore → Option Request → List ℕ → List ℕ → SessionTurn → ModelStore → List ℕ → Type 0
+IsTurnOfRequest old None whole following turn new rest = IsTurnOfScriptLine old (strip_last 10 whole) turn new × (rest ≡ following)
+IsTurnOfRequest old (Some (Put upload offset len)) whole following turn new rest = IsTurnOfBytes old upload offset (take len following) turn new × (len ≤ length following) × (rest ≡ drop len following)
+IsTurnOfRequest old (Some (Fetch wanted)) whole following turn new rest = IsTurnOfQuestion (as_range wanted.range) old (questions.Fetch wanted.tenant wanted.address) turn new × (rest ≡ following)
+IsTurnOfRequest old (Some (Asks question)) whole following turn new rest = IsTurnOfQuestion as_script old question turn new × (rest ≡ following)
+IsTurnOfRequest old (Some (Entries range)) whole following turn new rest = IsTurnOfQuestion (as_entries range) old questions.Journal turn new × (rest ≡ following)
+
+-- the request's bytes are truncated
+abbrev pub IsShort : Option Request → List ℕ → Type 0
+IsShort (Some (Put upload offset len)) following = length following < len
+IsShort _ following = ⊥
+
+-- the turn of the first line of the input
+abbrev pub IsTurnOfFirstLine : ModelStore → List ℕ → SessionTurn → ModelStore → List ℕ → Type 0
+IsTurnOfFirstLine old input turn new rest = (0 < length input) × IsTurnOfRequest old (request_in (take_through 10 input)) (take_through 10 input) (drop_through 10 input) turn new rest
+
+-- ---- a session
+
+-- lines in order, each with its turn, and the bytes that remain after them
+abbrev pub AreSessionTurns : ModelStore → List ℕ → List SessionTurn → ModelStore → List ℕ → Type 0
+AreSessionTurns old input [] new rest = (new ≡ old) × (rest ≡ input)
+AreSessionTurns old input (turn ∷ turns) new rest = (mid : ModelStore) × (following : List ℕ) × IsTurnOfFirstLine old input turn mid following × AreSessionTurns mid following turns new rest
+
+-- the steps among turns, and their replies
+abbrev pub session_calls : List SessionTurn → List Call
+session_calls [] = []
+session_calls (no_memory ∷ turns) = session_calls turns
+session_calls (reported_as manner turn ∷ turns) = script.calls_of (turn ∷ []) ++ session_calls turns
+
+abbrev pub session_replies : List SessionTurn → List (Result Reply Refusal)
+session_replies [] = []
+session_replies (no_memory ∷ turns) = session_replies turns
+session_replies (reported_as manner turn ∷ turns) = script.replies_of (turn ∷ []) ++ session_replies turns
+
+-- The lines of a prefix of the input were answered in order, from the empty store: their turns, and the bytes that remain after them. The
+-- steps among them are a run of the store, and the invariant of a store holds after it.
+pub record AreServed (input output rest : List ℕ) : Type 0 where
+  pub turns : List SessionTurn
+  pub end : ModelStore
+  pub plays : AreSessionTurns widest_start input turns end rest
+  pub run : Run widest_start (session_calls turns) (session_replies turns) end
+  pub law : IsCarried end
+  pub text_is : output ≡ flat_map session_turn_text turns
+
+-- no bytes remain; or a part whose bytes are truncated
+abbrev pub Ends : Verdict → List ℕ → Type 0
+Ends verdicts.Good rest = rest ≡ []
+Ends verdicts.Refused rest = IsShort (request_in (take_through 10 rest)) (drop_through 10 rest)
+
+-- the writer grew by the answers to the lines of a prefix of the input
+pub record ServedSome (input : List ℕ) (old new : Option (List ℕ)) : Type 0 where
+  pub output : List ℕ
+  pub rest : List ℕ
+  pub answered : AreServed input output rest
+  pub wrote : Appends old new output
+
+-- and the session reached its end
+pub record ServedAll (input : List ℕ) (old new : Option (List ℕ)) (verdict : Verdict) : Type 0 where
+  pub output : List ℕ
+  pub rest : List ℕ
+  pub answered : AreServed input output rest
+  pub ends : Ends verdict rest
+  pub wrote : Appends old new output
+
+-- ---- a law
+
+-- how an input splits into lines and bytes depends only on the input, and not on what is kept or on failed allocations
+abbrev pub FramesAlike : Type 0
+FramesAlike = (old new old2 new2 : ModelStore) (input : List ℕ) (turns turns2 : List SessionTurn) (rest rest2 : List ℕ)
+    → AreSessionTurns old input turns new rest → AreSessionTurns old2 input turns2 new2 rest2 → length turns ≡ length turns2 → rest ≡ rest2

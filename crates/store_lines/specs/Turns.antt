@@ -1,0 +1,149 @@
+-- A session over a store that others may change between its steps: its lines, and their answers.
+use Rattle.std.specs.Prelude.{◌≡◌, ◌+◌, ◌++◌, ◌<◌, ◌≤◌, ◌⊎◌, ℕ, true, List, [], ◌∷◌, Option, Some, None, Result, Ok, Err, drop, length, take}
+use Rattle.std.specs.List.{flat_map}
+use Rattle.std.specs.Io.BufRead.{drop_through, strip_last, take_through}
+use Rattle.std.specs.Io.KnownBytes.{Appends}
+use Rattle.b3_forest.specs.Parts.{ModelPrepared, planned}
+use Rattle.edge.specs.declared.outcome.Verdict.{Verdict}
+use Rattle.edge.specs.declared.outcome.Verdict.TheVariants as verdicts
+use Rattle.store_books.specs.declared.refusal.Refusal.{Refusal}
+use Rattle.store_core.specs.Commands.{plan_in}
+use Rattle.store_core.specs.Model.{ModelStore}
+use Rattle.store_core.specs.Runs.{Call, ask, change, put}
+use Rattle.store_core.specs.declared.command.Question.{Question}
+use Rattle.store_core.specs.declared.command.Question.TheVariants as questions
+use Rattle.store_lines.specs.Grammar.{ScriptCommand, asks, command_at, does, puts}
+use Rattle.store_lines.specs.Lines.{IsPutLine}
+use Rattle.store_lines.specs.Script.{IsTurnOfStep, Turn, bad, skipped, took, unmade}
+use Rattle.edge.specs.Lines.{HasNewline}
+use Rattle.store_lines.specs.Lines.{max_request}
+use Rattle.store_lines.specs.Requests.{request_in}
+use Rattle.store_lines.specs.Session.{Ends, Manner, SessionTurn, as_entries, as_range, as_script, no_memory, session_turn_text, reported_as}
+use Rattle.store_lines.specs.declared.request.EntryRange.{EntryRange}
+use Rattle.store_lines.specs.declared.request.Request.{Request}
+use Rattle.store_lines.specs.declared.request.Request.TheVariants.{Asks, Entries, Fetch, Put}
+use Rattle.store_upload.specs.Uploads.{UploadPlan, part_fault}
+use Rattle.store_upload.specs.declared.refusal.PartFault.{PartFault}
+use Rattle.store_upload.specs.declared.refusal.PartFault.TheVariants as faults
+use Rattle.store_lines.specs.Access.{Reach, SessionState, at, took_bytes, took_calls, took_numbers}
+
+-- ---- one line: its turn after a state that was left, and its effect
+
+-- the account grows by the turn's accepted part
+abbrev pub turn_bytes : Turn → ℕ
+turn_bytes (took call reply) = took_bytes call reply
+turn_bytes _ = 0
+
+abbrev pub turn_calls : Turn → ℕ
+turn_calls (took call reply) = took_calls call reply
+turn_calls _ = 0
+
+-- and its own entries by that of an accepted command
+abbrev pub turn_numbers : ModelStore → Turn → List ℕ
+turn_numbers found (took call reply) = took_numbers found call reply
+turn_numbers found _ = []
+
+abbrev pub IsCountedTurn : SessionState → ModelStore → Turn → SessionState → Type 0
+IsCountedTurn old found turn new = (new.bytes ≡ old.bytes + turn_bytes turn) × (new.calls ≡ old.calls + turn_calls turn) × (new.own ≡ old.own ++ turn_numbers found turn)
+
+-- one step from a state that is linked to what was left before
+abbrev pub IsLinkedStep : Reach → SessionState → Call → Turn → SessionState → Type 0
+IsLinkedStep reach old call turn new = (found : ModelStore) × (reach.links old.store found × (IsTurnOfStep found call turn new.store × IsCountedTurn old found turn new))
+
+-- A part is put in two steps: a plan is asked for, the part is made for it, and then it is put to the state that is found then.
+abbrev pub IsLinkedPart : Reach → SessionState → ℕ → ModelPrepared → Turn → SessionState → Type 0
+IsLinkedPart reach first upload part (unmade fault) new = (fault ≡ faults.NoMemory) × (new ≡ first)
+IsLinkedPart reach first upload part (took asked reply) new = IsLinkedStep reach first (put upload part) (took asked reply) new
+IsLinkedPart reach first upload part _ new = ⊥
+
+abbrev pub IsLinkedMade : Reach → SessionState → ℕ → ModelPrepared → Option PartFault → Turn → SessionState → Type 0
+IsLinkedMade reach first upload part (Some fault) turn new = (turn ≡ unmade fault) × (new ≡ first)
+IsLinkedMade reach first upload part None turn new = IsLinkedPart reach first upload part turn new
+
+abbrev pub IsLinkedPlan : Reach → SessionState → ℕ → ℕ → List ℕ → Result UploadPlan Refusal → Turn → SessionState → Type 0
+IsLinkedPlan reach first upload offset bytes (Err refusal) turn new = IsTurnOfStep first.store (ask (questions.Plan upload)) turn new.store × IsCountedTurn first first.store turn new
+IsLinkedPlan reach first upload offset bytes (Ok plan) turn new = IsLinkedMade reach first upload (planned plan offset bytes) (part_fault plan offset (length bytes)) turn new
+
+abbrev pub IsLinkedPut : Reach → SessionState → ℕ → ℕ → List ℕ → Turn → SessionState → Type 0
+IsLinkedPut reach old upload offset bytes turn new = (first : ModelStore) × (reach.links old.store first × IsLinkedPlan reach (at old first) upload offset bytes (plan_in first.state upload) turn new)
+
+abbrev pub IsLinkedCommand : Reach → SessionState → Option ScriptCommand → Turn → SessionState → Type 0
+IsLinkedCommand reach old None turn new = (turn ≡ bad) × (new ≡ old)
+IsLinkedCommand reach old (Some (does command)) turn new = IsLinkedStep reach old (change command) turn new
+IsLinkedCommand reach old (Some (asks question)) turn new = IsLinkedStep reach old (ask question) turn new
+IsLinkedCommand reach old (Some (puts upload offset bytes)) turn new = IsLinkedPut reach old upload offset bytes turn new
+
+abbrev pub IsLinkedLine : Reach → SessionState → List ℕ → Turn → SessionState → Type 0
+IsLinkedLine reach old [] turn new = (turn ≡ skipped) × (new ≡ old)
+IsLinkedLine reach old (b ∷ line) turn new = IsLinkedCommand reach old (command_at (b ∷ line)) turn new
+
+-- a line may allocate: if it is long, or puts a part, or asks for the journal and that is copied
+abbrev pub MayLack : Reach → List ℕ → Type 0
+MayLack reach line = (max_request ≤ length line) ⊎ (IsPutLine line ⊎ (reach.lacks × (command_at line ≡ Some (asks questions.Journal))))
+
+abbrev pub IsLinkedScriptLine : Reach → SessionState → List ℕ → SessionTurn → SessionState → Type 0
+IsLinkedScriptLine reach old line no_memory new = MayLack reach line × (new ≡ old)
+IsLinkedScriptLine reach old line (reported_as manner turn) new = (manner ≡ as_script) × IsLinkedLine reach old line turn new
+
+-- a question, with its answer written in a manner
+abbrev pub IsLinkedQuestion : Reach → Manner → SessionState → Question → SessionTurn → SessionState → Type 0
+IsLinkedQuestion reach manner old question no_memory new = ⊥
+IsLinkedQuestion reach manner old question (reported_as reported turn) new = (reported ≡ manner) × IsLinkedStep reach old (ask question) turn new
+
+-- a question of a script: its reply; or out of memory for the journal, which is copied
+abbrev pub IsLinkedAsk : Reach → SessionState → Question → SessionTurn → SessionState → Type 0
+IsLinkedAsk reach old question no_memory new = reach.lacks × (question ≡ questions.Journal) × (new ≡ old)
+IsLinkedAsk reach old question (reported_as reported turn) new = (reported ≡ as_script) × IsLinkedStep reach old (ask question) turn new
+
+-- the journal's entries, for which an allocation may fail
+abbrev pub IsLinkedEntries : Reach → EntryRange → SessionState → SessionTurn → SessionState → Type 0
+IsLinkedEntries reach range old no_memory new = reach.lacks × (new ≡ old)
+IsLinkedEntries reach range old (reported_as reported turn) new = (reported ≡ as_entries range) × IsLinkedStep reach old (ask questions.Journal) turn new
+
+abbrev pub IsLinkedBytes : Reach → SessionState → ℕ → ℕ → List ℕ → SessionTurn → SessionState → Type 0
+IsLinkedBytes reach old upload offset bytes no_memory new = ⊥
+IsLinkedBytes reach old upload offset bytes (reported_as reported turn) new = (reported ≡ as_script) × IsLinkedPut reach old upload offset bytes turn new
+
+-- the turn of a line with this request, its effect, and the bytes that remain after it
+abbrev pub IsLinkedRequest : Reach → SessionState → Option Request → List ℕ → List ℕ → SessionTurn → SessionState → List ℕ → Type 0
+IsLinkedRequest reach old None whole following turn new rest = IsLinkedScriptLine reach old (strip_last 10 whole) turn new × (rest ≡ following)
+IsLinkedRequest reach old (Some (Put upload offset len)) whole following turn new rest = IsLinkedBytes reach old upload offset (take len following) turn new × (len ≤ length following) × (rest ≡ drop len following)
+IsLinkedRequest reach old (Some (Fetch wanted)) whole following turn new rest = IsLinkedQuestion reach (as_range wanted.range) old (questions.Fetch wanted.tenant wanted.address) turn new × (rest ≡ following)
+IsLinkedRequest reach old (Some (Asks question)) whole following turn new rest = IsLinkedAsk reach old question turn new × (rest ≡ following)
+IsLinkedRequest reach old (Some (Entries range)) whole following turn new rest = IsLinkedEntries reach range old turn new × (rest ≡ following)
+
+abbrev pub IsLinkedFirstLine : Reach → SessionState → List ℕ → SessionTurn → SessionState → List ℕ → Type 0
+IsLinkedFirstLine reach old input turn new rest = (0 < length input) × (reach.needs_newline ≡ true → HasNewline (take_through 10 input)) × IsLinkedRequest reach old (request_in (take_through 10 input)) (take_through 10 input) (drop_through 10 input) turn new rest
+
+-- ---- a session
+
+-- no bytes remain; or a part whose bytes are truncated, or a line without the newline that it needs
+abbrev pub EndsOver : Reach → Verdict → List ℕ → Type 0
+EndsOver reach verdicts.Good rest = rest ≡ []
+EndsOver reach verdicts.Refused rest = Ends verdicts.Refused rest ⊎ ((reach.needs_newline ≡ true) × (0 < length rest) × (HasNewline (take_through 10 rest) → ⊥))
+
+-- lines in order, each with its turn, from states that are linked to what was left before
+abbrev pub AreLinkedTurns : Reach → SessionState → List ℕ → List SessionTurn → SessionState → List ℕ → Type 0
+AreLinkedTurns reach old input [] new rest = (new ≡ old) × (rest ≡ input)
+AreLinkedTurns reach old input (turn ∷ turns) new rest = (mid : SessionState) × (following : List ℕ) × IsLinkedFirstLine reach old input turn mid following × AreLinkedTurns reach mid following turns new rest
+
+-- lines of a prefix of the input were answered in order, whatever was left before the session; the account is the session's own in the end
+pub record ServedOver (reach : Reach) (was is : SessionState → Type 0) (input output rest : List ℕ) : Type 0 where
+  pub turns : List SessionTurn
+  pub plays : (start : SessionState) → was start → (end : SessionState) × (AreLinkedTurns reach start input turns end rest × ((left : ModelStore) × is (at end left)))
+  pub text_is : output ≡ flat_map session_turn_text turns
+
+-- the writer grew by the answers to the lines of a prefix of the input
+pub record ServedSomeOver (reach : Reach) (was : SessionState → Type 0) (input : List ℕ) (old new : Option (List ℕ)) : Type 0 where
+  pub output : List ℕ
+  pub rest : List ℕ
+  pub answered : ServedOver reach was (λ _. Unit {0}) input output rest
+  pub wrote : Appends old new output
+
+-- and the session reached its end
+pub record ServedAllOver (reach : Reach) (was is : SessionState → Type 0) (input : List ℕ) (old new : Option (List ℕ)) (verdict : Verdict) : Type 0 where
+  pub output : List ℕ
+  pub rest : List ℕ
+  pub answered : ServedOver reach was is input output rest
+  pub ends : EndsOver reach verdict rest
+  pub wrote : Appends old new output

@@ -1,0 +1,56 @@
+-- What code says of a line that was read, and of the answer to it.
+use Rattle.std.specs.Prelude.{◌≡◌, ℕ, List, [], codes, length, take}
+use Rattle.std.specs.Io.BufRead.{strip_last}
+use Rattle.std.specs.Io.Iter.{u64_saturate}
+use Rattle.store_core.specs.Commands.{reply_seen}
+use Rattle.store_core.specs.Model.{ModelStore}
+use Rattle.store_core.specs.Seen.{reply_of}
+use Rattle.store_lines.specs.Grammar.{ScriptCommand, asks, does, puts}
+use Rattle.store_lines.specs.Lines.{IsPutLine}
+use Rattle.store_lines.specs.Script.{IsTurnOf, Turn, fault_ending, reply_ending, turn_ending, turn_text}
+use Rattle.store_lines.specs.Texts.{answer_text, refused_text, unmade_text}
+use Rattle.store_lines.specs.declared.answer.Answer.{Answer}
+use Rattle.store_lines.specs.declared.answer.Answer.TheVariants as answers
+use Rattle.store_lines.specs.declared.command.ScriptCommand.{ScriptCommand as CodeScriptCommand}
+use Rattle.store_lines.specs.declared.command.ScriptCommand.TheVariants as script
+use Rattle.store_lines.specs.declared.ending.Ending.{Ending}
+use Rattle.store_lines.specs.declared.ending.Ending.TheVariants as endings
+
+-- the request of a line
+abbrev pub script_seen : CodeScriptCommand → ScriptCommand
+script_seen (script.Does command) = does command
+script_seen (script.Asks question) = asks question
+script_seen (script.Puts upload offset bytes) = puts upload offset bytes.items
+
+-- the text of an answer, of a store with this view
+abbrev pub reported_text : ModelStore → Answer → List ℕ
+reported_text store answers.Nothing = []
+reported_text store answers.Bad = codes "bad\n"
+reported_text store (answers.Unmade fault) = refused_text (unmade_text fault)
+reported_text store (answers.Replied reply) = answer_text (reply_seen (reply_of store) reply)
+
+-- how a run with this answer ends at best
+abbrev pub reported_ending : Answer → Ending
+reported_ending answers.Nothing = endings.Good
+reported_ending answers.Bad = endings.Refused
+reported_ending (answers.Unmade fault) = fault_ending fault
+reported_ending (answers.Replied reply) = reply_ending reply
+
+-- a turn with this property, with its answer and its ending
+pub record Answered (Is : Turn → Type 0) (text : List ℕ) (ending : Ending) : Type 0 where
+  pub turn : Turn
+  pub is : Is turn
+  pub text_is : text ≡ turn_text turn
+  pub ending_is : ending ≡ turn_ending turn
+
+-- the line has `count` bytes, with its newline, and these of them are kept
+abbrev pub IsReadLine : List ℕ → ℕ → List ℕ → Type 0
+IsReadLine whole count kept = (count ≡ u64_saturate (length whole)) × (kept ≡ take 33554481 whole)
+
+-- the answer to the line that was read
+pub record AnswersRead (old new : ModelStore) (count : ℕ) (kept text : List ℕ) (ending : Ending) : Type 0 where
+  pub answers : (whole : List ℕ) → IsReadLine whole count kept → Answered (λ turn. IsTurnOf old (strip_last 10 whole) turn new) text ending
+
+-- the line that was read starts so
+pub record PutsRead (count : ℕ) (kept : List ℕ) : Type 0 where
+  pub puts : (whole : List ℕ) → IsReadLine whole count kept → IsPutLine (strip_last 10 whole)

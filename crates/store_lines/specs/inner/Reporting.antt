@@ -1,0 +1,69 @@
+-- Definitions for private functions.
+use Rattle.std.specs.Prelude.{◌≡◌, ◌<◌, ◌≤◌, ℕ, Bool, true, false, List, [], Option, Some, None, drop, length, take}
+use Rattle.std.specs.Io.BufRead.{strip_last}
+use Rattle.std.specs.Io.KnownBytes.{Appends}
+use Rattle.store_books.specs.Refusals.{refusal_text}
+use Rattle.store_books.specs.declared.refusal.Refusal.TheVariants as refusals
+use Rattle.store_core.specs.Model.{ModelStore}
+use Rattle.store_lines.specs.inner.Answers.{reported_ending, reported_text}
+use Rattle.store_lines.specs.Script.{Turn, turn_ending, turn_text}
+use Rattle.store_lines.specs.Texts.{refused_text}
+use Rattle.store_lines.specs.declared.answer.Answer.{Answer}
+use Rattle.store_lines.specs.inner.Requests.{IsSessionLine}
+use Rattle.store_lines.specs.Requests.{request_in}
+use Rattle.store_lines.specs.Session.{IsShort, SessionTurn, session_turn_text}
+use Rattle.edge.specs.declared.lines.LineRead.{LineRead}
+use Rattle.store_lines.specs.declared.request.EntryRange.{EntryRange}
+use Rattle.store_lines.specs.declared.request.Request.{Request}
+use Rattle.store_lines.specs.Access.{Kept, Reach, SessionState, ReportedThese, at}
+use Rattle.store_lines.specs.Turns.{IsLinkedBytes, IsLinkedPut, IsLinkedRequest, IsLinkedScriptLine}
+
+-- nothing was added to the account
+pub record Leaves (was is : SessionState → Type 0) : Type 0 where
+  pub leaves : (before : SessionState) → was before → (left : ModelStore) × is (at before left)
+
+-- a turn was answered: it is the turn for each state that may have been left before
+pub record ReportedOver (was is : SessionState → Type 0) (Is : SessionState → SessionTurn → SessionState → Type 0) (old new : Option (List ℕ)) : Type 0 where
+  pub turn : SessionTurn
+  pub goes : (before : SessionState) → was before → (after : SessionState) × (is after × Is before turn after)
+  pub wrote : Appends old new (session_turn_text turn)
+
+-- a turn of a script with this answer, which is not the journal
+pub record AnsweredOver (was is : SessionState → Type 0) (Is : SessionState → Turn → SessionState → Type 0) (answer : Answer) : Type 0 where
+  pub turn : Turn
+  pub goes : (before : SessionState) → was before → (after : SessionState) × (is after × Is before turn after)
+  pub text_is : (store : ModelStore) → reported_text store answer ≡ turn_text turn
+  pub ending_is : reported_ending answer ≡ turn_ending turn
+
+-- entries were written, or that it ran out of memory
+pub data GaveEntries (reach : Reach) (was is : SessionState → Type 0) (range : EntryRange) (old new : Option (List ℕ)) : Type 0 where
+  gave_these : ReportedThese reach was is range old new → GaveEntries reach was is range old new
+  gave_none : reach.lacks → Kept was is → Appends old new (refused_text (refusal_text refusals.NoMemory)) → GaveEntries reach was is range old new
+
+-- a line of a script was answered that was read like this
+pub record AnswersOver (reach : Reach) (was is : SessionState → Type 0) (read : LineRead) (kept : List ℕ) (old new : Option (List ℕ)) : Type 0 where
+  pub answers : (whole : List ℕ) → IsSessionLine whole read kept → ReportedOver was is (λ before turn after. IsLinkedScriptLine reach before (strip_last 10 whole) turn after) old new
+
+-- one line was served, or its bytes are truncated
+abbrev pub ServesOver : Reach → (SessionState → Type 0) → (SessionState → Type 0) → Bool → Option Request → List ℕ → List ℕ → Option (List ℕ) → Option (List ℕ) → Option (List ℕ) → Type 0
+ServesOver reach was is true request whole following left old new = (rest : List ℕ) × ((left ≡ Some rest) × ReportedOver was is (λ before turn after. IsLinkedRequest reach before request whole following turn after rest) old new)
+ServesOver reach was is false request whole following left old new = IsShort request following × Appends old new [] × Leaves was is
+
+-- the same for a request, whatever line spelled it
+pub record ServesRequestOver (reach : Reach) (was is : SessionState → Type 0) (is_whole : Bool) (request : Request) (following : List ℕ) (left old new : Option (List ℕ)) : Type 0 where
+  pub serves : (whole : List ℕ) → ServesOver reach was is is_whole (Some request) whole following left old new
+
+-- the same for a line that was read like this
+pub record ServesReadOver (reach : Reach) (was is : SessionState → Type 0) (is_whole : Bool) (read : LineRead) (kept following : List ℕ) (left old new : Option (List ℕ)) : Type 0 where
+  pub serves : (whole : List ℕ) → IsSessionLine whole read kept → ServesOver reach was is is_whole (request_in whole) whole following left old new
+
+-- a part was served, or its bytes are truncated
+abbrev pub ServesPutOver : Reach → (SessionState → Type 0) → (SessionState → Type 0) → Bool → ℕ → ℕ → ℕ → List ℕ → Option (List ℕ) → Option (List ℕ) → Option (List ℕ) → Type 0
+ServesPutOver reach was is true upload offset len following left old new = (len ≤ length following) × (left ≡ Some (drop len following)) × ReportedOver was is (λ before turn after. IsLinkedBytes reach before upload offset (take len following) turn after) old new
+ServesPutOver reach was is false upload offset len following left old new = (length following < len) × Appends old new [] × Leaves was is
+
+-- the bytes after a put were taken, and its result
+abbrev pub ReceivesOver : Reach → (SessionState → Type 0) → (SessionState → Type 0) → Option Answer → ℕ → ℕ → ℕ → List ℕ → Option (List ℕ) → Type 0
+ReceivesOver reach was is None upload offset len following left = (length following < len) × Leaves was is
+ReceivesOver reach was is (Some answer) upload offset len following left =
+    (len ≤ length following) × (left ≡ Some (drop len following)) × AnsweredOver was is (λ before turn after. IsLinkedPut reach before upload offset (take len following) turn after) answer

@@ -1,0 +1,137 @@
+//! The answer to a line.
+
+ghost use Rattle.std.specs.Prelude.{◌≡◌, ◌<◌, IfErr, IfOk, OnErr, OnOk};
+ghost use Rattle.std.specs.Io.KnownBytes.{Appends};
+ghost use Rattle.store_lines.specs.inner.Answers.{Answered, AnswersRead, PutsRead, reported_ending, reported_text};
+ghost use Rattle.store_lines.specs.Lines.{IsPutLine};
+ghost use Rattle.store_lines.specs.Script.{IsTurnOf, fault_ending, reply_ending};
+ghost use Rattle.std.specs.Io.BufRead.{strip_last};
+
+use crate::command::ScriptCommand;
+use crate::ending::Ending;
+use crate::parsing::read_command;
+use crate::receiving::put_bytes;
+use crate::texts::{write_answer, write_bad, write_unmade};
+use b3_core::Work;
+use b3_forest::PartFault;
+use edge::Cause;
+use std::alloc::{AllocError, Global};
+use std::io::Write;
+use store_core::{Refusal, Reply, Store, UploadId};
+
+/// The maximum length of a command's line in bytes, with its newline.
+pub(crate) const MAX_LINE: usize = 33_554_481;
+
+/// The answer to a line: nothing for an empty line, `bad`, why a part cannot be made, or the store's reply or refusal.
+#[derive(Drop)]
+pub(crate) enum Answer {
+    Nothing,
+    Bad,
+    Unmade(PartFault),
+    Replied(Result<Reply, Refusal>),
+}
+
+impl Answer {
+    /// How a run with this answer ends at best.
+    pub(crate) fn ending(&self) -> Ending
+        ensures { result ≡ reported_ending self.now }
+    {
+        match self {
+            Answer::Nothing => Ending::Good,
+            Answer::Bad => Ending::Refused,
+            Answer::Unmade(fault) => fault_ending(*fault),
+            Answer::Replied(reply) => reply_ending(reply),
+        }
+    }
+
+    /// Writes the answer of a store. Allocates nothing.
+    pub(crate) fn write<W: Write>(self, store: &Store, writer: &mut W) -> Result<(), Cause>
+        ensures wrote { OnOk result (Appends (W.contents writer.old) (W.contents writer.new) (reported_text store.now self)) }
+        ensures cause { IfErr result (λ cause. cause ≡ Cause.CannotWrite) }
+    {
+        match self {
+            Answer::Nothing => Ok(()),
+            Answer::Bad => write_bad(writer),
+            Answer::Unmade(fault) => write_unmade(writer, fault),
+            Answer::Replied(reply) => write_answer(writer, store, reply),
+        }
+    }
+}
+
+fn fault_ending(fault: PartFault) -> Ending
+    ensures { result ≡ fault_ending fault }
+{
+    match fault {
+        PartFault::NoMemory => Ending::OutOfMemory,
+        _ => Ending::Refused,
+    }
+}
+
+fn reply_ending(reply: &Result<Reply, Refusal>) -> Ending
+    ensures { result ≡ reply_ending reply.now }
+{
+    match reply {
+        Ok(_) => Ending::Good,
+        Err(Refusal::NoMemory) => Ending::OutOfMemory,
+        Err(_) => Ending::Refused,
+    }
+}
+
+/// Answers a line of `count` bytes, with its newline, of which at most as many are kept as a command's line can have. If an allocation
+/// fails for the contents of the line, the store is unchanged.
+pub(crate) fn answer_read(
+    alloc: Global,
+    store: &mut Store,
+    line: &[u8],
+    count: usize,
+    work: &mut Work,
+) -> Result<Answer, AllocError>
+    requires { 0 < count }
+    ensures answered { IfOk result (λ answer. AnswersRead store.old store.new count line.now (reported_text store.new answer) (reported_ending answer)) }
+    ensures unchanged { OnErr result (store.new ≡ store.old) }
+    // An allocation can fail only for the bytes of a part.
+    ensures memory { OnErr result (PutsRead count line.now) }
+{
+    if count > MAX_LINE {
+        return Ok(Answer::Bad);
+    }
+    answer_line(alloc, store, without_end(line), work)
+}
+
+/// A line without its newline, which may be missing on the last line.
+pub(crate) fn without_end(line: &[u8]) -> &[u8]
+    ensures { result.now ≡ strip_last 10 line.now }
+{
+    match line {
+        [front @ .., b'\n'] => front,
+        _ => line,
+    }
+}
+
+// Answers a line without its newline.
+fn answer_line(
+    alloc: Global,
+    store: &mut Store,
+    line: &[u8],
+    work: &mut Work,
+) -> Result<Answer, AllocError>
+    ensures answered { IfOk result (λ answer. Answered (λ turn. IsTurnOf store.old line.now turn store.new) (reported_text store.new answer) (reported_ending answer)) }
+    ensures unchanged { OnErr result (store.new ≡ store.old) }
+    ensures memory { OnErr result (IsPutLine line.now) }
+{
+    if line.is_empty() {
+        return Ok(Answer::Nothing);
+    }
+    match read_command(alloc, line)? {
+        None => Ok(Answer::Bad),
+        Some(ScriptCommand::Does(command)) => Ok(Answer::Replied(store.step(command, work))),
+        Some(ScriptCommand::Asks(question)) => Ok(Answer::Replied(store.ask(question))),
+        Some(
+            ScriptCommand::Puts {
+                upload,
+                offset,
+                bytes,
+            },
+        ) => Ok(put_bytes(alloc, store, UploadId::new(upload), offset, bytes, work)),
+    }
+}

@@ -1,0 +1,15 @@
+//! The requests of lines.
+
+use store_core::{Command, Question};
+
+/// The request of a line: a command, a question, or a put of the bytes of a part at an offset of the upload with this number.
+#[derive(Debug, Drop)]
+pub(crate) enum ScriptCommand {
+    Does(Command),
+    Asks(Question),
+    Puts {
+        upload: u64,
+        offset: u64,
+        bytes: Vec<u8>,
+    },
+}

@@ -1,0 +1,164 @@
+//! Reading the request of a line.
+
+ghost use Rattle.std.specs.Prelude.{◌≡◌};
+ghost use Rattle.edge.specs.Fields.{split_at};
+ghost use Rattle.store_lines.specs.Grammar.{held_at};
+ghost use Rattle.store_lines.specs.Requests.{entries_at, fetch_at, fetch_of, holds_at, raw_put_at, request_at, request_of_kind, uploads_at};
+ghost use Rattle.store_lines.specs.inner.Requests.{AsksFor};
+
+use crate::answer::without_end;
+use crate::parsing::{address, number_and_address};
+use edge::{LineRead, number, split_at, three_numbers, two_numbers};
+use store_core::{Address, Question, TenantId};
+
+/// The maximum length in bytes, with its newline, of a line with a request that a script does not have.
+pub(crate) const MAX_REQUEST: usize = 200;
+
+/// `len` bytes starting at `from`.
+#[derive(Clone, Copy, Debug, PartialEq, Eq)]
+pub(crate) struct Range {
+    pub from: u64,
+    pub len: u64,
+}
+
+/// Entries of the journal: those from number `from` on, the first being 0, and at most `count` of them if that is given.
+#[derive(Clone, Copy, Debug, PartialEq, Eq)]
+pub struct EntryRange {
+    pub from: u64,
+    pub count: Option<u64>,
+}
+
+/// The bytes of an object that a tenant holds, or those of a range.
+#[derive(Clone, Copy, Debug, PartialEq, Eq)]
+pub(crate) struct Wanted {
+    pub tenant: TenantId,
+    pub address: Address,
+    pub range: Option<Range>,
+}
+
+/// The request of a line, if it is not one of a script.
+#[derive(Clone, Copy, Debug, PartialEq, Eq)]
+pub(crate) enum Request {
+    /// Put the `len` bytes that follow the line.
+    Put { upload: u64, offset: u64, len: u64 },
+    /// Fetch bytes of an object.
+    Fetch(Wanted),
+    /// Answer a question of the store.
+    Asks(Question),
+    /// Write entries of the journal.
+    Entries(EntryRange),
+}
+
+/// The request of a line that was read like this; `None` for a line of a script.
+pub(crate) fn request_of(line: &[u8], read: LineRead) -> Option<Request>
+    ensures { AsksFor read line.now result }
+{
+    if !read.is_kept {
+        return None;
+    }
+    if read.count > MAX_REQUEST {
+        return None;
+    }
+    read_request(without_end(line))
+}
+
+fn read_request(line: &[u8]) -> Option<Request>
+    ensures { result ≡ request_at line.now }
+{
+    match split_at(line, b' ') {
+        Some((kind, fields)) => request_of_kind(kind, fields),
+        None if line == b"tenants".as_slice() => Some(Request::Asks(Question::Tenants)),
+        None => None,
+    }
+}
+
+#[tactic(auto, unfolding(crate::specs::Requests::request_of_kind))]
+fn request_of_kind(kind: &[u8], fields: &[u8]) -> Option<Request>
+    ensures { result ≡ request_of_kind kind.now fields.now }
+{
+    if kind == b"putb".as_slice() {
+        return put(fields);
+    }
+    if kind == b"fetchb".as_slice() {
+        return fetch(fields);
+    }
+    if kind == b"has".as_slice() {
+        return holds(fields);
+    }
+    if kind == b"uploads".as_slice() {
+        return uploads(fields);
+    }
+    if kind == b"entries".as_slice() {
+        return entries(fields);
+    }
+    None
+}
+
+fn put(fields: &[u8]) -> Option<Request>
+    ensures { result ≡ raw_put_at fields.now }
+{
+    let (upload, offset, len) = three_numbers(fields)?;
+    Some(Request::Put {
+        upload,
+        offset,
+        len,
+    })
+}
+
+fn fetch(fields: &[u8]) -> Option<Request>
+    ensures { result ≡ fetch_at fields.now }
+{
+    let (tenant, field) = split_at(fields, b' ')?;
+    let tenant = number(tenant)?;
+    fetch_of(tenant, field)
+}
+
+fn fetch_of(tenant: u64, field: &[u8]) -> Option<Request>
+    ensures { result ≡ fetch_of tenant field.now (split_at 32 field.now) }
+{
+    let tenant = TenantId::new(tenant);
+    match split_at(field, b' ') {
+        None => {
+            let address = address(field)?;
+            Some(Request::Fetch(Wanted {
+                tenant,
+                address,
+                range: None,
+            }))
+        }
+        Some((digits, numbers)) => {
+            let address = address(digits)?;
+            let (from, len) = two_numbers(numbers)?;
+            Some(Request::Fetch(Wanted {
+                tenant,
+                address,
+                range: Some(Range { from, len }),
+            }))
+        }
+    }
+}
+
+fn holds(fields: &[u8]) -> Option<Request>
+    ensures { result ≡ holds_at fields.now }
+{
+    let (tenant, address) = number_and_address(fields)?;
+    let tenant = TenantId::new(tenant);
+    Some(Request::Asks(Question::Holds { tenant, address }))
+}
+
+fn uploads(fields: &[u8]) -> Option<Request>
+    ensures { result ≡ uploads_at fields.now }
+{
+    let tenant = TenantId::new(number(fields)?);
+    Some(Request::Asks(Question::Uploads { tenant }))
+}
+
+fn entries(fields: &[u8]) -> Option<Request>
+    ensures { result ≡ entries_at fields.now }
+{
+    let (from, count) = match split_at(fields, b' ') {
+        None => (number(fields)?, None),
+        Some((from, count)) => (number(from)?, Some(number(count)?)),
+    };
+    Some(Request::Entries(EntryRange { from, count }))
+}

@@ -1,0 +1,135 @@
+//! The engine.
+
+ghost use Rattle.std.specs.Prelude.{◌≡◌, ◌<◌, ◌⊎◌, IfErr, IfOk, IfSome, OnOk, Err, Ok, length};
+ghost use Rattle.std.specs.Io.BufRead.{DropsThrough, take_through};
+ghost use Rattle.std.specs.Io.KnownBytes.{Appends, IsAtEnd};
+ghost use Rattle.store_lines.specs.inner.Answers.{IsReadLine, reported_ending, reported_text};
+ghost use Rattle.store_lines.specs.Script.{Ran, RanOut, RanSome, verdict_ending, widest_start, worse};
+ghost use Rattle.store_lines.specs.inner.Script.{ended_as, first_cause};
+ghost use Rattle.store_lines.specs.declared.ending.Ending.TheVariants as endings;
+
+use crate::answer::{Answer, MAX_LINE, answer_read};
+use crate::ending::Ending;
+use b3_core::Work;
+use edge::{Cause, Verdict, flush};
+use std::alloc::Global;
+use std::io::{BufRead, Write};
+use store_core::{Limits, Store};
+
+/// Runs a script on an empty store with the widest limits: reads it line by line, and writes the answer to each line when its newline was
+/// read. The writer is flushed after each answer. Returns `Good` if no line was refused and each was a command.
+///
+/// It stops at the first failed read or write, or if an allocation fails for a line or a part's bytes; then nothing more is written. After
+/// 2^64-1 lines it stops reading, as std's readers do. If some answer is `refused S14`, the following lines are still answered, but the run
+/// ends with `OutOfMemory`, even if a read or a write fails later: the first cause is returned. A partial line left by a failed read is not
+/// run. Compressions are counted in `work`.
+pub fn run<R: BufRead, W: Write>(
+    alloc: Global,
+    reader: &mut R,
+    writer: &mut W,
+    work: &mut Work,
+) -> Result<Verdict, Cause>
+    // The writer grew by the script's output, and the verdict is that of its answers, none of which is `refused S14`.
+    ensures written { IfOk result (λ verdict. IfSome (R.Read.remaining reader.old) (λ input. Ran input (W.contents writer.old) (W.contents writer.new) (verdict_ending verdict))) }
+    ensures end { OnOk result (IfSome (R.Read.remaining reader.old) (λ _. IsAtEnd (R.Read.remaining reader.new))) }
+    // After a failed read it grew by the answers to a prefix of the lines, none of which is `refused S14`.
+    ensures read { result ≡ Err Cause.CannotRead → IfSome (R.Read.remaining reader.old) (λ input. RanSome input (W.contents writer.old) (W.contents writer.new)) }
+    // If out of memory, it grew by the script's output, with a `refused S14` in it, or by the answers to a prefix of the lines; unless a
+    // write failed after a `refused S14`.
+    ensures memory { result ≡ Err Cause.OutOfMemory → IfSome (R.Read.remaining reader.old) (λ input. RanOut input (R.Read.remaining reader.new) (W.contents writer.old) (W.contents writer.new)) }
+{
+    let mut store = Store::new(alloc, Limits::full());
+    answer_lines(alloc, &mut store, reader, writer, work)
+}
+
+// Answers the lines of a script, starting with an empty store.
+fn answer_lines<R: BufRead, W: Write>(
+    alloc: Global,
+    store: &mut Store,
+    reader: &mut R,
+    writer: &mut W,
+    work: &mut Work,
+) -> Result<Verdict, Cause>
+    requires { store.old ≡ widest_start }
+    ensures written { IfOk result (λ verdict. IfSome (R.Read.remaining reader.old) (λ input. Ran input (W.contents writer.old) (W.contents writer.new) (verdict_ending verdict))) }
+    ensures end { OnOk result (IfSome (R.Read.remaining reader.old) (λ _. IsAtEnd (R.Read.remaining reader.new))) }
+    ensures read { result ≡ Err Cause.CannotRead → IfSome (R.Read.remaining reader.old) (λ input. RanSome input (W.contents writer.old) (W.contents writer.new)) }
+    ensures memory { result ≡ Err Cause.OutOfMemory → IfSome (R.Read.remaining reader.old) (λ input. RanOut input (R.Read.remaining reader.new) (W.contents writer.old) (W.contents writer.new)) }
+{
+    let mut ending = Ending::Good;
+    let mut line: Vec<u8> = Vec::new(alloc);
+    for _ in 0..u64::MAX {
+        let count = read_line(reader, &mut line, ending)?;
+        if count == 0 {
+            return ended_as(ending);
+        }
+        let answer = answer_read(alloc, store, line.as_slice(), count, work)?;
+        ending = worse(ending, answer.ending());
+        report(writer, store, answer, ending)?;
+    }
+    Err(first_cause(ending, Cause::CannotRead))
+}
+
+// Reads the next line with its newline, keeping at most as many bytes as a command's line can have, and returns its length: 0 at the end of
+// the input. A failure is reported as the first cause, given how the answers so far end.
+fn read_line<R: BufRead>(reader: &mut R, line: &mut Vec<u8>, ending: Ending) -> Result<usize, Cause>
+    ensures read { IfOk result (λ count. IfSome (R.Read.remaining reader.old) (λ left. IsReadLine (take_through 10 left) count line.new.items)) }
+    ensures rest { OnOk result (DropsThrough (R.Read.remaining reader.old) (R.Read.remaining reader.new) 10) }
+    // An allocation failed for a line's bytes, or an earlier answer was `refused S14`.
+    ensures left { result ≡ Err Cause.OutOfMemory → IfSome (R.Read.remaining reader.old) (λ left. (0 < length left) ⊎ (ending ≡ endings.OutOfMemory)) }
+    ensures cause { IfErr result (λ cause. ending ≡ endings.OutOfMemory → cause ≡ Cause.OutOfMemory) }
+{
+    let read = edge::read_line(reader, line, MAX_LINE).map_err(|cause| first_cause(ending, cause))?;
+    if read.is_kept {
+        Ok(read.count)
+    } else {
+        Err(Cause::OutOfMemory)
+    }
+}
+
+// Writes an answer, and flushes. A failure is reported as the first cause, given how the answers end, this one included.
+fn report<W: Write>(
+    writer: &mut W,
+    store: &Store,
+    answer: Answer,
+    ending: Ending,
+) -> Result<(), Cause>
+    ensures wrote { OnOk result (Appends (W.contents writer.old) (W.contents writer.new) (reported_text store.now answer)) }
+    ensures cause { IfErr result (λ cause. cause ≡ first_cause ending Cause.CannotWrite) }
+{
+    let cause = first_cause(ending, Cause::CannotWrite);
+    answer.write(store, writer).map_err(|_| cause)?;
+    flush(writer).map_err(|_| cause)
+}
+
+// The result of a script that was answered completely.
+fn ended_as(ending: Ending) -> Result<Verdict, Cause>
+    ensures { result ≡ ended_as ending }
+{
+    match ending {
+        Ending::Good => Ok(Verdict::Good),
+        Ending::Refused => Ok(Verdict::Refused),
+        Ending::OutOfMemory => Err(Cause::OutOfMemory),
+    }
+}
+
+// The cause that stops a run, given how the answers so far end.
+fn first_cause(ending: Ending, cause: Cause) -> Cause
+    ensures { result ≡ first_cause ending cause }
+{
+    match ending {
+        Ending::OutOfMemory => Cause::OutOfMemory,
+        Ending::Good | Ending::Refused => cause,
+    }
+}
+
+// The worse of two endings.
+fn worse(first: Ending, second: Ending) -> Ending
+    ensures { result ≡ worse first second }
+{
+    match (first, second) {
+        (Ending::OutOfMemory, _) | (_, Ending::OutOfMemory) => Ending::OutOfMemory,
+        (Ending::Refused, _) | (_, Ending::Refused) => Ending::Refused,
+        (Ending::Good, Ending::Good) => Ending::Good,
+    }
+}

@@ -1,0 +1,180 @@
+//! The engine.
+
+ghost use Rattle.std.specs.Prelude.{◌≡◌, ◌≢◌, ◌<◌, ◌≤◌, false, true, IfErr, IfOk, IfSome, OnOk, Err, vec_capacity};
+ghost use Rattle.std.specs.Io.BufRead.{DropsThrough, take_through};
+ghost use Rattle.store_lines.specs.Lines.{max_request};
+ghost use Rattle.store_lines.specs.inner.Requests.{IsSessionLine};
+ghost use Rattle.store_lines.specs.Session.{ServedAll, ServedSome};
+ghost use Rattle.store_lines.specs.Turns.{ServedAllOver, ServedSomeOver};
+ghost use Rattle.store_lines.specs.inner.Reporting.{ServesPutOver, ServesReadOver, ServesRequestOver};
+
+use crate::access::Access;
+use crate::answer::MAX_LINE;
+use crate::answering::{answer_line, ask_line, entries_request, give, report};
+use crate::receiving::receive;
+use crate::request::{MAX_REQUEST, Request, request_of};
+use b3_core::Work;
+use edge::{Cause, LineRead, Verdict, read_line};
+use std::alloc::Global;
+use std::io::{BufRead, Write};
+use store_core::{Limits, Store, UploadId};
+
+/// Runs a session on an empty store with the widest limits: reads it line by line, with the bytes after a `putb`, and writes the answer
+/// when these were read. The writer is flushed after each answer. Returns `Good` at the end of the input, or `Refused` if the input ends
+/// within the bytes of a `putb`, which is not run.
+///
+/// It stops at the first failed read or write. After 2^64-1 lines it stops reading, as std's readers do. Compressions are counted in
+/// `work`.
+pub fn serve<R: BufRead, W: Write>(
+    alloc: Global,
+    reader: &mut R,
+    writer: &mut W,
+    work: &mut Work,
+) -> Result<Verdict, Cause>
+    // The writer grew by the answers to all lines, except for a `putb` that is truncated by the end of the input.
+    ensures written { IfOk result (λ verdict. IfSome (R.Read.remaining reader.old) (λ input. ServedAll input (W.contents writer.old) (W.contents writer.new) verdict)) }
+    // After a failed read it grew by the answers to a prefix of the lines.
+    ensures read { result ≡ Err Cause.CannotRead → IfSome (R.Read.remaining reader.old) (λ input. ServedSome input (W.contents writer.old) (W.contents writer.new)) }
+    // Running out of memory stops no session that has begun.
+    ensures memory { result ≡ Err Cause.OutOfMemory → (reader.new ≡ reader.old) × (writer.new ≡ writer.old) }
+{
+    let mut store = Store::new(alloc, Limits::full());
+    serve_over(alloc, &mut store, reader, writer, work)
+}
+
+/// Runs a session over any access to a store: reads it line by line, with the bytes after a `putb`, and writes the answer when these were
+/// read. The writer is flushed after each answer. Returns `Good` at the end of the input, or `Refused` if the input ends within the bytes
+/// of a `putb`, which is not put, or within a line that needs a newline, which is not run.
+///
+/// It stops at the first failed read or write. After 2^64-1 lines it stops reading, as std's readers do. Compressions are counted in
+/// `work`.
+pub fn serve_over<A: Access, R: BufRead, W: Write>(
+    alloc: Global,
+    access: &mut A,
+    reader: &mut R,
+    writer: &mut W,
+    work: &mut Work,
+) -> Result<Verdict, Cause>
+    // The writer grew by the answers to all lines, except for one that is truncated by the end of the input. Each answer is the model's, in
+    // a state that is linked to what the answer before left.
+    ensures written { IfOk result (λ verdict. IfSome (R.Read.remaining reader.old) (λ input. ServedAllOver A.reach (A.stands access.old) (A.stands access.new) input (W.contents writer.old) (W.contents writer.new) verdict)) }
+    // After a failed read it grew by the answers to a prefix of the lines.
+    ensures read { result ≡ Err Cause.CannotRead → IfSome (R.Read.remaining reader.old) (λ input. ServedSomeOver A.reach (A.stands access.old) input (W.contents writer.old) (W.contents writer.new)) }
+    // Running out of memory stops no session that has begun.
+    ensures memory { result ≡ Err Cause.OutOfMemory → (reader.new ≡ reader.old) × (writer.new ≡ writer.old) }
+{
+    let mut line = Vec::with_capacity(alloc, MAX_REQUEST)?;
+    for _ in 0..u64::MAX {
+        let read = next_line(reader, &mut line)?;
+        if read.count == 0 {
+            return Ok(Verdict::Good);
+        }
+        if is_cut(access, read) {
+            return Ok(Verdict::Refused);
+        }
+        if !serve_line(alloc, access, reader, writer, line.as_slice(), read, work)? {
+            return Ok(Verdict::Refused);
+        }
+    }
+    Err(Cause::CannotRead)
+}
+
+// Reads the next line with its newline, into room for a request.
+fn next_line<R: BufRead>(reader: &mut R, line: &mut Vec<u8>) -> Result<LineRead, Cause>
+    requires { max_request ≤ vec_capacity line.old }
+    ensures read { IfOk result (λ read. IfSome (R.Read.remaining reader.old) (λ input. IsSessionLine (take_through 10 input) read line.new.items)) }
+    ensures rest { OnOk result (DropsThrough (R.Read.remaining reader.old) (R.Read.remaining reader.new) 10) }
+    ensures room { max_request ≤ vec_capacity line.new }
+    ensures cause { IfErr result (λ cause. cause ≡ Cause.CannotRead) }
+{
+    read_line(reader, line, MAX_LINE)
+}
+
+// Whether a line lacks the newline that it needs.
+fn is_cut<A: Access>(access: &A, read: LineRead) -> bool
+    ensures cut { result ≡ true → (A.reach.needs_newline ≡ true) × (read.is_ended ≡ false) }
+    ensures whole { result ≡ false → A.reach.needs_newline ≡ true → read.is_ended ≡ true }
+{
+    access.needs_newline() && !read.is_ended
+}
+
+// Serves a line that was read like this. Returns false if its bytes are truncated.
+fn serve_line<A: Access, R: BufRead, W: Write>(
+    alloc: Global,
+    access: &mut A,
+    reader: &mut R,
+    writer: &mut W,
+    line: &[u8],
+    read: LineRead,
+    work: &mut Work,
+) -> Result<bool, Cause>
+    requires { 0 < read.count }
+    ensures served { IfOk result (λ is_whole. IfSome (R.Read.remaining reader.old) (λ following. ServesReadOver A.reach (A.stands access.old) (A.stands access.new) is_whole read line.now following (R.Read.remaining reader.new) (W.contents writer.old) (W.contents writer.new))) }
+    ensures unwritten { result ≡ Err Cause.CannotRead → writer.new ≡ writer.old }
+    ensures cause { IfErr result (λ cause. cause ≢ Cause.OutOfMemory) }
+{
+    match request_of(line, read) {
+        None => {
+            answer_line(alloc, access, writer, line, read, work)?;
+            Ok(true)
+        }
+        Some(request) => serve_request(alloc, access, reader, writer, request, work),
+    }
+}
+
+// Serves a request. Returns false if its bytes are truncated.
+fn serve_request<A: Access, R: BufRead, W: Write>(
+    alloc: Global,
+    access: &mut A,
+    reader: &mut R,
+    writer: &mut W,
+    request: Request,
+    work: &mut Work,
+) -> Result<bool, Cause>
+    ensures served { IfOk result (λ is_whole. IfSome (R.Read.remaining reader.old) (λ following. ServesRequestOver A.reach (A.stands access.old) (A.stands access.new) is_whole request following (R.Read.remaining reader.new) (W.contents writer.old) (W.contents writer.new))) }
+    ensures unwritten { result ≡ Err Cause.CannotRead → writer.new ≡ writer.old }
+    ensures cause { IfErr result (λ cause. cause ≢ Cause.OutOfMemory) }
+{
+    match request {
+        Request::Put {
+            upload,
+            offset,
+            len,
+        } => put(alloc, access, reader, writer, upload, offset, len, work),
+        Request::Fetch(wanted) => {
+            give(access, writer, wanted)?;
+            Ok(true)
+        }
+        Request::Asks(question) => {
+            ask_line(alloc, access, writer, question)?;
+            Ok(true)
+        }
+        Request::Entries(range) => {
+            entries_request(alloc, access, writer, range)?;
+            Ok(true)
+        }
+    }
+}
+
+// Takes the bytes of a part, puts it, and answers. Returns false if the bytes are truncated.
+fn put<A: Access, R: BufRead, W: Write>(
+    alloc: Global,
+    access: &mut A,
+    reader: &mut R,
+    writer: &mut W,
+    upload: u64,
+    offset: u64,
+    len: u64,
+    work: &mut Work,
+) -> Result<bool, Cause>
+    ensures served { IfOk result (λ is_whole. IfSome (R.Read.remaining reader.old) (λ following. ServesPutOver A.reach (A.stands access.old) (A.stands access.new) is_whole upload offset len following (R.Read.remaining reader.new) (W.contents writer.old) (W.contents writer.new))) }
+    ensures unwritten { result ≡ Err Cause.CannotRead → writer.new ≡ writer.old }
+    ensures cause { IfErr result (λ cause. cause ≢ Cause.OutOfMemory) }
+{
+    let upload = UploadId::new(upload);
+    let Some(answer) = receive(alloc, access, reader, upload, offset, len, work)? else {
+        return Ok(false);
+    };
+    report(alloc, writer, answer)?;
+    Ok(true)
+}

@@ -1,9 +1,0 @@
--- The definitions that a reader has to trust, each file after those it uses; inner has those that only proofs and private functions use.
-pub mod Grammar
-pub mod Commands
-pub mod Texts
-pub mod Script
-pub mod Lines
-pub mod Answers
-pub mod Spelling
-pub mod inner

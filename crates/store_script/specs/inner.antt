@@ -1,3 +1,0 @@
--- Definitions that only proofs and private functions use.
-pub mod Digits
-pub mod Script
