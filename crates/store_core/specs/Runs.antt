@@ -1,46 +1,25 @@
 -- Runs of the model store: a list of calls, with their replies.
 use Rattle.std.specs.Prelude.{◌≡◌, ℕ, List, [], ◌∷◌, Result, Ok, Err, length}
 use Rattle.b3_forest.specs.Parts.{ModelPrepared}
-use Rattle.store_books.specs.declared.books.UploadStatus.{UploadStatus}
-use Rattle.store_books.specs.declared.books.Usage.{Usage}
 use Rattle.store_books.specs.declared.refusal.Refusal.{Refusal}
-use Rattle.store_books.specs.declared.totals.Totals.{Totals}
 use Rattle.store_books.specs.Books.{totals_of}
 use Rattle.store_books.specs.Questions.{usage_in}
 use Rattle.store_core.specs.declared.command.Command.{Command}
 use Rattle.store_core.specs.declared.command.Command.TheVariants as commands
 use Rattle.store_core.specs.declared.command.Question.{Question}
 use Rattle.store_core.specs.declared.command.Question.TheVariants as questions
-use Rattle.store_core.specs.declared.store.Held.{Held}
+use Rattle.store_core.specs.declared.reply.Reply.{Reply}
+use Rattle.store_core.specs.declared.reply.Reply.TheVariants as replies
 use Rattle.store_core.specs.Carried.{HasTotals, IsCarried}
-use Rattle.store_core.specs.Commands.{Acceptance, StepsAs, ModelSealed, AnswersAs, abort_in, as_is, begin_in, begin_open_in, fetch_in, fix_in, forget_in, holds_in, list_in, open_tenant_in, plan_in, put_in, seal_as_in, seal_in, seal_work_in, set_limit_in, tenants_in, uploads_in}
+use Rattle.store_core.specs.Commands.{Acceptance, StepsAs, AnswersAs, abort_in, as_is, begin_in, begin_open_in, fetch_in, fix_in, forget_in, holds_in, list_in, open_tenant_in, put_in, seal_as_in, seal_in, seal_work_in, set_limit_in, tenants_in, uploads_in}
 use Rattle.store_core.specs.Model.{ModelStoreBooks, ModelStore}
-use Rattle.store_journal.specs.declared.entry.Entry.{Entry}
-use Rattle.store_upload.specs.Uploads.{Fits, UploadPlan}
+use Rattle.store_upload.specs.Uploads.{Fits}
 
 -- a call of the store: a command, a part to put, or a question
 pub data Call : Type 0 where
   change : Command → Call
   put : ℕ → ModelPrepared → Call
   ask : Question → Call
-
--- the result of an accepted command or of a question
-pub data Reply : Type 0 where
-  -- the new tenant's number; the new upload's number and its plan
-  opened_tenant : ℕ → Reply
-  begun_upload : ℕ → UploadPlan → Reply
-  now_held : Held → Reply
-  now_sealed : ModelSealed → Reply
-  done : Reply
-  the_bytes : List ℕ → Reply
-  the_usage : Usage → Reply
-  the_plan : UploadPlan → Reply
-  the_list : List (List ℕ × ℕ) → Reply
-  the_length : ℕ → Reply
-  the_uploads : List UploadStatus → Reply
-  the_tenants : List Usage → Reply
-  the_totals : Totals → Reply
-  the_journal : List Entry → Reply
 
 -- an acceptance with its reply as a Reply
 abbrev pub replied : {M : Type 0} → (M → Reply) → Result (Acceptance M) Refusal → Result (Acceptance Reply) Refusal
@@ -58,29 +37,27 @@ FitsItsPlan p = Fits p.plan p.part.offset (length p.part.bytes)
 
 -- The answer to a question; if it allocates, it may run out of memory.
 abbrev pub Answers : ModelStore → Question → Result Reply Refusal → Type 0
-Answers store (questions.Fetch tenant address) reply = AnswersAs as_is (as_reply the_bytes (fetch_in store.state tenant address)) reply
-Answers store (questions.Usage tenant) reply = reply ≡ as_reply the_usage (usage_in length store.state tenant)
-Answers store (questions.Plan upload) reply = reply ≡ as_reply the_plan (plan_in store.state upload)
-Answers store (questions.List tenant) reply = AnswersAs as_is (as_reply the_list (list_in store.state tenant)) reply
-Answers store (questions.Holds tenant address) reply = reply ≡ as_reply the_length (holds_in store.state tenant address)
-Answers store (questions.Uploads tenant) reply = AnswersAs as_is (as_reply the_uploads (uploads_in store.state tenant)) reply
-Answers store questions.Tenants reply = AnswersAs as_is (Ok (the_tenants (tenants_in store.state))) reply
-Answers store questions.Totals reply = reply ≡ Ok (the_totals (totals_of length length store.state))
-Answers store questions.Journal reply = reply ≡ Ok (the_journal store.journal)
+Answers store (questions.Fetch tenant address) reply = AnswersAs as_is (as_reply replies.Object (fetch_in store.state tenant address)) reply
+Answers store (questions.Usage tenant) reply = reply ≡ as_reply replies.Usage (usage_in length store.state tenant)
+Answers store (questions.List tenant) reply = AnswersAs as_is (as_reply replies.List (list_in store.state tenant)) reply
+Answers store (questions.Holds tenant address) reply = reply ≡ as_reply replies.Length (holds_in store.state tenant address)
+Answers store (questions.Uploads tenant) reply = AnswersAs as_is (as_reply replies.Uploads (uploads_in store.state tenant)) reply
+Answers store questions.Tenants reply = AnswersAs as_is (Ok (replies.Tenants (tenants_in store.state))) reply
+Answers store questions.Totals reply = reply ≡ Ok (replies.Totals (totals_of length length store.state))
 
 -- One step: the reply and the effect are the model's. An accepted command adds its entry to the journal; a refused command and a question
 -- leave store and journal unchanged. A step that allocates may run out of memory.
 abbrev pub Step : ModelStore → Call → Result Reply Refusal → ModelStore → Type 0
-Step old (change (commands.OpenTenant limit)) reply new = StepsAs as_is (replied opened_tenant (open_tenant_in old.state limit)) old reply new
-Step old (change (commands.SetLimit tenant limit)) reply new = StepsAs as_is (replied (λ _. done) (set_limit_in old.state tenant limit)) old reply new
-Step old (change (commands.Begin tenant len)) reply new = StepsAs as_is (replied (λ r. begun_upload r.0 r.1) (begin_in old.state tenant len)) old reply new
-Step old (change (commands.BeginOpen tenant at_most)) reply new = StepsAs as_is (replied (λ r. begun_upload r.0 r.1) (begin_open_in old.state tenant at_most)) old reply new
-Step old (change (commands.Fix upload len)) reply new = StepsAs as_is (replied (λ _. done) (fix_in old.state upload len)) old reply new
-Step old (change (commands.Seal upload)) reply new = StepsAs as_is (replied now_sealed (seal_in old.state upload)) old reply new
-Step old (change (commands.SealAs upload address)) reply new = StepsAs as_is (replied now_sealed (seal_as_in old.state upload address)) old reply new
-Step old (change (commands.Abort upload)) reply new = StepsAs as_is (replied (λ _. done) (abort_in old.state upload)) old reply new
-Step old (change (commands.Forget tenant address)) reply new = StepsAs as_is (replied (λ _. done) (forget_in old.state tenant address)) old reply new
-Step old (put upload part) reply new = FitsItsPlan part × StepsAs as_is (replied now_held (put_in old.state upload part)) old reply new
+Step old (change (commands.OpenTenant limit)) reply new = StepsAs as_is (replied replies.Tenant (open_tenant_in old.state limit)) old reply new
+Step old (change (commands.SetLimit tenant limit)) reply new = StepsAs as_is (replied (λ _. replies.Done) (set_limit_in old.state tenant limit)) old reply new
+Step old (change (commands.Begin tenant len)) reply new = StepsAs as_is (replied (λ r. replies.Upload r.0 r.1) (begin_in old.state tenant len)) old reply new
+Step old (change (commands.BeginOpen tenant at_most)) reply new = StepsAs as_is (replied (λ r. replies.Upload r.0 r.1) (begin_open_in old.state tenant at_most)) old reply new
+Step old (change (commands.Fix upload len)) reply new = StepsAs as_is (replied (λ _. replies.Done) (fix_in old.state upload len)) old reply new
+Step old (change (commands.Seal upload)) reply new = StepsAs as_is (replied replies.Sealed (seal_in old.state upload)) old reply new
+Step old (change (commands.SealAs upload address)) reply new = StepsAs as_is (replied replies.Sealed (seal_as_in old.state upload address)) old reply new
+Step old (change (commands.Abort upload)) reply new = StepsAs as_is (replied (λ _. replies.Done) (abort_in old.state upload)) old reply new
+Step old (change (commands.Forget tenant address)) reply new = StepsAs as_is (replied (λ _. replies.Done) (forget_in old.state tenant address)) old reply new
+Step old (put upload part) reply new = FitsItsPlan part × StepsAs as_is (replied replies.Held (put_in old.state upload part)) old reply new
 Step old (ask question) reply new = Answers old question reply × (new ≡ old)
 
 -- the compressions of a command: those of a seal, otherwise none

@@ -21,11 +21,9 @@ pub enum Command {
 pub enum Question {
     Fetch { tenant: TenantId, address: Address },
     Usage { tenant: TenantId },
-    Plan { upload: UploadId },
     List { tenant: TenantId },
     Holds { tenant: TenantId, address: Address },
     Uploads { tenant: TenantId },
     Tenants,
     Totals,
-    Journal,
 }

@@ -34,9 +34,9 @@ mod store;
 
 pub use command::{Command, Question};
 pub use laws::run_laws;
-pub use object::Object;
+pub use object::{Object, SharedObject};
 pub use refusal::PutRefused;
-pub use reply::Reply;
+pub use reply::{Listing, Reply, SealReply};
 pub use store::{Held, Sealed, Store};
 pub use store_books::{
     Address, BadLimits, Limits, MAX_ENTRIES, MAX_LIMIT, MAX_TENANTS, Refusal, TenantId, Totals,

@@ -117,9 +117,9 @@ fn copy_at(bytes: &[u8], room: &mut [u8], at: usize) -> usize
     count
 }
 
-// An object that the store shares with those that fetched it.
+/// An object that the store shares with those that fetched it. In contracts it is the object's bytes.
 #[derive(Drop)]
-pub(crate) struct SharedObject {
+pub struct SharedObject {
     object: Arc<Object>,
 }
 
@@ -140,6 +140,13 @@ impl SharedObject {
         SharedObject { object }
     }
 
+    /// The object.
+    pub fn object(&self) -> &Object
+        ensures { result.now ≡ self.now }
+    {
+        &self.object
+    }
+
     /// Another handle to the object.
     pub(crate) fn share(&self) -> Result<Arc<Object>, AllocError>
         ensures { IfOk result (λ object. arc_value object ≡ self.now) }
@@ -147,7 +154,7 @@ impl SharedObject {
         Arc::try_clone(&self.object)
     }
 
-    /// The object.
+    /// The handle to the object.
     pub(crate) fn into_object(self) -> Arc<Object>
         ensures { arc_value result ≡ self }
     {

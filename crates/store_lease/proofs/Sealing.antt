@@ -7,7 +7,9 @@ use Rattle.store_books.specs.Commands.{file_refusal, ready_refusal}
 use Rattle.store_books.specs.declared.refusal.Refusal.{Refusal}
 use Rattle.store_core.specs.Commands.{Acceptance, ModelSealed, StepsAs, address_in, and_then, as_is, filed_in, seal_in, sealed_by, unless}
 use Rattle.store_core.specs.Model.{ModelObject, ModelStoreBooks, ModelStore}
-use Rattle.store_core.specs.Runs.{Reply, now_sealed, replied}
+use Rattle.store_core.specs.Runs.{replied}
+use Rattle.store_core.specs.declared.reply.Reply.{Reply}
+use Rattle.store_core.specs.declared.reply.Reply.TheVariants as replies
 use Rattle.store_journal.specs.declared.entry.Entry.{Entry}
 use Rattle.store_journal.specs.declared.entry.Entry.TheVariants.{Seal}
 use Rattle.store_lease.specs.Laws.{ReportedIsHeld}
@@ -31,14 +33,14 @@ seal_entry : (s : ModelStoreBooks) (number : ℕ) → IsSealEntry number (seal_i
 seal_entry s number =
     then_entry number (ready_refusal length s number) (filed_in s number) (unless_entry s number (file_refusal length hash_of s number (address_in s number)) (object_at hash_of s (address_in s number)))
 
-sealed_is : (x y : ModelSealed) → now_sealed x ≡ now_sealed y → x ≡ y
+sealed_is : (x y : ModelSealed) → replies.Sealed x ≡ replies.Sealed y → x ≡ y
 sealed_is x y same = ap sealed_or same
   where
     sealed_or : Reply → ModelSealed
-    sealed_or (now_sealed z) = z
+    sealed_or (replies.Sealed z) = z
     sealed_or _ = x
 
-reported_entry : (number : ℕ) (m : Result (Acceptance ModelSealed) Refusal) (old new : ModelStore) (sealed : ModelSealed) → IsSealEntry number m → StepsAs as_is (replied now_sealed m) old (Ok (now_sealed sealed)) new
+reported_entry : (number : ℕ) (m : Result (Acceptance ModelSealed) Refusal) (old new : ModelStore) (sealed : ModelSealed) → IsSealEntry number m → StepsAs as_is (replied replies.Sealed m) old (Ok (replies.Sealed sealed)) new
     → new.journal ≡ old.journal ++ Seal number sealed.address sealed.new ∷ []
 reported_entry number (Ok a) old new sealed is step =
     let same : sealed ≡ a.reply = sealed_is sealed a.reply step.0 in

@@ -8,7 +8,8 @@ use Rattle.store_books.specs.Books.{ModelOwnedUpload, ModelBooks, Filed, is_held
 use Rattle.store_core.specs.Carried.{IsCarried}
 use Rattle.store_core.specs.Commands.{ModelSealed}
 use Rattle.store_core.specs.Model.{ModelStore}
-use Rattle.store_core.specs.Runs.{change, now_sealed}
+use Rattle.store_core.specs.Runs.{change}
+use Rattle.store_core.specs.declared.reply.Reply.TheVariants as replies
 use Rattle.store_core.specs.declared.command.Command.TheVariants as commands
 use Rattle.store_history.specs.Histories.{ModelFront}
 use Rattle.store_journal.specs.declared.entry.Entry.{Entry}
@@ -42,7 +43,7 @@ SealedIsHeld = (found later : ModelStore) (upload : ℕ) (at : List ℕ) (new : 
 -- front had seen, the upload's tenant holds that address, unless a later entry says that the tenant forgets it.
 abbrev pub ReportedIsHeld : Type 0
 ReportedIsHeld = (before now : ModelFront) (more : List Entry) (upload : ℕ) (sealed : ModelSealed) (u : ModelOwnedUpload (List ℕ)) (later : ModelStore)
-    → (took : TookLawful before now (change (commands.Seal upload)) (Ok (now_sealed sealed)))
+    → (took : TookLawful before now (change (commands.Seal upload)) (Ok (replies.Sealed sealed)))
     → upload_at took.found.state upload ≡ Some u
     → IsCarried later
     → later.journal ≡ now.seen ++ more

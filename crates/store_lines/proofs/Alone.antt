@@ -42,11 +42,13 @@ came_request old new None whole following turn rest h = came_script old new (str
 came_request old new (Some (Put upload offset len)) whole following turn rest h = came_reported old new _ _ turn (λ t is. came_put old new upload offset (take len following) (plan_in old.state upload) t is) h.0
 came_request old new (Some (Fetch wanted)) whole following turn rest h = came_reported old new _ _ turn (λ t is. came_takes old new (ask (questions.Fetch wanted.tenant wanted.address)) t is) h.0
 came_request old new (Some (Asks question)) whole following turn rest h = came_reported old new _ _ turn (λ t is. came_takes old new (ask question) t is) h.0
-came_request old new (Some (Entries range)) whole following turn rest h = came_reported old new _ _ turn (λ t is. came_takes old new (ask questions.Journal) t is) h.0
+came_request old new (Some (Entries range)) whole following turn rest h = came_reported old new _ _ turn (λ t is. subst (λ (u : script.Turn). Came old u new) (sym is.0) is.1) h.0
 
 script_on : (old mid new : ModelStore) (manner : Manner) (turn : script.Turn) (turns : List SessionTurn) → Came old turn mid → Run mid (session_calls turns) (session_replies turns) new → Run old (session_calls (reported_as manner turn ∷ turns)) (session_replies (reported_as manner turn ∷ turns)) new
 script_on old mid new manner script.skipped turns h r = subst (λ (s : ModelStore). Run s (session_calls turns) (session_replies turns) new) h r
 script_on old mid new manner script.bad turns h r = subst (λ (s : ModelStore). Run s (session_calls turns) (session_replies turns) new) h r
+script_on old mid new manner (script.unplanned refusal) turns h r = subst (λ (s : ModelStore). Run s (session_calls turns) (session_replies turns) new) h r
+script_on old mid new manner (script.listed entries) turns h r = subst (λ (s : ModelStore). Run s (session_calls turns) (session_replies turns) new) h r
 script_on old mid new manner (script.unmade fault) turns h r = subst (λ (s : ModelStore). Run s (session_calls turns) (session_replies turns) new) h r
 script_on old mid new manner (script.took call reply) turns h r = (mid, h, r)
 

@@ -9,7 +9,7 @@ use Rattle.store_core.specs.declared.command.Command.{Command}
 use Rattle.store_core.specs.declared.command.Command.TheVariants as commands
 use Rattle.store_core.specs.declared.command.Question.{Question}
 use Rattle.store_core.specs.declared.command.Question.TheVariants as questions
-use Rattle.store_lines.specs.Grammar.{ScriptCommand, asks, command_at, does, puts}
+use Rattle.store_lines.specs.Grammar.{ScriptCommand, asks, command_at, does, journal, puts}
 use Rattle.store_lines.specs.Lines.{max_line}
 use Rattle.store_lines.specs.Spelling.{SpellsQuestion, SpellsCommand, IsNumberAndAddress, IsPart, IsSpelled, LongIsNone}
 use Rattle.store_lines.proofs.Read.{found}
@@ -52,7 +52,6 @@ asked line (questions.Fetch n a) h = held line (codes "fetch ") n a h (omega ari
 asked line (questions.Usage n) h = one line (codes "usage ") n h.0 h.1 (omega arith)
 asked line (questions.List n) h = one line (codes "list ") n h.0 h.1 (omega arith)
 asked line questions.Totals h = omega (arith, ap length h)
-asked line questions.Journal h = omega (arith, ap length h)
 asked line _ h = absurd h
 
 field_few : (offset : ℕ) (field bytes : List ℕ) → IsPart offset field bytes → length field ≤ 33554434
@@ -67,6 +66,7 @@ spelled line (does command) h = done line command h
 spelled line (asks question) h = asked line question h
 spelled line (puts upload offset bytes) h =
     omega (arith, ap length h.1, length-append (codes "put ") (three_fields (decimal upload) (decimal offset) h.0), three_few (decimal upload) (decimal offset) h.0 33554434 (digits_few upload h.2) (digits_few offset h.3) (field_few offset h.0 bytes h.4))
+spelled line journal h = omega (arith, ap length h)
 
 pub long_is_none : LongIsNone
 long_is_none line long = go (command_at line) refl

@@ -6,14 +6,13 @@ use Rattle.std.proofs.lemmas.List.{length-take, take_all}
 use Rattle.edge.specs.Fields.{split_at, space}
 use Rattle.edge.proofs.FieldTexts.{split_found}
 use Rattle.store_books.specs.declared.refusal.Refusal.{Refusal}
-use Rattle.store_core.specs.Commands.{plan_in, reply_seen}
+use Rattle.store_core.specs.Commands.{plan_in}
 use Rattle.store_core.specs.Model.{ModelStore}
-use Rattle.store_core.specs.Seen.{reply_of}
-use Rattle.store_core.specs.declared.reply.Reply.{Reply as CodeReply}
+use Rattle.store_core.specs.declared.reply.Reply.{Reply}
 use Rattle.store_core.specs.declared.command.Command.{Command}
 use Rattle.store_core.specs.declared.command.Question.{Question}
-use Rattle.store_core.specs.Runs.{Answers, Reply, Step, ask, change}
-use Rattle.store_lines.specs.Grammar.{ScriptCommand, asks, command_at, does, puts}
+use Rattle.store_core.specs.Runs.{Answers, Step, ask, change}
+use Rattle.store_lines.specs.Grammar.{ScriptCommand, asks, command_at, does, journal, puts}
 use Rattle.store_lines.specs.Access.{SessionState, alone_reach, alone_stands}
 use Rattle.store_lines.specs.Lines.{IsPutLine}
 use Rattle.store_lines.specs.inner.Answers.{Answered, AnswersRead, PutsRead, reported_ending, reported_text}
@@ -21,8 +20,8 @@ use Rattle.store_lines.specs.Turns.{IsLinkedPut}
 use Rattle.store_lines.specs.inner.Reporting.{AnsweredOver}
 use Rattle.store_lines.proofs.Turns.{of_put}
 use Rattle.store_lines.proofs.Lengths.{long_is_none}
-use Rattle.store_lines.specs.Script.{IsTurnOfCommand, IsTurnOf, IsTurnOfPut, Turn, bad, reply_ending, skipped, took}
-use Rattle.store_lines.specs.Texts.{answer_text}
+use Rattle.store_lines.specs.Script.{IsTurnOfCommand, IsTurnOf, IsTurnOfPut, Turn, bad, listed, reply_ending, skipped, took}
+use Rattle.store_lines.specs.Texts.{answer_text, entries_text}
 use Rattle.store_lines.specs.declared.answer.Answer.{Answer}
 use Rattle.store_lines.specs.declared.answer.Answer.TheVariants as answers
 use Rattle.store_lines.specs.declared.ending.Ending.{Ending}
@@ -37,14 +36,6 @@ Says reply text ending = (text ≡ answer_text reply) × (ending ≡ reply_endin
 abbrev pub SaysBad : List ℕ → Ending → Type 0
 SaysBad text ending = (text ≡ codes "bad\n") × (ending ≡ endings.Refused)
 
--- a reply that is seen another way ends alike
-seen_ending : {R M : Type 0} (seen : R → M) (reply : Result R Refusal) → reply_ending reply ≡ reply_ending (reply_seen seen reply)
-seen_ending seen (Ok reply) = refl
-seen_ending seen (Err refusal) = refl
-
-pub says : (store : ModelStore) (reply : Result CodeReply Refusal) → Says (reply_seen (reply_of store) reply) (reported_text store (answers.Replied reply)) (reported_ending (answers.Replied reply))
-says store reply = (refl, seen_ending (reply_of store) reply)
-
 -- ---- a part
 
 -- a part's turn, whose upload and bytes are these
@@ -53,14 +44,14 @@ PutTurn old upload offset bytes new turn = IsTurnOfPut old upload offset bytes (
 
 -- the turn of a put in a store of its own
 pub put_alone : (old new : ModelStore) (upload offset : ℕ) (bytes : List ℕ) (answer : Answer) → AnsweredOver (alone_stands old) (alone_stands new) (λ before turn after. IsLinkedPut alone_reach before upload offset bytes turn after) answer
-    → Answered (PutTurn old upload offset bytes new) (reported_text new answer) (reported_ending answer)
+    → Answered (PutTurn old upload offset bytes new) (reported_text new.journal answer) (reported_ending answer)
 put_alone old new upload offset bytes answer h =
     let before : SessionState = record { store = old; bytes = 0; calls = 0; own = [] } in
     let g = h.goes before refl in
     record {
       turn = h.turn;
       is = subst (λ (s : ModelStore). IsTurnOfPut old upload offset bytes (plan_in old.state upload) h.turn s) g.1.0 (of_put before g.0 upload offset bytes h.turn g.1.1);
-      text_is = h.text_is new;
+      text_is = h.text_is new.journal;
       ending_is = h.ending_is;
     }
 
@@ -96,6 +87,14 @@ asked old line text ending question reply some is answers says = record {
   ending_is = says.1;
 }
 
+pub listed_all : (old : ModelStore) (line : List ℕ) → 0 < length line → Some journal ≡ command_at line → Answered (LineTurn old line old) (entries_text old.journal) endings.Good
+listed_all old line some is = record {
+  turn = listed old.journal;
+  is = plays old old line (listed old.journal) (Some journal) some is (refl, refl);
+  text_is = refl;
+  ending_is = refl;
+}
+
 pub put_asked : (old new : ModelStore) (line text : List ℕ) (ending : Ending) (upload offset : ℕ) (bytes : List ℕ) → 0 < length line → Some (puts upload offset bytes) ≡ command_at line → Answered (PutTurn old upload offset bytes new) text ending → Answered (LineTurn old line new) text ending
 put_asked old new line text ending upload offset bytes some is h = record {
   turn = h.turn;
@@ -114,7 +113,7 @@ strip_shorter xs = go (nat_lt 0 (length xs) && slice_index xs (length xs - 1) ==
     go false = omega arith
 
 -- a longer line is no command
-pub long_line : (old : ModelStore) (count : ℕ) (kept : List ℕ) → 33554481 < count → AnswersRead old old count kept (reported_text old answers.Bad) (reported_ending answers.Bad)
+pub long_line : (old : ModelStore) (count : ℕ) (kept : List ℕ) → 33554481 < count → AnswersRead old old count kept (reported_text old.journal answers.Bad) (reported_ending answers.Bad)
 long_line old count kept long = record {
   answers = λ whole read.
       let line = strip_last 10 whole in
@@ -123,13 +122,13 @@ long_line old count kept long = record {
 }
 
 -- any other is kept whole
-pub short_line : {E : Type 0} (r : Result Answer E) (old new : ModelStore) (count : ℕ) (kept line : List ℕ) → count ≤ 33554481 → line ≡ strip_last 10 kept → IfOk r (λ a. Answered (LineTurn old line new) (reported_text new a) (reported_ending a))
-    → IfOk r (λ a. AnswersRead old new count kept (reported_text new a) (reported_ending a))
+pub short_line : {E : Type 0} (r : Result Answer E) (old new : ModelStore) (count : ℕ) (kept line : List ℕ) → count ≤ 33554481 → line ≡ strip_last 10 kept → IfOk r (λ a. Answered (LineTurn old line new) (reported_text new.journal a) (reported_ending a))
+    → IfOk r (λ a. AnswersRead old new count kept (reported_text new.journal a) (reported_ending a))
 short_line (Err e) old new count kept line short is h = tt
 short_line (Ok a) old new count kept line short is h = record {
   answers = λ whole read.
       let all : kept ≡ whole = read.1 ∙ take_all 33554481 whole (omega (arith, short, read.0)) in
-      subst (λ (l : List ℕ). Answered (LineTurn old l new) (reported_text new a) (reported_ending a)) (is ∙ ap (strip_last 10) all) h;
+      subst (λ (l : List ℕ). Answered (LineTurn old l new) (reported_text new.journal a) (reported_ending a)) (is ∙ ap (strip_last 10) all) h;
 }
 
 -- ---- out of memory

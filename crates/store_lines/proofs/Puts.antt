@@ -1,22 +1,21 @@
 -- Parts that are put in two moments.
-use Rattle.std.proofs.Common.{◌≡◌, ◌∙◌, ℕ, Bool, true, false, List, Ok, Err, Some, None, Option, Result, ap, append-nil, length, length-take-le, refl, subst, sym, take}
+use Rattle.std.proofs.Common.{◌≡◌, ◌∙◌, ℕ, Bool, true, false, List, Ok, Err, Some, None, Option, Result, ap, length, length-take-le, refl, subst, sym, take}
 use Rattle.std.specs.Prelude.{IfOk, IfSome, unwrap_or}
 use Rattle.b3_forest.specs.Parts.{ModelPrepared, planned}
 use Rattle.store_books.specs.declared.refusal.Refusal.{Refusal}
-use Rattle.store_core.specs.Runs.{Reply, ask, put, the_plan, as_reply}
-use Rattle.store_core.specs.declared.command.Question.TheVariants as questions
+use Rattle.store_core.specs.Runs.{put}
+use Rattle.store_core.specs.declared.reply.Reply.{Reply}
+use Rattle.store_journal.specs.declared.entry.Entry.{Entry}
 use Rattle.store_lines.specs.inner.Answers.{reported_ending, reported_text}
-use Rattle.store_lines.specs.Script.{reply_ending, took, unmade}
+use Rattle.store_lines.specs.Script.{reply_ending, took, unmade, unplanned}
 use Rattle.store_lines.specs.Texts.{answer_text}
 use Rattle.store_lines.specs.declared.answer.Answer.{Answer}
 use Rattle.store_lines.specs.declared.answer.Answer.TheVariants as answers
-use Rattle.store_core.specs.Model.{ModelStore}
 use Rattle.store_lines.specs.inner.Reads.{Copied, Dropped}
 use Rattle.store_upload.specs.Uploads.{UploadPlan, part_fault}
 use Rattle.store_upload.specs.declared.refusal.PartFault.{PartFault}
 use Rattle.store_upload.specs.declared.refusal.PartFault.TheVariants as faults
 use Rattle.store_lines.specs.Access.{advance, at, SessionState, Reach, Took, TookPlan}
-use Rattle.store_lines.proofs.Steps.{plus_none}
 use Rattle.store_lines.specs.inner.Reporting.{Leaves, AnsweredOver, ReceivesOver}
 use Rattle.store_lines.specs.Turns.{IsLinkedMade, IsLinkedPlan, IsLinkedPut}
 
@@ -29,7 +28,7 @@ PutOver reach was is upload offset bytes answer = AnsweredOver was is (λ before
 
 -- a part that was put, and the answer to it
 pub made : (reach : Reach) (was is : SessionState → Type 0) (upload offset : ℕ) (plan : UploadPlan) (bytes : List ℕ) (part : ModelPrepared) (reply : Result Reply Refusal) (answer : Answer) → part_fault plan offset (length bytes) ≡ None → part ≡ planned plan offset bytes
-    → Took reach was is (put upload part) reply → ((store : ModelStore) → reported_text store answer ≡ answer_text reply) → reported_ending answer ≡ reply_ending reply → MadeOver reach was is upload offset plan bytes answer
+    → Took reach was is (put upload part) reply → ((entries : List Entry) → reported_text entries answer ≡ answer_text reply) → reported_ending answer ≡ reply_ending reply → MadeOver reach was is upload offset plan bytes answer
 made reach was is upload offset plan bytes part reply answer fits part_is took_it text ending =
     let call = put upload (planned plan offset bytes) in
     let t = subst (λ (p : ModelPrepared). Took reach was is (put upload p) reply) part_is took_it in
@@ -56,7 +55,7 @@ pub no_part : (reach : Reach) (was : SessionState → Type 0) (upload offset : �
 no_part reach was upload offset plan bytes fault is = record {
   turn = unmade fault;
   goes = λ before session. (before, (session, fault_is reach before upload (planned plan offset bytes) (part_fault plan offset (length bytes)) fault is));
-  text_is = λ store. refl;
+  text_is = λ entries. refl;
   ending_is = refl;
 }
 
@@ -72,22 +71,18 @@ planned_put reach was mid is upload offset plan bytes answer p a = record {
 
 pub no_plan : (reach : Reach) (was is : SessionState → Type 0) (upload offset : ℕ) (bytes : List ℕ) (refusal : Refusal) → TookPlan reach was is upload (Err refusal) → PutOver reach was is upload offset bytes (answers.Replied (Err refusal))
 no_plan reach was is upload offset bytes refusal p = record {
-  turn = took (ask (questions.Plan upload)) (Err refusal);
+  turn = unplanned refusal;
   goes = λ before session. (
     at before p.found,
     (
       p.stands before session,
       (
         p.found,
-        (
-          p.linked before session,
-          subst (λ (r : Result UploadPlan Refusal). IsLinkedPlan reach (at before p.found) upload offset bytes r (took (ask (questions.Plan upload)) (Err refusal)) (at before p.found)) p.plan_is
-              ((refl, (ap (as_reply the_plan) p.plan_is, refl)), (plus_none before.bytes, plus_none before.calls, sym (append-nil before.own))),
-        ),
+        (p.linked before session, subst (λ (r : Result UploadPlan Refusal). IsLinkedPlan reach (at before p.found) upload offset bytes r (unplanned refusal) (at before p.found)) p.plan_is (refl, refl)),
       ),
     ),
   );
-  text_is = λ store. refl;
+  text_is = λ entries. refl;
   ending_is = refl;
 }
 

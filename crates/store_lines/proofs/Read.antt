@@ -15,7 +15,7 @@ use Rattle.store_core.specs.declared.command.Question.TheVariants as questions
 use Rattle.edge.proofs.FieldTexts.{split_again, split_found, decimal_spaceless, number_again, two_again, two_found}
 use Rattle.edge.proofs.Steps.{bind_is, bind_some, chosen, none_some, some_is}
 use Rattle.edge.proofs.Numbers.{read_back}
-use Rattle.store_lines.specs.Grammar.{ScriptCommand, abort_command, address_of_digits, asks, asks_of_kind, does, begin_command, begin_open_command, part_bytes_at, bytes_of_kind, colon, command_at, split_line_at, decoded, digits_at, fetch_command, fix_command, forget_command, held_at, list_command, max_digits, max_pattern, open_tenant_command, pattern_at, pattern_of, puts, puts_at, seal_as_command, seal_command, set_limit_command, usage_command, word_command}
+use Rattle.store_lines.specs.Grammar.{ScriptCommand, abort_command, address_of_digits, asks, asks_of_kind, begin_command, begin_open_command, bytes_of_kind, colon, command_at, decoded, digits_at, does, fetch_command, fix_command, forget_command, held_at, journal, list_command, max_digits, max_pattern, open_tenant_command, part_bytes_at, pattern_at, pattern_of, puts, puts_at, seal_as_command, seal_command, set_limit_command, split_line_at, usage_command, word_command}
 use Rattle.store_lines.specs.Spelling.{SpellsQuestion, SpellsCommand, IsPart, IsSpelled}
 
 -- ---- fields
@@ -144,7 +144,7 @@ word_found word command h =
     elim (chosen (bytes_eq word (codes "stat")) (Some (asks questions.Totals)) _ (Some command) h) [
       | inl p ↦ subst (IsSpelled word) (some_is _ _ p.1) ((bytes_eq-Decides word (codes "stat")).0 p.0)
       | inr q ↦
-          elim (chosen (bytes_eq word (codes "journal")) (Some (asks questions.Journal)) None (Some command) q.1) [
+          elim (chosen (bytes_eq word (codes "journal")) (Some journal) None (Some command) q.1) [
             | inl p ↦ subst (IsSpelled word) (some_is _ _ p.1) ((bytes_eq-Decides word (codes "journal")).0 p.0)
             | inr p ↦ absurd (none_some command p.1)
           ]
@@ -261,7 +261,6 @@ asked_again line (questions.Fetch n a) h = ap command_at h.1 ∙ bind_is (held_a
 asked_again line (questions.Usage n) h = ap command_at h.0 ∙ bind_is (number_at (decimal n)) _ n (number_again n h.1)
 asked_again line (questions.List n) h = ap command_at h.0 ∙ bind_is (number_at (decimal n)) _ n (number_again n h.1)
 asked_again line questions.Totals h = ap command_at h
-asked_again line questions.Journal h = ap command_at h
 asked_again line _ h = absurd h
 
 pub again : (line : List ℕ) (command : ScriptCommand) → IsSpelled line command → command_at line ≡ Some command
@@ -269,3 +268,4 @@ unfolding split_line_at
 again line (does command) h = done_again line command h
 again line (asks question) h = asked_again line question h
 again line (puts upload offset bytes) h = ap command_at h.1 ∙ puts_again upload offset h.0 bytes h.2 h.3 h.4
+again line journal h = ap command_at h

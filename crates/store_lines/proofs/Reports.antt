@@ -1,5 +1,5 @@
 -- What one line results in.
-use Rattle.std.proofs.Common.{◌≡◌, ◌∙◌, ◌<◌, ◌≤◌, ℕ, Bool, true, false, List, [], ◌∷◌, Ok, Err, Some, None, Option, Result, ap, append-nil, arith, inl, inr, length, refl, subst, sym}
+use Rattle.std.proofs.Common.{◌≡◌, ◌∙◌, ◌<◌, ◌≤◌, ℕ, Bool, true, false, List, [], ◌∷◌, Ok, Err, Some, None, Option, Result, ap, arith, inl, inr, length, refl, subst, sym}
 use Rattle.std.specs.Prelude.{OnOk, codes}
 use Rattle.std.specs.Io.BufRead.{strip_last}
 use Rattle.std.specs.Io.KnownBytes.{Appends}
@@ -7,28 +7,29 @@ use Rattle.std.proofs.lemmas.List.{take_all}
 use Rattle.store_books.specs.Refusals.{refusal_text}
 use Rattle.store_books.specs.declared.refusal.Refusal.{Refusal}
 use Rattle.store_books.specs.declared.refusal.Refusal.TheVariants as refusals
-use Rattle.store_core.specs.Runs.{Reply, ask, change, the_bytes, the_journal}
+use Rattle.store_core.specs.Runs.{ask, change}
+use Rattle.store_core.specs.declared.reply.Reply.{Reply}
+use Rattle.store_core.specs.declared.reply.Reply.TheVariants as replies
 use Rattle.store_core.specs.declared.command.Command.{Command}
 use Rattle.store_core.specs.declared.command.Question.{Question}
 use Rattle.store_core.specs.declared.command.Question.TheVariants as questions
 use Rattle.store_journal.specs.declared.entry.Entry.{Entry}
-use Rattle.store_lines.specs.Grammar.{ScriptCommand, asks, command_at, does, puts}
+use Rattle.store_lines.specs.Grammar.{ScriptCommand, asks, command_at, does, journal, puts}
 use Rattle.store_lines.specs.Lines.{IsPutLine}
 use Rattle.store_lines.specs.inner.Answers.{reported_text}
-use Rattle.store_lines.specs.Script.{Turn, bad, skipped, took, widest_start}
+use Rattle.store_lines.specs.Script.{Turn, bad, listed, skipped, took}
 use Rattle.store_lines.specs.declared.answer.Answer.{Answer}
 use Rattle.store_lines.specs.Texts.{answer_text, entries_text, refused_text}
 use Rattle.store_lines.proofs.Lengths.{long_is_none}
 use Rattle.store_lines.proofs.LineOutcomes.{strip_shorter}
 use Rattle.store_lines.specs.Lines.{max_request}
-use Rattle.store_lines.specs.Session.{SessionTurn, as_entries, as_range, as_script, no_memory, ranged, raw_text, session_turn_text, reported_as}
+use Rattle.store_lines.specs.Session.{SessionTurn, as_range, as_script, no_memory, range_entries, ranged, raw_text, session_turn_text, reported_as}
 use Rattle.edge.specs.declared.lines.LineRead.{LineRead}
 use Rattle.store_lines.specs.declared.request.EntryRange.{EntryRange}
 use Rattle.store_lines.specs.declared.request.Range.{Range}
 use Rattle.store_lines.specs.Access.{advance, at, SessionState, Reach, ReportedEntries, Took}
-use Rattle.store_lines.proofs.Steps.{plus_none}
 use Rattle.store_lines.specs.inner.Reporting.{AnsweredOver, AnswersOver, GaveEntries, ReportedOver, gave_none, gave_these}
-use Rattle.store_lines.specs.Turns.{IsLinkedAsk, IsLinkedCommand, IsLinkedEntries, IsLinkedLine, IsLinkedPut, IsLinkedQuestion, IsLinkedScriptLine}
+use Rattle.store_lines.specs.Turns.{IsLinkedCommand, IsLinkedEntries, IsLinkedLine, IsLinkedPut, IsLinkedQuestion, IsLinkedScriptLine, whole_journal}
 
 -- a line of a script, reported so
 abbrev pub LineOver : Reach → (SessionState → Type 0) → (SessionState → Type 0) → List ℕ → Option (List ℕ) → Option (List ℕ) → Type 0
@@ -58,12 +59,12 @@ done reach was is line w1 w2 command reply some is_read t wrote = record {
   wrote = wrote;
 }
 
-asked_turn : (reach : Reach) (old new : SessionState) (line : List ℕ) (question : Question) (turn : SessionTurn) → 0 < length line → Some (asks question) ≡ command_at line → IsLinkedAsk reach old question turn new → IsLinkedScriptLine reach old line turn new
-asked_turn reach old new line question no_memory some is_read h = (inr (inr (h.0, sym is_read ∙ ap (λ (q : Question). Some (asks q)) h.1)), h.2)
+asked_turn : (reach : Reach) (old new : SessionState) (line : List ℕ) (question : Question) (turn : SessionTurn) → 0 < length line → Some (asks question) ≡ command_at line → IsLinkedQuestion reach as_script old question turn new → IsLinkedScriptLine reach old line turn new
+asked_turn reach old new line question no_memory some is_read h = absurd h
 asked_turn reach old new line question (reported_as manner turn) some is_read h = (h.0, plays reach old new line turn (Some (asks question)) some is_read h.1)
 
 pub asked : (reach : Reach) (was is : SessionState → Type 0) (line : List ℕ) (w1 w2 : Option (List ℕ)) (question : Question) → 0 < length line → Some (asks question) ≡ command_at line
-    → ReportedOver was is (λ before turn after. IsLinkedAsk reach before question turn after) w1 w2 → LineOver reach was is line w1 w2
+    → ReportedOver was is (λ before turn after. IsLinkedQuestion reach as_script before question turn after) w1 w2 → LineOver reach was is line w1 w2
 asked reach was is line w1 w2 question some is_read t = record {
   turn = t.turn;
   goes = λ before session. let g = t.goes before session in (g.0, (g.1.0, asked_turn reach before g.0 line question t.turn some is_read g.1.1));
@@ -71,11 +72,11 @@ asked reach was is line w1 w2 question some is_read t = record {
 }
 
 pub put_line : (reach : Reach) (was is : SessionState → Type 0) (line : List ℕ) (answer : Answer) (w1 w2 : Option (List ℕ)) (upload offset : ℕ) (bytes : List ℕ) → 0 < length line → Some (puts upload offset bytes) ≡ command_at line
-    → AnsweredOver was is (λ before turn after. IsLinkedPut reach before upload offset bytes turn after) answer → Appends w1 w2 (reported_text widest_start answer) → LineOver reach was is line w1 w2
+    → AnsweredOver was is (λ before turn after. IsLinkedPut reach before upload offset bytes turn after) answer → Appends w1 w2 (reported_text [] answer) → LineOver reach was is line w1 w2
 put_line reach was is line answer w1 w2 upload offset bytes some is_read a wrote = record {
   turn = reported_as as_script a.turn;
   goes = λ before session. let g = a.goes before session in (g.0, (g.1.0, (refl, plays reach before g.0 line a.turn (Some (puts upload offset bytes)) some is_read g.1.1)));
-  wrote = subst (λ (t : List ℕ). Appends w1 w2 t) (a.text_is widest_start) wrote;
+  wrote = subst (λ (t : List ℕ). Appends w1 w2 t) (a.text_is []) wrote;
 }
 
 -- ---- a line that was read
@@ -105,18 +106,18 @@ kept_line reach was is read kept line w1 w2 is_kept few is_read h = record {
 -- ---- questions
 
 pub replied : (reach : Reach) (was is : SessionState → Type 0) (question : Question) (reply : Result Reply Refusal) (w1 w2 : Option (List ℕ)) → Took reach was is (ask question) reply → Appends w1 w2 (answer_text reply)
-    → ReportedOver was is (λ before turn after. IsLinkedAsk reach before question turn after) w1 w2
+    → ReportedOver was is (λ before turn after. IsLinkedQuestion reach as_script before question turn after) w1 w2
 replied reach was is question reply w1 w2 t wrote = record {
   turn = reported_as as_script (took (ask question) reply);
   goes = λ before session. (advance before t.found (ask question) reply t.left, (t.stands before session, (refl, (t.found, (t.linked before session, ((refl, t.step), (refl, refl, refl)))))));
   wrote = wrote;
 }
 
-pub fetched : (reach : Reach) (was is : SessionState → Type 0) (tenant : ℕ) (address bytes : List ℕ) (range : Option Range) (w1 w2 : Option (List ℕ)) → Took reach was is (ask (questions.Fetch tenant address)) (Ok (the_bytes bytes)) → Appends w1 w2 (raw_text (ranged range bytes))
+pub fetched : (reach : Reach) (was is : SessionState → Type 0) (tenant : ℕ) (address bytes : List ℕ) (range : Option Range) (w1 w2 : Option (List ℕ)) → Took reach was is (ask (questions.Fetch tenant address)) (Ok (replies.Object bytes)) → Appends w1 w2 (raw_text (ranged range bytes))
     → ReportedOver was is (λ before turn after. IsLinkedQuestion reach (as_range range) before (questions.Fetch tenant address) turn after) w1 w2
 fetched reach was is tenant address bytes range w1 w2 t wrote = record {
-  turn = reported_as (as_range range) (took (ask (questions.Fetch tenant address)) (Ok (the_bytes bytes)));
-  goes = λ before session. (advance before t.found (ask (questions.Fetch tenant address)) (Ok (the_bytes bytes)) t.left, (t.stands before session, (refl, (t.found, (t.linked before session, ((refl, t.step), (refl, refl, refl)))))));
+  turn = reported_as (as_range range) (took (ask (questions.Fetch tenant address)) (Ok (replies.Object bytes)));
+  goes = λ before session. (advance before t.found (ask (questions.Fetch tenant address)) (Ok (replies.Object bytes)) t.left, (t.stands before session, (refl, (t.found, (t.linked before session, ((refl, t.step), (refl, refl, refl)))))));
   wrote = wrote;
 }
 
@@ -130,26 +131,29 @@ unfetched reach was is tenant address refusal range w1 w2 t wrote = record {
 
 -- ---- the journal
 
+-- the entries that were written, or that it ran out of memory
 pub given_entries : (reach : Reach) (was is : SessionState → Type 0) (range : EntryRange) (w1 w2 : Option (List ℕ)) → GaveEntries reach was is range w1 w2 → ReportedOver was is (λ before turn after. IsLinkedEntries reach range before turn after) w1 w2
 given_entries reach was is range w1 w2 (gave_these these) =
     let t = these.took in
     record {
-      turn = reported_as (as_entries range) (took (ask questions.Journal) (Ok (the_journal t.found.journal)));
-      goes = λ before session. (at before t.found, (t.stands before session, (refl, (t.found, (t.linked before session, ((refl, (refl, refl)), (plus_none before.bytes, plus_none before.calls, sym (append-nil before.own))))))));
+      turn = reported_as as_script (listed (range_entries range t.found.journal));
+      goes = λ before session. (at before t.found, (t.stands before session, (refl, (t.found, (t.linked before session, (refl, refl))))));
       wrote = subst (λ (es : List Entry). Appends w1 w2 (entries_text es)) t.entries_are these.wrote;
     }
 given_entries reach was is range w1 w2 (gave_none lacks k wrote) = record { turn = no_memory; goes = λ before session. (before, (k.kept before session, (lacks, refl))); wrote = wrote }
 
-pub given_journal : (reach : Reach) (was is : SessionState → Type 0) (question : Question) (w1 w2 : Option (List ℕ)) → question ≡ questions.Journal → GaveEntries reach was is (record { from = 0; count = None }) w1 w2 → ReportedOver was is (λ before turn after. IsLinkedAsk reach before question turn after) w1 w2
-given_journal reach was is question w1 w2 is_read (gave_these these) =
-    let t = these.took in
-    let reported : ReportedOver was is (λ before turn after. IsLinkedAsk reach before questions.Journal turn after) w1 w2 = record {
-      turn = reported_as as_script (took (ask questions.Journal) (Ok (the_journal t.found.journal)));
-      goes = λ before session. (at before t.found, (t.stands before session, (refl, (t.found, (t.linked before session, ((refl, (refl, refl)), (plus_none before.bytes, plus_none before.calls, sym (append-nil before.own))))))));
-      wrote = subst (λ (es : List Entry). Appends w1 w2 (entries_text es)) t.entries_are these.wrote;
-    } in
-    subst (λ (q : Question). ReportedOver was is (λ before turn after. IsLinkedAsk reach before q turn after) w1 w2) (sym is_read) reported
-given_journal reach was is question w1 w2 is_read (gave_none lacks k wrote) = record { turn = no_memory; goes = λ before session. (before, (k.kept before session, (lacks, is_read, refl))); wrote = wrote }
+listed_turn : (reach : Reach) (old new : SessionState) (line : List ℕ) (turn : SessionTurn) → 0 < length line → Some journal ≡ command_at line → IsLinkedEntries reach whole_journal old turn new → IsLinkedScriptLine reach old line turn new
+listed_turn reach old new line no_memory some is_read h = (inr (inr (h.0, sym is_read)), h.1)
+listed_turn reach old new line (reported_as manner turn) some is_read h = (h.0, plays reach old new line turn (Some journal) some is_read h.1)
+
+pub given_journal : (reach : Reach) (was is : SessionState → Type 0) (line : List ℕ) (w1 w2 : Option (List ℕ)) → 0 < length line → Some journal ≡ command_at line → GaveEntries reach was is whole_journal w1 w2 → LineOver reach was is line w1 w2
+given_journal reach was is line w1 w2 some is_read h =
+    let t = given_entries reach was is whole_journal w1 w2 h in
+    record {
+      turn = t.turn;
+      goes = λ before session. let g = t.goes before session in (g.0, (g.1.0, listed_turn reach before g.0 line t.turn some is_read g.1.1));
+      wrote = t.wrote;
+    }
 
 pub reported_these : (given : Bool) (reach : Reach) (was is : SessionState → Type 0) (range : EntryRange) (w1 w2 : Option (List ℕ)) → given ≡ true → ReportedEntries reach was is given range w1 w2 → GaveEntries reach was is range w1 w2
 reported_these true reach was is range w1 w2 is_read h = gave_these h

@@ -9,7 +9,8 @@ use Rattle.store_books.specs.declared.refusal.Refusal.TheVariants as refusals
 use Rattle.edge.specs.Lines.{lines_of}
 use Rattle.store_core.specs.declared.command.Command.TheVariants as commands
 use Rattle.store_core.specs.declared.command.Question.TheVariants as questions
-use Rattle.store_core.specs.Runs.{ask, now_held, now_sealed, opened_tenant, the_bytes, the_list}
+use Rattle.store_core.specs.Runs.{ask}
+use Rattle.store_core.specs.declared.reply.Reply.TheVariants as replies
 use Rattle.store_lines.specs.Grammar.{ScriptCommand, address_of_digits, asks, asks_of_kind, bytes_of_kind, command_at, split_line_at, does, pattern_of, puts}
 use Rattle.store_lines.specs.Script.{bad, ending_of, skipped, took, turn_text, unmade}
 use Rattle.store_lines.specs.Texts.{answer_text}
@@ -112,31 +113,31 @@ short_address = refl
 
 -- ---- answers
 
-opened : answer_text (Ok (opened_tenant 12)) ≡ codes "tenant 12\n"
+opened : answer_text (Ok (replies.Tenant 12)) ≡ codes "tenant 12\n"
 unfolding on_literals
 opened = refl
 
-held : answer_text (Ok (now_held (record { held = 1025; missing = Some 1024 }))) ≡ codes "held 1025 missing 1024\n"
+held : answer_text (Ok (replies.Held (record { held = 1025; missing = Some 1024 }))) ≡ codes "held 1025 missing 1024\n"
 unfolding on_literals
 held = refl
 
-all_held : answer_text (Ok (now_held (record { held = 1; missing = None }))) ≡ codes "held 1 all\n"
+all_held : answer_text (Ok (replies.Held (record { held = 1; missing = None }))) ≡ codes "held 1 all\n"
 unfolding on_literals
 all_held = refl
 
-sealed : answer_text (Ok (now_sealed (record { address = 10 ∷ 255 ∷ []; new = false; bytes = 0 ∷ []; released = record { plan = closed_plan 1; end = Some 1; parts = [] } }))) ≡ codes "known 0aff 1\n"
+sealed : answer_text (Ok (replies.Sealed (record { address = 10 ∷ 255 ∷ []; new = false; bytes = 0 ∷ []; released = record { plan = closed_plan 1; end = Some 1; parts = [] } }))) ≡ codes "known 0aff 1\n"
 unfolding on_literals
 sealed = refl
 
-no_object_bytes : answer_text (Ok (the_bytes [])) ≡ codes "object 0 -\n"
+no_object_bytes : answer_text (Ok (replies.Object [])) ≡ codes "object 0 -\n"
 unfolding on_literals
 no_object_bytes = refl
 
-object_bytes : answer_text (Ok (the_bytes (10 ∷ 255 ∷ []))) ≡ codes "object 2 0aff\n"
+object_bytes : answer_text (Ok (replies.Object (10 ∷ 255 ∷ []))) ≡ codes "object 2 0aff\n"
 unfolding on_literals
 object_bytes = refl
 
-listed : answer_text (Ok (the_list ((10 ∷ [], 3) ∷ (11 ∷ [], 0) ∷ []))) ≡ codes "list 2\n0a 3\n0b 0\n"
+listed : answer_text (Ok (replies.List ((10 ∷ [], 3) ∷ (11 ∷ [], 0) ∷ []))) ≡ codes "list 2\n0a 3\n0b 0\n"
 unfolding on_literals
 listed = refl
 
@@ -160,7 +161,7 @@ three_lines : lines_of (codes "a\n\nb") ≡ codes "a" ∷ [] ∷ codes "b" ∷ [
 unfolding on_literals
 three_lines = refl
 
-ends_refused : ending_of (skipped ∷ bad ∷ took (ask questions.Totals) (Ok (opened_tenant 0)) ∷ []) ≡ endings.Refused
+ends_refused : ending_of (skipped ∷ bad ∷ took (ask questions.Totals) (Ok (replies.Tenant 0)) ∷ []) ≡ endings.Refused
 ends_refused = refl
 
 ends_without_memory : ending_of (took (ask questions.Totals) (Err refusals.NoMemory) ∷ bad ∷ []) ≡ endings.OutOfMemory

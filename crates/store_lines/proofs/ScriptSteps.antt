@@ -17,11 +17,10 @@ use Rattle.edge.specs.Lines.{lines_of}
 use Rattle.edge.proofs.FirstLines.{lines_next, none_left, nothing_is}
 use Rattle.edge.proofs.Joining.{appends_more, appends_none}
 use Rattle.store_core.specs.Model.{ModelStore, start}
-use Rattle.store_core.specs.declared.command.Question.TheVariants.{Plan}
 use Rattle.store_core.specs.Runs.{Call, Run, Step, ask, change}
-use Rattle.store_lines.specs.Grammar.{ScriptCommand, asks, command_at, does, puts}
+use Rattle.store_lines.specs.Grammar.{ScriptCommand, asks, command_at, does, journal, puts}
 use Rattle.store_lines.specs.inner.Answers.{AnswersRead, IsReadLine}
-use Rattle.store_lines.specs.Script.{AreTurnsOf, AreAnswered, IsTurnOfCommand, IsScriptBegun, IsTurnOfMade, IsTurnOf, IsTurnOfPart, IsTurnOfPut, Ran, RanOut, RanSome, IsTurnOfStep, Turn, bad, calls_of, ending_of, failed_write, ran_all, ran_some, replies_of, skipped, took, turn_ending, turn_text, unmade, verdict_ending, widest_start, worse}
+use Rattle.store_lines.specs.Script.{AreTurnsOf, AreAnswered, IsTurnOfCommand, IsScriptBegun, IsTurnOfMade, IsTurnOf, IsTurnOfPart, IsTurnOfPut, Ran, RanOut, RanSome, IsTurnOfStep, Turn, bad, calls_of, ending_of, failed_write, listed, ran_all, ran_some, replies_of, skipped, took, turn_ending, turn_text, unmade, unplanned, verdict_ending, widest_start, worse}
 use Rattle.store_lines.specs.inner.Script.{ended_as, first_cause}
 use Rattle.store_lines.specs.declared.ending.Ending.{Ending}
 use Rattle.store_lines.specs.declared.ending.Ending.TheVariants as endings
@@ -65,19 +64,25 @@ text_more turns turn = flat_map-append turn_text turns (turn ∷ []) ∙ ap (λ 
 abbrev pub Came : ModelStore → Turn → ModelStore → Type 0
 Came old skipped new = new ≡ old
 Came old bad new = new ≡ old
+Came old (unplanned refusal) new = new ≡ old
 Came old (unmade fault) new = new ≡ old
 Came old (took call reply) new = Step old call reply new
+Came old (listed entries) new = new ≡ old
 
 pub came_takes : (old new : ModelStore) (call : Call) (turn : Turn) → IsTurnOfStep old call turn new → Came old turn new
 came_takes old new call skipped h = absurd h
 came_takes old new call bad h = absurd h
+came_takes old new call (unplanned refusal) h = absurd h
 came_takes old new call (unmade fault) h = absurd h
+came_takes old new call (listed entries) h = absurd h
 came_takes old new call (took asked reply) h = subst (λ (c : Call). Step old c reply new) (sym h.0) h.1
 
 came_puts : (old new : ModelStore) (upload : ℕ) (part : ModelPrepared) (turn : Turn) → IsTurnOfPart old upload part turn new → Came old turn new
 came_puts old new upload part skipped h = absurd h
 came_puts old new upload part bad h = absurd h
+came_puts old new upload part (unplanned refusal) h = absurd h
 came_puts old new upload part (unmade fault) h = h.1
+came_puts old new upload part (listed entries) h = absurd h
 came_puts old new upload part (took asked reply) h = subst (λ (c : Call). Step old c reply new) (sym h.0) h.1
 
 came_makes : (old new : ModelStore) (upload : ℕ) (part : ModelPrepared) (refused : Option PartFault) (turn : Turn) → IsTurnOfMade old upload part refused turn new → Came old turn new
@@ -85,7 +90,7 @@ came_makes old new upload part (Some fault) turn h = subst (λ (t : Turn). Came 
 came_makes old new upload part None turn h = came_puts old new upload part turn h
 
 pub came_put : (old new : ModelStore) (upload offset : ℕ) (bytes : List ℕ) (made_by : Result UploadPlan Refusal) (turn : Turn) → IsTurnOfPut old upload offset bytes made_by turn new → Came old turn new
-came_put old new upload offset bytes (Err refusal) turn h = came_takes old new (ask (Plan upload)) turn h
+came_put old new upload offset bytes (Err refusal) turn h = subst (λ (t : Turn). Came old t new) (sym h.0) h.1
 came_put old new upload offset bytes (Ok made_for) turn h = came_makes old new upload (planned made_for offset bytes) (part_fault made_for offset (length bytes)) turn h
 
 came_does : (old new : ModelStore) (command : Option ScriptCommand) (turn : Turn) → IsTurnOfCommand old command turn new → Came old turn new
@@ -93,6 +98,7 @@ came_does old new None turn h = subst (λ (t : Turn). Came old t new) (sym h.0) 
 came_does old new (Some (does command)) turn h = came_takes old new (change command) turn h
 came_does old new (Some (asks question)) turn h = came_takes old new (ask question) turn h
 came_does old new (Some (puts upload offset bytes)) turn h = came_put old new upload offset bytes (plan_in old.state upload) turn h
+came_does old new (Some journal) turn h = subst (λ (t : Turn). Came old t new) (sym h.0) h.1
 
 pub came : (old new : ModelStore) (line : List ℕ) (turn : Turn) → IsTurnOf old line turn new → Came old turn new
 came old new [] turn h = subst (λ (t : Turn). Came old t new) (sym h.0) h.1
@@ -101,6 +107,8 @@ came old new (b ∷ line) turn h = came_does old new (command_at (b ∷ line)) t
 run_on : (old mid new : ModelStore) (turn : Turn) (turns : List Turn) → Came old turn mid → Run mid (calls_of turns) (replies_of turns) new → Run old (calls_of (turn ∷ turns)) (replies_of (turn ∷ turns)) new
 run_on old mid new skipped turns h r = subst (λ (s : ModelStore). Run s (calls_of turns) (replies_of turns) new) h r
 run_on old mid new bad turns h r = subst (λ (s : ModelStore). Run s (calls_of turns) (replies_of turns) new) h r
+run_on old mid new (unplanned refusal) turns h r = subst (λ (s : ModelStore). Run s (calls_of turns) (replies_of turns) new) h r
+run_on old mid new (listed entries) turns h r = subst (λ (s : ModelStore). Run s (calls_of turns) (replies_of turns) new) h r
 run_on old mid new (unmade fault) turns h r = subst (λ (s : ModelStore). Run s (calls_of turns) (replies_of turns) new) h r
 run_on old mid new (took call reply) turns h r = (mid, h, r)
 

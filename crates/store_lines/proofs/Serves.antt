@@ -1,9 +1,8 @@
 -- What one line results in, and what it leaves.
-use Rattle.std.proofs.Common.{◌≡◌, ◌∙◌, ℕ, Bool, true, false, List, Ok, Err, Some, None, Option, Result, drop, refl, subst, sym}
+use Rattle.std.proofs.Common.{◌≡◌, ◌∙◌, [], ℕ, Bool, true, false, List, Ok, Err, Some, None, Option, Result, drop, refl, subst, sym}
 use Rattle.std.specs.Prelude.{IfOk, IfSome}
 use Rattle.std.specs.Io.KnownBytes.{Appends}
 use Rattle.store_lines.specs.inner.Answers.{reported_text}
-use Rattle.store_lines.specs.Script.{widest_start}
 use Rattle.store_lines.specs.declared.answer.Answer.{Answer}
 use Rattle.store_lines.specs.inner.Requests.{AsksFor}
 use Rattle.store_lines.specs.Requests.{request_in}
@@ -16,7 +15,7 @@ use Rattle.store_lines.specs.inner.Reporting.{AnswersOver, ReceivesOver, ServesO
 use Rattle.store_lines.specs.Turns.{IsLinkedRequest}
 
 pub served_put : (now left w1 w2 : Option (List ℕ)) (reach : Reach) (was is : SessionState → Type 0) (upload offset len : ℕ) (got : Option Answer) (answer : Answer) → got ≡ Some answer → IfSome now (λ following. ReceivesOver reach was is got upload offset len following left)
-    → Appends w1 w2 (reported_text widest_start answer) → IfSome now (λ following. ServesPutOver reach was is true upload offset len following left w1 w2)
+    → Appends w1 w2 (reported_text [] answer) → IfSome now (λ following. ServesPutOver reach was is true upload offset len following left w1 w2)
 served_put None left w1 w2 reach was is upload offset len got answer same h wrote = tt
 served_put (Some following) left w1 w2 reach was is upload offset len got answer same h wrote =
     let h2 = subst (λ (o : Option Answer). ReceivesOver reach was is o upload offset len following left) same h in
@@ -26,7 +25,7 @@ served_put (Some following) left w1 w2 reach was is upload offset len got answer
       record {
         turn = reported_as as_script a.turn;
         goes = λ before session. let g = a.goes before session in (g.0, (g.1.0, (refl, g.1.1)));
-        wrote = subst (λ (t : List ℕ). Appends w1 w2 t) (a.text_is widest_start) wrote;
+        wrote = subst (λ (t : List ℕ). Appends w1 w2 t) (a.text_is []) wrote;
       },
     )
 

@@ -1,5 +1,5 @@
 -- Turns over a store of its own are those of a script, or of a session.
-use Rattle.std.proofs.Common.{◌≡◌, ◌∷◌, [], ℕ, List, Some, None, Option, Ok, Err, Result, ap, inl, inr, length, subst, take}
+use Rattle.std.proofs.Common.{◌≡◌, ◌∙◌, ◌∷◌, [], ℕ, List, Some, None, Option, Ok, Err, Result, ap, inl, inr, length, subst, take}
 use Rattle.std.specs.Io.BufRead.{drop_through, strip_last, take_through}
 use Rattle.b3_forest.specs.Parts.{ModelPrepared, planned}
 use Rattle.store_books.specs.declared.refusal.Refusal.{Refusal}
@@ -8,18 +8,18 @@ use Rattle.store_core.specs.Model.{ModelStore}
 use Rattle.store_core.specs.Runs.{Call, ask, change, put}
 use Rattle.store_core.specs.declared.command.Question.{Question}
 use Rattle.store_core.specs.declared.command.Question.TheVariants as questions
-use Rattle.store_lines.specs.Grammar.{ScriptCommand, asks, command_at, does, puts}
+use Rattle.store_lines.specs.Grammar.{ScriptCommand, asks, command_at, does, journal, puts}
 use Rattle.store_lines.specs.Script.{widest_start}
 use Rattle.store_lines.specs.Script as script
 use Rattle.store_lines.specs.Requests.{request_in}
-use Rattle.store_lines.specs.Session.{AreSessionTurns, IsTurnOfBytes, IsTurnOfFirstLine, IsTurnOfQuestion, IsTurnOfRequest, IsTurnOfScriptLine, Manner, MayTakeMemory, SessionTurn, as_entries, as_script, no_memory, reported_as}
+use Rattle.store_lines.specs.Session.{AreSessionTurns, IsTurnOfBytes, IsTurnOfEntries, IsTurnOfFirstLine, IsTurnOfQuestion, IsTurnOfRequest, IsTurnOfScriptLine, Manner, MayTakeMemory, SessionTurn, no_memory, range_entries, reported_as}
 use Rattle.store_lines.specs.declared.request.EntryRange.{EntryRange}
 use Rattle.store_lines.specs.declared.request.Request.{Request}
 use Rattle.store_lines.specs.declared.request.Request.TheVariants.{Asks, Entries, Fetch, Put}
 use Rattle.store_upload.specs.Uploads.{UploadPlan, part_fault}
 use Rattle.store_upload.specs.declared.refusal.PartFault.{PartFault}
 use Rattle.store_lines.specs.Access.{SessionState, alone_reach, at}
-use Rattle.store_lines.specs.Turns.{AreLinkedTurns, IsLinkedAsk, IsLinkedBytes, IsLinkedCommand, IsLinkedEntries, IsLinkedFirstLine, IsLinkedLine, IsLinkedMade, IsLinkedPart, IsLinkedPlan, IsLinkedPut, IsLinkedQuestion, IsLinkedRequest, IsLinkedScriptLine, IsLinkedStep, MayLack}
+use Rattle.store_lines.specs.Turns.{AreLinkedTurns, IsLinkedBytes, IsLinkedCommand, IsLinkedEntries, IsLinkedFirstLine, IsLinkedLine, IsLinkedListing, IsLinkedMade, IsLinkedPart, IsLinkedPlan, IsLinkedPut, IsLinkedQuestion, IsLinkedRequest, IsLinkedScriptLine, IsLinkedStep, MayLack, whole_journal}
 
 same : {old new : SessionState} → new ≡ old → new.store ≡ old.store
 same h = ap (λ (s : SessionState). s.store) h
@@ -30,7 +30,9 @@ of_step old new call turn h = subst (λ (s : ModelStore). script.IsTurnOfStep s 
 of_part : (old new : SessionState) (upload : ℕ) (part : ModelPrepared) (turn : script.Turn) → IsLinkedPart alone_reach old upload part turn new → script.IsTurnOfPart old.store upload part turn new.store
 of_part old new upload part script.skipped h = h
 of_part old new upload part script.bad h = h
+of_part old new upload part (script.unplanned refusal) h = h
 of_part old new upload part (script.unmade fault) h = (h.0, same h.1)
+of_part old new upload part (script.listed entries) h = h
 of_part old new upload part (script.took asked reply) h = of_step old new (put upload part) (script.took asked reply) h
 
 of_made : (old new : SessionState) (upload : ℕ) (part : ModelPrepared) (refused : Option PartFault) (turn : script.Turn) → IsLinkedMade alone_reach old upload part refused turn new → script.IsTurnOfMade old.store upload part refused turn new.store
@@ -38,18 +40,22 @@ of_made old new upload part (Some fault) turn h = (h.0, same h.1)
 of_made old new upload part None turn h = of_part old new upload part turn h
 
 of_plan : (old new : SessionState) (upload offset : ℕ) (bytes : List ℕ) (plan : Result UploadPlan Refusal) (turn : script.Turn) → IsLinkedPlan alone_reach old upload offset bytes plan turn new → script.IsTurnOfPut old.store upload offset bytes plan turn new.store
-of_plan old new upload offset bytes (Err refusal) turn h = h.0
+of_plan old new upload offset bytes (Err refusal) turn h = (h.0, same h.1)
 of_plan old new upload offset bytes (Ok plan) turn h = of_made old new upload (planned plan offset bytes) (part_fault plan offset (length bytes)) turn h
 
 pub of_put : (old new : SessionState) (upload offset : ℕ) (bytes : List ℕ) (turn : script.Turn) → IsLinkedPut alone_reach old upload offset bytes turn new → script.IsTurnOfPut old.store upload offset bytes (plan_in old.store.state upload) turn new.store
 of_put old new upload offset bytes turn h =
     of_plan old new upload offset bytes (plan_in old.store.state upload) turn (subst (λ (s : ModelStore). IsLinkedPlan alone_reach (at old s) upload offset bytes (plan_in s.state upload) turn new) h.1.0 h.1.1)
 
+of_listing : (old new : SessionState) (range : EntryRange) (turn : script.Turn) → IsLinkedListing alone_reach old range turn new → (turn ≡ script.listed (range_entries range old.store.journal)) × (new.store ≡ old.store)
+of_listing old new range turn h = (h.1.1.0 ∙ ap (λ (s : ModelStore). script.listed (range_entries range s.journal)) h.1.0, same h.1.1.1 ∙ h.1.0)
+
 of_command : (old new : SessionState) (command : Option ScriptCommand) (turn : script.Turn) → IsLinkedCommand alone_reach old command turn new → script.IsTurnOfCommand old.store command turn new.store
 of_command old new None turn h = (h.0, same h.1)
 of_command old new (Some (does command)) turn h = of_step old new (change command) turn h
 of_command old new (Some (asks question)) turn h = of_step old new (ask question) turn h
 of_command old new (Some (puts upload offset bytes)) turn h = of_put old new upload offset bytes turn h
+of_command old new (Some journal) turn h = of_listing old new whole_journal turn h
 
 of_line : (old new : SessionState) (line : List ℕ) (turn : script.Turn) → IsLinkedLine alone_reach old line turn new → script.IsTurnOf old.store line turn new.store
 of_line old new [] turn h = (h.0, same h.1)
@@ -68,13 +74,9 @@ of_question : (manner : Manner) (old new : SessionState) (question : Question) (
 of_question manner old new question no_memory h = h
 of_question manner old new question (reported_as reported turn) h = (h.0, of_step old new (ask question) turn h.1)
 
-of_ask : (old new : SessionState) (question : Question) (turn : SessionTurn) → IsLinkedAsk alone_reach old question turn new → IsTurnOfQuestion as_script old.store question turn new.store
-of_ask old new question no_memory h = absurd h.0
-of_ask old new question (reported_as reported turn) h = (h.0, of_step old new (ask question) turn h.1)
-
-of_entries : (range : EntryRange) (old new : SessionState) (turn : SessionTurn) → IsLinkedEntries alone_reach range old turn new → IsTurnOfQuestion (as_entries range) old.store questions.Journal turn new.store
+of_entries : (range : EntryRange) (old new : SessionState) (turn : SessionTurn) → IsLinkedEntries alone_reach range old turn new → IsTurnOfEntries old.store range turn new.store
 of_entries range old new no_memory h = absurd h.0
-of_entries range old new (reported_as reported turn) h = (h.0, of_step old new (ask questions.Journal) turn h.1)
+of_entries range old new (reported_as reported turn) h = (h.0, of_listing old new range turn h.1)
 
 of_bytes : (old new : SessionState) (upload offset : ℕ) (bytes : List ℕ) (turn : SessionTurn) → IsLinkedBytes alone_reach old upload offset bytes turn new → IsTurnOfBytes old.store upload offset bytes turn new.store
 of_bytes old new upload offset bytes no_memory h = h
@@ -84,7 +86,7 @@ of_request : (old new : SessionState) (request : Option Request) (whole followin
 of_request old new None whole following turn rest h = (of_script old new (strip_last 10 whole) turn h.0, h.1)
 of_request old new (Some (Put upload offset len)) whole following turn rest h = (of_bytes old new upload offset (take len following) turn h.0, h.1, h.2)
 of_request old new (Some (Fetch wanted)) whole following turn rest h = (of_question _ old new (questions.Fetch wanted.tenant wanted.address) turn h.0, h.1)
-of_request old new (Some (Asks question)) whole following turn rest h = (of_ask old new question turn h.0, h.1)
+of_request old new (Some (Asks question)) whole following turn rest h = (of_question _ old new question turn h.0, h.1)
 of_request old new (Some (Entries range)) whole following turn rest h = (of_entries range old new turn h.0, h.1)
 
 of_first : (old new : SessionState) (input : List ℕ) (turn : SessionTurn) (rest : List ℕ) → IsLinkedFirstLine alone_reach old input turn new rest → IsTurnOfFirstLine old.store input turn new.store rest

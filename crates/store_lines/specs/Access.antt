@@ -4,19 +4,13 @@ use Rattle.std.specs.Io.KnownBytes.{Appends}
 use Rattle.store_books.specs.declared.refusal.Refusal.{Refusal}
 use Rattle.store_core.specs.Commands.{plan_in}
 use Rattle.store_core.specs.Model.{ModelStore}
-use Rattle.store_core.specs.Runs.{Call, Reply, Step, ask, change, put}
-use Rattle.store_core.specs.Seen.{reply_of}
-use Rattle.store_core.specs.declared.reply.Reply.{Reply as CodeReply}
+use Rattle.store_core.specs.Runs.{Call, Step, ask, change, put}
+use Rattle.store_core.specs.declared.reply.Reply.{Reply}
 use Rattle.store_journal.specs.declared.entry.Entry.{Entry}
-use Rattle.store_lines.specs.Script.{widest_start}
 use Rattle.store_lines.specs.Texts.{entries_text}
 use Rattle.store_lines.specs.Session.{range_entries}
 use Rattle.store_lines.specs.declared.request.EntryRange.{EntryRange}
 use Rattle.store_upload.specs.Uploads.{UploadPlan}
-
--- the reply of a store, other than the journal, which is not a reply of an access
-abbrev pub reply_alone : CodeReply → Reply
-reply_alone reply = reply_of widest_start reply
 
 -- A session's access to its store: what a call may find after what the last one left, whether memory may be lacking for the journal's copy,
 -- and whether each of its lines must end with a newline, including the last.

@@ -9,11 +9,13 @@ use Rattle.store_core.specs.declared.command.Command.TheVariants as commands
 use Rattle.store_core.specs.declared.command.Question.{Question}
 use Rattle.store_core.specs.declared.command.Question.TheVariants as questions
 
--- a command or a question of the store; or a part's upload, offset and bytes: before the part is put, the upload's plan is asked for
+-- a command or a question of the store; a part's upload, offset and bytes: before the part is put, the upload's plan is asked for; or the
+-- journal
 pub data ScriptCommand : Type 0 where
   does : Command → ScriptCommand
   asks : Question → ScriptCommand
   puts : ℕ → ℕ → List ℕ → ScriptCommand
+  journal : ScriptCommand
 
 -- ---- the fields of a command
 
@@ -164,7 +166,7 @@ asks_of_kind kind fields =
 
 -- the command of a line that consists of one word
 abbrev pub word_command : List ℕ → Option ScriptCommand
-word_command word = if bytes_eq word (codes "stat") then Some (asks questions.Totals) else if bytes_eq word (codes "journal") then Some (asks questions.Journal) else None
+word_command word = if bytes_eq word (codes "stat") then Some (asks questions.Totals) else if bytes_eq word (codes "journal") then Some journal else None
 
 -- the command of a line that is split after its first word
 unfoldable pub split_line_at : List ℕ → Option (List ℕ × List ℕ) → Option ScriptCommand

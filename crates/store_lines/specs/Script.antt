@@ -13,10 +13,12 @@ use Rattle.store_core.specs.Commands.{plan_in}
 use Rattle.edge.specs.Lines.{lines_of}
 use Rattle.store_books.specs.Books.{empty_books, max_entries, max_tenants, max_workers}
 use Rattle.store_core.specs.Model.{ModelStore}
-use Rattle.store_core.specs.declared.command.Question.TheVariants.{Plan}
-use Rattle.store_core.specs.Runs.{Call, Reply, Run, Step, ask, change, put}
-use Rattle.store_lines.specs.Grammar.{ScriptCommand, asks, command_at, does, puts}
-use Rattle.store_lines.specs.Texts.{answer_text, unmade_text, refused_text}
+use Rattle.store_core.specs.declared.reply.Reply.{Reply}
+use Rattle.store_core.specs.Runs.{Call, Run, Step, ask, change, put}
+use Rattle.store_lines.specs.Grammar.{ScriptCommand, asks, command_at, does, journal, puts}
+use Rattle.store_books.specs.Refusals.{refusal_text}
+use Rattle.store_journal.specs.declared.entry.Entry.{Entry}
+use Rattle.store_lines.specs.Texts.{answer_text, entries_text, refused_text, unmade_text}
 use Rattle.store_lines.specs.declared.ending.Ending.{Ending}
 use Rattle.store_lines.specs.declared.ending.Ending.TheVariants as endings
 use Rattle.edge.specs.declared.outcome.Verdict.{Verdict}
@@ -24,20 +26,24 @@ use Rattle.edge.specs.declared.outcome.Verdict.TheVariants as verdicts
 
 -- ---- one line
 
--- The result of a line: nothing for an empty line; a line that is not a command; a part that cannot be made; or one step of the store, with
--- its reply.
+-- The result of a line: nothing for an empty line; a line that is not a command; a part without a plan, or that cannot be made; one step of
+-- the store, with its reply; or entries of the journal.
 pub data Turn : Type 0 where
   skipped : Turn
   bad : Turn
+  unplanned : Refusal → Turn
   unmade : PartFault → Turn
   took : Call → Result Reply Refusal → Turn
+  listed : List Entry → Turn
 
 -- its answer
 abbrev pub turn_text : Turn → List ℕ
 turn_text skipped = []
 turn_text bad = codes "bad\n"
+turn_text (unplanned refusal) = refused_text (refusal_text refusal)
 turn_text (unmade fault) = refused_text (unmade_text fault)
 turn_text (took call reply) = answer_text reply
+turn_text (listed entries) = entries_text entries
 
 -- how a run with this refusal, fault, reply or turn ends at best
 abbrev pub refusal_ending : Refusal → Ending
@@ -55,8 +61,10 @@ reply_ending (Err refusal) = refusal_ending refusal
 abbrev pub turn_ending : Turn → Ending
 turn_ending skipped = endings.Good
 turn_ending bad = endings.Refused
+turn_ending (unplanned refusal) = refusal_ending refusal
 turn_ending (unmade fault) = fault_ending fault
 turn_ending (took call reply) = reply_ending reply
+turn_ending (listed entries) = endings.Good
 
 -- exactly this step
 abbrev pub IsTurnOfStep : ModelStore → Call → Turn → ModelStore → Type 0
@@ -76,7 +84,7 @@ IsTurnOfMade old upload part None turn new = IsTurnOfPart old upload part turn n
 
 -- the upload's plan is asked for first
 abbrev pub IsTurnOfPut : ModelStore → ℕ → ℕ → List ℕ → Result UploadPlan Refusal → Turn → ModelStore → Type 0
-IsTurnOfPut old upload offset bytes (Err refusal) turn new = IsTurnOfStep old (ask (Plan upload)) turn new
+IsTurnOfPut old upload offset bytes (Err refusal) turn new = (turn ≡ unplanned refusal) × (new ≡ old)
 IsTurnOfPut old upload offset bytes (Ok made_for) turn new = IsTurnOfMade old upload (planned made_for offset bytes) (part_fault made_for offset (length bytes)) turn new
 
 abbrev pub IsTurnOfCommand : ModelStore → Option ScriptCommand → Turn → ModelStore → Type 0
@@ -84,6 +92,7 @@ IsTurnOfCommand old None turn new = (turn ≡ bad) × (new ≡ old)
 IsTurnOfCommand old (Some (does command)) turn new = IsTurnOfStep old (change command) turn new
 IsTurnOfCommand old (Some (asks question)) turn new = IsTurnOfStep old (ask question) turn new
 IsTurnOfCommand old (Some (puts upload offset bytes)) turn new = IsTurnOfPut old upload offset bytes (plan_in old.state upload) turn new
+IsTurnOfCommand old (Some journal) turn new = (turn ≡ listed old.journal) × (new ≡ old)
 
 -- the turn of a line in a store, and the resulting store
 abbrev pub IsTurnOf : ModelStore → List ℕ → Turn → ModelStore → Type 0

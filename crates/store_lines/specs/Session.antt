@@ -12,13 +12,15 @@ use Rattle.store_books.specs.declared.refusal.Refusal.TheVariants as refusals
 use Rattle.store_core.specs.Carried.{IsCarried}
 use Rattle.store_core.specs.Commands.{plan_in}
 use Rattle.store_core.specs.Model.{ModelStore}
-use Rattle.store_core.specs.Runs.{Call, Reply, Run, ask, the_bytes, the_journal}
+use Rattle.store_core.specs.Runs.{Call, Run, ask}
+use Rattle.store_core.specs.declared.reply.Reply.{Reply}
+use Rattle.store_core.specs.declared.reply.Reply.TheVariants as replies
 use Rattle.store_core.specs.declared.command.Question.{Question}
 use Rattle.store_core.specs.declared.command.Question.TheVariants as questions
 use Rattle.store_lines.specs.Lines.{IsPutLine}
 use Rattle.store_lines.specs.Script.{IsTurnOfPut, widest_start}
 use Rattle.store_lines.specs.Script as script
-use Rattle.store_lines.specs.Texts.{entries_text, refused_text, reply_text}
+use Rattle.store_lines.specs.Texts.{refused_text, reply_text}
 use Rattle.store_lines.specs.Lines.{max_request}
 use Rattle.store_lines.specs.Requests.{request_in}
 use Rattle.store_journal.specs.declared.entry.Entry.{Entry}
@@ -29,11 +31,10 @@ use Rattle.store_lines.specs.declared.request.Request.TheVariants.{Asks, Entries
 
 -- ---- answers
 
--- how a reply is written: as in a script; for an object, the requested bytes; for the journal, the requested entries
+-- how a reply is written: as in a script; or for an object, the requested bytes
 pub data Manner : Type 0 where
   as_script : Manner
   as_range : Option Range → Manner
-  as_entries : EntryRange → Manner
 
 -- the turn of a line: out of memory for it, or the turn of a script's line, written in a manner
 pub data SessionTurn : Type 0 where
@@ -50,7 +51,7 @@ abbrev pub raw_text : List ℕ → List ℕ
 raw_text bytes = codes "bytes " ++ (decimal (length bytes) ++ (codes "\n" ++ bytes))
 
 abbrev pub range_text : Option Range → Reply → List ℕ
-range_text range (the_bytes bytes) = raw_text (ranged range bytes)
+range_text range (replies.Object bytes) = raw_text (ranged range bytes)
 range_text range reply = reply_text reply
 
 -- the requested entries of the journal
@@ -61,10 +62,6 @@ at_most (Some count) entries = take count entries
 abbrev pub range_entries : EntryRange → List Entry → List Entry
 range_entries range entries = at_most range.count (drop range.from entries)
 
-abbrev pub journal_reply_text : EntryRange → Reply → List ℕ
-journal_reply_text range (the_journal entries) = entries_text (range_entries range entries)
-journal_reply_text range reply = reply_text reply
-
 -- a turn with its reply written like this
 abbrev pub reported_by : (Reply → List ℕ) → script.Turn → List ℕ
 reported_by text (script.took call (Ok reply)) = text reply
@@ -74,7 +71,6 @@ abbrev pub session_turn_text : SessionTurn → List ℕ
 session_turn_text no_memory = refused_text (refusal_text refusals.NoMemory)
 session_turn_text (reported_as as_script turn) = script.turn_text turn
 session_turn_text (reported_as (as_range range) turn) = reported_by (range_text range) turn
-session_turn_text (reported_as (as_entries range) turn) = reported_by (journal_reply_text range) turn
 
 -- ---- one line
 
@@ -96,6 +92,10 @@ IsReportedAs manner Is (reported_as reported turn) = (reported ≡ manner) × Is
 abbrev pub IsTurnOfQuestion : Manner → ModelStore → Question → SessionTurn → ModelStore → Type 0
 IsTurnOfQuestion manner old question turn new = IsReportedAs manner (λ t. script.IsTurnOfStep old (ask question) t new) turn
 
+-- the requested entries of the journal
+abbrev pub IsTurnOfEntries : ModelStore → EntryRange → SessionTurn → ModelStore → Type 0
+IsTurnOfEntries old range turn new = IsReportedAs as_script (λ t. (t ≡ script.listed (range_entries range old.journal)) × (new ≡ old)) turn
+
 -- a part's bytes are put as a script puts them
 abbrev pub IsTurnOfBytes : ModelStore → ℕ → ℕ → List ℕ → SessionTurn → ModelStore → Type 0
 IsTurnOfBytes old upload offset bytes turn new = IsReportedAs as_script (λ t. IsTurnOfPut old upload offset bytes (plan_in old.state upload) t new) turn
@@ -106,7 +106,7 @@ IsTurnOfRequest old None whole following turn new rest = IsTurnOfScriptLine old 
 IsTurnOfRequest old (Some (Put upload offset len)) whole following turn new rest = IsTurnOfBytes old upload offset (take len following) turn new × (len ≤ length following) × (rest ≡ drop len following)
 IsTurnOfRequest old (Some (Fetch wanted)) whole following turn new rest = IsTurnOfQuestion (as_range wanted.range) old (questions.Fetch wanted.tenant wanted.address) turn new × (rest ≡ following)
 IsTurnOfRequest old (Some (Asks question)) whole following turn new rest = IsTurnOfQuestion as_script old question turn new × (rest ≡ following)
-IsTurnOfRequest old (Some (Entries range)) whole following turn new rest = IsTurnOfQuestion (as_entries range) old questions.Journal turn new × (rest ≡ following)
+IsTurnOfRequest old (Some (Entries range)) whole following turn new rest = IsTurnOfEntries old range turn new × (rest ≡ following)
 
 -- the request's bytes are truncated
 abbrev pub IsShort : Option Request → List ℕ → Type 0

@@ -8,7 +8,7 @@ use Rattle.store_core.specs.declared.command.Command.TheVariants as commands
 use Rattle.store_core.specs.declared.command.Question.{Question}
 use Rattle.store_core.specs.declared.command.Question.TheVariants as questions
 use Rattle.store_lines.specs.Lines.{max_line}
-use Rattle.store_lines.specs.Grammar.{ScriptCommand, asks, command_at, does, max_digits, max_pattern, pattern_of, puts}
+use Rattle.store_lines.specs.Grammar.{ScriptCommand, asks, command_at, does, journal, max_digits, max_pattern, pattern_of, puts}
 
 -- a word, a number, and an address in 64 digits of either case
 abbrev pub IsNumberAndAddress : List ℕ → List ℕ → ℕ → List ℕ → Type 0
@@ -32,7 +32,6 @@ SpellsQuestion line (questions.Fetch tenant address) = IsNumberAndAddress line (
 SpellsQuestion line (questions.Usage tenant) = (line ≡ codes "usage " ++ decimal tenant) × (tenant < 2 ^ 64)
 SpellsQuestion line (questions.List tenant) = (line ≡ codes "list " ++ decimal tenant) × (tenant < 2 ^ 64)
 SpellsQuestion line questions.Totals = line ≡ codes "stat"
-SpellsQuestion line questions.Journal = line ≡ codes "journal"
 SpellsQuestion line _ = ⊥
 
 -- the field spells a part's bytes: by their digits, or by the length of the pattern starting at the offset
@@ -50,6 +49,7 @@ abbrev pub IsSpelled : List ℕ → ScriptCommand → Type 0
 IsSpelled line (does command) = SpellsCommand line command
 IsSpelled line (asks question) = SpellsQuestion line question
 IsSpelled line (puts upload offset bytes) = (field : List ℕ) × (line ≡ codes "put " ++ three_fields (decimal upload) (decimal offset) field) × (upload < 2 ^ 64) × (offset < 2 ^ 64) × IsPart offset field bytes
+IsSpelled line journal = line ≡ codes "journal"
 
 -- what is read is spelled like that
 abbrev pub ReadCommandIsSpelled : Type 0

@@ -17,7 +17,8 @@ use Rattle.store_upload.specs.Texts.{part_fault_text}
 use Rattle.store_journal.specs.Entries.{filing_word}
 use Rattle.store_journal.specs.Journal.{entry_lines}
 use Rattle.store_books.specs.Totals.{totals_text}
-use Rattle.store_core.specs.Runs.{Reply, begun_upload, done, now_held, now_sealed, opened_tenant, the_bytes, the_journal, the_length, the_list, the_plan, the_tenants, the_totals, the_uploads, the_usage}
+use Rattle.store_core.specs.declared.reply.Reply.{Reply}
+use Rattle.store_core.specs.declared.reply.Reply.TheVariants as replies
 
 -- ---- replies: each line with its newline
 
@@ -88,20 +89,18 @@ abbrev pub entries_text : List Entry → List ℕ
 entries_text entries = numbered (codes "journal ") (length entries) ++ entry_lines entries
 
 abbrev pub reply_text : Reply → List ℕ
-reply_text (opened_tenant number) = numbered (codes "tenant ") number
-reply_text (begun_upload number plan) = numbered (codes "upload ") number
-reply_text (now_held h) = held_text h.held h.missing
-reply_text (now_sealed s) = sealed_text s
-reply_text done = codes "ok\n"
-reply_text (the_bytes bytes) = object_text bytes
-reply_text (the_usage u) = usage_text u
-reply_text (the_plan plan) = codes "ok\n"
-reply_text (the_list objects) = list_text objects
-reply_text (the_length len) = numbered (codes "has ") len
-reply_text (the_uploads uploads) = uploads_text uploads
-reply_text (the_tenants usages) = tenants_text usages
-reply_text (the_totals t) = totals_line t
-reply_text (the_journal entries) = entries_text entries
+reply_text (replies.Tenant number) = numbered (codes "tenant ") number
+reply_text (replies.Upload number plan) = numbered (codes "upload ") number
+reply_text (replies.Held h) = held_text h.held h.missing
+reply_text (replies.Sealed s) = sealed_text s
+reply_text replies.Done = codes "ok\n"
+reply_text (replies.Object bytes) = object_text bytes
+reply_text (replies.Usage u) = usage_text u
+reply_text (replies.List objects) = list_text objects
+reply_text (replies.Length len) = numbered (codes "has ") len
+reply_text (replies.Uploads uploads) = uploads_text uploads
+reply_text (replies.Tenants usages) = tenants_text usages
+reply_text (replies.Totals t) = totals_line t
 
 -- ---- refusals
 

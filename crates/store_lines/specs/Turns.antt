@@ -12,13 +12,13 @@ use Rattle.store_core.specs.Model.{ModelStore}
 use Rattle.store_core.specs.Runs.{Call, ask, change, put}
 use Rattle.store_core.specs.declared.command.Question.{Question}
 use Rattle.store_core.specs.declared.command.Question.TheVariants as questions
-use Rattle.store_lines.specs.Grammar.{ScriptCommand, asks, command_at, does, puts}
+use Rattle.store_lines.specs.Grammar.{ScriptCommand, asks, command_at, does, journal, puts}
 use Rattle.store_lines.specs.Lines.{IsPutLine}
-use Rattle.store_lines.specs.Script.{IsTurnOfStep, Turn, bad, skipped, took, unmade}
+use Rattle.store_lines.specs.Script.{IsTurnOfStep, Turn, bad, listed, skipped, took, unmade, unplanned}
 use Rattle.edge.specs.Lines.{HasNewline}
 use Rattle.store_lines.specs.Lines.{max_request}
 use Rattle.store_lines.specs.Requests.{request_in}
-use Rattle.store_lines.specs.Session.{Ends, Manner, SessionTurn, as_entries, as_range, as_script, no_memory, session_turn_text, reported_as}
+use Rattle.store_lines.specs.Session.{Ends, Manner, SessionTurn, as_range, as_script, no_memory, range_entries, session_turn_text, reported_as}
 use Rattle.store_lines.specs.declared.request.EntryRange.{EntryRange}
 use Rattle.store_lines.specs.declared.request.Request.{Request}
 use Rattle.store_lines.specs.declared.request.Request.TheVariants.{Asks, Entries, Fetch, Put}
@@ -61,17 +61,25 @@ IsLinkedMade reach first upload part (Some fault) turn new = (turn ≡ unmade fa
 IsLinkedMade reach first upload part None turn new = IsLinkedPart reach first upload part turn new
 
 abbrev pub IsLinkedPlan : Reach → SessionState → ℕ → ℕ → List ℕ → Result UploadPlan Refusal → Turn → SessionState → Type 0
-IsLinkedPlan reach first upload offset bytes (Err refusal) turn new = IsTurnOfStep first.store (ask (questions.Plan upload)) turn new.store × IsCountedTurn first first.store turn new
+IsLinkedPlan reach first upload offset bytes (Err refusal) turn new = (turn ≡ unplanned refusal) × (new ≡ first)
 IsLinkedPlan reach first upload offset bytes (Ok plan) turn new = IsLinkedMade reach first upload (planned plan offset bytes) (part_fault plan offset (length bytes)) turn new
 
 abbrev pub IsLinkedPut : Reach → SessionState → ℕ → ℕ → List ℕ → Turn → SessionState → Type 0
 IsLinkedPut reach old upload offset bytes turn new = (first : ModelStore) × (reach.links old.store first × IsLinkedPlan reach (at old first) upload offset bytes (plan_in first.state upload) turn new)
+
+-- entries of the journal, of a state that is linked to what was left before
+abbrev pub IsLinkedListing : Reach → SessionState → EntryRange → Turn → SessionState → Type 0
+IsLinkedListing reach old range turn new = (found : ModelStore) × (reach.links old.store found × ((turn ≡ listed (range_entries range found.journal)) × (new ≡ at old found)))
+
+abbrev pub whole_journal : EntryRange
+whole_journal = record { from = 0; count = None }
 
 abbrev pub IsLinkedCommand : Reach → SessionState → Option ScriptCommand → Turn → SessionState → Type 0
 IsLinkedCommand reach old None turn new = (turn ≡ bad) × (new ≡ old)
 IsLinkedCommand reach old (Some (does command)) turn new = IsLinkedStep reach old (change command) turn new
 IsLinkedCommand reach old (Some (asks question)) turn new = IsLinkedStep reach old (ask question) turn new
 IsLinkedCommand reach old (Some (puts upload offset bytes)) turn new = IsLinkedPut reach old upload offset bytes turn new
+IsLinkedCommand reach old (Some journal) turn new = IsLinkedListing reach old whole_journal turn new
 
 abbrev pub IsLinkedLine : Reach → SessionState → List ℕ → Turn → SessionState → Type 0
 IsLinkedLine reach old [] turn new = (turn ≡ skipped) × (new ≡ old)
@@ -79,7 +87,7 @@ IsLinkedLine reach old (b ∷ line) turn new = IsLinkedCommand reach old (comman
 
 -- a line may allocate: if it is long, or puts a part, or asks for the journal and that is copied
 abbrev pub MayLack : Reach → List ℕ → Type 0
-MayLack reach line = (max_request ≤ length line) ⊎ (IsPutLine line ⊎ (reach.lacks × (command_at line ≡ Some (asks questions.Journal))))
+MayLack reach line = (max_request ≤ length line) ⊎ (IsPutLine line ⊎ (reach.lacks × (command_at line ≡ Some journal)))
 
 abbrev pub IsLinkedScriptLine : Reach → SessionState → List ℕ → SessionTurn → SessionState → Type 0
 IsLinkedScriptLine reach old line no_memory new = MayLack reach line × (new ≡ old)
@@ -90,15 +98,10 @@ abbrev pub IsLinkedQuestion : Reach → Manner → SessionState → Question →
 IsLinkedQuestion reach manner old question no_memory new = ⊥
 IsLinkedQuestion reach manner old question (reported_as reported turn) new = (reported ≡ manner) × IsLinkedStep reach old (ask question) turn new
 
--- a question of a script: its reply; or out of memory for the journal, which is copied
-abbrev pub IsLinkedAsk : Reach → SessionState → Question → SessionTurn → SessionState → Type 0
-IsLinkedAsk reach old question no_memory new = reach.lacks × (question ≡ questions.Journal) × (new ≡ old)
-IsLinkedAsk reach old question (reported_as reported turn) new = (reported ≡ as_script) × IsLinkedStep reach old (ask question) turn new
-
 -- the journal's entries, for which an allocation may fail
 abbrev pub IsLinkedEntries : Reach → EntryRange → SessionState → SessionTurn → SessionState → Type 0
 IsLinkedEntries reach range old no_memory new = reach.lacks × (new ≡ old)
-IsLinkedEntries reach range old (reported_as reported turn) new = (reported ≡ as_entries range) × IsLinkedStep reach old (ask questions.Journal) turn new
+IsLinkedEntries reach range old (reported_as reported turn) new = (reported ≡ as_script) × IsLinkedListing reach old range turn new
 
 abbrev pub IsLinkedBytes : Reach → SessionState → ℕ → ℕ → List ℕ → SessionTurn → SessionState → Type 0
 IsLinkedBytes reach old upload offset bytes no_memory new = ⊥
@@ -109,7 +112,7 @@ abbrev pub IsLinkedRequest : Reach → SessionState → Option Request → List 
 IsLinkedRequest reach old None whole following turn new rest = IsLinkedScriptLine reach old (strip_last 10 whole) turn new × (rest ≡ following)
 IsLinkedRequest reach old (Some (Put upload offset len)) whole following turn new rest = IsLinkedBytes reach old upload offset (take len following) turn new × (len ≤ length following) × (rest ≡ drop len following)
 IsLinkedRequest reach old (Some (Fetch wanted)) whole following turn new rest = IsLinkedQuestion reach (as_range wanted.range) old (questions.Fetch wanted.tenant wanted.address) turn new × (rest ≡ following)
-IsLinkedRequest reach old (Some (Asks question)) whole following turn new rest = IsLinkedAsk reach old question turn new × (rest ≡ following)
+IsLinkedRequest reach old (Some (Asks question)) whole following turn new rest = IsLinkedQuestion reach as_script old question turn new × (rest ≡ following)
 IsLinkedRequest reach old (Some (Entries range)) whole following turn new rest = IsLinkedEntries reach range old turn new × (rest ≡ following)
 
 abbrev pub IsLinkedFirstLine : Reach → SessionState → List ℕ → SessionTurn → SessionState → List ℕ → Type 0

@@ -1,11 +1,12 @@
 //! A session's access to its store.
 
-ghost use Rattle.std.specs.Prelude.{◌≡◌, ◌≢◌, IfErr, IfOk};
+ghost use Rattle.std.specs.Prelude.{◌≡◌, IfErr, IfOk};
 ghost use Rattle.std.specs.Arc.{arc_value};
 ghost use Rattle.store_core.specs.Commands.{put_result, reply_seen};
-ghost use Rattle.store_core.specs.Runs.{ask, change, now_held, put, the_bytes};
+ghost use Rattle.store_core.specs.Runs.{ask, change, put};
 ghost use Rattle.store_core.specs.declared.command.Question.TheVariants as questions;
-ghost use Rattle.store_lines.specs.Access.{Reach, SessionState, ReportedEntries, Took, TookPlan, reply_alone};
+ghost use Rattle.store_core.specs.declared.reply.Reply.TheVariants as replies;
+ghost use Rattle.store_lines.specs.Access.{Reach, SessionState, ReportedEntries, Took, TookPlan};
 
 use crate::request::EntryRange;
 use b3_core::Work;
@@ -31,16 +32,15 @@ pub trait Access {
 
     /// Executes a command.
     fn step(&mut self, command: Command, work: &mut Work) -> Result<Reply, Refusal>
-        ensures { Took reach (stands self.old) (stands self.new) (change command) (reply_seen reply_alone result) };
+        ensures { Took reach (stands self.old) (stands self.new) (change command) result };
 
     /// Puts a prepared part.
     fn put(&mut self, upload: UploadId, part: Prepared, work: &mut Work) -> Result<Held, PutRefused>
-        ensures { Took reach (stands self.old) (stands self.new) (put upload part) (reply_seen now_held (put_result result)) };
+        ensures { Took reach (stands self.old) (stands self.new) (put upload part) (reply_seen replies.Held (put_result result)) };
 
-    /// Answers a question other than the journal.
+    /// Answers a question.
     fn ask(&mut self, question: Question) -> Result<Reply, Refusal>
-        requires { question ≢ questions.Journal }
-        ensures { Took reach (stands self.old) (stands self.new) (ask question) (reply_seen reply_alone result) };
+        ensures { Took reach (stands self.old) (stands self.new) (ask question) result };
 
     /// The plan of an upload.
     fn plan(&mut self, upload: UploadId) -> Result<Plan, Refusal>
@@ -48,7 +48,7 @@ pub trait Access {
 
     /// An object that a tenant holds.
     fn fetch(&mut self, tenant: TenantId, address: Address) -> Result<Arc<Object>, Refusal>
-        ensures { Took reach (stands self.old) (stands self.new) (ask (questions.Fetch tenant address)) (reply_seen (λ object. the_bytes (arc_value object)) result) };
+        ensures { Took reach (stands self.old) (stands self.new) (ask (questions.Fetch tenant address)) (reply_seen (λ object. replies.Object (arc_value object)) result) };
 
     /// Writes the requested entries of the journal. Returns false, and writes nothing, if there is no memory for a copy of them.
     fn write_entries<W: Write>(

@@ -11,24 +11,25 @@ use crate::command::ScriptCommand;
 use crate::ending::Ending;
 use crate::parsing::read_command;
 use crate::receiving::put_bytes;
-use crate::texts::{write_answer, write_bad, write_unmade};
+use crate::texts::{write_answer, write_bad, write_journal, write_unmade};
 use b3_core::Work;
 use b3_forest::PartFault;
 use edge::Cause;
 use std::alloc::{AllocError, Global};
 use std::io::Write;
-use store_core::{Refusal, Reply, Store, UploadId};
+use store_core::{Entry, Refusal, Reply, Store, UploadId};
 
 /// The maximum length of a command's line in bytes, with its newline.
 pub(crate) const MAX_LINE: usize = 33_554_481;
 
-/// The answer to a line: nothing for an empty line, `bad`, why a part cannot be made, or the store's reply or refusal.
+/// The answer to a line: nothing for an empty line, `bad`, why a part cannot be made, the store's reply or refusal, or its journal.
 #[derive(Drop)]
 pub(crate) enum Answer {
     Nothing,
     Bad,
     Unmade(PartFault),
     Replied(Result<Reply, Refusal>),
+    Journal,
 }
 
 impl Answer {
@@ -37,23 +38,24 @@ impl Answer {
         ensures { result ≡ reported_ending self.now }
     {
         match self {
-            Answer::Nothing => Ending::Good,
+            Answer::Nothing | Answer::Journal => Ending::Good,
             Answer::Bad => Ending::Refused,
             Answer::Unmade(fault) => fault_ending(*fault),
             Answer::Replied(reply) => reply_ending(reply),
         }
     }
 
-    /// Writes the answer of a store. Allocates nothing.
-    pub(crate) fn write<W: Write>(self, store: &Store, writer: &mut W) -> Result<(), Cause>
-        ensures wrote { OnOk result (Appends (W.contents writer.old) (W.contents writer.new) (reported_text store.now self)) }
+    /// Writes the answer of a store whose journal has these entries. Allocates nothing.
+    pub(crate) fn write<W: Write>(self, entries: &[Entry], writer: &mut W) -> Result<(), Cause>
+        ensures wrote { OnOk result (Appends (W.contents writer.old) (W.contents writer.new) (reported_text entries.now self)) }
         ensures cause { IfErr result (λ cause. cause ≡ Cause.CannotWrite) }
     {
         match self {
             Answer::Nothing => Ok(()),
             Answer::Bad => write_bad(writer),
             Answer::Unmade(fault) => write_unmade(writer, fault),
-            Answer::Replied(reply) => write_answer(writer, store, reply),
+            Answer::Replied(reply) => write_answer(writer, reply),
+            Answer::Journal => write_journal(writer, entries),
         }
     }
 }
@@ -87,7 +89,7 @@ pub(crate) fn answer_read(
     work: &mut Work,
 ) -> Result<Answer, AllocError>
     requires { 0 < count }
-    ensures answered { IfOk result (λ answer. AnswersRead store.old store.new count line.now (reported_text store.new answer) (reported_ending answer)) }
+    ensures answered { IfOk result (λ answer. AnswersRead store.old store.new count line.now (reported_text store.new.journal answer) (reported_ending answer)) }
     ensures unchanged { OnErr result (store.new ≡ store.old) }
     // An allocation can fail only for the bytes of a part.
     ensures memory { OnErr result (PutsRead count line.now) }
@@ -115,7 +117,7 @@ fn answer_line(
     line: &[u8],
     work: &mut Work,
 ) -> Result<Answer, AllocError>
-    ensures answered { IfOk result (λ answer. Answered (λ turn. IsTurnOf store.old line.now turn store.new) (reported_text store.new answer) (reported_ending answer)) }
+    ensures answered { IfOk result (λ answer. Answered (λ turn. IsTurnOf store.old line.now turn store.new) (reported_text store.new.journal answer) (reported_ending answer)) }
     ensures unchanged { OnErr result (store.new ≡ store.old) }
     ensures memory { OnErr result (IsPutLine line.now) }
 {
@@ -126,6 +128,7 @@ fn answer_line(
         None => Ok(Answer::Bad),
         Some(ScriptCommand::Does(command)) => Ok(Answer::Replied(store.step(command, work))),
         Some(ScriptCommand::Asks(question)) => Ok(Answer::Replied(store.ask(question))),
+        Some(ScriptCommand::Journal) => Ok(Answer::Journal),
         Some(
             ScriptCommand::Puts {
                 upload,

@@ -1,13 +1,12 @@
 //! Answers to lines.
 
-ghost use Rattle.std.specs.Prelude.{◌≡◌, ◌≢◌, ◌<◌, IfErr, OnOk, false, true};
+ghost use Rattle.std.specs.Prelude.{◌≡◌, ◌<◌, [], IfErr, OnOk};
 ghost use Rattle.std.specs.Io.KnownBytes.{Appends};
 ghost use Rattle.store_core.specs.declared.command.Question.TheVariants as questions;
 ghost use Rattle.store_lines.specs.inner.Answers.{reported_text};
-ghost use Rattle.store_lines.specs.Script.{widest_start};
-ghost use Rattle.store_lines.specs.Session.{as_range};
+ghost use Rattle.store_lines.specs.Session.{as_range, as_script};
 ghost use Rattle.store_lines.specs.inner.Reporting.{AnswersOver, GaveEntries, ReportedOver};
-ghost use Rattle.store_lines.specs.Turns.{IsLinkedAsk, IsLinkedEntries, IsLinkedQuestion, IsLinkedScriptLine};
+ghost use Rattle.store_lines.specs.Turns.{IsLinkedEntries, IsLinkedQuestion, IsLinkedScriptLine};
 
 use crate::access::Access;
 use crate::answer::{Answer, MAX_LINE, without_end};
@@ -20,15 +19,14 @@ use b3_core::Work;
 use edge::{Cause, LineRead, flush};
 use std::alloc::Global;
 use std::io::Write;
-use store_core::{Limits, Question, Refusal, Store, UploadId};
+use store_core::{Question, Refusal, UploadId};
 
-/// Writes an answer that does not contain the journal, and flushes.
-pub(crate) fn report<W: Write>(alloc: Global, writer: &mut W, answer: Answer) -> Result<(), Cause>
-    ensures wrote { OnOk result (Appends (W.contents writer.old) (W.contents writer.new) (reported_text widest_start answer)) }
+/// Writes an answer that is not the journal, and flushes.
+pub(crate) fn report<W: Write>(writer: &mut W, answer: Answer) -> Result<(), Cause>
+    ensures wrote { OnOk result (Appends (W.contents writer.old) (W.contents writer.new) (reported_text [] answer)) }
     ensures cause { IfErr result (λ cause. cause ≡ Cause.CannotWrite) }
 {
-    let none = Store::new(alloc, Limits::full());
-    answer.write(&none, writer)?;
+    answer.write(&[], writer)?;
     flush(writer)
 }
 
@@ -49,10 +47,16 @@ pub(crate) fn answer_line<A: Access, W: Write>(
         return refuse(writer, Refusal::NoMemory);
     }
     if read.count > MAX_LINE {
-        return report(alloc, writer, Answer::Bad);
+        return report(writer, Answer::Bad);
     }
     answer_kept(alloc, access, writer, without_end(line), work)
 }
+
+// All entries of the journal.
+const WHOLE_JOURNAL: EntryRange = EntryRange {
+    from: 0,
+    count: None,
+};
 
 // Answers a line without its newline.
 fn answer_kept<A: Access, W: Write>(
@@ -66,16 +70,17 @@ fn answer_kept<A: Access, W: Write>(
     ensures cause { IfErr result (λ cause. cause ≡ Cause.CannotWrite) }
 {
     if line.is_empty() {
-        return report(alloc, writer, Answer::Nothing);
+        return report(writer, Answer::Nothing);
     }
     match read_command(alloc, line) {
         Err(_) => refuse(writer, Refusal::NoMemory),
-        Ok(None) => report(alloc, writer, Answer::Bad),
+        Ok(None) => report(writer, Answer::Bad),
         Ok(Some(ScriptCommand::Does(command))) => {
             let reply = access.step(command, work);
-            report(alloc, writer, Answer::Replied(reply))
+            report(writer, Answer::Replied(reply))
         }
-        Ok(Some(ScriptCommand::Asks(question))) => ask_line(alloc, access, writer, question),
+        Ok(Some(ScriptCommand::Asks(question))) => ask_line(access, writer, question),
+        Ok(Some(ScriptCommand::Journal)) => give_entries(alloc, access, writer, WHOLE_JOURNAL),
         Ok(
             Some(
                 ScriptCommand::Puts {
@@ -86,38 +91,22 @@ fn answer_kept<A: Access, W: Write>(
             ),
         ) => {
             let answer = put_bytes(alloc, access, UploadId::new(upload), offset, bytes, work);
-            report(alloc, writer, answer)
+            report(writer, answer)
         }
     }
 }
 
-// Whether a question is for the journal.
-fn asks_journal(question: &Question) -> bool
-    ensures yes { result ≡ true → question.now ≡ questions.Journal }
-    ensures no { result ≡ false → question.now ≢ questions.Journal }
-{
-    *question == Question::Journal
-}
-
 /// Answers a question with the text that a script has for it.
 pub(crate) fn ask_line<A: Access, W: Write>(
-    alloc: Global,
     access: &mut A,
     writer: &mut W,
     question: Question,
 ) -> Result<(), Cause>
-    ensures asked { OnOk result (ReportedOver (A.stands access.old) (A.stands access.new) (λ before turn after. IsLinkedAsk A.reach before question turn after) (W.contents writer.old) (W.contents writer.new)) }
+    ensures asked { OnOk result (ReportedOver (A.stands access.old) (A.stands access.new) (λ before turn after. IsLinkedQuestion A.reach as_script before question turn after) (W.contents writer.old) (W.contents writer.new)) }
     ensures cause { IfErr result (λ cause. cause ≡ Cause.CannotWrite) }
 {
-    if asks_journal(&question) {
-        let whole = EntryRange {
-            from: 0,
-            count: None,
-        };
-        return give_entries(alloc, access, writer, whole);
-    }
     let reply = access.ask(question);
-    report(alloc, writer, Answer::Replied(reply))
+    report(writer, Answer::Replied(reply))
 }
 
 /// Writes the journal's entries from a number on, or that it ran out of memory for their copy.

@@ -2,7 +2,7 @@
 
 use store_core::{Command, Question};
 
-/// The request of a line: a command, a question, or a put of the bytes of a part at an offset of the upload with this number.
+/// The request of a line: a command, a question, a put of the bytes of a part at an offset of the upload with this number, or the journal.
 #[derive(Debug, Drop)]
 pub(crate) enum ScriptCommand {
     Does(Command),
@@ -12,4 +12,5 @@ pub(crate) enum ScriptCommand {
         offset: u64,
         bytes: Vec<u8>,
     },
+    Journal,
 }

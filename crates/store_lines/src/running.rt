@@ -94,11 +94,11 @@ fn report<W: Write>(
     answer: Answer,
     ending: Ending,
 ) -> Result<(), Cause>
-    ensures wrote { OnOk result (Appends (W.contents writer.old) (W.contents writer.new) (reported_text store.now answer)) }
+    ensures wrote { OnOk result (Appends (W.contents writer.old) (W.contents writer.new) (reported_text store.now.journal answer)) }
     ensures cause { IfErr result (λ cause. cause ≡ first_cause ending Cause.CannotWrite) }
 {
     let cause = first_cause(ending, Cause::CannotWrite);
-    answer.write(store, writer).map_err(|_| cause)?;
+    answer.write(store.journal(), writer).map_err(|_| cause)?;
     flush(writer).map_err(|_| cause)
 }
 

@@ -146,7 +146,7 @@ fn serve_request<A: Access, R: BufRead, W: Write>(
             Ok(true)
         }
         Request::Asks(question) => {
-            ask_line(alloc, access, writer, question)?;
+            ask_line(access, writer, question)?;
             Ok(true)
         }
         Request::Entries(range) => {
@@ -175,6 +175,6 @@ fn put<A: Access, R: BufRead, W: Write>(
     let Some(answer) = receive(alloc, access, reader, upload, offset, len, work)? else {
         return Ok(false);
     };
-    report(alloc, writer, answer)?;
+    report(writer, answer)?;
     Ok(true)
 }

@@ -2,13 +2,12 @@
 use Rattle.std.specs.Prelude.{◌≡◌, ℕ, List, [], codes, length, take}
 use Rattle.std.specs.Io.BufRead.{strip_last}
 use Rattle.std.specs.Io.Iter.{u64_saturate}
-use Rattle.store_core.specs.Commands.{reply_seen}
 use Rattle.store_core.specs.Model.{ModelStore}
-use Rattle.store_core.specs.Seen.{reply_of}
-use Rattle.store_lines.specs.Grammar.{ScriptCommand, asks, does, puts}
+use Rattle.store_journal.specs.declared.entry.Entry.{Entry}
+use Rattle.store_lines.specs.Grammar.{ScriptCommand, asks, does, journal, puts}
 use Rattle.store_lines.specs.Lines.{IsPutLine}
 use Rattle.store_lines.specs.Script.{IsTurnOf, Turn, fault_ending, reply_ending, turn_ending, turn_text}
-use Rattle.store_lines.specs.Texts.{answer_text, refused_text, unmade_text}
+use Rattle.store_lines.specs.Texts.{answer_text, entries_text, refused_text, unmade_text}
 use Rattle.store_lines.specs.declared.answer.Answer.{Answer}
 use Rattle.store_lines.specs.declared.answer.Answer.TheVariants as answers
 use Rattle.store_lines.specs.declared.command.ScriptCommand.{ScriptCommand as CodeScriptCommand}
@@ -21,13 +20,15 @@ abbrev pub script_seen : CodeScriptCommand → ScriptCommand
 script_seen (script.Does command) = does command
 script_seen (script.Asks question) = asks question
 script_seen (script.Puts upload offset bytes) = puts upload offset bytes.items
+script_seen script.Journal = journal
 
--- the text of an answer, of a store with this view
-abbrev pub reported_text : ModelStore → Answer → List ℕ
-reported_text store answers.Nothing = []
-reported_text store answers.Bad = codes "bad\n"
-reported_text store (answers.Unmade fault) = refused_text (unmade_text fault)
-reported_text store (answers.Replied reply) = answer_text (reply_seen (reply_of store) reply)
+-- the text of an answer of a store whose journal has these entries
+abbrev pub reported_text : List Entry → Answer → List ℕ
+reported_text entries answers.Nothing = []
+reported_text entries answers.Bad = codes "bad\n"
+reported_text entries (answers.Unmade fault) = refused_text (unmade_text fault)
+reported_text entries (answers.Replied reply) = answer_text reply
+reported_text entries answers.Journal = entries_text entries
 
 -- how a run with this answer ends at best
 abbrev pub reported_ending : Answer → Ending
@@ -35,6 +36,7 @@ reported_ending answers.Nothing = endings.Good
 reported_ending answers.Bad = endings.Refused
 reported_ending (answers.Unmade fault) = fault_ending fault
 reported_ending (answers.Replied reply) = reply_ending reply
+reported_ending answers.Journal = endings.Good
 
 -- a turn with this property, with its answer and its ending
 pub record Answered (Is : Turn → Type 0) (text : List ℕ) (ending : Ending) : Type 0 where

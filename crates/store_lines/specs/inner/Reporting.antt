@@ -5,6 +5,7 @@ use Rattle.std.specs.Io.KnownBytes.{Appends}
 use Rattle.store_books.specs.Refusals.{refusal_text}
 use Rattle.store_books.specs.declared.refusal.Refusal.TheVariants as refusals
 use Rattle.store_core.specs.Model.{ModelStore}
+use Rattle.store_journal.specs.declared.entry.Entry.{Entry}
 use Rattle.store_lines.specs.inner.Answers.{reported_ending, reported_text}
 use Rattle.store_lines.specs.Script.{Turn, turn_ending, turn_text}
 use Rattle.store_lines.specs.Texts.{refused_text}
@@ -32,7 +33,7 @@ pub record ReportedOver (was is : SessionState → Type 0) (Is : SessionState �
 pub record AnsweredOver (was is : SessionState → Type 0) (Is : SessionState → Turn → SessionState → Type 0) (answer : Answer) : Type 0 where
   pub turn : Turn
   pub goes : (before : SessionState) → was before → (after : SessionState) × (is after × Is before turn after)
-  pub text_is : (store : ModelStore) → reported_text store answer ≡ turn_text turn
+  pub text_is : (entries : List Entry) → reported_text entries answer ≡ turn_text turn
   pub ending_is : reported_ending answer ≡ turn_ending turn
 
 -- entries were written, or that it ran out of memory

@@ -1,6 +1,7 @@
 use Rattle.std.proofs.Common.{rules, ◌≡◌, List, Ok, subst, ℕ}
 use Rattle.std.specs.Arc.{arc_value}
-use Rattle.store_core.specs.Runs.{ask, the_bytes}
+use Rattle.store_core.specs.Runs.{ask}
+use Rattle.store_core.specs.declared.reply.Reply.TheVariants as replies
 use Rattle.store_core.specs.declared.command.Question.TheVariants as questions
 use Rattle.store_lines.specs.Access.{Took}
 use Rattle.store_lines.proofs.Reports.{fetched, on_ok, unfetched}
@@ -13,7 +14,7 @@ returns-in-Ok-clause-gave g c =
     let is = g.A.Access.stands c.fetch.new.self in
     let wanted = c.args.wanted in
     let same : arc_value c.in-Ok.object ≡ c.deref.result.now = search rules in
-    let took = subst (λ (b : List ℕ). Took reach was is (ask (questions.Fetch wanted.tenant wanted.address)) (Ok (the_bytes b))) same c.in-Ok.ensures in
+    let took = subst (λ (b : List ℕ). Took reach was is (ask (questions.Fetch wanted.tenant wanted.address)) (Ok (replies.Object b))) same c.in-Ok.ensures in
     on_ok c.give_object.result (fetched reach was is wanted.tenant wanted.address c.deref.result.now wanted.range (g.W.Write.contents c.args.writer.now) (g.W.Write.contents c.give_object.new.writer) took) c.give_object.ensures.wrote
 
 pub returns-in-Err-clause-gave : goal.returns-in-Err-clause-gave

@@ -62,26 +62,26 @@ pub returns-in_err-report-clause-memory : goal.returns-in_err-report-clause-memo
 returns-in_err-report-clause-memory g c = λ is.
     let kept = c.read_line.new.line.items in
     let kept_is : c.as_slice.result.now ≡ kept = search rules in
-    let answered = subst (λ (k : List ℕ). AnswersRead c.loop.store c.answer_read.new.store c.in_ok-count.count k (reported_text c.answer_read.new.store c.in_ok-answer.answer) (reported_ending c.in_ok-answer.answer)) kept_is c.in_ok-answer.ensures.answered in
+    let answered = subst (λ (k : List ℕ). AnswersRead c.loop.store c.answer_read.new.store c.in_ok-count.count k (reported_text c.answer_read.new.store.journal c.in_ok-answer.answer) (reported_ending c.in_ok-answer.answer)) kept_is c.in_ok-answer.ensures.answered in
     let some : 0 < c.in_ok-count.count = omega arith in
     let next : c.worse-ending.result ≡ worse c.loop.ending (reported_ending c.in_ok-answer.answer) = search rules in
     let reported : c.in_err-report.field-0.0 ≡ causes.OutOfMemory = search rules in
     let memory = reported_memory c.worse-ending.result (sym c.in_err-report.ensures.cause ∙ reported) in
     let before = whatever_written (g.R.Read.remaining c.args.reader.now) (g.R.Read.remaining c.loop.reader) (g.W.Write.contents c.args.writer.now) (g.W.Write.contents c.loop.writer) c.loop.store c.loop.ending c.loop.invariant in
     let after = turned (g.R.Read.remaining c.args.reader.now) (g.R.Read.remaining c.loop.reader) (g.R.Read.remaining c.read_line.new.reader) None None None
-    c.loop.store c.answer_read.new.store c.loop.ending (reported_ending c.in_ok-answer.answer) c.in_ok-count.count kept (reported_text c.answer_read.new.store c.in_ok-answer.answer) before c.in_ok-count.ensures.read c.in_ok-count.ensures.rest some answered tt in
+    c.loop.store c.answer_read.new.store c.loop.ending (reported_ending c.in_ok-answer.answer) c.in_ok-count.count kept (reported_text c.answer_read.new.store.journal c.in_ok-answer.answer) before c.in_ok-count.ensures.read c.in_ok-count.ensures.rest some answered tt in
     at_failed_write (g.R.Read.remaining c.args.reader.now) (g.R.Read.remaining c.read_line.new.reader) _ (g.W.Write.contents c.args.writer.now) (g.W.Write.contents c.report.new.writer) c.answer_read.new.store (worse c.loop.ending (reported_ending c.in_ok-answer.answer)) (sym next ∙ memory) after
 
 pub loop-preserved : goal.loop-preserved
 loop-preserved g c =
     let kept = c.read_line.new.line.items in
     let kept_is : c.as_slice.result.now ≡ kept = search rules in
-    let answered = subst (λ (k : List ℕ). AnswersRead c.loop.store c.answer_read.new.store c.in_ok-count.count k (reported_text c.answer_read.new.store c.in_ok-answer.answer) (reported_ending c.in_ok-answer.answer)) kept_is c.in_ok-answer.ensures.answered in
+    let answered = subst (λ (k : List ℕ). AnswersRead c.loop.store c.answer_read.new.store c.in_ok-count.count k (reported_text c.answer_read.new.store.journal c.in_ok-answer.answer) (reported_ending c.in_ok-answer.answer)) kept_is c.in_ok-answer.ensures.answered in
     let some : 0 < c.in_ok-count.count = omega arith in
     let next : c.worse-ending.result ≡ worse c.loop.ending (reported_ending c.in_ok-answer.answer) = search rules in
-    let wrote : Appends (g.W.Write.contents c.loop.writer) (g.W.Write.contents c.report.new.writer) (reported_text c.answer_read.new.store c.in_ok-answer.answer) = search rules in
+    let wrote : Appends (g.W.Write.contents c.loop.writer) (g.W.Write.contents c.report.new.writer) (reported_text c.answer_read.new.store.journal c.in_ok-answer.answer) = search rules in
     rw next (turned (g.R.Read.remaining c.args.reader.now) (g.R.Read.remaining c.loop.reader) (g.R.Read.remaining c.read_line.new.reader) (g.W.Write.contents c.args.writer.now) (g.W.Write.contents c.loop.writer) (g.W.Write.contents c.report.new.writer)
-    c.loop.store c.answer_read.new.store c.loop.ending (reported_ending c.in_ok-answer.answer) c.in_ok-count.count kept (reported_text c.answer_read.new.store c.in_ok-answer.answer) c.loop.invariant c.in_ok-count.ensures.read c.in_ok-count.ensures.rest some answered wrote)
+    c.loop.store c.answer_read.new.store c.loop.ending (reported_ending c.in_ok-answer.answer) c.in_ok-count.count kept (reported_text c.answer_read.new.store.journal c.in_ok-answer.answer) c.loop.invariant c.in_ok-count.ensures.read c.in_ok-count.ensures.rest some answered wrote)
 
 pub returns-clause-read : goal.returns-clause-read
 returns-clause-read g c = λ is.

@@ -1,9 +1,9 @@
 use Rattle.std.proofs.Common.{rules, ◌≡◌, Some, refl, subst, sym}
 use Rattle.store_core.specs.declared.command.Question.TheVariants as questions
-use Rattle.store_lines.specs.Session.{as_range}
+use Rattle.store_lines.specs.Session.{as_range, as_script}
 use Rattle.store_lines.specs.declared.request.Request.{Request}
 use Rattle.store_lines.specs.declared.request.Request.TheVariants.{Asks, Fetch, Put}
-use Rattle.store_lines.specs.Turns.{IsLinkedAsk, IsLinkedQuestion, IsLinkedRequest}
+use Rattle.store_lines.specs.Turns.{IsLinkedQuestion, IsLinkedRequest}
 use Rattle.store_lines.proofs.Serves.{served_by, served_bytes}
 use Rattle.store_lines.proofs.serving.serve_request.Goals as goal
 
@@ -27,5 +27,5 @@ returns-in_ok-ask_line-in-Asks-clause-served g c =
     let question = c.in-Asks.question in
     let same : c.args.request ≡ Asks question = search rules in
     served_by (g.R.Read.remaining c.args.reader.now) (g.W.Write.contents c.args.writer.now) (g.W.Write.contents c.ask_line.new.writer) reach (g.A.Access.stands c.args.access.now) (g.A.Access.stands c.ask_line.new.access) c.args.request
-    (λ before turn after. IsLinkedAsk reach before question turn after)
+    (λ before turn after. IsLinkedQuestion reach as_script before question turn after)
     (λ whole following before turn after is. subst (λ (q : Request). IsLinkedRequest reach before (Some q) whole following turn after following) (sym same) (is, refl)) c.in_ok-ask_line-in-Asks.ensures.asked
