@@ -1,4 +1,4 @@
-"""python3 tests/of_tests: shows that tests/growths, tests/failures, tests/random, tests/sessions, tests/memory, tests/program, tests/clients and
+"""python3 tests/of_tests: shows that tests/growths, tests/failures, tests/random, tests/sessions, tests/memory, tests/program, tests/pages, tests/clients and
 tests/soak fail where they must: over `true` and `cat` in the program's place, where no growth can be refused, and where there is no C compiler or no test program. Each is
 run so, and must end with status 1 and a last line `N passed, M failed`, where M is not 0 and no more pass than is said here.
 
@@ -26,8 +26,11 @@ STAND_IN = os.path.join(TESTS, "of_tests", "stand_in.c")
 NOT_THE_STORE = ("true", "cat")
 FEW_CASES = 50
 MAX_OF_A_HUNDRED = 4
-"""So much of tests/program may pass with any program: about twenty cases ask nothing of it. They compare the manual page, the code of docs/LIBRARY.md
-and of the crates' pages, and the second reading with what else is in the repository, and one wants no output of no lines."""
+"""So much of tests/program may pass with any program: a few cases ask nothing of it. They compare the second reading with what else is in the
+repository, and one wants no output of no lines."""
+
+MAX_OF_PAGES = 45
+"""The same of tests/pages: many cases compare the pages with each other, the crates, the client and the second reading."""
 
 MAX_OF_CLIENTS = 35
 """The same of tests/clients: a quarter of its cases need no store, such as those of arguments and of servers that end."""
@@ -140,6 +143,7 @@ def try_program(trials, name):
     trials.fails(f"sessions over {name}", [os.path.join(TESTS, "sessions"), program, "--program-alone", "--commands", "1000"])
     trials.fails(f"memory over {name}", [memory, program, "--program-alone"], "it answered")
     trials.fails(f"program over {name}", [os.path.join(TESTS, "program"), program], most=MAX_OF_A_HUNDRED)
+    trials.fails(f"pages over {name}", [os.path.join(TESTS, "pages"), program], most=MAX_OF_PAGES)
     trials.fails(f"clients over {name}", [os.path.join(TESTS, "clients"), program], most=MAX_OF_CLIENTS)
     few = ["--cases", "8", "--commands", "400", "--uploads", "4", "--minutes", "0.01"]
     trials.fails(f"soak over {name}", [os.path.join(TESTS, "soak"), program, *few])
