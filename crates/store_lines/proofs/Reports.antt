@@ -28,7 +28,7 @@ use Rattle.edge.specs.declared.lines.LineRead.{LineRead}
 use Rattle.store_lines.specs.declared.request.EntryRange.{EntryRange}
 use Rattle.store_lines.specs.declared.request.Range.{Range}
 use Rattle.store_lines.specs.Access.{advance, at, SessionState, Reach, ReportedEntries, Took}
-use Rattle.store_lines.specs.inner.Reporting.{AnsweredOver, AnswersOver, GaveEntries, ReportedOver, gave_none, gave_these}
+use Rattle.store_lines.specs.inner.Reporting.{AnsweredOver, AnswersOver, ReportedOver}
 use Rattle.store_lines.specs.Turns.{IsLinkedCommand, IsLinkedEntries, IsLinkedLine, IsLinkedPut, IsLinkedQuestion, IsLinkedScriptLine, whole_journal}
 
 -- a line of a script, reported so
@@ -131,37 +131,39 @@ unfetched reach was is tenant address refusal range w1 w2 t wrote = record {
 
 -- ---- the journal
 
--- the entries that were written, or that it ran out of memory
-pub given_entries : (reach : Reach) (was is : SessionState → Type 0) (range : EntryRange) (w1 w2 : Option (List ℕ)) → GaveEntries reach was is range w1 w2 → ReportedOver was is (λ before turn after. IsLinkedEntries reach range before turn after) w1 w2
-given_entries reach was is range w1 w2 (gave_these these) =
+-- entries of the journal, reported so
+abbrev pub EntriesOver : Reach → (SessionState → Type 0) → (SessionState → Type 0) → EntryRange → Option (List ℕ) → Option (List ℕ) → Type 0
+EntriesOver reach was is range w1 w2 = ReportedOver was is (λ before turn after. IsLinkedEntries reach range before turn after) w1 w2
+
+pub reported_these : (given : Bool) (reach : Reach) (was is : SessionState → Type 0) (range : EntryRange) (w1 w2 : Option (List ℕ)) → given ≡ true → ReportedEntries reach was is given range w1 w2 → EntriesOver reach was is range w1 w2
+reported_these true reach was is range w1 w2 is_read these =
     let t = these.took in
     record {
       turn = reported_as as_script (listed (range_entries range t.found.journal));
       goes = λ before session. (at before t.found, (t.stands before session, (refl, (t.found, (t.linked before session, (refl, refl))))));
       wrote = subst (λ (es : List Entry). Appends w1 w2 (entries_text es)) t.entries_are these.wrote;
     }
-given_entries reach was is range w1 w2 (gave_none lacks k wrote) = record { turn = no_memory; goes = λ before session. (before, (k.kept before session, (lacks, refl))); wrote = wrote }
+reported_these false reach was is range w1 w2 is_read h = absurd (cc)
+
+pub reported_none : (given : Bool) (reach : Reach) (was is : SessionState → Type 0) (range : EntryRange) (w1 w2 w3 : Option (List ℕ)) → given ≡ false → ReportedEntries reach was is given range w1 w2 → Appends w2 w3 (refused_text (refusal_text refusals.NoMemory))
+    → EntriesOver reach was is range w1 w3
+reported_none true reach was is range w1 w2 w3 is_read h wrote = absurd (cc)
+reported_none false reach was is range w1 w2 w3 is_read h wrote = record {
+  turn = no_memory;
+  goes = λ before session. (before, (h.1.kept before session, (h.0, refl)));
+  wrote = subst (λ (w : Option (List ℕ)). Appends w w3 (refused_text (refusal_text refusals.NoMemory))) h.2 wrote;
+}
 
 listed_turn : (reach : Reach) (old new : SessionState) (line : List ℕ) (turn : SessionTurn) → 0 < length line → Some journal ≡ command_at line → IsLinkedEntries reach whole_journal old turn new → IsLinkedScriptLine reach old line turn new
 listed_turn reach old new line no_memory some is_read h = (inr (inr (h.0, sym is_read)), h.1)
 listed_turn reach old new line (reported_as manner turn) some is_read h = (h.0, plays reach old new line turn (Some journal) some is_read h.1)
 
-pub given_journal : (reach : Reach) (was is : SessionState → Type 0) (line : List ℕ) (w1 w2 : Option (List ℕ)) → 0 < length line → Some journal ≡ command_at line → GaveEntries reach was is whole_journal w1 w2 → LineOver reach was is line w1 w2
-given_journal reach was is line w1 w2 some is_read h =
-    let t = given_entries reach was is whole_journal w1 w2 h in
-    record {
-      turn = t.turn;
-      goes = λ before session. let g = t.goes before session in (g.0, (g.1.0, listed_turn reach before g.0 line t.turn some is_read g.1.1));
-      wrote = t.wrote;
-    }
-
-pub reported_these : (given : Bool) (reach : Reach) (was is : SessionState → Type 0) (range : EntryRange) (w1 w2 : Option (List ℕ)) → given ≡ true → ReportedEntries reach was is given range w1 w2 → GaveEntries reach was is range w1 w2
-reported_these true reach was is range w1 w2 is_read h = gave_these h
-reported_these false reach was is range w1 w2 is_read h = absurd (cc)
-
-pub reported_none : (given : Bool) (reach : Reach) (was is : SessionState → Type 0) (range : EntryRange) (w1 w2 w3 : Option (List ℕ)) → given ≡ false → ReportedEntries reach was is given range w1 w2 → Appends w2 w3 (refused_text (refusal_text refusals.NoMemory)) → GaveEntries reach was is range w1 w3
-reported_none true reach was is range w1 w2 w3 is_read h wrote = absurd (cc)
-reported_none false reach was is range w1 w2 w3 is_read h wrote = gave_none h.0 h.1 (subst (λ (w : Option (List ℕ)). Appends w w3 (refused_text (refusal_text refusals.NoMemory))) h.2 wrote)
+pub given_journal : (reach : Reach) (was is : SessionState → Type 0) (line : List ℕ) (w1 w2 : Option (List ℕ)) → 0 < length line → Some journal ≡ command_at line → EntriesOver reach was is whole_journal w1 w2 → LineOver reach was is line w1 w2
+given_journal reach was is line w1 w2 some is_read t = record {
+  turn = t.turn;
+  goes = λ before session. let g = t.goes before session in (g.0, (g.1.0, listed_turn reach before g.0 line t.turn some is_read g.1.1));
+  wrote = t.wrote;
+}
 
 pub on_ok : {A E P Q : Type 0} (r : Result A E) → (P → Q) → OnOk r P → OnOk r Q
 on_ok (Ok a) f h = f h

@@ -5,7 +5,7 @@ ghost use Rattle.std.specs.Io.KnownBytes.{Appends};
 ghost use Rattle.store_core.specs.declared.command.Question.TheVariants as questions;
 ghost use Rattle.store_lines.specs.inner.Answers.{reported_text};
 ghost use Rattle.store_lines.specs.Session.{as_range, as_script};
-ghost use Rattle.store_lines.specs.inner.Reporting.{AnswersOver, GaveEntries, ReportedOver};
+ghost use Rattle.store_lines.specs.inner.Reporting.{AnswersOver, ReportedOver};
 ghost use Rattle.store_lines.specs.Turns.{IsLinkedEntries, IsLinkedQuestion, IsLinkedScriptLine};
 
 use crate::access::Access;
@@ -116,7 +116,7 @@ pub(crate) fn give_entries<A: Access, W: Write>(
     writer: &mut W,
     range: EntryRange,
 ) -> Result<(), Cause>
-    ensures reported { OnOk result (GaveEntries A.reach (A.stands access.old) (A.stands access.new) range (W.contents writer.old) (W.contents writer.new)) }
+    ensures reported { OnOk result (ReportedOver (A.stands access.old) (A.stands access.new) (λ before turn after. IsLinkedEntries A.reach range before turn after) (W.contents writer.old) (W.contents writer.new)) }
     ensures cause { IfErr result (λ cause. cause ≡ Cause.CannotWrite) }
 {
     if access.write_entries(alloc, writer, range)? {
@@ -124,19 +124,6 @@ pub(crate) fn give_entries<A: Access, W: Write>(
     } else {
         refuse(writer, Refusal::NoMemory)
     }
-}
-
-/// The same for a line of a session.
-pub(crate) fn entries_request<A: Access, W: Write>(
-    alloc: Global,
-    access: &mut A,
-    writer: &mut W,
-    range: EntryRange,
-) -> Result<(), Cause>
-    ensures reported { OnOk result (ReportedOver (A.stands access.old) (A.stands access.new) (λ before turn after. IsLinkedEntries A.reach range before turn after) (W.contents writer.old) (W.contents writer.new)) }
-    ensures cause { IfErr result (λ cause. cause ≡ Cause.CannotWrite) }
-{
-    give_entries(alloc, access, writer, range)
 }
 
 /// Writes an object's bytes, or those of a range.

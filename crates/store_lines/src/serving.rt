@@ -10,7 +10,7 @@ ghost use Rattle.store_lines.specs.inner.Reporting.{ServesPutOver, ServesReadOve
 
 use crate::access::Access;
 use crate::answer::MAX_LINE;
-use crate::answering::{answer_line, ask_line, entries_request, give, report};
+use crate::answering::{answer_line, ask_line, give, give_entries, report};
 use crate::receiving::receive;
 use crate::request::{MAX_REQUEST, Request, request_of};
 use b3_core::Work;
@@ -150,7 +150,7 @@ fn serve_request<A: Access, R: BufRead, W: Write>(
             Ok(true)
         }
         Request::Entries(range) => {
-            entries_request(alloc, access, writer, range)?;
+            give_entries(alloc, access, writer, range)?;
             Ok(true)
         }
     }

@@ -2,21 +2,17 @@
 use Rattle.std.specs.Prelude.{◌≡◌, ◌<◌, ◌≤◌, ℕ, Bool, true, false, List, [], Option, Some, None, drop, length, take}
 use Rattle.std.specs.Io.BufRead.{strip_last}
 use Rattle.std.specs.Io.KnownBytes.{Appends}
-use Rattle.store_books.specs.Refusals.{refusal_text}
-use Rattle.store_books.specs.declared.refusal.Refusal.TheVariants as refusals
 use Rattle.store_core.specs.Model.{ModelStore}
 use Rattle.store_journal.specs.declared.entry.Entry.{Entry}
 use Rattle.store_lines.specs.inner.Answers.{reported_ending, reported_text}
 use Rattle.store_lines.specs.Script.{Turn, turn_ending, turn_text}
-use Rattle.store_lines.specs.Texts.{refused_text}
 use Rattle.store_lines.specs.declared.answer.Answer.{Answer}
 use Rattle.store_lines.specs.inner.Requests.{IsSessionLine}
 use Rattle.store_lines.specs.Requests.{request_in}
 use Rattle.store_lines.specs.Session.{IsShort, SessionTurn, session_turn_text}
 use Rattle.edge.specs.declared.lines.LineRead.{LineRead}
-use Rattle.store_lines.specs.declared.request.EntryRange.{EntryRange}
 use Rattle.store_lines.specs.declared.request.Request.{Request}
-use Rattle.store_lines.specs.Access.{Kept, Reach, SessionState, ReportedThese, at}
+use Rattle.store_lines.specs.Access.{Reach, SessionState, at}
 use Rattle.store_lines.specs.Turns.{IsLinkedBytes, IsLinkedPut, IsLinkedRequest, IsLinkedScriptLine}
 
 -- nothing was added to the account
@@ -35,11 +31,6 @@ pub record AnsweredOver (was is : SessionState → Type 0) (Is : SessionState �
   pub goes : (before : SessionState) → was before → (after : SessionState) × (is after × Is before turn after)
   pub text_is : (entries : List Entry) → reported_text entries answer ≡ turn_text turn
   pub ending_is : reported_ending answer ≡ turn_ending turn
-
--- entries were written, or that it ran out of memory
-pub data GaveEntries (reach : Reach) (was is : SessionState → Type 0) (range : EntryRange) (old new : Option (List ℕ)) : Type 0 where
-  gave_these : ReportedThese reach was is range old new → GaveEntries reach was is range old new
-  gave_none : reach.lacks → Kept was is → Appends old new (refused_text (refusal_text refusals.NoMemory)) → GaveEntries reach was is range old new
 
 -- a line of a script was answered that was read like this
 pub record AnswersOver (reach : Reach) (was is : SessionState → Type 0) (read : LineRead) (kept : List ℕ) (old new : Option (List ℕ)) : Type 0 where
