@@ -1,6 +1,6 @@
 //! A b3sum in Rust: the proved library libb3 by `extern "C"`.
 //!
-//!     rustc -O sum.rs -l b3 -L /usr/local/lib
+//!     rustc -O sum.rs -C link-args="$(pkg-config --libs b3)"
 
 use std::fs::File;
 use std::io::{self, Read};

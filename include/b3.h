@@ -1,5 +1,20 @@
-/* BLAKE3 (O'Connor, Aumasson, Neves and Wilcox-O'Hearn, the specification of 2020, whose sections are named below), proved: each
- * call writes what the specification defines, for each input. docs/LIBRARY.md says what is proved and what isn't.
+/* BLAKE3. Ten lines of use:
+ *
+ *     #include <b3.h>
+ *     #include <stdio.h>
+ *     int main(void) {
+ *         uint8_t hash[B3_HASH_LEN];
+ *         b3_hash((const uint8_t *)"abc", 3, hash, sizeof hash, B3_NO_COUNT);
+ *         for (size_t i = 0; i < sizeof hash; i++)
+ *             printf("%02x", hash[i]);
+ *         puts("");
+ *         return 0;
+ *     }
+ *
+ * Build it with `cc abc.c $(pkg-config --cflags --libs b3) -o abc`.
+ *
+ * The library is proved: each call writes what the specification of BLAKE3 (O'Connor, Aumasson, Neves and Wilcox-O'Hearn, 2020, whose
+ * sections are named below) defines, for each input. docs/LIBRARY.md says what is proved and what isn't.
  *
  * A call returns B3_DONE or a number that says what is wrong. If several things are wrong, it returns the first in the order stated at
  * the call. If it returns anything but B3_DONE, nothing that was passed to it has changed.
@@ -9,16 +24,38 @@
  * only what is passed to it: so calls may run at the same time if none writes what another one reads or writes.
  *
  * `compressions` is a count that the caller owns. A successful call adds the number of compressions that it made; the count saturates
- * at 2^64-1. If you don't need it, pass a word that you don't use, such as `&(uint64_t){0}`. */
+ * at 2^64-1. If you don't need it, pass B3_NO_COUNT. It must not be null either: what is proved of a call is about references, which
+ * are never null. */
 #ifndef B3_H
 #define B3_H
 
 #include <stddef.h>
 #include <stdint.h>
 
+/* The version of this header. A program that was built with it can run with any library of the same major version that isn't older. */
+#define B3_VERSION "1.0.0"
+#define B3_VERSION_MAJOR 1
+#define B3_VERSION_MINOR 0
+#define B3_VERSION_PATCH 0
+#define B3_VERSION_NUMBER (1000000 * B3_VERSION_MAJOR + 1000 * B3_VERSION_MINOR + B3_VERSION_PATCH)
+
+/* For `compressions`, if you don't need the count. The place for it exists at least until the call returns. */
+#ifdef __cplusplus
+struct b3_no_count {
+    uint64_t count;
+    operator uint64_t *() { return &count; }
+};
+#define B3_NO_COUNT (b3_no_count())
+#else
+#define B3_NO_COUNT (&(uint64_t){0})
+#endif
+
 #ifdef __cplusplus
 extern "C" {
 #endif
+
+/* Returns the version of the library that runs, in the form of B3_VERSION_NUMBER. */
+uint32_t b3_version(void);
 
 /* What a call returns. */
 #define B3_DONE 0         /* Success. */
@@ -69,7 +106,10 @@ uint32_t b3_extended(uint32_t mode, const uint8_t *key, size_t key_len, const ui
  *         b3_hasher_update(&hasher, piece, len, &count);
  *     b3_hasher_finalize(&hasher, hash, B3_HASH_LEN, &count);
  *
- * Pieces of 64 KiB or more are the fastest. All updates and the final call together make the compressions of the hash. */
+ * Pieces of 64 KiB or more are the fastest. All updates and the final call together make the compressions of the hash.
+ *
+ * To reset a hasher, call b3_hasher_init again. To reset it without hashing its context again, copy the hasher after b3_hasher_init,
+ * and assign the copy: `hasher = fresh;`. */
 
 /* A hasher, in the caller's own memory. It owns no other memory, so there is nothing to free. A copy of the struct is an independent
  * hasher of the same bytes. It contains the key of the mode and bytes of the input. Its fields are private to the library. */
@@ -98,8 +138,9 @@ typedef struct b3_hasher {
     } kept;
 } b3_hasher;
 
-/* Initializes a hasher that was given no bytes, in the mode B3_HASH, B3_KEYED_HASH or B3_DERIVE_KEY with its key or context (section
- * 2.3). The previous contents of `hasher` don't matter. B3_BAD_KEY if there is no such mode or its key has another length. */
+/* Initializes a hasher, or resets it: it has been given no bytes, in the mode B3_HASH, B3_KEYED_HASH or B3_DERIVE_KEY with its key or
+ * context (section 2.3). The previous contents of `hasher` don't matter. B3_BAD_KEY if there is no such mode or its key has another
+ * length. */
 uint32_t b3_hasher_init(b3_hasher *hasher, uint32_t mode, const uint8_t *key, size_t key_len, uint64_t *compressions);
 
 /* Gives bytes to the hasher, after those that it was given before; fewer than 2^64 in all (sections 2.1, 2.4 and 2.5). B3_BAD_HASHER if
@@ -124,21 +165,26 @@ uint32_t b3_hasher_extended(const b3_hasher *hasher, uint64_t position, uint8_t 
  * The key is that of the mode keyed_hash, B3_KEY_LEN bytes, or a key of no bytes for the mode hash; all nodes of a tree have the same
  * key. Any other length is B3_BAD_KEY. There are no such calls for the mode derive_key.
  *
- * An input of more than SPAN bytes, which are 2^k chunks, is split into spans. Threads hash them, each with its own count, in any order:
+ * No call starts threads, and only one thread at a time may update a hasher. To hash bytes in memory by several threads, split them
+ * into spans. Below, SPAN is B3_CHUNK_LEN times a power of two, such as 1 << 20; there are `len` bytes, more than SPAN; and `values`
+ * has room for a b3_value of each span. With `cc -fopenmp` the spans are hashed by the threads of OpenMP, otherwise by one thread.
+ * Other threads can hash them too, in any order:
  *
- *     b3_subtree(key, key_len, bytes + i * SPAN, i < last ? SPAN : len - i * SPAN, i * (SPAN / B3_CHUNK_LEN), &values[i], &counts[i]);
- *
- * and then pairs of neighbours are replaced by their parents, until two nodes are left:
- *
- *     for (n = last + 1; n > 2; n = (n + 1) / 2)
- *         for (i = 0; i < n; i += 2)
+ *     size_t n = (len + SPAN - 1) / SPAN;
+ *     #pragma omp parallel for
+ *     for (size_t i = 0; i < n; i++) {
+ *         size_t start = i * SPAN, span_len = len - start < SPAN ? len - start : SPAN;
+ *         b3_subtree(key, key_len, bytes + start, span_len, start / B3_CHUNK_LEN, &values[i], B3_NO_COUNT);
+ *     }
+ *     for (; n > 2; n = (n + 1) / 2)
+ *         for (size_t i = 0; i < n; i += 2)
  *             if (i + 1 < n)
- *                 b3_parent(key, key_len, values[i], values[i + 1], &values[i / 2], &count);
+ *                 b3_parent(key, key_len, values[i], values[i + 1], &values[i / 2], B3_NO_COUNT);
  *             else
  *                 values[i / 2] = values[i];
- *     b3_root(key, key_len, values[0], values[1], hash, B3_HASH_LEN, &count);
+ *     b3_root(key, key_len, values[0], values[1], hash, B3_HASH_LEN, B3_NO_COUNT);
  *
- * python/b3store/hashing.py does so. */
+ * The second loop replaces pairs of neighbours by their parents, until two nodes are left. */
 
 /* The chaining value of a node: the first 8 words of its compression (section 2.4). */
 typedef struct b3_value {

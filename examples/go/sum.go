@@ -1,9 +1,9 @@
 // A b3sum in Go that reads each file whole: the proved library libb3 by cgo.
 //
-//	CGO_CFLAGS=-I/usr/local/include CGO_LDFLAGS=-L/usr/local/lib go run sum.go FILE ..
+//	PKG_CONFIG_PATH=PREFIX/lib/pkgconfig go run sum.go FILE ..
 package main
 
-// #cgo LDFLAGS: -lb3
+// #cgo pkg-config: b3
 // #include <b3.h>
 import "C"
 

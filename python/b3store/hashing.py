@@ -29,11 +29,11 @@ FAULTS = {1: "the output has the wrong length", 2: "the key has the wrong length
 
 def load(kind: Callable[[str], Any]) -> Any:
     """Loads the library."""
-    name = os.environ.get("B3_LIBRARY", "libb3.so")
+    name = os.environ.get("B3_LIBRARY", "libb3.so.1")
     try:
         return kind(name)
     except OSError as fault:
-        raise ImportError(f"{fault}: install libb3 by `./install --library`, or set B3_LIBRARY to the path of libb3.so") from None
+        raise ImportError(f"{fault}: install libb3 by `./install --library`, or set B3_LIBRARY to the path of libb3.so.1") from None
 
 
 library = load(ctypes.CDLL)

@@ -38,8 +38,8 @@ def names():
 
 def without_library():
     """Hashing says what is missing, and nothing else needs the library."""
-    environment = {**os.environ, "PYTHONPATH": os.path.join(TOP, "python"), "B3_LIBRARY": "/none/libb3.so"}
-    for words, wanted in (["import b3store, b3store.asynchronous"], b""), (["import b3store.hashing"], b"or set B3_LIBRARY to the path of libb3.so\n"):
+    environment = {**os.environ, "PYTHONPATH": os.path.join(TOP, "python"), "B3_LIBRARY": "/none/libb3.so.1"}
+    for words, wanted in (["import b3store, b3store.asynchronous"], b""), (["import b3store.hashing"], b"or set B3_LIBRARY to the path of libb3.so.1\n"):
         ran = subprocess.run([sys.executable, "-c", *words], capture_output=True, timeout=SECONDS, env=environment)
         if not ran.stderr.endswith(wanted) or bool(ran.returncode) != bool(wanted):
             return [ran.stderr.decode()]

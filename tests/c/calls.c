@@ -119,6 +119,21 @@ static void borders(void) {
     shows(b3_subtree(key, 0, input, 1023, ((uint64_t)1 << 54) - 1, &value, &count) == B3_DONE, "the last chunk of all", 1023);
 }
 
+static void version(void) {
+    char text[32];
+    snprintf(text, sizeof text, "%d.%d.%d", B3_VERSION_MAJOR, B3_VERSION_MINOR, B3_VERSION_PATCH);
+    shows(b3_version() == B3_VERSION_NUMBER && strcmp(text, B3_VERSION) == 0, "the version", B3_VERSION_NUMBER);
+}
+
+/* A count that is thrown away changes nothing else. */
+static void no_count(void) {
+    const uint8_t *input = input_of(2049);
+    uint64_t count = 0;
+    uint8_t counted[32], out[32];
+    b3_hash(input, 2049, counted, 32, &count);
+    shows(b3_hash(input, 2049, out, 32, B3_NO_COUNT) == B3_DONE && memcmp(out, counted, 32) == 0, "B3_NO_COUNT", 2049);
+}
+
 static void *hash_often(void *of) {
     struct task *task = of;
     task->same = 1;
@@ -150,5 +165,7 @@ int main(int argc, char **argv) {
     }
     refusals();
     borders();
+    version();
+    no_count();
     return ends();
 }

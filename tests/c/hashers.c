@@ -103,6 +103,21 @@ static void copies(const uint8_t *input, size_t len, uint8_t reported[3][TOLD]) 
     }
 }
 
+/* b3_hasher_init resets a hasher, and so does a copy that was made after it, which makes no compressions. */
+static void resets(const uint8_t *input, size_t len, uint8_t reported[3][TOLD]) {
+    for (uint32_t mode = 0; mode < 3; mode++) {
+        uint64_t count = 0, again = 0;
+        b3_hasher_init(hasher, mode, key_of(mode), key_len_of(mode), &count);
+        *copy = *hasher;
+        give(hasher, &CUTS[2], input, len, &count);
+        int same = b3_hasher_init(hasher, mode, key_of(mode), key_len_of(mode), &count) == B3_DONE;
+        same &= give(hasher, &CUTS[2], input, len, &count) && finds(hasher, reported[mode], &count);
+        *hasher = *copy;
+        same &= give(hasher, &CUTS[2], input, len, &again) && finds(hasher, reported[mode], &again) && again == work_of(len);
+        shows(same, "a hasher that was reset", len);
+    }
+}
+
 /* Whether a call answers so, and leaves hasher, output and count as they were. */
 #define REFUSED(wanted, call)                                                                                                              \
     do {                                                                                                                                   \
@@ -219,6 +234,7 @@ int main(int argc, char **argv) {
         cut_calls(input, len, reported);
         read_calls(input, len, reported);
         copies(input, len, reported);
+        resets(input, len, reported);
         if (len == MOST)
             by_threads(hash_often, reported, "a thread's hasher");
     }

@@ -1,5 +1,5 @@
-/* Runs the code that stands in the comments of include/b3.h, which the program `run` cuts out of them: hasher.inc, span.inc and parents.inc.
- * Writes the hash of standard input, of more than SPAN bytes, by a hasher and then by spans. */
+/* Runs the code in the comments of include/b3.h but the first, which the program `run` takes from there: hasher.inc and threads.inc. Writes the
+ * hash of standard input, of more than SPAN bytes, by a hasher and then by threads. */
 #include "b3.h"
 #include <stdio.h>
 #include <string.h>
@@ -24,14 +24,10 @@ static void hash_by_hasher(uint8_t *hash) {
 #include "hasher.inc"
 }
 
-static void hash_by_spans(const uint8_t *bytes, size_t len, uint8_t *hash) {
+static void hash_by_threads(const uint8_t *bytes, size_t len, uint8_t *hash) {
     static b3_value values[MOST / SPAN];
-    static uint64_t counts[MOST / SPAN];
-    uint64_t count = 0;
-    size_t key_len = 0, last = (len - 1) / SPAN, n, i;
-    for (i = 0; i <= last; i++)
-#include "span.inc"
-#include "parents.inc"
+    size_t key_len = 0;
+#include "threads.inc"
 }
 
 int main(void) {
@@ -41,7 +37,7 @@ int main(void) {
         if (way == 0)
             hash_by_hasher(hash);
         else
-            hash_by_spans(input, input_len, hash);
+            hash_by_threads(input, input_len, hash);
         for (size_t j = 0; j < sizeof hash; j++)
             printf("%02x", hash[j]);
         puts("");

@@ -8,13 +8,16 @@
 //! - `hashers` hashes bytes that arrive in pieces, by a hasher that the caller keeps: `b3_hasher_init`, `b3_hasher_update`,
 //!   `b3_hasher_finalize`, `b3_hasher_extended`.
 //! - `nodes` hashes a tree node by node, for the caller's own threads: `b3_subtree`, `b3_parent`, `b3_root`.
+//! - `version` has the library's version: `b3_version`.
 #![tactic(auto)]
 
 mod answers;
 mod hashers;
 mod nodes;
+mod version;
 mod whole;
 
 pub use hashers::{b3_hasher_extended, b3_hasher_finalize, b3_hasher_init, b3_hasher_update};
 pub use nodes::{b3_parent, b3_root, b3_subtree};
+pub use version::b3_version;
 pub use whole::{b3_derive_key, b3_extended, b3_hash, b3_keyed_hash};
