@@ -7,6 +7,7 @@ ghost use Rattle.store_command_line.specs.Ranges.{IsSumInRange};
 use crate::extent::{Extent, Metered};
 use crate::reporting::{misused, opened, status, stopped};
 use crate::standard::{StandardError, StandardInput, standard_output};
+use crate::words::{Foreign, names_of_words};
 use b3_check::Name;
 use b3_core::{Runtime, Work};
 use edge::SumMode;
@@ -14,6 +15,7 @@ use hash_engines::{
     Cause, SumRequest, SystemFiles, SystemInputs, Verdict, check, names_of, read_key, read_names,
     sum, sum_files, write_root,
 };
+use std::alloc::{AllocError, Global};
 use std::io::{LineWriter, Read};
 use std::thread::Threads;
 use store_command_line::{AskedMode, CheckOptions, Input, NameList, SumInputs, SumOptions};
@@ -52,6 +54,15 @@ fn names_in(rt: &HostRuntime, names: &NameList<'_>) -> Result<Vec<Name>, u8> {
     match names.list {
         Input::Standard => names_from(rt, &mut rt.stdin(), names.has_nuls),
         Input::File(path) => names_from(rt, &mut opened(rt, path)?, names.has_nuls),
+    }
+}
+
+// The names of the files that words name, some of which may be foreign.
+fn names(alloc: Global, words: &[&str], foreign: &[Foreign]) -> Result<Vec<Name>, AllocError> {
+    if foreign.is_empty() {
+        names_of(alloc, words)
+    } else {
+        names_of_words(alloc, words, foreign)
     }
 }
 
@@ -123,6 +134,7 @@ fn summed<T: Threads + Runtime>(
     threads: &T,
     extent: &Extent,
     options: &SumOptions<'_>,
+    foreign: &[Foreign],
 ) -> Result<u8, u8>
     requires { IsSumInRange options.now }
 {
@@ -137,7 +149,7 @@ fn summed<T: Threads + Runtime>(
             };
             return Ok(status(rt, sum_standard(rt, threads, extent, &request)));
         }
-        SumInputs::Named(words) => match names_of(rt.alloc(), words.as_slice()) {
+        SumInputs::Named(words) => match names(rt.alloc(), words.as_slice(), foreign) {
             Ok(names) => names,
             Err(_) => return Err(stopped(rt, Cause::OutOfMemory)),
         },
@@ -155,10 +167,11 @@ pub(crate) fn sum_status<T: Threads + Runtime>(
     threads: &T,
     extent: &Extent,
     options: &SumOptions<'_>,
+    foreign: &[Foreign],
 ) -> u8
     requires { IsSumInRange options.now }
 {
-    match summed(rt, threads, extent, options) {
+    match summed(rt, threads, extent, options, foreign) {
         Ok(status) => status,
         Err(status) => status,
     }

@@ -9,6 +9,7 @@ mod progress;
 mod reporting;
 mod sessions;
 mod standard;
+mod words;
 
 use b3_core::{Runtime, Work};
 use edge::UploadOptions;
@@ -18,7 +19,7 @@ use progress::with_progress;
 use reporting::{GOOD, USAGE, status, stopped};
 use sessions::serve_status;
 use standard::{StandardInput, standard_output, standard_streams};
-use std::io::{BufReader, BufWriter, ErrorKind, IsTerminal};
+use std::io::{BufReader, BufWriter, IsTerminal};
 use std::marker::Brand;
 use std::process::ExitCode;
 use std::sync::Wait;
@@ -28,20 +29,7 @@ use store_command_line::{Fault, Options, SumInputs, options};
 use store_engines::{ALL_PARTS, Cause, Verdict, audit, migrate, upload};
 use store_history::UnnamedHistory;
 use store_lines::{run, serve};
-
-// The arguments of the command line. The system's arguments may be any bytes; those that are not UTF-8 are a usage fault.
-fn words_of(rt: &HostRuntime) -> Result<Vec<String>, Fault> {
-    let words = match std::env::args(rt) {
-        Ok(words) => words,
-        Err(error) if error.kind() == ErrorKind::OutOfMemory => return Err(Fault::NoMemory),
-        Err(_) => {
-            let text = String::from_str(rt.alloc(), "b3store: an argument is not UTF-8\n")?;
-            return Err(Fault::Usage(text));
-        }
-    };
-    let words: Vec<String> = words.collect(rt.alloc())?;
-    Ok(words)
-}
+use words::{Foreign, are_among, no_files, words_of};
 
 // Answers a script.
 fn answered(rt: &HostRuntime) -> Result<Verdict, Cause> {
@@ -91,13 +79,14 @@ fn perform<T: Threads + Wait + Copy + Send + Sync + Runtime + 'static>(
     threads: &T,
     extent: &Extent,
     options: &Options<'_>,
+    foreign: &[Foreign],
 ) -> u8
     requires { InRange options.now }
 {
     let alloc = rt.alloc();
     let (mut reader, mut writer) = (rt.stdin(), standard_output(rt));
     match options {
-        Options::Sum(options) => sum_status(rt, threads, extent, options),
+        Options::Sum(options) => sum_status(rt, threads, extent, options, foreign),
         Options::Run => status(rt, answered(rt)),
         Options::Serve(None) => status(rt, served(rt)),
         Options::Serve(Some(door)) => serve_status(rt, threads, door),
@@ -127,13 +116,14 @@ fn perform_reporting<T: Threads + Wait + Copy + Send + Sync + Runtime + 'static>
     rt: &HostRuntime,
     threads: &T,
     options: &Options<'_>,
+    foreign: &[Foreign],
 ) -> u8
     requires { InRange options.now }
 {
     let is_reported = reports_progress(rt, options);
     let extent = &Extent::new(is_reported);
     if !is_reported {
-        return perform(rt, threads, extent, options);
+        return perform(rt, threads, extent, options, foreign);
     }
     with_progress(
         rt,
@@ -141,7 +131,7 @@ fn perform_reporting<T: Threads + Wait + Copy + Send + Sync + Runtime + 'static>
         extent,
         move || -> u8
             requires { InRange options.now }
-        { perform(rt, threads, extent, options) },
+        { perform(rt, threads, extent, options, foreign) },
     )
 }
 
@@ -160,13 +150,29 @@ fn unusable(rt: &HostRuntime, fault: Fault) -> u8 {
     }
 }
 
+// Whether each word that is not UTF-8 names a file to hash.
+fn are_files(foreign: &[Foreign], options: &Options<'_>) -> bool {
+    match options {
+        Options::Sum(options) => match &options.inputs {
+            SumInputs::Named(words) => are_among(foreign, words.as_slice()),
+            _ => foreign.is_empty(),
+        },
+        _ => foreign.is_empty(),
+    }
+}
+
 fn main(rt: HostRuntime) -> ExitCode {
     let words = match words_of(&rt) {
         Ok(words) => words,
         Err(fault) => return ExitCode::from(unusable(&rt, fault)),
     };
-    let status = match options(rt.alloc(), words.as_slice()) {
-        Ok(options) => perform_reporting(&rt, &rt, &options),
+    let foreign = words.foreign.as_slice();
+    let status = match options(rt.alloc(), words.texts.as_slice()) {
+        Ok(options) if are_files(foreign, &options) => {
+            perform_reporting(&rt, &rt, &options, foreign)
+        }
+        Ok(_) => unusable(&rt, no_files(rt.alloc())),
+        Err(Fault::Usage(_)) if !foreign.is_empty() => unusable(&rt, no_files(rt.alloc())),
         Err(fault) => unusable(&rt, fault),
     };
     ExitCode::from(status)

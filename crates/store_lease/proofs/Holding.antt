@@ -1,6 +1,6 @@
 -- What a tenant sealed, it holds, until the journal says that it forgets it.
-use Rattle.std.proofs.Common.{◌≡◌, ◌≢◌, ◌∙◌, ◌+◌, ℕ, Bool, true, false, true≢false, List, [], ◌∷◌, ◌++◌, Option, Some, None, Ok, Err, cond, refl, ap, sym, subst, append_assoc, length}
-use Rattle.std.specs.Prelude.{Result, ◌==◌, ◌&&◌, ◌||◌, is_none, option_map}
+use Rattle.std.proofs.Common.{◌≡◌, ◌≢◌, ◌∙◌, ℕ, Bool, true, false, true≢false, List, [], ◌∷◌, ◌++◌, Option, Some, None, Ok, cond, refl, ap, sym, subst, append_assoc, length}
+use Rattle.std.specs.Prelude.{◌==◌, ◌&&◌, ◌||◌, is_none, option_map}
 use Rattle.std.specs.List.{AllByRecursion}
 use Rattle.std.specs.Map.{lookup, remove_entry, set_value, values_of}
 use Rattle.std.specs.Str.{bytes_eq}
@@ -16,8 +16,8 @@ use Rattle.store_books.proofs.Lists.{all_removed, all_set}
 use Rattle.store_books.proofs.RisingHolders.{has, has_with, other_without}
 use Rattle.store_journal.specs.declared.entry.Entry.{Entry}
 use Rattle.store_journal.specs.declared.entry.Entry.TheVariants.{Abort, Begin, Fix, Forget, Limit, Open, Put, Seal, Tenant}
-use Rattle.store_journal.specs.Replay.{IsLegal, after, is_legal, replay_from, says_filing, upload_length}
-use Rattle.store_journal.proofs.Replays.{ends, goes_on, stops}
+use Rattle.store_journal.specs.Replay.{IsLegal, after, replay_from, says_filing, upload_length}
+use Rattle.store_journal.proofs.Replays.{goes_on}
 use Rattle.store_journal.specs.Replay.{nothing, replay_of}
 use Rattle.store_books.specs.Forgetting.{bare, bare_begun, bare_object}
 use Rattle.store_books.proofs.Forgets.{object_same, upload_same}

@@ -1,14 +1,13 @@
 -- An upload that is open stays open, with what it holds, until the journal says that it was sealed or aborted.
 use Rattle.std.proofs.Common.{◌≡◌, ◌∙◌, ℕ, Bool, true, false, true≢false, Ordering, Less, Equal, Greater, List, [], ◌∷◌, ◌++◌, Option, Some, None, Ok, refl, ap, cond, map, sym, subst, length}
-use Rattle.std.specs.Prelude.{Result, ◌==◌, is_some, option_map}
-use Rattle.std.specs.List.{AllByRecursion}
+use Rattle.std.specs.Prelude.{◌==◌, is_some, option_map}
 use Rattle.std.specs.Map.{lookup, remove_entry, set_value}
-use Rattle.std.specs.BTreeMap.{insert_entry, is_at}
+use Rattle.std.specs.BTreeMap.{insert_entry}
 use Rattle.std.specs.Ordering.{match_ordering, nat_cmp}
 use Rattle.std.proofs.lemmas.Bool.{eq-eqb, eqb-true}
 use Rattle.store_books.specs.Bare.{Bare, as_it_is, label_address}
 use Rattle.store_books.specs.Books.{ModelOwnedUpload, Filed, is_number, object_at, upload_at}
-use Rattle.store_books.specs.Commands.{with_end, with_known, with_left, with_new, with_part, with_upload, without_upload}
+use Rattle.store_books.specs.Commands.{with_end, with_known, with_left, with_new, with_part, with_upload}
 use Rattle.store_books.specs.Forgetting.{bare_begun, bare_upload}
 use Rattle.store_books.specs.declared.content.ObjectLabel.{ObjectLabel}
 use Rattle.store_books.proofs.Forgets.{upload_same}
@@ -17,7 +16,7 @@ use Rattle.store_core.specs.Carried.{replayed_of}
 use Rattle.store_journal.specs.declared.entry.Entry.{Entry}
 use Rattle.store_journal.specs.declared.entry.Entry.TheVariants.{Abort, Begin, Fix, Forget, Limit, Open, Put, Seal, Tenant}
 use Rattle.store_journal.specs.Replay.{after, nothing, replay_from, replay_of, upload_length}
-use Rattle.store_upload.specs.Uploads.{ModelUpload, closed_plan, fixed_at, open_plan, with_more}
+use Rattle.store_upload.specs.Uploads.{fixed_at, with_more}
 use Rattle.store_upload.proofs.Places.{not_some}
 use Rattle.b3_core.specs.Modes.{hash_of}
 use Rattle.store_lease.specs.Laws.{IsOpen, StaysOpen, closes, has_part}
