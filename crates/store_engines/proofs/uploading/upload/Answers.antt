@@ -1,10 +1,11 @@
-use Rattle.std.proofs.Common.{rules, subst, ◌≡◌, ◌∙◌, ℕ, inl, length, refl}
+use Rattle.std.proofs.Common.{subst, ◌∙◌, inl, refl}
 use Rattle.store_engines.proofs.UploadTexts.{is_sealed, is_upload_text, never_bad, no_memory, own_may, passed_may, reported, reported_memory, reported_some, unopened}
 use Rattle.store_core.specs.Commands.{as_is}
 use Rattle.store_shared.specs.declared.fault.UploadFaultKind.TheVariants as kinds
 use Rattle.store_engines.specs.Uploads.{WrotePrefix, WroteUpload}
 use Rattle.std.specs.Io.KnownBytes.{Appends}
 use Rattle.edge.proofs.Inputs.{known}
+use Rattle.edge.specs.Output.{WroteSome}
 use Rattle.store_engines.proofs.uploading.upload.Goals as goal
 
 -- ---- no tenant
