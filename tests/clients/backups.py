@@ -3,6 +3,7 @@ import fcntl
 import io
 import os
 import random
+import re
 import shutil
 import stat
 import subprocess
@@ -229,19 +230,25 @@ def saves_that_are_killed():
         return found + ([] if broken_off else ["no save was killed"])
 
 
-def splits_by_numpy_too():
-    """The pieces are the same with numpy and without it, wherever edges are in the blocks that are searched at once, and if the file has grown."""
+def splits_by_content():
+    """Pieces end where a plain search finds an edge, wherever that is in the blocks that are searched at once, and if the file has grown."""
+    edges = re.compile(b"".join(b"[" + re.escape(bytes(sorted(chosen))) + b"]" for chosen in backup_pieces.EDGE_SETS), re.DOTALL)
     edge, random_bytes = bytes(min(chosen) for chosen in backup_pieces.EDGE_SETS), random.Random(1).randbytes
     smallest, largest, block = backup_pieces.MIN_PIECE, backup_pieces.MAX_PIECE, backup_pieces.BLOCK
-    lengths = [0, 4, smallest, smallest + 4, smallest + 5, smallest + 6, block + 4, block + 5, largest - 1, largest, largest + 5]
+    lengths = [0, 4, smallest, *range(smallest + 4, smallest + 7), smallest + block - 1, smallest + block + 4, smallest + block + 5, largest - 1, largest, largest + 5]
     contents = [random_bytes(length) for length in lengths] + [bytes(largest + extra) + random_bytes(largest) for extra in (-5, 0, 5)] + [edge * 60000]
-    for at in (smallest - 1, smallest, block - 5, block - 3, block - 1, block, largest - 6, largest - 5, largest - 1, largest):
+    for at in (smallest - 1, *(smallest + block * turn - back for turn in (0, 1, 2) for back in (5, 4, 3, 1, 0)), *range(largest - 6, largest + 1)):
         contents.append(bytes(at) + edge + bytes(2 * largest - at))
-    found, numpy = [], backup_pieces.numpy
+    found = []
     for content in contents:
-        pieces = []
-        for backup_pieces.numpy, length in (None, len(content)), (numpy, len(content)), (numpy, len(content) // 3):
-            pieces.append(list(backup_pieces.pieces_of(io.BytesIO(content), length)))
-        if any(row != pieces[0] for row in pieces) or b"".join(pieces[0]) != content:
-            found.append(f"{len(content)} bytes: pieces of {[[len(piece) for piece in row][:5] for row in pieces]} bytes")
+        wanted, start = [], 0
+        while start < len(content):
+            last = min(len(content), start + largest)
+            match = edges.search(content, start + smallest, last)
+            wanted.append(content[start : match.end() if match else last])
+            start += len(wanted[-1])
+        for length in len(content), len(content) // 3:
+            pieces = list(backup_pieces.pieces_of(io.BytesIO(content), length))
+            if pieces != wanted:
+                found.append(f"{len(content)} bytes: pieces of {[len(piece) for piece in pieces][:5]} bytes, not {[len(piece) for piece in wanted][:5]}")
     return found
