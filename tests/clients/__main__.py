@@ -13,6 +13,7 @@ import cache_disk
 import cache_moves
 import caches
 import cases as package
+import packs
 from judging import judged
 from python_needed import end_where_older
 
@@ -23,8 +24,8 @@ CASES = (
     ("a backup that leads elsewhere", backups.restores_nothing_elsewhere),
     ("a backup with wrong words", backups.refuses_wrong_words),
     ("owners and hard links", backups.keeps_owners_and_links),
-    ("saves that are killed", backups.saves_that_are_killed),
     ("a backup's pieces", backups.splits_by_content),
+    *packs.CASES,
     ("a cache's keys", caches.caches_keys),
     ("a cache's ranges", caches.gives_ranges),
     ("a cache's contents that a client has", caches.gives_what_is_new),
