@@ -37,6 +37,7 @@ import sys
 sys.path.insert(0, os.path.join(os.path.dirname(os.path.dirname(os.path.abspath(__file__))), "python"))
 from b3store import MAX_LIMIT, Ended, Refused, Store
 from backup_check import check
+from backup_packs import WriteFailed
 from backup_repository import ADDRESS, Damaged, Repository, quoted, unquoted
 
 MIN_MEMORY = 1 << 23
@@ -252,7 +253,7 @@ def main():
         with Store(options.program, sessions=1) as store:
             repository = Repository(options.repository, store, options.memory)
             return 0 if options.work(repository, options) else 1
-    except (Refused, OSError, Damaged) as fault:
+    except (Refused, OSError, Damaged, WriteFailed) as fault:
         print(f"backup: {fault}", file=sys.stderr)
         return 1
     except Ended as fault:

@@ -34,6 +34,10 @@ Place = collections.namedtuple("Place", "pack start length other")
 """Where a piece is: its pack, its position and its length there. `other` is another place of the same piece, or None."""
 
 
+class WriteFailed(Exception):
+    """A pack can't be written, so the save can't go on."""
+
+
 def open_file(path):
     """Opens a file for reading. Raises OSError for anything else, such as a pipe, at which a reader would wait."""
     opened = os.open(path, os.O_RDONLY | os.O_NONBLOCK)
@@ -272,7 +276,7 @@ class Writer(threading.Thread):
                 if self.fault is None:
                     work(*words)
             except OSError as fault:
-                self.fault = OSError(fault.errno, f"a pack can't be written: {fault.strerror}", self.folder)
+                self.fault = WriteFailed(f"{self.folder}: a pack can't be written: {fault.strerror}")
                 self.drop()
             finally:
                 self.queue.task_done()
