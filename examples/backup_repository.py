@@ -113,7 +113,7 @@ class Repository:
             self.held[address] = length
 
     def copies(self, address):
-        """Yields the content of each copy of an object, which may be wrong, or the fault if it can't be read."""
+        """Yields for each copy of an object a function that reads it, and the function's arguments. What it reads may be wrong."""
         for place in self.packs.places_of(address):
             yield self.packs.read, place[:3]
         if self.has_files and os.path.lexists(self.place(address)):

@@ -2,7 +2,6 @@
 import os
 import random
 import re
-import resource
 import shutil
 import subprocess
 import sys
@@ -29,7 +28,7 @@ def saved(folder, repository):
 
 
 def names_of(repository, kind):
-    """The paths of the packs or of the indexes, in a repository."""
+    """The paths of the packs, or of files of another kind, in a repository."""
     return sorted(f"packs/{name}" for name in os.listdir(os.path.join(repository, "packs")) if name.endswith(kind))
 
 
@@ -48,7 +47,8 @@ def reads_packs_back():
         address, found = saved(folder, repository), []
         packs = names_of(repository, ".pack")
         found += [] if len(packs) > 4 else [f"only {packs}"]
-        found += differences((sorted(os.listdir(repository)), ["backups", "packs"]), ([name[:-5] for name in packs], [name[:-6] for name in names_of(repository, ".index")]))
+        found += differences((sorted(os.listdir(repository)), ["backups", "packs"]))
+        found += differences(([name[:-5] for name in packs], [name[:-6] for name in names_of(repository, ".index")]))
         for name in packs:
             with open(os.path.join(repository, name), "rb") as file, open(os.path.join(repository, name[:-5] + ".index"), "rb") as index:
                 for row in index:
@@ -91,21 +91,26 @@ def finds_changed_packs():
         with open(os.path.join(kept, index), encoding="ascii") as rows:
             addresses = [row.split()[0] for row in rows]
         cases = (
-            (truncate, pack, f"wrong: {addresses[-1]} in {pack}: the pack is truncated", 1, False), (flip, pack, f"wrong: {addresses[-1]} in {pack}: S11: ", 1, False),
-            (os.remove, pack, f"wrong: {addresses[0]} in {pack}: No such file or directory", 1, False), (change_digit, pack, f"wrong: {pack}: before object {addresses[0]}", 1, True),
-            (os.remove, index, f"missing: {index}, which the next save makes", 0, True), (truncate, index, f"wrong: {index}: ", 1, True), (flip, index, f"wrong: {index}: ", 1, True),
+            (truncate, pack, f"wrong: {addresses[-1]} in {pack}: the pack is truncated", 1, False),
+            (flip, pack, f"wrong: {addresses[-1]} in {pack}: S11: ", 1, False),
+            (os.remove, pack, f"wrong: {addresses[0]} in {pack}: No such file or directory", 1, False),
+            (change_digit, pack, f"wrong: {pack}: before object {addresses[0]}", 1, True),
+            (os.remove, index, f"missing: {index}, which the next save makes", 0, True),
+            (truncate, index, f"wrong: {index}: ", 1, True),
+            (flip, index, f"wrong: {index}: ", 1, True),
             (change_digit, index, f"wrong: {index}: S11: ", 1, True),
         )
-        for number, (change, name, wanted, status, can_restore) in enumerate(cases):
+        for change, name, wanted, status, is_restored in cases:
             shutil.copytree(kept, repository)
             change(os.path.join(repository, name))
             result, lines = backup("check", repository)
-            found += differences((result, status)) + ([] if any(line.startswith(wanted) for line in lines) else [f"case {number}: {lines}"])
+            found += differences((result, status), (lines[-1], f"backups 1 broken {int(not is_restored)}"))
+            found += [] if any(line.startswith(wanted) for line in lines) else [f"no {wanted!r} in {lines}"]
             lost = [line for line in lines if line.startswith(f"backup {address} can't ")]
-            found += differences((number, bool(lost), number, not can_restore), (lines[-1], f"backups 1 broken {int(not can_restore)}"))[:2] if bool(lost) == can_restore else []
-            found += differences((restores(repository, address, state_of(folder)), can_restore))
+            found += differences((lost == [], is_restored), (restores(repository, address, state_of(folder)), is_restored))
             if name == index:
-                found += differences((saved(folder, repository), address), (backup("check", repository)[0], 0), (names_of(repository, ".index"), names_of(kept, ".index")))
+                found += differences((saved(folder, repository), address), (backup("check", repository)[0], 0))
+                found += differences((names_of(repository, ".index"), names_of(kept, ".index")))
             shutil.rmtree(repository)
         return found
 
@@ -157,7 +162,7 @@ def reads_an_older_repository():
             file.write(b"more")
         status, lines = backup("save", folder, repository)
         found += differences((status, 0), (len(names_of(repository, ".pack")), 1), (restores(repository, lines[-1].split()[1], state_of(folder)), True))
-        path = next(os.path.join(where, name) for where, _, names in os.walk(os.path.join(repository, "objects")) for name in names if os.path.getsize(os.path.join(where, name)) > 10000)
+        path = max((os.path.join(where, name) for where, _, names in os.walk(os.path.join(repository, "objects")) for name in names), key=os.path.getsize)
         truncate(path)
         status, lines = backup("check", repository)
         return found + differences((status, 1), (lines[0].startswith(f"wrong: {os.path.basename(path)} in {os.path.relpath(path, repository)}: S11"), True))
@@ -215,10 +220,9 @@ def saves_that_are_killed():
             found += differences((status, 0), (lines[-2].endswith(" wrong 0"), True), (lines[-1].endswith(" broken 0"), True))
             address = delays.choice(list(states))
             found += [] if restores(repository, address, states[address]) else [f"after kill {number} backup {address} isn't restored"]
-        names = os.listdir(os.path.join(repository, "packs"))
         found += [] if killed > KILLS / 3 else [f"only {killed} saves were killed"]
         address = saved(folder, repository)
-        return found + differences((restores(repository, address, state_of(folder)), True), ([name for name in os.listdir(os.path.join(repository, "packs")) if name.endswith(".new")], []))
+        return found + differences((restores(repository, address, state_of(folder)), True), (names_of(repository, ".new"), []))
 
 
 def writes_that_fail():
@@ -230,13 +234,12 @@ def writes_that_fail():
             file.write(os.urandom(300000))
         found = []
         for limit in 1000, 60000, 150000:
-            run = subprocess.run(
-                [*BY_SMALL_PACKS, "save", folder, repository], capture_output=True, timeout=SECONDS, preexec_fn=lambda: resource.setrlimit(resource.RLIMIT_FSIZE, (limit, limit))
-            )
+            limited = ["sh", "-c", f"ulimit -f {limit // 512}; exec \"$@\"", "sh", *BY_SMALL_PACKS]
+            run = subprocess.run([*limited, "save", folder, repository], capture_output=True, timeout=SECONDS)
             lines = run.stderr.decode().splitlines()
             found += differences((run.returncode, 1 if limit < 100000 else 0), (len(lines), int(limit < 100000)), (b"left out" in run.stdout, False))
             found += [] if limit > 100000 or "File too large" in lines[-1] else [lines[-1]]
-            found += differences(([name for name in os.listdir(os.path.join(repository, "packs")) if name.endswith(".new")], []), (backup("check", repository)[0], 0))
+            found += differences((names_of(repository, ".new"), []), (backup("check", repository)[0], 0))
             found += differences((restores(repository, address, state), True))
         return found
 
@@ -252,13 +255,15 @@ def foreign_files():
         os.mkdir(os.path.join(packs, "2" * 64 + ".pack"))
         os.mkdir(os.path.join(packs, "2" * 64 + ".index"))
         os.symlink("nothing", os.path.join(packs, "3" * 64 + ".pack"))
-        for name, content in (("4" * 64 + ".pack", b"frob" * 100000), ("5" * 64 + ".index", f"{ABC} 99999999\n".encode()), ("6" * 64 + ".index", b""), ("7" * 64 + ".pack", f"{ABC} 3\nabc".encode())):
-            with open(os.path.join(packs, name), "wb") as file:
+        contents = {"4.pack": b"frob" * 100000, "5.index": f"{ABC} 99999999\n".encode(), "6.index": b"", "7.pack": f"{ABC} 3\nabc".encode()}
+        for name, content in contents.items():
+            with open(os.path.join(packs, name[0] * 64 + name[1:]), "wb") as file:
                 file.write(content)
         status, lines = backup("check", repository)
         told = {name for line in lines for name in re.findall("packs/([0-7])(?:\\1){63}", line)}
         found += differences((status, 1), (told, set("01234567")), (lines[-2:], ["objects 3 wrong 0", "backups 1 broken 0"]))
-        found += differences((restores(repository, address, state_of(folder)), True), (backup("save", folder, repository)[0], 0), (backup("save", "--all", folder, repository)[0], 0))
+        found += differences((backup("save", folder, repository)[0], 0), (backup("save", "--all", folder, repository)[0], 0))
+        found += differences((restores(repository, address, state_of(folder)), True))
         other = os.path.join(place, "other")
         os.mkdir(other)
         with open(os.path.join(other, "packs"), "wb"):
