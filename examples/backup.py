@@ -5,11 +5,17 @@
     backup.py restore REPOSITORY ADDRESS FOLDER      restore a backup into a folder, in which nothing is overwritten
     backup.py check REPOSITORY                       compare each object with its address, and print which backups can't be restored
 
-A repository is a folder: objects/AA/ADDRESS has the bytes of that BLAKE3 hash, and `backups` a line for each backup. Files are split into pieces by their
-content, and a piece is kept once, whichever files and backups have it; so bytes put in front of a file make one new piece. If numpy is installed, it finds
-where pieces end, several times as fast; the pieces are the same. A backup is a list of names and pieces, which is kept in pieces too. A file is not read
-again if its length, mode, owner and time are those in the last backup of its folder, unless `--all` is given, which also compares the objects that are
-there. Files are written under other names, synced, and then renamed; a backup is recorded last.
+A repository is a folder. Its folder `packs` has objects, each named by its BLAKE3 hash, which is its address; its file `backups` has a line for each backup.
+Files are split into pieces by their content, and a piece is kept once, whichever files and backups have it; so bytes put in front of a file make one new
+piece. A backup is a list of names and pieces, which is kept in pieces too. A repository of an older version, with a file objects/AA/ADDRESS for each object,
+is read too, and its new objects are kept in packs.
+
+A file is not read again if its length, mode, owner and time are those in the last backup of its folder and its pieces are there, unless `--all` is given,
+which also compares the objects that are there. All files are written under other names, synced, and then renamed; a backup is recorded last. So a save that
+is killed changes no earlier backup. What it has left is used or removed by the next save. Only one save can use a repository at a time.
+
+`check` reads everything. It prints each object that is missing, truncated or altered, with its pack, and each file that a backup lacks. If only an index is
+missing or wrong, everything can be restored, and the next save writes the index again. A wrong object is kept again by `save --all` of a folder that has it.
 
 It keeps files, folders, links and hard links, with times, modes, owners and groups. If an owner can't be restored, for example by a user other than root,
 that is reported, and no setuid or setgid bit is set. It doesn't keep extended attributes, access lists and holes in files. Anything else (a pipe, a device,
@@ -22,22 +28,17 @@ The status is 0 if all was saved, restored or correct; 1 if something was not, w
 """
 import argparse
 import collections
-import contextlib
-import ctypes
 import fcntl
-import io
 import os
-import queue
 import re
 import stat
 import sys
-import threading
-import time
-import urllib.parse
 
 sys.path.insert(0, os.path.join(os.path.dirname(os.path.dirname(os.path.abspath(__file__))), "python"))
 from b3store import MAX_LIMIT, Ended, Refused, Store
-from backup_pieces import pieces_of
+from backup_check import check
+from backup_packs import WriteFailed
+from backup_repository import ADDRESS, Damaged, Repository, quoted, unquoted
 
 MIN_MEMORY = 1 << 23
 """The least `--memory`."""
@@ -52,250 +53,17 @@ example:
   backups 1 broken 0
   $ backup.py restore /mnt/disk/repository 6437b3ac38465133ffb63b75273a8db548c558465d79db03fd359c6cd5bd9d85 ~/restored
 """
-MAX_ASIDE, MAX_BYTES_ASIDE = 1000, 1 << 26
-"""How many objects, and how many bytes of them, are written aside before they are synced together."""
-BATCH, MAX_WAITING = 1 << 20, 8
-"""How many bytes, or more by one object, are written by a thread at once, and how often as many wait for it."""
-LIBC = ctypes.CDLL(None, use_errno=True)
-ADDRESS = re.compile("[0-9a-f]{64}")
-BACKUP = re.compile(r"([0-9a-f]{64}) (\d+) (\S+)")
-"""A line of `backups`: address, seconds since 1970, and the folder."""
-LINE = re.compile(r"(file|folder|link|same) (\S+) ([0-7]+)(?::(\d+):(\d+))? (-?\d+)((?: \S+)*)")
-"""A line of a backup: kind, path, mode, owner and group, time, and what the kind has: a file its length and the addresses of its pieces, a link where it
-leads, a hard link the path of the same file."""
-
-
-class Damaged(Exception):
-    """A repository has something that is no backup, or is incomplete."""
-
-
-def sync(folder):
-    """Waits until everything written to the file system of a folder is on disk: for a thousand files this is faster than syncing each."""
-    opened = os.open(folder, os.O_RDONLY | os.O_DIRECTORY)
-    try:
-        if LIBC.syncfs(opened) != 0:
-            raise OSError(ctypes.get_errno(), f"{folder} can't be synced: {os.strerror(ctypes.get_errno())}")
-    finally:
-        os.close(opened)
-
-
-class Writer(threading.Thread):
-    """Writes objects in a thread of its own, while the next ones are read and hashed. Each is written aside, and renamed once that is synced."""
-
-    def __init__(self, path):
-        super().__init__(daemon=True)
-        self.path, self.fault, self.queue = path, None, queue.Queue(MAX_WAITING)
-        self.pending = set()
-        """The objects that aren't there yet under their names."""
-        self.batch, self.bytes = [], 0
-        """The objects that the thread hasn't received yet: it receives several at once, since each transfer takes time."""
-        self.folders, self.aside, self.bytes_aside = set(), [], 0
-        """The folders of objects that exist, and what was written aside."""
-
-    def put(self, place, content):
-        """Writes an object, now or later."""
-        self.pending.add(place)
-        self.batch.append((place, content))
-        self.bytes += len(content)
-        if self.bytes >= BATCH:
-            self.pass_batch()
-
-    def pass_batch(self):
-        if not self.is_alive():
-            self.start()
-        self.queue.put(self.batch)
-        self.batch, self.bytes = [], 0
-        if self.fault is not None:
-            raise self.fault
-
-    def finish(self):
-        """Waits until all objects are there under their names. Their contents are synced, their names are not."""
-        if self.batch:
-            self.pass_batch()
-        if self.is_alive():
-            self.queue.put([])
-            self.queue.join()
-        if self.fault is not None:
-            raise self.fault
-
-    def run(self):
-        while True:
-            batch = self.queue.get()
-            try:
-                if self.fault is None:
-                    for place, content in batch:
-                        self.write(place, content)
-                    if not batch or len(self.aside) >= MAX_ASIDE or self.bytes_aside >= MAX_BYTES_ASIDE:
-                        self.settle()
-            except OSError as fault:
-                self.fault = fault
-            self.queue.task_done()
-
-    def write(self, place, content):
-        folder = os.path.dirname(place)
-        if folder not in self.folders:
-            os.makedirs(folder, exist_ok=True)
-            self.folders.add(folder)
-        with open(place + ".new", "wb") as file:
-            file.write(content)
-        self.aside.append(place)
-        self.bytes_aside += len(content)
-
-    def settle(self):
-        """Syncs what was written aside, and renames it."""
-        sync(self.path)
-        for place in self.aside:
-            os.replace(place + ".new", place)
-            self.pending.discard(place)
-        self.aside, self.bytes_aside = [], 0
-
-
-class Repository:
-    """Objects on disk, and a store before them."""
-
-    def __init__(self, path, store, memory):
-        self.path, self.store, self.memory = path, store, memory
-        self.tenant = store.tenant(memory)
-        self.held, self.bytes_held = collections.OrderedDict(), 0
-        """The lengths of the objects that the store holds, those that were held longest first, and their sum."""
-        self.counts = collections.Counter()
-        self.compares = False
-        """Whether objects that are there already are compared with what is kept."""
-        self.writer = Writer(path)
-
-    def place(self, address):
-        return os.path.join(self.path, "objects", address[:2], address)
-
-    @contextlib.contextmanager
-    def locked(self, kind):
-        """Keeps other runs out that would write, or read while this one does."""
-        folder = os.open(self.path, os.O_RDONLY | os.O_DIRECTORY)
-        try:
-            fcntl.flock(folder, kind | fcntl.LOCK_NB)
-            yield
-        except BlockingIOError:
-            raise Damaged(f"{self.path} is in use by another backup") from None
-        finally:
-            os.close(folder)
-
-    def files(self):
-        """Yields the folder and the name of each file below the folder of objects."""
-        for folder, _, names in os.walk(os.path.join(self.path, "objects")):
-            for name in sorted(names):
-                yield folder, name
-
-    def hold(self, content, address=None):
-        """Puts an object into the store, if it has the address, in case one is given, and returns its address. The store first forgets what it has held
-        longest, if needed."""
-        while self.held and self.bytes_held + len(content) > self.memory:
-            oldest, length = self.held.popitem(last=False)
-            self.store.forget(self.tenant, oldest)
-            self.bytes_held -= length
-        filed = self.store.file(self.tenant, content, address)
-        self.bytes_held += len(content) - self.held.pop(filed.address, 0)
-        self.held[filed.address] = len(content)
-        return filed.address
-
-    def has(self, place, content):
-        """Whether an object is there, or is about to be."""
-        if place in self.writer.pending:
-            return True
-        try:
-            if os.path.getsize(place) != len(content):
-                return False
-            if not self.compares:
-                return True
-            with open(place, "rb") as file:
-                return file.read() == content
-        except FileNotFoundError:
-            return False
-
-    def keep(self, content):
-        """Keeps an object, and returns its address."""
-        address = self.hold(content)
-        place = self.place(address)
-        is_new = not self.has(place, content)
-        if is_new:
-            self.writer.put(place, content)
-        word = "new" if is_new else "known"
-        self.counts.update({word: 1, word + " bytes": len(content)})
-        return address
-
-    def keep_all(self, file, length):
-        """Keeps a file in pieces, and returns their addresses."""
-        return [self.keep(piece) for piece in pieces_of(file, length)]
-
-    def keep_backup(self, folder, lines):
-        """Keeps a backup's lines, and records the backup once everything is on disk."""
-        text = "".join(line + "\n" for line in lines).encode()
-        addresses = self.keep_all(io.BytesIO(text), len(text))
-        backup = self.keep("".join(address + "\n" for address in addresses).encode())
-        self.writer.finish()
-        self.note(f"{backup} {int(time.time())} {quoted(os.path.abspath(folder))}")
-        return backup
-
-    def pieces_of_backup(self, backup):
-        """The addresses of the pieces of a backup's list."""
-        addresses = self.read(backup).decode("ascii", "replace").split()
-        if not all(map(ADDRESS.fullmatch, addresses)):
-            raise Damaged(f"{backup} is no backup")
-        return addresses
-
-    def lines_of(self, backup):
-        """The lines of a backup, each with its fields."""
-        try:
-            lines = b"".join(map(self.read, self.pieces_of_backup(backup))).decode("ascii").splitlines()
-        except UnicodeDecodeError:
-            raise Damaged(f"{backup} is no backup") from None
-        found = [LINE.fullmatch(line) for line in lines]
-        if not all(found):
-            raise Damaged(f"{backup} is no backup")
-        return found
-
-    def backups(self):
-        """The lines of the file of backups, each with its fields, the oldest first."""
-        path = os.path.join(self.path, "backups")
-        if not os.path.exists(path):
-            return []
-        with open(path, encoding="ascii", errors="replace") as file:
-            lines = file.read().splitlines()
-        found = [BACKUP.fullmatch(line) for line in lines]
-        if not all(found):
-            raise Damaged(f"{path} has a line that names no backup: {lines[found.index(None)][:80]!r}")
-        return found
-
-    def note(self, line):
-        """Adds a line to the backups. The first sync is for the names of the objects, too."""
-        path = os.path.join(self.path, "backups")
-        lines = [found[0] for found in self.backups()]
-        with open(path + ".new", "w", encoding="ascii") as file:
-            file.writelines(line + "\n" for line in [*lines, line])
-        sync(self.path)
-        os.replace(path + ".new", path)
-        sync(self.path)
-
-    def read(self, address):
-        """The bytes of an object of the repository. They are compared with its address."""
-        with open(self.place(address), "rb") as file:
-            content = file.read()
-        self.hold(content, address)
-        return content
-
 
 def entries_of(folder):
-    """Yields the paths below a folder, in the order of their names, each after the folder that it is in."""
+    """Yields the paths below a folder, in the order of their names, each after the folder that it is in, and with None; and a folder that can't be listed
+    once more, with the reason."""
     for entry in sorted(os.scandir(folder), key=lambda entry: entry.name):
-        yield entry.path
+        yield entry.path, None
         if entry.is_dir(follow_symlinks=False):
-            yield from entries_of(entry.path)
-
-
-def quoted(path):
-    return urllib.parse.quote_from_bytes(os.fsencode(path))
-
-
-def unquoted(text):
-    return os.fsdecode(urllib.parse.unquote_to_bytes(text))
+            try:
+                yield from entries_of(entry.path)
+            except OSError as fault:
+                yield entry.path, fault.strerror
 
 
 def place_in(folder, path):
@@ -305,61 +73,66 @@ def place_in(folder, path):
     return os.path.join(folder, path)
 
 
-def line_of(repository, folder, path, known, linked):
-    """The backup's line for a path, or None for what is left out. `known` has the lines of the last backup; `linked` the first path of each file that has
-    several."""
+def words_of(repository, folder, path, known, linked):
+    """The words of the backup's line for a path, and a list of addresses that follow them; None for what is left out. `known` has the lines of the last
+    backup; `linked` the first path of each file that has several."""
     status, name = os.lstat(path), quoted(os.path.relpath(path, folder))
     words = [name, f"{stat.S_IMODE(status.st_mode):o}:{status.st_uid}:{status.st_gid}", str(status.st_mtime_ns)]
     if stat.S_ISDIR(status.st_mode):
-        return " ".join(["folder", *words])
+        return ["folder", *words], []
     if stat.S_ISLNK(status.st_mode):
-        return " ".join(["link", *words, quoted(os.readlink(path))])
+        return ["link", *words, quoted(os.readlink(path))], []
     if not stat.S_ISREG(status.st_mode):
         return None
     inode = status.st_dev, status.st_ino
     if inode in linked:
-        return " ".join(["same", *words, linked[inode]])
+        return ["same", *words, linked[inode]], []
     words = ["file", *words, str(status.st_size)]
-    line = known.get(tuple(words))
-    if line is None:
+    addresses = known.get(tuple(words))
+    if addresses is None or not all(repository.has(address) for address in addresses):
         with open(path, "rb") as file:
-            line = " ".join([*words, *repository.keep_all(file, status.st_size)])
+            addresses = repository.keep_all(file, status.st_size)
     if status.st_nlink > 1:
         linked[inode] = name
-    return line
+    return words, addresses
 
 
 def known_files(repository, folder):
-    """The lines of the files that the last backup of a folder has, by their first five words."""
+    """The addresses of the files that the last backup of a folder has, by the first words of their lines."""
     backups = [backup for backup, _, place in (found.groups() for found in repository.backups()) if place == quoted(os.path.abspath(folder))]
     if not backups:
         return {}
-    return {tuple(line[0].split(" ")[:5]): line[0] for line in repository.lines_of(backups[-1]) if line[1] == "file"}
+    try:
+        lines = [line[0].split(" ") for line in repository.lines_of(backups[-1]) if line[1] == "file"]
+    except (Refused, OSError, Damaged) as fault:
+        print(f"the last backup can't be read, so each file is read: {fault}")
+        return {}
+    return {tuple(words[:5]): words[5:] for words in lines}
 
 
 def lines_of_folder(repository, options, known):
     """The lines for the paths in a folder, and whether none was left out."""
-    lines, is_whole, linked = [], True, {}
-    for path in entries_of(options.folder):
+    found, is_whole, linked = [], True, {}
+    for path, fault in entries_of(options.folder):
         try:
-            line = line_of(repository, options.folder, path, known, linked)
-            fault = "is no file, folder or link" if line is None else None
+            words = None if fault else words_of(repository, options.folder, path, known, linked)
         except OSError as error:
-            fault = error.strerror
-        if fault is None:
-            lines.append(line)
+            words, fault = None, error.strerror
+        if words is not None:
+            found.append(words)
         else:
+            fault = fault or "is no file, folder or link"
             print(f"left out: {os.path.relpath(path, options.folder)} {fault}")
             is_whole = False
-    return lines, is_whole
+    repository.keep_waiting()
+    return [" ".join([*words, *addresses]) for words, addresses in found], is_whole
 
 
 def save(repository, options):
-    os.makedirs(os.path.join(repository.path, "objects"), exist_ok=True)
+    repository.make()
     with repository.locked(fcntl.LOCK_EX):
-        for folder, name in repository.files():
-            if name.endswith(".new"):
-                os.remove(os.path.join(folder, name))
+        repository.load()
+        repository.clean()
         repository.compares = options.all
         lines, is_whole = lines_of_folder(repository, options, {} if options.all else known_files(repository, options.folder))
         backup = repository.keep_backup(options.folder, lines)
@@ -423,6 +196,7 @@ class Restoring:
 
 
 def restore(repository, options):
+    repository.load()
     lines = repository.lines_of(options.address)
     os.makedirs(options.folder, exist_ok=True)
     restoring = Restoring(repository, options.folder)
@@ -433,53 +207,6 @@ def restore(repository, options):
     if restoring.unowned:
         print(f"owners not restored: {restoring.unowned}, which have no setuid and setgid bits")
     return restoring.is_whole and not restoring.unowned
-
-
-def right_objects(repository):
-    """The addresses of the objects that have their hash, and how many don't."""
-    right, wrong = set(), 0
-    for folder, name in repository.files():
-        path = os.path.join(folder, name)
-        if not ADDRESS.fullmatch(name) or path != repository.place(name):
-            print(f"no object: {os.path.relpath(path, repository.path)}")
-            continue
-        try:
-            repository.read(name)
-            right.add(name)
-        except (Refused, OSError) as fault:
-            print(f"wrong: {name} {fault}")
-            wrong += 1
-    return right, wrong
-
-
-def lost_paths(repository, backup, right):
-    """The paths of a backup that can't be restored."""
-    lost = []
-    for line in repository.lines_of(backup):
-        pieces = line[7].split()[1:] if line[1] == "file" else []
-        if not right.issuperset(pieces):
-            lost.append(unquoted(line[2]))
-    return lost
-
-
-def check(repository, _):
-    broken = 0
-    with repository.locked(fcntl.LOCK_SH):
-        right, wrong = right_objects(repository)
-        backups = list(dict.fromkeys(found[1] for found in repository.backups()))
-        for backup in backups:
-            try:
-                lost = lost_paths(repository, backup, right)
-            except (Refused, OSError, Damaged) as fault:
-                print(f"backup {backup} can't be restored: {fault}")
-                broken += 1
-                continue
-            for path in lost:
-                print(f"backup {backup} can't restore {path}")
-            broken += bool(lost)
-    print(f"objects {len(right) + wrong} wrong {wrong}")
-    print(f"backups {len(backups)} broken {broken}")
-    return wrong == broken == 0
 
 
 def an_address(text):
@@ -526,7 +253,7 @@ def main():
         with Store(options.program, sessions=1) as store:
             repository = Repository(options.repository, store, options.memory)
             return 0 if options.work(repository, options) else 1
-    except (Refused, OSError, Damaged) as fault:
+    except (Refused, OSError, Damaged, WriteFailed) as fault:
         print(f"backup: {fault}", file=sys.stderr)
         return 1
     except Ended as fault:

@@ -1,7 +1,7 @@
 """The commands of a store, over its sessions."""
-from typing import Callable, Dict, Iterator, List, Optional, TypeVar
+from typing import Callable, Dict, Iterator, List, Optional, Sequence, TypeVar
 
-from .sessions import Kinds, Session, Sessions
+from .sessions import MAX_FILED_AHEAD, Kinds, Session, Sessions
 from .values import (
     MAX_LIMIT, MAX_UPLOAD_LEN, RANGE_LEN, Buffer, Filed, Held, ObjectRow, OpenUpload, Refused, Totals, Usage, check_address, check_bytes,
     check_number, parse_digits, parse_filed, parse_held, parse_number, parse_object, parse_open_upload, parse_usage,
@@ -67,6 +67,31 @@ class Commands(Sessions):
             if self._next_upload is None:
                 return file_begun(session, session.ask("upload", begin), view, ending)
             return self._file_ahead(session, begin, view, ending)
+
+    def file_all(self, tenant: int, contents: Sequence[Buffer]) -> List[Filed]:
+        """Files several contents, each as `file` does. A `Store` with one session takes one turn for many of them, so for small ones this is several times
+        as fast. After a refusal those before it are filed, and of those after it some may be."""
+        views = [check_bytes(content) for content in contents]
+        if self._next_upload is None:
+            return [self.file(tenant, view) for view in views]
+        begin = f"begin {check_number('tenant', tenant)}"
+        filed: List[Filed] = []
+        with self._turn() as session:
+            for start in range(0, len(views), MAX_FILED_AHEAD):
+                filed += self._file_all_ahead(session, begin, views[start : start + MAX_FILED_AHEAD])
+        return filed
+
+    def forget_all(self, tenant: int, addresses: Sequence[str]) -> None:
+        """Ends a tenant's hold of several objects, each as `forget` does, but in few turns. After a refusal the others are forgotten all the same."""
+        lines = [f"forget {check_number('tenant', tenant)} {check_address(address)}\n" for address in addresses]
+        refusals: List[Refused] = []
+        with self._turn() as session:
+            for start in range(0, len(lines), MAX_FILED_AHEAD):
+                batch = lines[start : start + MAX_FILED_AHEAD]
+                session.write("".join(batch).encode())
+                refusals += session.answers(["ok"] * len(batch))[1]
+        if refusals:
+            raise refusals[0]
 
     def forget(self, tenant: int, address: str) -> None:
         """Ends a tenant's hold of an object, which is removed with its last holder. Refusals: S1, S12."""
@@ -186,6 +211,35 @@ class Commands(Sessions):
         if refusals:
             raise refusals[0]
         return parse_filed(answers[-1])
+
+    def _file_all_ahead(self, session: Session, begin: str, contents: List[memoryview]) -> List[Filed]:
+        """Files contents by commands that are all sent before an answer is read. Once a `begin` is refused, all uploads after it have other numbers than
+        expected, so what is sent for them is refused too."""
+        number = self._next_upload or 0
+        lines: List[Buffer] = []
+        for at, content in enumerate(contents, number):
+            put = f"putb {at} 0 {content.nbytes}\n" if content.nbytes else ""
+            lines += f"{begin} {content.nbytes}\n{put}".encode(), content, f"seal {at}\n".encode()
+        session.write(*lines)
+        filed: List[Filed] = []
+        unfiled: List[int] = []
+        refusals: List[Refused] = []
+        begun = 0
+        for content in contents:
+            kinds: List[Kinds] = ["upload", *["held"] * bool(content.nbytes), ("new", "known")]
+            answers, refused = session.answers(kinds)
+            begun += bool(answers)
+            if not refused:
+                filed.append(parse_filed(answers[-1]))
+            elif answers:
+                unfiled.append(parse_number(answers[0]))
+            refusals += refused
+        self._next_upload = number + begun
+        for upload in unfiled:
+            session.ask("ok", f"abort {upload}")
+        if refusals:
+            raise refusals[0]
+        return filed
 
     def _do(self, line: str) -> None:
         """Sends a command that is answered `ok`."""

@@ -13,6 +13,9 @@ READ_LEN = 1 << 16
 MAX_AHEAD = 8
 """How many parts are sent before the first one's answer is read. All their answers fit any pipe, so neither side waits for the other."""
 
+MAX_FILED_AHEAD = 24
+"""How many contents are filed, or objects forgotten, before the first one's answers are read. All their answers fit any pipe, too."""
+
 Kinds = Union[str, Tuple[str, ...]]
 """The first word that an answer must have; or several, one of which it must have."""
 

@@ -32,6 +32,7 @@ CASES = (
     ("uploads that fail", transfers.uploads_that_fail),
     ("uploads with blocks", transfers.uploads_with_blocks),
     ("uploads from slow files", transfers.slow_files),
+    ("contents that are filed together", transfers.files_together),
     ("objects as files", transfers.objects_as_files),
     ("objects read into buffers", transfers.reads_into_buffers),
     ("objects and the journal one by one", transfers.iterates),

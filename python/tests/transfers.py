@@ -9,7 +9,7 @@ import threading
 import time
 
 from shared import ABC, EMPTY, FOUR, PROGRAM, differences, raised, refusal, script_of
-from b3store import MAX_UPLOAD_LEN, PART_LEN, AsyncStore, Ended, Filed, Held, ObjectRow, Refused, Store, Totals, Usage
+from b3store import MAX_PART_LEN, MAX_UPLOAD_LEN, PART_LEN, AsyncStore, Ended, Filed, Held, ObjectRow, Refused, Store, Totals, Usage
 
 LIMIT = 1 << 30
 LENGTHS = (0, 1, 1024, PART_LEN, PART_LEN + 1, 3 * PART_LEN + 1024, 4 * PART_LEN, 4 * PART_LEN + 7, 9 * PART_LEN + 3)
@@ -177,6 +177,27 @@ def slow_files():
             file.write(content[5 * PART_LEN :])
         thread.join(60)
         return differences((len(results), 1), (results and results[0].length, len(content)), (took < 10, True))
+
+
+def files_together():
+    """Contents that are filed together are filed as each alone; after a refusal no upload is open, and the next one is filed."""
+    found, contents = [], [content_of(length) for length in (0, 1, 1023, 5000, 70000)]
+    for sessions in 1, 2:
+        with Store(PROGRAM, sessions=sessions) as store:
+            tenant, small = store.tenant(LIMIT), store.tenant(6000)
+            filed = store.file_all(tenant, contents * 12)
+            found += differences(([row.is_new for row in filed], [True] * 5 + [False] * 55), ([store.fetch(tenant, row.address) for row in filed], contents * 12))
+            addresses = [row.address for row in filed[:5]]
+            found += differences((refusal(store.forget_all, tenant, [addresses[0], *addresses]), ("S12", None)), (store.stat(), Totals(0, 0, 0, 0, 0)))
+            found += differences((store.file_all(tenant, []), []), (store.forget_all(tenant, []), None), (refusal(store.file_all, 5, [b"abc"]), ("S1", None)))
+            for wrong in (bytes(3000), b""), (bytes(MAX_PART_LEN + 1), b"abc"):
+                tenant = small if len(wrong[0]) == 3000 else tenant
+                refused = refusal(store.file_all, tenant, [contents[3], *wrong, b"abcd", bytes(70)])[0]
+                found += differences((refused, "S6" if tenant == small else "F6"), (store.uploads(tenant), []), (store.list(tenant)[addresses[3]], 5000))
+                store.file(tenant, b"abc")
+                found += differences((store.fetch(tenant, ABC), b"abc"))
+            found += differences((raised(store.file_all, tenant, ["abc"]), TypeError), (raised(store.forget_all, tenant, ["abc"]), ValueError))
+    return found
 
 
 def objects_as_files():

@@ -1,6 +1,5 @@
 """python3 tests/clients [PROGRAM] (default target/b3store): runs the tests of the Python package (python/tests), and of the programs that use it:
-examples/backup.py, with numpy too if it is installed, examples/cache_server.py, and, if nginx and ccache are installed, examples/cluster.py and
-bench/ccache. The last line is `N passed, M failed`.
+examples/backup.py, examples/cache_server.py, and, if nginx and ccache are installed, examples/cluster.py and bench/ccache. The last line is `N passed, M failed`.
 """
 import os
 import shutil
@@ -14,6 +13,7 @@ import cache_disk
 import cache_moves
 import caches
 import cases as package
+import packs
 from judging import judged
 from python_needed import end_where_older
 
@@ -24,7 +24,8 @@ CASES = (
     ("a backup that leads elsewhere", backups.restores_nothing_elsewhere),
     ("a backup with wrong words", backups.refuses_wrong_words),
     ("owners and hard links", backups.keeps_owners_and_links),
-    ("saves that are killed", backups.saves_that_are_killed),
+    ("a backup's pieces", backups.splits_by_content),
+    *packs.CASES,
     ("a cache's keys", caches.caches_keys),
     ("a cache's ranges", caches.gives_ranges),
     ("a cache's contents that a client has", caches.gives_what_is_new),
@@ -64,10 +65,6 @@ def cases():
             print(f"skipped: there is no {name}")
         else:
             yield name, case
-    if backups.backup_pieces.numpy is None:
-        print("skipped: there is no numpy")
-    else:
-        yield "a backup's pieces by numpy", backups.splits_by_numpy_too
 
 
 if __name__ == "__main__":

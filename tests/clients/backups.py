@@ -3,22 +3,24 @@ import fcntl
 import io
 import os
 import random
+import re
 import shutil
 import stat
 import subprocess
 import sys
 import tempfile
-import time
 
 from shared import ABC, EMPTY, PROGRAM, SECONDS, TOP, differences
 from b3store import Store
 import backup_pieces
-from backup import Repository
+from backup_repository import Repository
+
+
+BACKUP = [sys.executable, os.path.join(TOP, "examples", "backup.py"), "--program", PROGRAM]
 
 
 def backup(*words):
-    words = [sys.executable, os.path.join(TOP, "examples", "backup.py"), "--program", PROGRAM, *words]
-    run = subprocess.run(words, capture_output=True, timeout=SECONDS)
+    run = subprocess.run([*BACKUP, *words], capture_output=True, timeout=SECONDS)
     return run.returncode, run.stdout.decode().splitlines()
 
 
@@ -89,39 +91,49 @@ def folder_of_abc(place):
     return folder, repository
 
 
+def changed_in_packs(repository, old, new):
+    """Replaces bytes in the packs that have them."""
+    for name in os.listdir(os.path.join(repository, "packs")):
+        path = os.path.join(repository, "packs", name)
+        with open(path, "rb+") as file:
+            content = file.read()
+            file.seek(0)
+            file.truncate()
+            file.write(content.replace(old, new))
+
+
 def finds_changed_objects():
+    """A changed object is reported with the file that needs it, until a save compares it and keeps it again."""
     with tempfile.TemporaryDirectory() as place:
         folder, repository = folder_of_abc(place)
         address = backup("save", folder, repository)[1][-1].split()[1]
         right = (0, ["objects 3 wrong 0", "backups 1 broken 0"])
-        lost = [f"backup {address} can't restore file"]
         found = differences((backup("check", repository), right))
-        kept = os.path.join(repository, "objects", ABC[:2], ABC)
-        for content in b"abd", b"ab":
-            with open(kept, "wb") as file:
-                file.write(content)
-            status, lines = backup("check", repository)
-            found += differences((status, 1), (lines[1:], [*lost, "objects 3 wrong 1", "backups 1 broken 1"]))
-            status, lines = backup("restore", repository, address, os.path.join(place, "restored"))
-            found += differences((status, 1), (len(lines), 1))
-        found += differences((backup("save", "--all", folder, repository)[1][1].split()[:3], ["new", "objects", "1"]), (backup("check", repository), right))
-        os.remove(kept)
-        return found + differences((backup("check", repository), (1, [*lost, "objects 2 wrong 0", "backups 1 broken 1"])), (backup("frob")[0], 2))
+        changed_in_packs(repository, b"3\nabc", b"3\nabd")
+        status, lines = backup("check", repository)
+        found += differences((status, 1), (lines[0].split()[:2], ["wrong:", ABC]))
+        found += differences((lines[1:], [f"backup {address} can't restore file", "objects 3 wrong 1", "backups 1 broken 1"]))
+        status, lines = backup("restore", repository, address, os.path.join(place, "restored"))
+        found += differences((status, 1), (len(lines), 1), (backup("save", "--all", folder, repository)[1][1].split()[:3], ["new", "objects", "1"]))
+        status, lines = backup("check", repository)
+        found += differences((status, 0), (lines[0].endswith("; another copy is right"), True), (lines[1:], right[1]), (backup("frob")[0], 2))
+        return found + differences((backup("restore", repository, address, os.path.join(place, "again")), (0, [])))
 
 
 def odd_files_in_a_repository():
-    """What a killed run left, and what else is no object, is told and does no harm; what names no backup ends with a message."""
+    """What a killed run left, and what else is no object, is reported and does no harm; what names no backup ends with a message."""
     with tempfile.TemporaryDirectory() as place:
         folder, repository = folder_of_abc(place)
         backup("save", folder, repository)
-        left = os.path.join(repository, "objects", ABC[:2], ABC + ".new")
-        os.makedirs(os.path.dirname(left), exist_ok=True)
-        for path in left, os.path.join(repository, "objects", "stray"):
+        left = [os.path.join(repository, name) for name in ("objects/64/x.new", "packs/index.new", "packs/pack.new")]
+        for path in *left, os.path.join(repository, "objects", "stray"), os.path.join(repository, "packs", "stray"):
+            os.makedirs(os.path.dirname(path), exist_ok=True)
             with open(path, "wb"):
                 pass
+        names = ["objects/64/x.new", "objects/stray", "packs/index.new", "packs/pack.new", "packs/stray"]
         status, lines = backup("check", repository)
-        found = differences((status, 0), (sorted(lines)[1:], [f"no object: objects/{ABC[:2]}/{ABC}.new", "no object: objects/stray", "objects 3 wrong 0"]))
-        found += differences((backup("save", folder, repository)[0], 0), (os.path.exists(left), False))
+        found = differences((status, 0), (sorted(lines[:5]), [f"no object: {name}" for name in names]), (lines[5], "objects 3 wrong 0"))
+        found += differences((backup("save", folder, repository)[0], 0), ([os.path.exists(path) for path in left], [False] * 3))
         for words in ["restore", repository, ABC, place], ["restore", repository, EMPTY, place], ["check", place + "/gone"], ["save", place + "/gone", repository]:
             found += differences((backup(*words)[0], 1))
         found += differences((backup("restore", repository, "frob", folder)[0], 2))
@@ -141,14 +153,13 @@ def refuses_wrong_words():
         file = os.path.join(folder, "file")
         cases = (
             (["save", folder, file], 1, file), (["save", file, repository], 1, file), (["save", place + "/none", repository], 1, place + "/none"),
-            (["check", file], 1, file), (["check", place + "/none"], 1, place + "/none"), (["restore", place + "/none", ABC, folder], 1, ABC),
+            (["check", file], 1, file), (["check", place + "/none"], 1, place + "/none"), (["restore", place + "/none", ABC, folder], 1, place + "/none"),
             (["restore", repository, "zz", folder], 2, "'zz'"), (["--memory", "x", "check", folder], 2, "'x'"), (["--memory", "5", "check", folder], 2, "'5'"),
             (["--program", "/no/program", "check", folder], 1, "/no/program"), (["--program", "true", "check", folder], 3, "the store has ended"), (["save"], 2, "FOLDER"),
         )
         found = []
         for words, status, part in cases:
-            command = [sys.executable, os.path.join(TOP, "examples", "backup.py"), *([] if "--program" in words else ["--program", PROGRAM]), *words]
-            run = subprocess.run(command, capture_output=True, timeout=SECONDS)
+            run = subprocess.run([*BACKUP, *words], capture_output=True, timeout=SECONDS)
             lines = run.stderr.decode().splitlines()
             found += differences((run.returncode, status), (run.stdout, b""))
             found += [] if part in lines[-1] and (status == 2 or len(lines) == 1) else [f"{words}: {lines[-1]}"]
@@ -157,12 +168,13 @@ def refuses_wrong_words():
 
 def made_backup(place, *lines):
     """A repository with a backup of these lines, in which `abc` is the address of an object, and its address."""
-    repository = os.path.join(place, "repository")
-    os.makedirs(os.path.join(repository, "objects"))
+    repository, addresses = os.path.join(place, "repository"), []
     with Store(PROGRAM, sessions=1) as store:
         kept = Repository(repository, store, 1 << 23)
-        address = kept.keep(b"abc")
-        return repository, kept.keep_backup(place, [line.replace("abc", address) for line in lines])
+        kept.make()
+        kept.keep(b"abc", addresses)
+        kept.keep_waiting()
+        return repository, kept.keep_backup(place, [line.replace("abc", addresses[0]) for line in lines])
 
 
 def restores_nothing_elsewhere():
@@ -202,46 +214,25 @@ def keeps_owners_and_links():
         return found + differences((os.path.samefile(os.path.join(restored, "a"), os.path.join(restored, "b")), True))
 
 
-KILLS = 12
-
-
-def saves_that_are_killed():
-    """Whenever a save is killed, each backup that is noted can be restored, and the next save does what it would have done."""
-    with tempfile.TemporaryDirectory() as place:
-        folder, repository = os.path.join(place, "folder"), os.path.join(place, "repository")
-        os.mkdir(folder)
-        words = [sys.executable, os.path.join(TOP, "examples", "backup.py"), "--program", PROGRAM, "save", folder, repository]
-        found, broken_off = [], 0
-        for number in range(KILLS):
-            for name in range(40):
-                with open(os.path.join(folder, f"{number}.{name}"), "wb") as file:
-                    file.write(os.urandom(50000))
-            run = subprocess.Popen(words, stdout=subprocess.DEVNULL)
-            time.sleep(0.05 + 0.04 * number)
-            run.kill()
-            broken_off += run.wait() != 0
-            if os.path.isdir(os.path.join(repository, "objects")):
-                status, lines = backup("check", repository)
-                found += differences((status, 0), (lines[-2].endswith(" wrong 0"), True), (lines[-1].endswith(" broken 0"), True))
-        status, lines = backup("save", folder, repository)
-        restored = os.path.join(place, "restored")
-        found += differences((status, 0), (backup("restore", repository, lines[-1].split()[1], restored), (0, [])), (state_of(restored) == state_of(folder), True))
-        return found + ([] if broken_off else ["no save was killed"])
-
-
-def splits_by_numpy_too():
-    """The pieces are the same with numpy and without it, wherever edges are in the blocks that are searched at once, and if the file has grown."""
+def splits_by_content():
+    """Pieces end where a plain search finds an edge, wherever that is in the blocks that are searched at once, and if the file has grown."""
+    edges = re.compile(b"".join(b"[" + re.escape(bytes(sorted(chosen))) + b"]" for chosen in backup_pieces.EDGE_SETS), re.DOTALL)
     edge, random_bytes = bytes(min(chosen) for chosen in backup_pieces.EDGE_SETS), random.Random(1).randbytes
     smallest, largest, block = backup_pieces.MIN_PIECE, backup_pieces.MAX_PIECE, backup_pieces.BLOCK
-    lengths = [0, 4, smallest, smallest + 4, smallest + 5, smallest + 6, block + 4, block + 5, largest - 1, largest, largest + 5]
+    lengths = [0, 4, smallest, *range(smallest + 4, smallest + 7), smallest + block - 1, smallest + block + 4, smallest + block + 5, largest - 1, largest, largest + 5]
     contents = [random_bytes(length) for length in lengths] + [bytes(largest + extra) + random_bytes(largest) for extra in (-5, 0, 5)] + [edge * 60000]
-    for at in (smallest - 1, smallest, block - 5, block - 3, block - 1, block, largest - 6, largest - 5, largest - 1, largest):
+    for at in (smallest - 1, *(smallest + block * turn - back for turn in (0, 1, 2) for back in (5, 4, 3, 1, 0)), *range(largest - 6, largest + 1)):
         contents.append(bytes(at) + edge + bytes(2 * largest - at))
-    found, numpy = [], backup_pieces.numpy
+    found = []
     for content in contents:
-        pieces = []
-        for backup_pieces.numpy, length in (None, len(content)), (numpy, len(content)), (numpy, len(content) // 3):
-            pieces.append(list(backup_pieces.pieces_of(io.BytesIO(content), length)))
-        if any(row != pieces[0] for row in pieces) or b"".join(pieces[0]) != content:
-            found.append(f"{len(content)} bytes: pieces of {[[len(piece) for piece in row][:5] for row in pieces]} bytes")
+        wanted, start = [], 0
+        while start < len(content):
+            last = min(len(content), start + largest)
+            match = edges.search(content, start + smallest, last)
+            wanted.append(content[start : match.end() if match else last])
+            start += len(wanted[-1])
+        for length in len(content), len(content) // 3:
+            pieces = list(backup_pieces.pieces_of(io.BytesIO(content), length))
+            if pieces != wanted:
+                found.append(f"{len(content)} bytes: pieces of {[len(piece) for piece in pieces][:5]} bytes, not {[len(piece) for piece in wanted][:5]}")
     return found

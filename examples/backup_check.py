@@ -1,0 +1,106 @@
+"""Checks a repository (backup.py): whether each object has its address, and each backup can be restored."""
+import fcntl
+import os
+
+from b3store import Refused
+from backup_repository import ADDRESS, Damaged, unquoted
+
+
+class Checking:
+    """What a check has found so far."""
+
+    def __init__(self, repository):
+        self.repository = repository
+        self.right = {}
+        """The lengths of the objects of which a copy is right, by address."""
+        self.faults = []
+        """Each copy of an object that is wrong: its address, its file and why."""
+        self.wrong_packs, self.used = set(), set()
+        """The packs that are wrong beyond their objects, and the addresses that backups use."""
+
+    def relative(self, path):
+        return os.path.relpath(path, self.repository.path)
+
+    def check_copy(self, address, path, read):
+        """Compares a copy of an object with its address."""
+        try:
+            content = read()
+            self.repository.hold(content, address)
+            self.right[address] = len(content)
+        except (Refused, OSError) as fault:
+            self.faults.append((address, self.relative(path), reason(fault)))
+
+    def check_pack(self, pack):
+        """Compares all that is in a pack and its index."""
+        read, end = self.repository.packs.read, pack.end()
+        if pack.lacks_index and pack.fault is None:
+            print(f"missing: {self.relative(pack.index)}, which the next save makes from its pack")
+        elif pack.index_fault is not None:
+            self.report_pack(pack, pack.index, reason(pack.index_fault))
+        if pack.fault is not None:
+            self.report_pack(pack, pack.path, pack.fault)
+        elif pack.length > end:
+            self.report_pack(pack, pack.path, f"after its pieces are {pack.length - end} more bytes")
+        for row, address, start, length in pack.pieces():
+            self.check_copy(address, pack.path, lambda: read(pack, start, length))
+            if pack.index_fault is None and address in self.right and read(pack, start - len(row), len(row)) != row:
+                self.report_pack(pack, pack.path, f"before object {address} is a wrong row")
+
+    def report_pack(self, pack, path, fault):
+        print(f"wrong: {self.relative(path)}: {fault}")
+        self.wrong_packs.add(pack)
+
+    def check_objects(self):
+        """Checks all objects, and reports those that are wrong. Returns their addresses."""
+        packs = self.repository.packs
+        for name in packs.names()[1]:
+            print(f"no object: {self.relative(os.path.join(packs.folder, name))}")
+        for pack in packs.packs:
+            self.check_pack(pack)
+        for folder, name in self.repository.files():
+            path = os.path.join(folder, name)
+            if ADDRESS.fullmatch(name) and path == self.repository.place(name):
+                self.check_copy(name, path, lambda: self.repository.read_file(path))
+            else:
+                print(f"no object: {self.relative(path)}")
+        for address, path, fault in self.faults:
+            more = "; another copy is right" if address in self.right else ""
+            print(f"wrong: {address} in {path}: {fault}{more}")
+        return {address for address, _, _ in self.faults} - self.right.keys()
+
+    def check_backup(self, backup):
+        """Reports what of a backup can't be restored, and returns whether all of it can be."""
+        try:
+            lists, lines = self.repository.pieces_of_backup(backup), self.repository.lines_of(backup)
+        except (Refused, OSError, Damaged) as fault:
+            print(f"backup {backup} can't be restored: {reason(fault)}")
+            return False
+        self.used.update([backup], lists)
+        is_whole = True
+        for line in lines:
+            pieces = line[7].split()[1:] if line[1] == "file" else []
+            self.used.update(pieces)
+            if not self.right.keys() >= set(pieces):
+                print(f"backup {backup} can't restore {unquoted(line[2])}")
+                is_whole = False
+        return is_whole
+
+
+def reason(fault):
+    return getattr(fault, "strerror", None) or str(fault)
+
+
+def check(repository, _):
+    """Checks all objects and all backups."""
+    with repository.locked(fcntl.LOCK_SH):
+        repository.load()
+        checking = Checking(repository)
+        wrong = checking.check_objects()
+        backups = list(dict.fromkeys(found[1] for found in repository.backups()))
+        broken = sum(not checking.check_backup(backup) for backup in backups)
+    unused = [length for address, length in checking.right.items() if address not in checking.used]
+    if unused and not broken:
+        print(f"objects that no backup uses: {len(unused)}, {sum(unused)} bytes")
+    print(f"objects {len(checking.right) + len(wrong)} wrong {len(wrong)}")
+    print(f"backups {len(backups)} broken {broken}")
+    return not wrong and not broken and not checking.wrong_packs
