@@ -58,7 +58,9 @@ fn names_in(rt: &HostRuntime, names: &NameList<'_>) -> Result<Vec<Name>, u8> {
 }
 
 // The names of the files that words name, some of which may be foreign.
-fn names(alloc: Global, words: &[&str], foreign: &[Foreign]) -> Result<Vec<Name>, AllocError> {
+fn names(alloc: Global, words: &[&str], foreign: &[Foreign]) -> Result<Vec<Name>, AllocError>
+    requires { All (λ word. IsName word.now) words.now }
+{
     if foreign.is_empty() {
         names_of(alloc, words)
     } else {
