@@ -76,6 +76,16 @@ class OwnSession(Transfers):
         return Ended(reason)
 
 
+@contextlib.contextmanager
+def _signals_held() -> Iterator[None]:
+    """Holds back the signals that end the server: one that came while a temporary folder is made would leave it behind."""
+    held = signal.pthread_sigmask(signal.SIG_BLOCK, (signal.SIGTERM, signal.SIGINT))
+    try:
+        yield
+    finally:
+        signal.pthread_sigmask(signal.SIG_SETMASK, held)
+
+
 class Store:
     """A running `b3store serve --at DOOR --sessions N`. Its standard input and output are the server's own session."""
 
@@ -84,13 +94,16 @@ class Store:
         self._numbers = itertools.count(1)
         self._lock = threading.Lock()
         self._is_closing = False
-        self._folder = tempfile.mkdtemp(prefix="b3store-server-")
-        self._door = os.path.join(self._folder, "door")
+        self._folder = ""
         try:
+            with _signals_held():
+                self._folder = tempfile.mkdtemp(prefix="b3store-server-")
+            self._door = os.path.join(self._folder, "door")
             os.mkfifo(self._door, 0o600)
             self._start(program, sessions)
         except BaseException:
-            shutil.rmtree(self._folder, ignore_errors=True)
+            if self._folder:
+                shutil.rmtree(self._folder, ignore_errors=True)
             raise
 
     def _start(self, program: str, sessions: int) -> None:

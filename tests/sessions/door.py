@@ -118,7 +118,7 @@ class Server:
         self.at = os.path.join(self.folder, "door")
         self.numbers = 0
         os.mkfifo(self.at, 0o600)
-        self.errors = open(os.path.join(self.folder, "errors"), "w+b")
+        self.errors = open(os.path.join(self.folder, "errors"), "ab")
         words = [*program, "serve", "--at", self.at, "--sessions", str(sessions)]
         self.process = subprocess.Popen(
             words, stdin=subprocess.PIPE, stdout=subprocess.PIPE, stderr=self.errors, env={**os.environ, **variables}, **passed(variables)
@@ -146,8 +146,8 @@ class Server:
 
     def reported(self):
         """What the server has written to standard error."""
-        self.errors.seek(0)
-        return self.errors.read().decode(errors="replace")
+        with open(self.errors.name, encoding="utf-8", errors="replace") as errors:
+            return errors.read()
 
     def ask(self, line):
         """The answer of the session on standard input and output."""

@@ -118,7 +118,7 @@ class Running:
         self.path = os.path.join(self.folder, "socket")
         self.temporary = os.path.join(self.folder, "temporary")
         os.mkdir(self.temporary)
-        self.errors = open(os.path.join(self.folder, "errors"), "w+b")
+        self.errors = open(os.path.join(self.folder, "errors"), "ab")
         command = [sys.executable, *python, *(["--socket", self.path] if is_unix else []), "--program", program, *words]
         self.process = subprocess.Popen(
             command, stdin=subprocess.DEVNULL, stdout=subprocess.PIPE, stderr=self.errors, env=environment(self.temporary, variables), start_new_session=True
@@ -168,8 +168,8 @@ class Running:
 
     def reported(self) -> str:
         """What the server has written to standard error."""
-        self.errors.seek(0)
-        return self.errors.read().decode(errors="replace")
+        with open(self.errors.name, encoding="utf-8", errors="replace") as errors:
+            return errors.read()
 
     def signal(self, number: int = signal.SIGTERM) -> None:
         self.process.send_signal(number)
