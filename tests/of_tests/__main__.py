@@ -29,8 +29,8 @@ MAX_OF_A_HUNDRED = 4
 """So much of tests/program may pass with any program: a few cases ask nothing of it. They compare the second reading with what else is in the
 repository, and one wants no output of no lines."""
 
-MAX_OF_PAGES = 45
-"""The same of tests/pages: many cases compare the pages with each other, the crates, the client and the second reading."""
+MAX_OF_PAGES = 35
+"""The same of tests/pages: many cases compare the pages with each other, and with the crates."""
 
 MAX_OF_CLIENTS = 35
 """The same of tests/clients: a quarter of its cases need no store, such as those of arguments and of servers that end."""
