@@ -6,6 +6,8 @@ import sys
 import tempfile
 import time
 
+from peak import peak_memory
+
 TURNS = 25
 KIB = [1, 2, 3, 4, 5, 6, 7, 8, 12, 16, 24, 31, 32]
 MIB = int(sys.argv[1])
@@ -22,14 +24,6 @@ def whole(path, *words):
         start = time.monotonic()
         subprocess.run(words, check=True, stdin=file, stdout=subprocess.DEVNULL)
         return int((time.monotonic() - start) * 1e6)
-
-
-def peak_memory(path, *words):
-    """The greatest resident size, in bytes, of a process that reads a file as standard input."""
-    with open(path, "rb") as file:
-        process = subprocess.Popen(words, stdin=file, stdout=subprocess.DEVNULL)
-        _, _, usage = os.wait4(process.pid, 0)
-        return usage.ru_maxrss * 1024
 
 
 def ratios(own, other):

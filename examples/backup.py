@@ -1,30 +1,31 @@
 #!/usr/bin/env python3
-"""Backs up a folder into a repository, and restores it, by a store (docs/LIBRARY.md).
+"""Backs up a folder into a repository, and restores it, using a store (docs/LIBRARY.md).
 
     backup.py save [--all] FOLDER REPOSITORY         save what is in FOLDER, and print the backup's address
-    backup.py restore REPOSITORY ADDRESS FOLDER      restore a backup into a folder, in which nothing is overwritten
+    backup.py restore REPOSITORY ADDRESS FOLDER      restore a backup into FOLDER, without overwriting anything
     backup.py check REPOSITORY                       compare each object with its address, and print which backups can't be restored
 
 A repository is a folder. Its folder `packs` has objects, each named by its BLAKE3 hash, which is its address; its file `backups` has a line for each backup.
-Files are split into pieces by their content, and a piece is kept once, whichever files and backups have it; so bytes put in front of a file make one new
-piece. A backup is a list of names and pieces, which is kept in pieces too. A repository of an older version, with a file objects/AA/ADDRESS for each object,
-is read too, and its new objects are kept in packs.
+Files are split into pieces by their content, and a piece is kept once, however many files and backups have it; so bytes put in front of a file make only one
+new piece. A backup is a list of names and pieces, which is kept in pieces too. A repository of an older version, with a file objects/AA/ADDRESS for each
+object, is read too, and its new objects are kept in packs.
 
 A file is not read again if its length, mode, owner and time are those in the last backup of its folder and its pieces are there, unless `--all` is given,
 which also compares the objects that are there. All files are written under other names, synced, and then renamed; a backup is recorded last. So a save that
-is killed changes no earlier backup. What it has left is used or removed by the next save. Only one save can use a repository at a time.
+is killed changes no earlier backup. The next save uses or removes what it left. Only one save can use a repository at a time.
 
 `check` reads everything. It prints each object that is missing, truncated or altered, with its pack, and each file that a backup lacks. If only an index is
-missing or wrong, everything can be restored, and the next save writes the index again. A wrong object is kept again by `save --all` of a folder that has it.
+missing or wrong, everything can be restored, and the next save writes the index again. A wrong object is written again by `save --all` of a folder that has the
+same content.
 
 It keeps files, folders, links and hard links, with times, modes, owners and groups. If an owner can't be restored, for example by a user other than root,
 that is reported, and no setuid or setgid bit is set. It doesn't keep extended attributes, access lists and holes in files. Anything else (a pipe, a device,
 a socket) is reported and left out. It doesn't compress or encrypt, and removes no backups.
 
 The store computes the address of each piece, and compares what is read from the repository with it. It holds up to `--memory` bytes; beyond that it forgets
-what it has held longest.
+the oldest objects.
 
-The status is 0 if all was saved, restored or correct; 1 if something was not, which is reported; 2 for usage; 3 if the store has ended.
+The status is 0 if all was saved, restored or correct; 1 if something was not, which is reported; 2 for a usage error; 3 if the store has ended.
 """
 import argparse
 import collections
@@ -223,7 +224,7 @@ def a_memory(text):
 
 COMMANDS = (
     ("save", save, "save what is in FOLDER, and print the backup's address", ["folder", "repository"]),
-    ("restore", restore, "restore a backup into FOLDER, in which nothing is overwritten", ["repository", "address", "folder"]),
+    ("restore", restore, "restore a backup into FOLDER, without overwriting anything", ["repository", "address", "folder"]),
     ("check", check, "compare each object with its address, and print which backups can't be restored", ["repository"]),
 )
 
@@ -241,7 +242,7 @@ def read_options():
         for word in words:
             command.add_argument(word, metavar=word.upper(), type=an_address if word == "address" else str)
         if work is save:
-            extent = "read files too that are as the last backup has them, and compare the objects that are there"
+            extent = "also read files that haven't changed since the last backup, and compare the objects that are already there"
             command.add_argument("--all", action="store_true", help=extent)
     return parser.parse_args()
 

@@ -21,7 +21,7 @@ leads, a hard link the path of the same file."""
 
 
 class Damaged(Exception):
-    """A repository has something that is no backup, or is incomplete."""
+    """A repository has something that isn't a backup, or is incomplete."""
 
 
 class Repository:
@@ -85,7 +85,7 @@ class Repository:
         self.packs.clean()
 
     def hold(self, content, address=None):
-        """Puts an object into the store, if it has the address, in case one is given, and returns its address."""
+        """Puts an object into the store, and returns its address. If an address is given, an object with another one is refused."""
         self.forget_for(len(content))
         filed = self.store.file(self.tenant, content, address)
         self.note_held([filed])
@@ -99,7 +99,7 @@ class Repository:
         return [each.address for each in filed]
 
     def forget_for(self, length):
-        """Lets the store forget what it has held longest, until some bytes more fit."""
+        """Lets the store forget its oldest objects, until some more bytes fit."""
         forgotten = []
         while self.held and self.bytes_held + length > self.memory:
             oldest, freed = self.held.popitem(last=False)

@@ -44,7 +44,7 @@ class Metrics:
         objects, held = cache.totals()
         values = {
             "evictions": cache.evictions, "moves": cache.moves, "keys": sum(len(user.keys) for user in cache.users), "objects": objects, "held_bytes": held,
-            "journal_entries": cache.backend.count_entries(),
+            "journal_entries": cache.count_entries(),
         }
         with self.lock:
             requests = sorted(self.requests.items())

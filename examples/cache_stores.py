@@ -5,8 +5,9 @@ there what keys lead to, a batch of objects at a time, while requests are answer
 on the first one ends there: an upload is sealed there and then moved, and an object that is being read is kept until it was read. The first store ends
 once nothing uses it.
 
-While there are two stores, a user's quota holds for both together. The tenant in the new store may use what the one in the old store leaves, and an object
-that is in both counts once. All commands that reserve bytes are given under one lock, so no other upload can take what a moved object needs.
+While there are two stores, a user's quota holds for both together. The tenant in the new store may use what the one in the old store leaves. An object that
+is in both counts once, and the uploads that copy objects to the new store don't count. Bytes are reserved under the lock under which the tenant's limit
+changes, so what the copies need isn't free for other uploads.
 """
 import collections
 import contextlib
@@ -44,10 +45,18 @@ class Backend:
     def __init__(self, store, users):
         self.store = store
         self.tenants = {user: store.tenant(user.limit) for user in users}
+        self.limits = {user: user.limit for user in users}
         self.counts = {user: collections.Counter() for user in users}
         """How many keys and requests of a user use an object."""
         self.uploads, self.entries = 0, 0
         """How many uploads are open; the least number of entries that the journal has."""
+
+    def limit(self, user, limit):
+        """Changes a tenant's limit, unless that is below what the tenant uses and reserves."""
+        if limit != self.limits[user]:
+            with contextlib.suppress(Refused):
+                self.store.limit(self.tenants[user], limit)
+                self.limits[user] = limit
 
     def is_used(self):
         return self.uploads > 0 or any(self.counts.values())
@@ -78,8 +87,8 @@ class Cache:
         """Held while keys and the use of objects change, and while bytes are reserved."""
         self.backend, self.old = self.open_backend(), None
         """The store that content is put into, and the one that content moves away from."""
-        self.twins, self.moving = {user: {} for user in users}, frozenset()
-        """The lengths of a user's objects that both stores hold or are about to hold, and the addresses that are being moved."""
+        self.twins, self.copying = {user: {} for user in users}, {user: 0 for user in users}
+        """The lengths of a user's objects that both stores hold, and how many bytes the uploads that copy some of them reserve."""
 
     def open_backend(self):
         store = self.start()
@@ -122,24 +131,26 @@ class Cache:
             try:
                 return work()
             except Refused as refusal:
-                if refusal.number != "S6" or not self.evict(user, key, length - refusal.value):
+                if refusal.number != "S6" or not self.evict(user, key, length):
                     raise
 
     def evict(self, user, key, wanted):
         """Drops the least recently used keys of a user, and `key` last, until `wanted` bytes are free. If that isn't possible, drops none and returns False."""
         with self.lock:
-            dropped, counts, freed = [], collections.Counter(), 0
+            usage = self.backend.store.usage(self.backend.tenants[user])
+            free, dropped, counts = usage.limit - usage.used - usage.reserved, [], collections.Counter()
             for other in sorted(user.keys, key=key.__eq__) if self.evicts else ():
-                if freed >= wanted:
+                if free >= wanted:
                     break
-                backend, address, length = user.keys[other]
+                _, address, length = user.keys[other]
                 dropped.append(other)
-                counts[backend, address] += 1
-                freed += length if counts[backend, address] == backend.counts[user][address] else 0
-            for other in dropped if freed >= wanted else ():
+                counts[address] += 1
+                # an object that both stores hold counts once, and is free when neither uses it
+                free += length if counts[address] == sum(backend.counts[user][address] for backend in self.backends()) else 0
+            for other in dropped if free >= wanted else ():
                 self.lead(user, other, None)
                 self.evictions += 1
-            return bool(dropped) and freed >= wanted
+            return free >= wanted
 
     # ---- keys, under the lock
 
@@ -156,13 +167,14 @@ class Cache:
         if old is not None:
             self.leave(user, old)
 
-    def use(self, user, entry):
+    def use(self, user, entry, shares=True):
         """Adds a key or a request to those that use an object."""
         entry.backend.counts[user][entry.address] += 1
         other = self.old if entry.backend is self.backend else self.backend
         if other is not None and entry.address in other.counts[user] and entry.address not in self.twins[user]:
             self.twins[user][entry.address] = entry.length
-            self.share_quota(user)
+            if shares:
+                self.share_quota(user)
 
     def leave(self, user, entry, shares=True):
         """Removes a key or a request from those that use an object. The store forgets an object that has neither."""
@@ -178,8 +190,7 @@ class Cache:
             # a store that is about to be closed need not forget
             if backend is not self.old:
                 raise
-        if address not in self.moving:
-            self.twins[user].pop(address, None)
+        self.twins[user].pop(address, None)
         if shares:
             self.share_quota(user)
 
@@ -188,9 +199,8 @@ class Cache:
         if self.old is None:
             return
         usage = self.old.store.usage(self.old.tenants[user])
-        limit = user.limit - usage.used - usage.reserved + sum(self.twins[user].values())
-        with contextlib.suppress(Refused):
-            self.backend.store.limit(self.backend.tenants[user], min(limit, MAX_LIMIT))
+        limit = user.limit - usage.used - usage.reserved + sum(self.twins[user].values()) + self.copying[user]
+        self.backend.limit(user, min(limit, MAX_LIMIT))
 
     # ---- reading
 
@@ -240,6 +250,17 @@ class Cache:
             if not backend.store.alive and backend in self.backends():
                 backend.store.stat()
 
+    def count_entries(self):
+        """The number of entries in the journal of the store that content is put into."""
+        while True:
+            backend = self.backend
+            try:
+                return backend.count_entries()
+            except Ended:
+                # a move may have closed it meanwhile
+                if backend in self.backends():
+                    raise
+
     def close(self):
         """Ends all changes of keys, and a move."""
         with self.lock:
@@ -260,14 +281,14 @@ class Cache:
     # ---- moves
 
     def move_if_due(self):
-        """Starts a move if the journal is longer than its limit, and twice as long as the last move left it."""
+        """Starts a move if the journal is longer than its limit, and twice as long as it was after the last move."""
         is_moving = self.old is not None or (self.mover is not None and self.mover.is_alive())
         if self.journal_limit and not is_moving and self.backend.count_entries() > self.next_limit:
             self.mover = threading.Thread(target=self.try_to_move, daemon=True)
             self.mover.start()
 
     def try_to_move(self):
-        """Moves all content to a new store. If a store has ended the server finds that itself; if none can be started, the journal grows on."""
+        """Moves all content to a new store. If a store has ended, the server notices that itself; if no new store can be started, the journal keeps growing."""
         try:
             self.move()
         except (OSError, Refused, Ended) as fault:
@@ -276,11 +297,8 @@ class Cache:
                 print(f"cache_server: cannot start a second store, so the journal grows: {fault}", file=sys.stderr, flush=True)
 
     def move(self):
-        new, has_reported = self.open_backend(), False
-        with self.lock:
-            self.old, self.backend = self.backend, new
-            for user in self.users:
-                self.share_quota(user)
+        has_reported = False
+        self.add_store()
         while not self.is_closed:
             try:
                 refusals = [refusal for user in self.users for batch in self.batches(user) for refusal in self.move_batch(user, batch)]
@@ -292,6 +310,19 @@ class Cache:
                 has_reported = True
                 print(f"cache_server: content waits to be moved to a new store: {refusals[0]}", file=sys.stderr, flush=True)
             time.sleep(SECONDS_BETWEEN_PASSES)
+
+    def add_store(self):
+        """Starts a second store, into which content is put from now on."""
+        new = self.open_backend()
+        with self.lock:
+            self.old, self.backend = self.backend, new
+            try:
+                for user in self.users:
+                    self.share_quota(user)
+            except Refused:
+                self.old, self.backend = None, self.old
+                new.store.close()
+                raise
 
     def batches(self, user):
         """Yields what a user's keys lead to in the old store, in batches: the entry and the keys of each object."""
@@ -313,63 +344,64 @@ class Cache:
             yield batch
 
     def move_batch(self, user, batch):
-        """Moves some objects, and returns why others can't be moved now."""
-        copies, refusals = {}, []
+        """Copies some objects to the new store, and lets the keys that still lead to them lead to the copies. Returns why others can't be moved now."""
         with self.lock:
-            self.moving = frozenset(entry.address for entry, _ in batch)
-            self.twins[user].update({entry.address: entry.length for entry, _ in batch})
-            self.share_quota(user)
-        for entry, _ in batch:
+            uploads, refusals = self.begin_copies(user, [entry.length for entry, _ in batch])
+        for number, (entry, keys) in zip(uploads, batch):
             try:
-                copies[entry] = self.copy(user, entry)
+                self.move_object(user, entry, keys, number)
             except Refused as refusal:
+                # S12: the object was dropped meanwhile
                 refusals += [refusal] if refusal.number != "S12" else []
-        with self.lock:
-            try:
-                for entry, keys in batch:
-                    if entry in copies:
-                        self.switch(user, keys, entry, copies[entry])
-            finally:
-                self.moving = frozenset()
-                for entry, _ in batch:
-                    if not all(entry.address in backend.counts[user] for backend in self.backends()):
-                        del self.twins[user][entry.address]
-                self.share_quota(user)
         return refusals
 
-    def copy(self, user, entry):
-        """Copies an object to the new store, in which the move uses it. Raises Refused S12 if the object was dropped meanwhile."""
-        store, tenant, copied = self.backend.store, self.backend.tenants[user], entry._replace(backend=self.backend)
-        pieces = self.pieces(user, entry, 0, entry.length, PART)
-        if entry.length <= PART:
-            content = b"".join(pieces)
-            with self.lock:
-                store.file(tenant, content, entry.address)
-                self.use(user, copied)
-            return copied
-        with self.lock:
-            number = store.begin(tenant, entry.length)
+    def begin_copies(self, user, lengths):
+        """Begins uploads in the new store that don't count for the quota. Returns those that it could begin, and why not the others."""
+        uploads, refusals = [], []
+        self.copying[user] += sum(lengths)
         try:
-            for at, piece in enumerate(pieces):
+            self.share_quota(user)
+            for length in lengths:
+                uploads.append(self.backend.store.begin(self.backend.tenants[user], length))
+        except Refused as refusal:
+            refusals.append(refusal)
+            self.copying[user] -= sum(lengths[len(uploads) :])
+            with contextlib.suppress(Refused):
+                self.share_quota(user)
+        return uploads, refusals
+
+    def move_object(self, user, entry, keys, number):
+        """Copies an object by an upload that has begun, and lets those keys that still lead to it lead to the copy."""
+        store = self.backend.store
+        try:
+            for at, piece in enumerate(self.pieces(user, entry, 0, entry.length, PART)):
                 store.put(number, at * PART, piece)
                 if self.is_closed:
                     raise Ended("the server stops")
             with self.lock:
                 store.seal_as(number, entry.address)
-                self.use(user, copied)
-            return copied
+                number = None
+                self.switch(user, keys, entry)
         except Refused:
-            store.abort(number)
+            with self.lock:
+                if number is not None:
+                    store.abort(number)
+                    self.copying[user] -= entry.length
+                    self.share_quota(user)
             raise
 
-    def switch(self, user, keys, entry, copied):
-        """Lets those keys that still lead to an object lead to its copy, and ends the move's use of the copy."""
+    def switch(self, user, keys, entry):
+        """Lets those keys that still lead to an object lead to its copy, which was just filed. Without such a key the new store forgets the copy."""
+        copied = entry._replace(backend=self.backend)
+        self.copying[user] -= entry.length
+        self.use(user, copied, shares=False)
         for key in keys:
             if user.keys.get(key) == entry:
                 user.keys[key] = copied
-                self.use(user, copied)
+                self.use(user, copied, shares=False)
                 self.leave(user, entry, shares=False)
         self.leave(user, copied, shares=False)
+        self.share_quota(user)
 
     def close_old(self):
         """Closes the old store if nothing uses it. Returns whether it did."""
@@ -377,8 +409,9 @@ class Cache:
             if self.old.is_used():
                 return False
             for user in self.users:
-                self.backend.store.limit(self.backend.tenants[user], user.limit)
+                self.backend.limit(user, user.limit)
                 self.twins[user].clear()
+                self.copying[user] = 0
             self.next_limit = max(self.journal_limit, 2 * self.backend.count_entries())
             old, self.old = self.old, None
         old.store.close()

@@ -1,10 +1,11 @@
 #!/usr/bin/env python3
-"""Several cache servers behind nginx, on loopback addresses, which part the keys by a consistent hash.
+"""Several cache servers with nginx in front of them, on loopback addresses. nginx distributes the keys by a consistent hash.
 
     cluster.py FOLDER [--servers N] [--port N] [--program PATH]
 
-Server K saves into FOLDER/K. Where one ends, nginx asks the next one of the ring for its keys, which are misses until they are stored again; other
-keys stay where they are. The first line of output tells the port of nginx, the second the process of each server. It ends on SIGTERM, SIGINT or SIGHUP, and each server saves.
+Server K keeps its content in FOLDER/K. If a server ends, nginx asks the next one on the ring for its keys, which are misses until they are stored again;
+other keys stay where they are. The first line of output has the port of nginx, the second the process id of each server. On SIGTERM, SIGINT or SIGHUP it
+ends, and each server saves its content first.
 """
 import argparse
 import os
@@ -44,7 +45,7 @@ http {{
 
 
 class Server:
-    """A cache server in a process of its own."""
+    """A cache server in its own process."""
 
     def __init__(self, folder, program):
         words = [sys.executable, os.path.join(os.path.dirname(os.path.abspath(__file__)), "cache_server.py"), folder, "--port", "0", "--program", program]
@@ -56,11 +57,11 @@ class Server:
 
 
 def read_options():
-    parser = argparse.ArgumentParser(description="Several cache servers behind nginx.")
-    parser.add_argument("folder", metavar="FOLDER")
-    parser.add_argument("--servers", type=int, default=4, metavar="N")
-    parser.add_argument("--port", type=int, default=8080, metavar="N")
-    parser.add_argument("--program", default="b3store", metavar="PATH", help="the program b3store")
+    parser = argparse.ArgumentParser(description="Run several cache servers, with nginx in front of them.")
+    parser.add_argument("folder", metavar="FOLDER", help="keep the content of server K in FOLDER/K")
+    parser.add_argument("--servers", type=int, default=4, metavar="N", help="run N cache servers (default: 4)")
+    parser.add_argument("--port", type=int, default=8080, metavar="N", help="let nginx listen on this port (default: 8080)")
+    parser.add_argument("--program", default="b3store", metavar="PATH", help="run this b3store program (default: b3store)")
     return parser.parse_args()
 
 

@@ -1,4 +1,4 @@
-/* BLAKE3. Ten lines of use:
+/* BLAKE3. An example in ten lines:
  *
  *     #include <b3.h>
  *     #include <stdio.h>
@@ -13,19 +13,19 @@
  *
  * Build it with `cc abc.c $(pkg-config --cflags --libs b3) -o abc`.
  *
- * The library is proved: each call writes what the specification of BLAKE3 (O'Connor, Aumasson, Neves and Wilcox-O'Hearn, 2020, whose
- * sections are named below) defines, for each input. docs/LIBRARY.md says what is proved and what isn't.
+ * The library is proved: for every input, each call writes what the specification of BLAKE3 defines (O'Connor, Aumasson, Neves and
+ * Wilcox-O'Hearn, 2020; the sections below are those of this specification). docs/LIBRARY.md says what is proved and what isn't.
  *
  * A call returns B3_DONE or a number that says what is wrong. If several things are wrong, it returns the first in the order stated at
  * the call. If it returns anything but B3_DONE, nothing that was passed to it has changed.
  *
  * Bytes are passed as a pointer and a length, which may be 0. No pointer may be null, even if the length is 0. What a call writes, the
- * output and the count, must not overlap anything else that is passed to it. A call allocates nothing, keeps nothing, and accesses
- * only what is passed to it: so calls may run at the same time if none writes what another one reads or writes.
+ * output and the count, must not overlap anything else that is passed to it. A call allocates nothing, keeps no state, and accesses
+ * only what is passed to it, so calls may run at the same time if none writes what another one reads or writes.
  *
  * `compressions` is a count that the caller owns. A successful call adds the number of compressions that it made; the count saturates
- * at 2^64-1. If you don't need it, pass B3_NO_COUNT. It must not be null either: what is proved of a call is about references, which
- * are never null. */
+ * at 2^64-1. If you don't need it, pass B3_NO_COUNT. This pointer must not be null either: the proofs are about references, which are
+ * never null. */
 #ifndef B3_H
 #define B3_H
 
@@ -39,7 +39,7 @@
 #define B3_VERSION_PATCH 0
 #define B3_VERSION_NUMBER (1000000 * B3_VERSION_MAJOR + 1000 * B3_VERSION_MINOR + B3_VERSION_PATCH)
 
-/* For `compressions`, if you don't need the count. The place for it exists at least until the call returns. */
+/* For `compressions`, if you don't need the count. The pointer is valid at least until the call returns. */
 #ifdef __cplusplus
 struct b3_no_count {
     uint64_t count;
@@ -60,7 +60,7 @@ uint32_t b3_version(void);
 /* What a call returns. */
 #define B3_DONE 0         /* Success. */
 #define B3_BAD_OUTPUT 1   /* The output doesn't have the length that the call writes. */
-#define B3_BAD_KEY 2      /* There is no such mode, or its key has another length. */
+#define B3_BAD_KEY 2      /* There is no such mode, or the key doesn't have the length that the mode requires. */
 #define B3_BAD_POSITION 3 /* The requested bytes extend past the 2^64-1 bytes of the output. */
 #define B3_BAD_SUBTREE 4  /* The bytes are not a subtree at this place of an input of fewer than 2^64 bytes. */
 #define B3_BAD_HASHER 5   /* `hasher` is not a hasher. */
@@ -84,8 +84,8 @@ uint32_t b3_hash(const uint8_t *bytes, size_t len, uint8_t *out, size_t out_len,
 uint32_t b3_keyed_hash(const uint8_t *key, size_t key_len, const uint8_t *bytes, size_t len, uint8_t *out, size_t out_len,
                        uint64_t *compressions);
 
-/* Writes the key derived from the key material `bytes` in a context (section 2.3), which is a text of the application's own, such as
- * "example.com 2026-11-26 session tokens". B3_BAD_OUTPUT if `out_len` is not B3_HASH_LEN. */
+/* Writes the key derived from the key material `bytes` in a context (section 2.3). A context is a text that only one application uses,
+ * for one purpose, such as "example.com 2026-11-26 session tokens". B3_BAD_OUTPUT if `out_len` is not B3_HASH_LEN. */
 uint32_t b3_derive_key(const uint8_t *context, size_t context_len, const uint8_t *bytes, size_t len, uint8_t *out,
                        size_t out_len, uint64_t *compressions);
 
@@ -106,13 +106,14 @@ uint32_t b3_extended(uint32_t mode, const uint8_t *key, size_t key_len, const ui
  *         b3_hasher_update(&hasher, piece, len, &count);
  *     b3_hasher_finalize(&hasher, hash, B3_HASH_LEN, &count);
  *
- * Pieces of 64 KiB or more are the fastest. All updates and the final call together make the compressions of the hash.
+ * Pieces of 64 KiB or more are hashed the fastest. All updates and the final call together make the compressions of the hash.
  *
  * To reset a hasher, call b3_hasher_init again. To reset it without hashing its context again, copy the hasher after b3_hasher_init,
  * and assign the copy: `hasher = fresh;`. */
 
 /* A hasher, in the caller's own memory. It owns no other memory, so there is nothing to free. A copy of the struct is an independent
- * hasher of the same bytes. It contains the key of the mode and bytes of the input. Its fields are private to the library. */
+ * hasher of the same bytes. A hasher contains the key of the mode and bytes of the input: treat it as a secret if they are secret. Its
+ * fields are private to the library. */
 typedef struct b3_hasher {
     uint32_t key[8];
     uint32_t flag;
@@ -144,8 +145,8 @@ typedef struct b3_hasher {
 uint32_t b3_hasher_init(b3_hasher *hasher, uint32_t mode, const uint8_t *key, size_t key_len, uint64_t *compressions);
 
 /* Gives bytes to the hasher, after those that it was given before; fewer than 2^64 in all (sections 2.1, 2.4 and 2.5). B3_BAD_HASHER if
- * no hasher can have the contents of `hasher`, such as memory that b3_hasher_init never initialized. If that is not noticed, the hash
- * has no meaning, but no call accesses memory that wasn't passed to it. */
+ * `hasher` has contents that no hasher can have, for example because b3_hasher_init never initialized it. That is not always noticed;
+ * if it isn't, the hash has no meaning, but no call accesses memory that wasn't passed to it. */
 uint32_t b3_hasher_update(b3_hasher *hasher, const uint8_t *bytes, size_t len, uint64_t *compressions);
 
 /* Writes the hash of all bytes that the hasher was given. The hasher doesn't change, and can be given more bytes. B3_BAD_OUTPUT if
@@ -163,12 +164,12 @@ uint32_t b3_hasher_extended(const b3_hasher *hasher, uint64_t position, uint8_t 
  * the root of more than one chunk has the hash.
  *
  * The key is that of the mode keyed_hash, B3_KEY_LEN bytes, or a key of no bytes for the mode hash; all nodes of a tree have the same
- * key. Any other length is B3_BAD_KEY. There are no such calls for the mode derive_key.
+ * key. A key of any other length is B3_BAD_KEY. There are no such calls for the mode derive_key.
  *
  * No call starts threads, and only one thread at a time may update a hasher. To hash bytes in memory by several threads, split them
  * into spans. Below, SPAN is B3_CHUNK_LEN times a power of two, such as 1 << 20; there are `len` bytes, more than SPAN; and `values`
- * has room for a b3_value of each span. With `cc -fopenmp` the spans are hashed by the threads of OpenMP, otherwise by one thread.
- * Other threads can hash them too, in any order:
+ * has room for a b3_value for each span. With `cc -fopenmp` the threads of OpenMP hash the spans, otherwise one thread does. Any other
+ * threads can hash them too, in any order:
  *
  *     size_t n = (len + SPAN - 1) / SPAN;
  *     #pragma omp parallel for
@@ -191,12 +192,12 @@ typedef struct b3_value {
     uint32_t words[8];
 } b3_value;
 
-/* Writes the chaining value of the subtree `bytes`, with `number` chunks before it. B3_BAD_KEY by the rule above; B3_BAD_SUBTREE if
+/* Writes the chaining value of the subtree `bytes`, which `number` chunks precede. B3_BAD_KEY by the rule above; B3_BAD_SUBTREE if
  * `number` is not a multiple of the smallest power of two that is at least the number of chunks of `bytes`, if there are no bytes and
  * `number` is not 0, or if `number` chunks and `bytes` are 2^64 bytes or more. It makes as many compressions as the hash of `bytes`.
  *
  * No call can check whether a shorter last chunk, or a number of chunks that is not a power of two, is really at the end of the input:
- * anywhere else, the chaining value is not one of the tree. */
+ * anywhere else, the chaining value is not that of a node of the tree. */
 uint32_t b3_subtree(const uint8_t *key, size_t key_len, const uint8_t *bytes, size_t len, uint64_t number, b3_value *value,
                     uint64_t *compressions);
 

@@ -12,7 +12,7 @@ import (
 	"os"
 )
 
-// hash gives the hash of bytes, and the compressions that it took.
+// hash returns the hash of bytes, and the number of compressions that it took.
 func hash(bytes []byte) ([C.B3_HASH_LEN]byte, uint64) {
 	var out [C.B3_HASH_LEN]byte
 	var compressions C.uint64_t

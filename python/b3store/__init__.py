@@ -1,8 +1,8 @@
 """b3store: a content-addressed store in memory, from Python.
 
 `Store` starts a store in its own process, `Client` connects to a server that many processes share, and both have the same methods;
-`AsyncStore` is a layer for asyncio. `b3store.hashing` is BLAKE3 by the library libb3, `python -m b3store` the command line, and
-`python -m b3store.server` the server.
+`AsyncStore` is a layer for asyncio. `b3store.hashing` computes BLAKE3 with the library libb3, `python -m b3store` is the command line, and
+`python -m b3store.server` is the server.
 
     from b3store import Store
 

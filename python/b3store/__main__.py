@@ -1,4 +1,4 @@
-"""`python -m b3store`, also installed as `b3store-client`: one line of a shell against a server's store (docs/LIBRARY.md)."""
+"""`python -m b3store`, also installed as `b3store-client`: uses a server's store from a shell (docs/LIBRARY.md)."""
 import argparse
 import contextlib
 import errno
@@ -18,7 +18,7 @@ examples:
   tar c DIR | b3store-client put -
   b3store-client get ADDRESS -o FILE
 
-exit status: 0 done; 1 an object or a file is missing, or the store refused a command; 2 usage; 3 reading, writing or the connection failed
+exit status: 0 done; 1 an object or a file is missing, or the store refused a command; 2 usage error; 3 reading, writing or the connection failed
 """
 
 
@@ -95,7 +95,7 @@ def writer(number: int, name: str) -> Callable[[memoryview], None]:
 
 
 def has(store: Client, words: Any) -> int:
-    """Prints the address and the length of each object that the tenant holds, of those that are named."""
+    """Prints the address and the length of each named object that the tenant holds."""
     tenant = tenant_of(store, words)
     return worst(has_one(store, tenant, address) for address in words.addresses)
 
@@ -117,13 +117,13 @@ def ls(store: Client, words: Any) -> int:
 
 
 def rm(store: Client, words: Any) -> int:
-    """Ends the tenant's hold of objects."""
+    """Stops holding objects for the tenant."""
     tenant = tenant_of(store, words)
     return worst(rm_one(store, tenant, address) for address in words.addresses)
 
 
 def rm_one(store: Client, tenant: int, address: str) -> int:
-    """Ends the hold of one."""
+    """Stops holding one of them."""
     try:
         store.forget(tenant, address)
         return 0
@@ -156,7 +156,7 @@ def show_journal(store: Client, words: Any) -> int:
 
 
 def tenant_of(store: Client, words: Any) -> int:
-    """The tenant that is asked for: by default the first, which is opened if there is none."""
+    """The requested tenant: by default the first one, which is opened if there is none."""
     number = getattr(words, "tenant", None)
     if number is not None:
         return int(number)
@@ -165,7 +165,7 @@ def tenant_of(store: Client, words: Any) -> int:
 
 
 def worst(statuses: Iterator[int]) -> int:
-    """The greatest of some exit statuses, once all is done."""
+    """The greatest of some exit statuses, after everything was tried."""
     return max(statuses, default=0)
 
 
@@ -228,12 +228,12 @@ def make_parser() -> argparse.ArgumentParser:
     getting = add_command(commands, get, "get", "write an object's bytes")
     getting.add_argument("address", type=address_argument, metavar="ADDRESS")
     getting.add_argument("-o", "--output", metavar="FILE", help="write to this file (default: -, standard output)")
-    getting.add_argument("--range", type=range_argument, default=(0, MAX_UPLOAD_LEN), metavar="FROM:LEN", help="write LEN bytes from byte FROM on, or all after FROM:")
-    add_command(commands, has, "has", "print which of some objects the tenant holds").add_argument("addresses", nargs="+", type=address_argument, metavar="ADDRESS")
-    add_command(commands, ls, "ls", "print the address and length of each object")
-    add_command(commands, rm, "rm", "end the tenant's hold of objects").add_argument("addresses", nargs="+", type=address_argument, metavar="ADDRESS")
+    getting.add_argument("--range", type=range_argument, default=(0, MAX_UPLOAD_LEN), metavar="FROM:LEN", help="write LEN bytes, starting at byte FROM; without LEN, all bytes from there on")
+    add_command(commands, has, "has", "print which of these objects the tenant holds, with their lengths").add_argument("addresses", nargs="+", type=address_argument, metavar="ADDRESS")
+    add_command(commands, ls, "ls", "print the address and length of each object that the tenant holds")
+    add_command(commands, rm, "rm", "stop holding objects for the tenant").add_argument("addresses", nargs="+", type=address_argument, metavar="ADDRESS")
     add_command(commands, show_stat, "stat", "print what the store contains", False)
-    add_command(commands, show_tenants, "tenants", "print what each tenant uses and may use", False)
+    add_command(commands, show_tenants, "tenants", "print what each tenant uses and reserves, and its limit", False)
     journal = add_command(commands, show_journal, "journal", "print the journal's entries", False)
     journal.add_argument("--from", dest="start", type=number_argument, default=0, metavar="N", help="start at entry N (default 0)")
     journal.add_argument("--count", type=number_argument, default=MAX_NUMBER, metavar="N", help="print up to N entries")
@@ -247,7 +247,7 @@ def read_token(path: str) -> str:
 
 
 def connect(parser: argparse.ArgumentParser, words: Any) -> Client:
-    """The client that the options ask for."""
+    """A client of the server that the options name."""
     tcp, token_file = getattr(words, "tcp", None), getattr(words, "token_file", None)
     path = getattr(words, "socket", None)
     if tcp is None:
@@ -264,7 +264,7 @@ def connect(parser: argparse.ArgumentParser, words: Any) -> Client:
 
 
 def run(arguments: Optional[List[str]] = None) -> int:
-    """The program, without what it catches."""
+    """Runs the program, and lets exceptions pass."""
     parser = make_parser()
     words = parser.parse_args(arguments)
     with connect(parser, words) as store:

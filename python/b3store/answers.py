@@ -66,7 +66,7 @@ class Answers:
         self._head = data[at : at + MAX_HEAD]
 
     def _skip(self, available: int) -> int:
-        """Skips raw bytes, as many as are available, and returns how many."""
+        """Skips the raw bytes that are available, and returns how many they are."""
         count = min(self.body, available)
         self.body -= count
         return count

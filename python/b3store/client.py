@@ -24,9 +24,9 @@ class Client(Transfers):
         with Client("/run/b3store/socket") as store:
             filed = store.upload(b"abc", store.tenant(1 << 30))
 
-    It connects to a Unix-domain socket, or by `host`, `port` and `token` to a TCP port: a server there wants its token, a str of hexadecimal
-    digits. Each connection is one session; threads that share the client wait for a free one of `sessions`, which
-    are no more than the server has. When a connection ends, the server aborts the uploads that were begun over it, unless it keeps them."""
+    It connects to a Unix-domain socket or, with `host`, `port` and `token`, to a TCP port; `token` is the server's token, a str of hexadecimal digits.
+    Each connection is one session. A client has `sessions` of them, which must not be more than the server has, and threads that share the client wait for
+    a free one. When a connection ends, the server aborts the uploads that were begun over it, unless it was started with `--keep-uploads`."""
 
     def __init__(
         self, path: Optional[Place] = None, *, host: Optional[str] = None, port: Optional[int] = None, token: Optional[str] = None, sessions: int = 1

@@ -21,7 +21,7 @@ class Commands(Sessions):
         """The number of the next upload, if no other client can begin one."""
 
     def tenant(self, limit: int = MAX_LIMIT) -> int:
-        """Opens a tenant, who may hold up to `limit` bytes, and returns its number. Refusals: S2, S3."""
+        """Opens a tenant, which may hold up to `limit` bytes, and returns its number. Refusals: S2, S3."""
         return self._ask(parse_number, "tenant", f"tenant {check_number('limit', limit)}")
 
     def limit(self, tenant: int, limit: int) -> None:
@@ -59,8 +59,8 @@ class Commands(Sessions):
         self._do(f"abort {check_number('upload', upload)}")
 
     def file(self, tenant: int, content: Buffer, address: Optional[str] = None) -> Filed:
-        """Files content of up to MAX_PART_LEN bytes in one turn, if it has the address, in case one is given. `upload` has no maximum. Refusals: those of
-        `begin`, `put` and `seal_as`; then the upload is aborted."""
+        """Files content of up to MAX_PART_LEN bytes in one turn; `upload` has no maximum. If an address is given, content with another address is refused.
+        Refusals: those of `begin`, `put` and `seal_as`; after a refusal the upload is aborted."""
         view, ending = check_bytes(content), "" if address is None else f" {check_address(address)}"
         begin = f"begin {check_number('tenant', tenant)} {view.nbytes}"
         with self._turn() as session:
@@ -70,7 +70,7 @@ class Commands(Sessions):
 
     def file_all(self, tenant: int, contents: Sequence[Buffer]) -> List[Filed]:
         """Files several contents, each as `file` does. A `Store` with one session takes one turn for many of them, so for small ones this is several times
-        as fast. After a refusal those before it are filed, and of those after it some may be."""
+        as fast. If one is refused, those before it are filed, and some of those after it may be."""
         views = [check_bytes(content) for content in contents]
         if self._next_upload is None:
             return [self.file(tenant, view) for view in views]
@@ -82,7 +82,7 @@ class Commands(Sessions):
         return filed
 
     def forget_all(self, tenant: int, addresses: Sequence[str]) -> None:
-        """Ends a tenant's hold of several objects, each as `forget` does, but in few turns. After a refusal the others are forgotten all the same."""
+        """Stops holding several objects for a tenant, each as `forget` does, but in few turns. If one is refused, the others are still forgotten."""
         lines = [f"forget {check_number('tenant', tenant)} {check_address(address)}\n" for address in addresses]
         refusals: List[Refused] = []
         with self._turn() as session:
@@ -94,7 +94,7 @@ class Commands(Sessions):
             raise refusals[0]
 
     def forget(self, tenant: int, address: str) -> None:
-        """Ends a tenant's hold of an object, which is removed with its last holder. Refusals: S1, S12."""
+        """Stops holding an object for a tenant. The object is removed when no tenant holds it any more. Refusals: S1, S12."""
         self._do(f"forget {check_number('tenant', tenant)} {check_address(address)}")
 
     def has(self, tenant: int, address: str) -> Optional[int]:
@@ -111,13 +111,13 @@ class Commands(Sessions):
         return self._ask(parse_number, "has", f"has {check_number('tenant', tenant)} {check_address(address)}")
 
     def fetch(self, tenant: int, address: str, offset: int = 0, length: int = MAX_UPLOAD_LEN) -> bytes:
-        """Returns an object's bytes, or up to `length` of them from an offset on. Refusals: S1, S12."""
+        """Returns up to `length` bytes of an object, starting at `offset`; by default all. Refusals: S1, S12."""
         line, max_len = fetch_line(tenant, address, offset, length), check_number("length", length)
         return self._talk(lambda session, words: session.content(words, max_len), "bytes", line)
 
     def fetch_into(self, tenant: int, address: str, room: Buffer, offset: int = 0) -> int:
-        """Reads an object's bytes from an offset on into a writable buffer, and returns how many it read: fewer than there is room for only at the
-        object's end. Refusals: S1, S12."""
+        """Reads an object's bytes, starting at `offset`, into a writable buffer, and returns how many it read. These are fewer than the buffer has room for
+        only at the object's end. Refusals: S1, S12."""
         view = check_bytes(room)
         if view.readonly:
             raise TypeError("the buffer to read into must be writable")

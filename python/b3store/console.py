@@ -8,9 +8,9 @@ from typing import Callable, Optional
 from .values import StoreError
 
 SECONDS_TO_PROGRESS = 1
-"""Progress is shown from then on,"""
+"""Progress is shown after this time,"""
 SECONDS_BETWEEN = 0.2
-"""and this often."""
+"""and then at these intervals."""
 ESCAPES = {"\\": "\\\\", "\n": "\\n", "\r": "\\r"}
 FAILED = 3
 """The exit status when reading, writing or the connection fails."""
@@ -23,7 +23,7 @@ def check_line(address: str, name: str) -> str:
 
 
 def report(text: str) -> None:
-    """Writes a message to standard error. Bytes of names that are no text are escaped."""
+    """Writes a message to standard error. Bytes of names that are not text are escaped."""
     line = f"b3store: {text}\n".encode("utf-8", "backslashreplace").decode("utf-8")
     try:
         sys.stderr.write(line)

@@ -1,4 +1,4 @@
-"""BLAKE3 by the library libb3, with the interface of hashlib's objects.
+"""BLAKE3 with the library libb3, and with the interface of hashlib's objects.
 
     >>> from b3store.hashing import blake3
     >>> blake3(b"abc").hexdigest()
@@ -291,7 +291,7 @@ def print_hash(name: str, threads: int) -> bool:
 def run() -> int:
     """The program `python -m b3store.hashing`, without what it catches."""
     parser = argparse.ArgumentParser("b3store.hashing", description="Print the BLAKE3 hash of each file, or of standard input.")
-    parser.add_argument("--threads", type=int, default=1, metavar="N", help="hash each file by N threads (default 1)")
+    parser.add_argument("--threads", type=int, default=1, metavar="N", help="hash each file with N threads (default 1)")
     parser.add_argument("files", nargs="*", default=["-"], metavar="FILE", help="a file; - is standard input")
     words = parser.parse_args()
     if not 1 <= words.threads <= 1024:

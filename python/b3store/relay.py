@@ -38,8 +38,8 @@ Wait = Callable[[], Any]
 def waiter(connection: int, events: int) -> Wait:
     """Waits until a connection can be read or written.
 
-    A connection doesn't block. To splice from a socket without data would hold the lock of the pipe until there is some, so that the store couldn't
-    read what is in the pipe; and to a socket without room would do the same to the pipe of the answers."""
+    A connection doesn't block. Splicing from a socket without data would hold the lock of the pipe until there is some, so that the store couldn't
+    read what is in the pipe; splicing to a socket without room would do the same to the pipe of the answers."""
     poll = select.poll()
     poll.register(connection, events)
     return poll.poll
@@ -126,7 +126,7 @@ class Relay:
         return False
 
     def _relay_answers(self, nowhere: int) -> None:
-        """Ends with the session. When the client is gone, the remaining answers are read all the same: they may report uploads."""
+        """Ends with the session. When the client has left, the remaining answers are still read: they may report uploads."""
         target = self._connection.fileno()
         try:
             self._pass_answers(target, waiter(target, select.POLLOUT))
@@ -202,7 +202,7 @@ def start_relay(connection: socket.socket, pipes: Pipes, reports: int, keeps_upl
 
 
 class Uploads:
-    """The uploads that a connection began, without those that the store was found to have no more."""
+    """The uploads that a connection began, without those that were found to be no longer open."""
 
     def __init__(self, store: Store) -> None:
         self._store = store

@@ -9,7 +9,7 @@ file `content.N`, and the tenants that hold it. Each line starts with the CRC-32
     end N                                               N lines precede this one
 
 A save writes the bytes of objects that have no place yet to a new content file, and syncs it. Then it replaces the index in one step: until then, the folder
-has the save before. At last it removes the content files that the index doesn't name. A content file that is small, or most of whose bytes belong to no
+has the previous save. Finally it removes the content files that the index doesn't name. A content file that is small, or most of whose bytes belong to no
 object any more, isn't used again: its objects are written to the new one. Open uploads are not saved."""
 import collections
 import contextlib
@@ -75,7 +75,7 @@ class SavedStore:
     """A folder that is locked until it is closed, and the store that is saved in it."""
 
     def __init__(self, path: str) -> None:
-        """Opens a folder, which is made if there is none. Raises SaveError, and changes nothing, if another server has it, or if it has something else than a
+        """Opens a folder, which is made if there is none. Raises SaveError, and changes nothing, if another server has it, or if it has anything but a
         whole save."""
         self._path = path
         self._saved: Optional[Saved] = None
@@ -131,7 +131,7 @@ class SavedStore:
         return saved.text() if saved.limits else None
 
     def save(self, store: Transfers, tick: Tick) -> str:
-        """Saves the store, which no other thread changes meanwhile, and returns what it has. Raises SaveError; then the folder has the save before."""
+        """Saves the store, which no other thread changes meanwhile, and returns what it has. Raises SaveError; then the folder has the previous save."""
         try:
             saved = self._save(store, tick)
         except ERRORS as error:
@@ -160,7 +160,7 @@ class SavedStore:
         return saved
 
     def _usable_places(self, wanted: Dict[str, Tuple[int, ...]]) -> Dict[str, Tuple[str, int]]:
-        """Where the bytes of objects are already, in files that are worth keeping. None if the index was damaged meanwhile: then all is written anew."""
+        """Where the bytes of objects are already, in files that are worth keeping. None if the index was damaged meanwhile: then everything is written again."""
         try:
             old = {address: row for address, row in read_index(self._at(INDEX)).objects.items() if address in wanted}
         except (OSError, SaveError):
@@ -362,7 +362,7 @@ class Restoring:
             self._file.close()
 
     def _add(self, tenant: int, address: str, row: SavedObject) -> None:
-        """Files an object at once if it is large, and else with others."""
+        """Files an object at once if it is large, otherwise together with others."""
         if row.length > BATCH_LEN:
             self._file_batch()
             self._file_large(tenant, address, row)

@@ -1,7 +1,7 @@
 """A store that many processes share: `python -m b3store.server --socket PATH`.
 
 The server starts `b3store serve --at DOOR --sessions N` with a door in a private temporary folder, and listens on a socket. Each connection is one session,
-which speaks the lines of `b3store serve` and nothing else. A process of its own moves its bytes:
+which speaks the lines of `b3store serve` and nothing else. A separate process moves its bytes:
 
     $ python -m b3store.server --socket /tmp/store &
     b3store.server: listening on /tmp/store
@@ -96,13 +96,16 @@ class Connections:
             return len(self._open)
 
     def add(self, connection: socket.socket, needs_token: bool) -> None:
-        """Serves a connection by a thread."""
+        """Serves a connection by a thread. It lines up for its turn now, unless it has to send the token first."""
         with self._lock:
             self._open.add(connection)
+        turn = None if needs_token else self._turns.line_up()
         try:
-            threading.Thread(target=self._serve, args=(connection, needs_token), daemon=True).start()
+            threading.Thread(target=self._serve, args=(connection, turn), daemon=True).start()
         except RuntimeError as error:
             report(f"a connection is closed: {error}")
+            if turn is not None and self._turns.wait(turn, 0):
+                self._turns.give_back()
             self._remove(connection)
 
     def close_waiting(self) -> None:
@@ -124,12 +127,12 @@ class Connections:
             self._open.discard(connection)
             connection.close()
 
-    def _serve(self, connection: socket.socket, needs_token: bool) -> None:
+    def _serve(self, connection: socket.socket, turn: Optional[threading.Event]) -> None:
         try:
-            if needs_token and not has_token(connection, self._options.token):
+            if turn is None and not has_token(connection, self._options.token):
                 report("a connection is closed: its first line is not the token")
                 leave(connection, b"")
-            elif self._turns.take(self._options.wait):
+            elif self._turns.wait(self._turns.line_up() if turn is None else turn, self._options.wait):
                 self._relay(connection)
             else:
                 leave(connection, b"busy\n")
@@ -296,7 +299,7 @@ def read_words() -> argparse.Namespace:
     parser = argparse.ArgumentParser(prog=NAME, usage=usage, description="Serve one store to many processes, over a socket.", allow_abbrev=False)
     add = parser.add_argument
     add("--socket", metavar="PATH", help="listen on this Unix-domain socket, created with mode 0600")
-    add("--tcp", metavar="HOST:PORT", help="listen on a TCP port, too or instead; requires --token-file")
+    add("--tcp", metavar="HOST:PORT", help="listen on a TCP port, in addition to --socket or instead; requires --token-file")
     add("--token-file", metavar="FILE", help="read the token of TCP clients from FILE: 16 to 512 hexadecimal digits; only its owner may read it")
     add("--sessions", metavar="N", type=number(1, MAX_SESSIONS, int), default=16, help="serve up to N connections at a time (1 to 64, default 16)")
     add("--program", metavar="PATH", default="b3store", help="run this b3store program (default: b3store)")
@@ -304,7 +307,7 @@ def read_words() -> argparse.Namespace:
     add("--wait", metavar="SECONDS", type=seconds, default=10, help="send `busy` to a connection that has waited this long for its turn (default 10)")
     add("--grace", metavar="SECONDS", type=seconds, default=10, help="after SIGTERM, wait this long for open connections to end (default 10)")
     add("--save", metavar="FOLDER", help="after SIGTERM, save the store in FOLDER; at the start, restore the store that is saved there")
-    add("--keep-uploads", action="store_true", help="leave the uploads that a connection began open when it ends")
+    add("--keep-uploads", action="store_true", help="when a connection ends, leave the uploads that it began open")
     words = parser.parse_args()
     if words.token_file and not words.tcp and "LISTEN_FDS" not in os.environ:
         parser.error("--token-file is for --tcp")

@@ -246,13 +246,17 @@ class Store:
         return failures
 
     def status(self) -> Optional[int]:
-        """The exit status of the process, or None while it runs. Only the main thread looks: two threads that look at once may both miss the end."""
+        """The exit status of the process, or None while it runs. Only the main thread asks: two threads that ask at once may both miss the end."""
         return self._process.poll()
 
     def is_usable(self) -> bool:
-        """Whether the process runs, and was not asked to end. Gives the main thread time to see an end that caused an error in this thread."""
+        """Whether the process runs, and was not asked to end. If its end caused an error in this thread, it may still be ending, and is given time."""
         time.sleep(SECONDS_TO_SEE)
-        return not self._is_closing and self._process.returncode is None
+        with contextlib.suppress(ChildProcessError):
+            # this leaves the status to the main thread
+            ended = os.waitid(os.P_PID, self._process.pid, os.WEXITED | os.WNOHANG | os.WNOWAIT)
+            return not self._is_closing and self._process.returncode is None and ended is None
+        return False
 
     def close(self) -> int:
         """Ends the process, and returns its exit status. Everything in the store is lost."""

@@ -15,15 +15,15 @@ MAX_TRIES = 10
 
 
 class Upload:
-    """An open upload, as a context manager: when its block is left by an exception the upload is aborted, else it is sealed, unless the block did so.
-    `filed` then has the object.
+    """An open upload, as a context manager: if an exception leaves its block, the upload is aborted; otherwise it is sealed, unless the block has sealed
+    it. `filed` then has the object.
 
         with store.start_upload(tenant) as upload:
             upload.write(b"any number")
             upload.write(b"of bytes")
         print(upload.filed.address)
 
-    `write` adds bytes at the end. `put` adds parts at any offset instead; then `fix` is needed, unless the last part is no whole number of chunks."""
+    `write` adds bytes at the end. `put` adds parts at any offset instead; then `fix` is needed, unless the last part is not a whole number of chunks."""
 
     def __init__(self, commands: "Transfers", number: int, length: Optional[int]) -> None:
         self._commands, self.number, self._length = commands, number, length
@@ -69,8 +69,8 @@ class Upload:
         self._length = length
 
     def seal(self, address: Optional[str] = None) -> Filed:
-        """Files the upload as an object, if it has the address, in case one is given. If that is refused the upload is aborted. Refusals: S7, S16, S10,
-        S11, S6."""
+        """Files the upload as an object. If an address is given, content with another address is refused. After a refusal the upload is aborted.
+        Refusals: S7, S16, S10, S11, S6."""
         if address is not None:
             check_address(address)
         try:
@@ -183,11 +183,12 @@ class Transfers(Commands):
         self, content: Union[Buffer, BinaryIO], tenant: int, length: Optional[int] = None, *, address: Optional[str] = None,
         max_len: Optional[int] = None, progress: Optional[Callable[[int], None]] = None,
     ) -> Filed:
-        """Files content of any length: bytes, or what a file object that is open for reading bytes has from its position on.
+        """Files content of any length: bytes, or a file object that is open for reading bytes, from its position on.
 
-        A file need not be seekable. Without a `length` it is read to its end, with one it is read so far, and ValueError is raised if it ends earlier.
-        `max_len` is what is reserved if the length isn't known, by default what the file seems to have or all that the tenant has left. With an `address` the content is filed only if
-        that is its address. `progress` is called with the number of bytes that were sent so far. Whatever is raised, the upload is aborted.
+        A file need not be seekable. Without a `length` it is read to its end; with one, `length` bytes are read, and ValueError is raised if it ends
+        earlier. If the length isn't known, `max_len` bytes are reserved: by default as many as the file seems to have, or all that the tenant has left.
+        With an `address`, the content is filed only if that is its address. `progress` is called with the number of bytes that were sent so far. If
+        anything is raised, the upload is aborted.
 
         Refusals: S1, S5, S6; F4 for a file that is longer than what is reserved; S11."""
         if address is not None:

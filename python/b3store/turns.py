@@ -1,11 +1,11 @@
-"""Turns: at most so many holders at a time, in the order in which they came."""
+"""Turns: threads wait in line until one of a number of turns is free."""
 import collections
 import threading
 from typing import Deque
 
 
 class Turns:
-    """Threads take turns, `count` at a time. Others wait, first come, first served."""
+    """Threads take turns, `count` at a time, in the order in which they lined up."""
 
     def __init__(self, count: int) -> None:
         self._free = count
@@ -15,14 +15,23 @@ class Turns:
 
     def take(self, seconds: float) -> bool:
         """Waits for a turn. False if there is none in time, or the turns are closed."""
+        return self.wait(self.line_up(), seconds)
+
+    def line_up(self) -> threading.Event:
+        """Takes a place in the line. Another thread may wait there."""
+        turn = threading.Event()
         with self._lock:
-            if self._is_closed:
-                return False
-            if self._free:
+            is_free = self._free > 0 and not self._is_closed
+            if is_free:
                 self._free -= 1
-                return True
-            turn = threading.Event()
-            self._waiting.append(turn)
+            else:
+                self._waiting.append(turn)
+            if is_free or self._is_closed:
+                turn.set()
+        return turn
+
+    def wait(self, turn: threading.Event, seconds: float) -> bool:
+        """Waits at a place in the line for the turn. If there is none in time, or the turns are closed, it leaves the line and returns False."""
         turn.wait(seconds)
         with self._lock:
             if turn not in self._waiting:

@@ -7,7 +7,7 @@ Buffer = Any
 """bytes, or any object with a contiguous buffer: bytearray, memoryview, array, mmap, a numpy array."""
 
 CHUNK_LEN = 1024
-"""Each part starts at a multiple of this offset, and every part but an upload's last is a multiple of it long."""
+"""Each part starts at a multiple of this, and its length is a multiple of this too, unless it is an upload's last part."""
 MAX_PART_LEN = 1 << 24
 """The maximum length of a part, in bytes."""
 MAX_UPLOAD_LEN = 1 << 44
@@ -125,7 +125,7 @@ class Totals(NamedTuple):
     held: int
     """The bytes that open uploads cover."""
     parts: int
-    """In how many parts."""
+    """The number of parts that open uploads have."""
 
 
 class OpenUpload(NamedTuple):

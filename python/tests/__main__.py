@@ -6,8 +6,8 @@ sys.dont_write_bytecode = True
 sys.path.insert(1, os.path.join(os.path.dirname(os.path.dirname(os.path.dirname(os.path.abspath(__file__)))), "tests", "common"))
 from cases import cases
 from judging import judged
-from python_needed import end_where_older
+from python_needed import OF_PACKAGE, end_where_older
 
 if __name__ == "__main__":
-    end_where_older()
+    end_where_older(OF_PACKAGE)
     sys.exit(judged(cases()))

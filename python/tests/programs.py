@@ -1,6 +1,7 @@
 """The command line, `python -m b3store`."""
 import os
 import pty
+import re
 import signal
 import subprocess
 import sys
@@ -129,4 +130,5 @@ def shows_progress():
         os.close(terminal)
         shown = os.read(main_end, 10000)
         os.close(main_end)
-        return differences((put.returncode, 0), (line[64:], b"  -\n"), (b"b3store: -: 12 MiB in " in shown, True), (shown.endswith(b"\r\x1b[K"), True))
+        is_shown = bool(re.search(rb"b3store: -: [0-9]+ MiB in ", shown))
+        return differences((put.returncode, 0), (line[64:], b"  -\n"), (is_shown, True), (shown.endswith(b"\r\x1b[K"), True))

@@ -6,6 +6,7 @@ import pathlib
 import socket
 import tempfile
 import threading
+import time
 
 from bridge import Bridge
 from shared import ABC, FOUR, SECONDS, differences, ended, raised, refusal
@@ -121,7 +122,9 @@ def servers_that_end():
             found += differences((told is not None and reason in told[0], True), (ended(store.stat), told), (ended(store.fetch, 0, ABC), told), (store.alive, False))
     with server_of(b"tenant 0\n") as path, Client(path) as store:
         store.tenant()
-        threading.Event().wait(0.2)
+        end = time.monotonic() + SECONDS
+        while store.alive and time.monotonic() < end:
+            time.sleep(0.01)
         return found + differences((store.alive, False))
 
 

@@ -140,13 +140,12 @@ def interrupt(*_):
 
 def commands_that_are_broken_off():
     """Where an exception comes in the middle of a command, the store can't be used any more, and ends."""
-    with tempfile.TemporaryDirectory() as place, Store(script_of(place, "exec sleep 60"), sessions=1) as store:
+    interrupting = "read -r line; kill -ALRM $PPID; exec sleep 60"
+    with tempfile.TemporaryDirectory() as place, Store(script_of(place, interrupting), sessions=1) as store:
         before = signal.signal(signal.SIGALRM, interrupt)
         try:
-            signal.setitimer(signal.ITIMER_REAL, 0.3)
             found = differences((raised(store.put, 0, 0, bytes(1 << 24)), Interrupted))
         finally:
-            signal.setitimer(signal.ITIMER_REAL, 0)
             signal.signal(signal.SIGALRM, before)
         told = ended(store.stat)
         return found + differences((told, ("a command was interrupted by Interrupted", None, "")), (store.alive, False), (store.close(), -signal.SIGKILL))

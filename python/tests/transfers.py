@@ -6,9 +6,8 @@ import os
 import random
 import tempfile
 import threading
-import time
 
-from shared import ABC, EMPTY, FOUR, PROGRAM, differences, raised, refusal, script_of
+from shared import ABC, EMPTY, FOUR, PROGRAM, SECONDS, differences, raised, refusal, script_of
 from b3store import MAX_PART_LEN, MAX_UPLOAD_LEN, PART_LEN, AsyncStore, Ended, Filed, Held, ObjectRow, Refused, Store, Totals, Usage
 
 LIMIT = 1 << 30
@@ -168,15 +167,16 @@ def slow_files():
         tenant, results = store.tenant(LIMIT), []
         thread = threading.Thread(target=lambda: results.append(store.upload(source, tenant)), daemon=True)
         thread.start()
-        start, content = time.monotonic(), content_of(6 * PART_LEN)
+        content, others = content_of(6 * PART_LEN), []
         with os.fdopen(writing, "wb", buffering=0) as file:
             file.write(content[: 5 * PART_LEN])
-            for _ in range(10):
-                store.stat()
-            took = time.monotonic() - start
+            other = threading.Thread(target=lambda: others.extend(store.stat().objects for _ in range(10)), daemon=True)
+            other.start()
+            other.join(SECONDS)
+            found = differences((others, [0] * 10))
             file.write(content[5 * PART_LEN :])
-        thread.join(60)
-        return differences((len(results), 1), (results and results[0].length, len(content)), (took < 10, True))
+        thread.join(SECONDS)
+        return found + differences((len(results), 1), (results and results[0].length, len(content)))
 
 
 def files_together():

@@ -19,6 +19,7 @@ complete -c b3store -n "__fish_seen_subcommand_from sum" -l help -d 'Print help'
 
 complete -c b3store -n "__fish_seen_subcommand_from check" -l quiet -d 'Leave out the lines of good files'
 complete -c b3store -n "__fish_seen_subcommand_from check" -l status -d 'Write nothing'
+complete -c b3store -n "__fish_seen_subcommand_from check" -l ignore-missing -d 'Leave out the lines of missing files'
 complete -c b3store -n "__fish_seen_subcommand_from check" -l threads -r -d 'Maximum number of threads'
 complete -c b3store -n "__fish_seen_subcommand_from check" -l no-progress -d 'Show no progress'
 complete -c b3store -n "__fish_seen_subcommand_from check" -l help -d 'Print help'

@@ -11,6 +11,7 @@ sys.path[1:1] = [os.path.join(TOP, "python", "tests"), os.path.join(TOP, "tests"
 import backups
 import cache_disk
 import cache_moves
+import cache_quotas
 import caches
 import cases as package
 import packs
@@ -48,7 +49,12 @@ CASES = (
     ("a cache's requests that end on its old store", cache_moves.ends_requests_on_the_old_store),
     ("a cache that is killed in moves", cache_moves.loses_a_second_in_moves),
     ("a cache's quotas in moves", cache_moves.keeps_quotas_in_moves),
+    ("a cache's quota while it copies", cache_moves.grants_the_quota_alone_while_it_copies),
+    ("a cache's evictions of what is needed", cache_quotas.evicts_what_is_needed),
+    ("a cache's quota without memory for a move", cache_quotas.grants_nothing_without_memory),
+    ("a cache's full quotas in moves", cache_quotas.keeps_full_quotas),
     ("a cache that writes from two stores", cache_moves.writes_from_both_stores),
+    ("a cache's metrics while its content moves", cache_moves.counts_while_content_moves),
     ("two caches on one folder", caches.keeps_others_out),
     ("a cache with wrong words", caches.refuses_wrong_words),
     ("a cache's keys of any bytes", caches.keys_of_any_bytes),

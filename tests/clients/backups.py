@@ -30,7 +30,7 @@ def folder_to_keep(place):
     os.makedirs(os.path.join(folder, "sub", "empty"))
     large = os.path.join(folder, "large")
     with open(large, "wb") as file:
-        file.write(os.urandom(2000000))
+        file.write(random.Random(1).randbytes(2000000))
     for name, content in {"sub/odd\n name": b"x", "none": b""}.items():
         with open(os.path.join(folder, name), "wb") as file:
             file.write(content)
@@ -126,7 +126,7 @@ def odd_files_in_a_repository():
         folder, repository = folder_of_abc(place)
         backup("save", folder, repository)
         left = [os.path.join(repository, name) for name in ("objects/64/x.new", "packs/index.new", "packs/pack.new")]
-        for path in *left, os.path.join(repository, "objects", "stray"), os.path.join(repository, "packs", "stray"):
+        for path in (*left, os.path.join(repository, "objects", "stray"), os.path.join(repository, "packs", "stray")):
             os.makedirs(os.path.dirname(path), exist_ok=True)
             with open(path, "wb"):
                 pass

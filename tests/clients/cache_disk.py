@@ -1,12 +1,15 @@
 """What caches have on disk."""
+import contextlib
+import http.client
 import os
 import subprocess
 import sys
 import tempfile
+import threading
 import time
 
 from shared import ABC, EMPTY, FOUR, PROGRAM, SECONDS, TOP, differences
-from servers import USERS, Cache, ask
+from servers import USERS, Cache, ask, wait_until
 
 
 def begins_again():
@@ -45,14 +48,53 @@ def places_of(folder):
     return {address: (segment, int(offset), int(length)) for _, address, segment, offset, length in rows}
 
 
+def files_of(folder):
+    """The files of a folder, with their lengths and when they were changed."""
+    found = {}
+    for name in os.listdir(folder):
+        with contextlib.suppress(FileNotFoundError):
+            file = os.stat(os.path.join(folder, name))
+            found[name] = file.st_size, file.st_mtime_ns
+    return found
+
+
 def bytes_below(folder):
-    with os.scandir(folder) as entries:
-        return sum(entry.stat().st_size for entry in entries if entry.is_file())
+    return sum(length for length, _ in files_of(folder).values())
 
 
-def change_until(cache, number, values, end):
+class Lateness(threading.Thread):
+    """Measures how much later than it is due a small write reaches the disk, on a machine that may be busy or slow."""
+
+    def __init__(self, folder):
+        super().__init__()
+        self.path, self.most, self.is_over = os.path.join(folder, "written"), 0.0, threading.Event()
+
+    def __enter__(self):
+        self.start()
+        return self
+
+    def __exit__(self, *_):
+        self.is_over.set()
+        self.join()
+
+    def run(self):
+        with open(self.path, "wb", buffering=0) as file:
+            due = time.monotonic() + 0.05
+            while not self.is_over.wait(max(0, due - time.monotonic())):
+                file.write(bytes(1 << 16))
+                os.fdatasync(file.fileno())
+                self.most = max(self.most, time.monotonic() - due)
+                due = time.monotonic() + 0.05
+
+
+LEAST_CHANGES = 60
+"""How many changes are made before a kill, however slow the machine is."""
+
+
+def change_until(cache, number, values, end, is_enough=lambda cache: True):
     """Changes some keys until a time, and notes what each has had, and when that was answered."""
-    while time.monotonic() < end:
+    first, last = number, time.monotonic() + SECONDS
+    while time.monotonic() < end or number < first + LEAST_CHANGES or not is_enough(cache) and time.monotonic() < last:
         number += 1
         key, content = f"/{number % 37}", None if number % 5 == 0 else b"%d" % number * (1 + number % 3000)
         cache.ask("DELETE" if content is None else "PUT", key, content)
@@ -60,11 +102,11 @@ def change_until(cache, number, values, end):
     return number
 
 
-def lost_keys(cache, values, killed):
-    """The keys that have what they may not have after a kill; what each has is what it had."""
+def lost_keys(cache, values, before):
+    """The keys that have what they may not have after a kill; what each has is what it had. What was answered before a time must be there."""
     found = []
     for key, rows in values.items():
-        old = [at for at, (when, _) in enumerate(rows) if when < killed - 1]
+        old = [at for at, (when, _) in enumerate(rows) if when < before]
         may_be = [content for _, content in rows[old[-1] if old else 0 :]] + [None] * (len(old) < len(rows))
         status, content = cache.ask("GET", key)
         content = content if status == 200 else None
@@ -73,29 +115,28 @@ def lost_keys(cache, values, killed):
     return found
 
 
-def killed_lives(folder, lives, words=(), look=lambda cache: 0):
-    """Changes a cache for some seconds and kills it, once for each of `lives`, and compares every key after each. Returns what is wrong, the number of changes,
-    and the sum of what was looked at before the kills."""
-    found, values, number, seen = [], {}, 0, 0
+def killed_lives(place, lives, words=(), is_enough=lambda cache: True):
+    """Changes a cache for some seconds, until it has done enough, and kills it, once for each of `lives`, and compares every key after each. The cache may be later
+    than a second by what its writes take longer: two files are written and synced in turn, and as many may wait for that."""
+    folder, found, values, number = os.path.join(place, "cache"), [], {}, 0
     for seconds in lives:
-        with Cache(folder, words=list(words)) as cache:
-            number = change_until(cache, number, values, time.monotonic() + seconds)
-            seen += look(cache)
+        with Cache(folder, words=list(words)) as cache, Lateness(place) as lateness:
+            number = change_until(cache, number, values, time.monotonic() + seconds, is_enough)
+            found += differences((is_enough(cache), True))
             cache.process.kill()
             killed = time.monotonic()
             cache.process.wait(SECONDS)
         with Cache(folder) as cache:
-            found += lost_keys(cache, values, killed)
+            found += lost_keys(cache, values, killed - 1 - 4 * lateness.most)
             _, err = cache.stop()
             found += [err] if "left out" in err else []
-    return found[:5], number, seen
+    return found[:5]
 
 
 def loses_a_second():
     """Killed at any moment, it begins with all that was answered a second before; a key that has changed since has what it had in that second, or none."""
     with tempfile.TemporaryDirectory() as place:
-        found, number, _ = killed_lives(os.path.join(place, "cache"), [1.3 + 0.2 * life for life in range(4)])
-        return found if number > 200 else [*found, f"there are {number} changes"]
+        return killed_lives(place, [1.3 + 0.2 * life for life in range(4)])
 
 
 def reads_to_the_last_whole_record():
@@ -138,10 +179,7 @@ def gives_disk_back():
                 cache.ask("PUT", f"/{number % 10}", bytes([number]) * (1 << 20))
             for number in range(2000):
                 cache.ask("PUT", "/small", b"%d" % number)
-            end = time.monotonic() + 20
-            while time.monotonic() < end and bytes_below(folder) > MAX_BELOW:
-                time.sleep(0.1)
-            found += differences((bytes_below(folder) <= MAX_BELOW, True), (len(texts_of_log(folder)) < 1200, True))
+            found += differences((wait_until(lambda: bytes_below(folder) <= MAX_BELOW and len(texts_of_log(folder)) < 1200), True))
         with Cache(folder) as cache:
             found += differences((cache.begun.split(", ", 1)[1], "has 13 keys, 13 objects\n"), (cache.ask("GET", "/kept") == (200, b"kept" * 5000000), True))
             found += differences((cache.ask("GET", "/also") == (200, b"also" * 1000000), True))
@@ -149,16 +187,16 @@ def gives_disk_back():
 
 
 def stops_at_once():
-    """The best of a few stops, behind many stores."""
-    times, found = [], []
-    for _ in range(3):
-        with tempfile.TemporaryDirectory() as place, Cache(os.path.join(place, "cache")) as cache:
+    """Content is written as it arrives, so that a stop has nothing more to write."""
+    with tempfile.TemporaryDirectory() as place:
+        folder = os.path.join(place, "cache")
+        with Cache(folder) as cache:
             for number in range(100):
                 cache.ask("PUT", f"/{number}", bytes([number]) * (1 << 20))
-            start = time.monotonic()
+            found = differences((wait_until(lambda: len(texts_of_log(folder)) == 200), True))
+            before = files_of(folder)
             found += differences((cache.stop(), ("cache_server: saved 100 keys, 100 objects\n", "")))
-            times.append(time.monotonic() - start)
-    return found if min(times) < 1 else [*found, f"they take {times} s"]
+            return found + differences((files_of(folder), before))
 
 
 def begins_from_an_older_folder():
@@ -185,7 +223,9 @@ def ends_where_nothing_can_be_written():
         words = ["bash", "-c", 'ulimit -f 1000; exec "$@"', "bash", *words]
         with subprocess.Popen(words, stdout=subprocess.PIPE, stderr=subprocess.PIPE) as server:
             port = int(server.stdout.readline().decode().split("port ")[1].split(",")[0])
-            ask(port, "PUT", "/k", bytes(3000000))
+            # the server may end before it answers
+            with contextlib.suppress(OSError, http.client.HTTPException):
+                ask(port, "PUT", "/k", bytes(3000000))
             try:
                 _, err = server.communicate(timeout=SECONDS)
             finally:

@@ -3,19 +3,19 @@ import collections
 import http.client
 import os
 import random
-import signal
 import tempfile
 import threading
 import time
 
-from shared import PROGRAM, SECONDS, differences
-from b3store import Store
+from shared import PROGRAM, SECONDS, differences, raised
+from b3store import Ended, Refused, Store
 from cache_files import Files
+from cache_metrics import Metrics
 from cache_stores import Cache as Stores
 from cache_stores import User
-from cache_disk import killed_lives
+from cache_disk import killed_lives, texts_of_log
 from caches import begin_to_read
-from servers import USERS, Cache, SlowPut, ask, children, metrics
+from servers import USERS, Cache, SlowPut, ask, ask_without_store, children, metrics, wait_until
 
 CHUNKED = {"Transfer-Encoding": "chunked"}
 FIRST_BOUND = 4 << 20
@@ -48,12 +48,13 @@ def reports_its_counts():
 
 def reports_its_health():
     """Without a token; and 503 once the store has ended."""
-    with tempfile.TemporaryDirectory() as place, Cache(os.path.join(place, "cache"), USERS) as cache:
-        found = differences((cache.ask("GET", "/healthz"), (200, b"ok\n")), (cache.ask("HEAD", "/healthz"), (200, b"")), (cache.ask("HEAD", "/metrics"), (200, b"")))
-        found += differences((cache.ask("PUT", "/healthz", b"abc", "token-a")[0], 405), (cache.ask("GET", "/metrics")[0], 200), (cache.ask("GET", "/healthz/")[0], 401))
-        os.kill(children(cache.process)[0], signal.SIGKILL)
-        time.sleep(0.1)
-        return found + differences((cache.ask("GET", "/healthz")[0], 503), (cache.process.wait(SECONDS), 3))
+    with tempfile.TemporaryDirectory() as place:
+        folder = os.path.join(place, "cache")
+        with Cache(folder, USERS) as cache:
+            found = differences((cache.ask("GET", "/healthz"), (200, b"ok\n")), (cache.ask("HEAD", "/healthz"), (200, b"")), (cache.ask("HEAD", "/metrics"), (200, b"")))
+            found += differences((cache.ask("PUT", "/healthz", b"abc", "token-a")[0], 405), (cache.ask("GET", "/metrics")[0], 200), (cache.ask("GET", "/healthz/")[0], 401))
+        cache, answer = ask_without_store(lambda: Cache(folder, USERS), "GET", "/healthz")
+        return found + differences((answer and answer[0], 503), (cache.process.returncode, 3))
 
 
 class Client(threading.Thread):
@@ -132,16 +133,6 @@ def wrong_keys(cache, contents):
     return found[:3]
 
 
-def wait_until(check, seconds=SECONDS):
-    """Whether something becomes true in time."""
-    end = time.monotonic() + seconds
-    while not check():
-        if time.monotonic() > end:
-            return False
-        time.sleep(0.05)
-    return True
-
-
 def fill_journal(cache, count):
     """Changes a key until the journal is longer than its limit, and waits for the move to begin."""
     for number in range(count):
@@ -157,7 +148,10 @@ def ends_requests_on_the_old_store():
         with Cache(folder, words=["--journal-limit", "100", "--limit", "60000000", "--no-evict"]) as cache:
             found = differences((cache.ask("PUT", "/k", large)[0], 201), (cache.ask("PUT", "/small", b"abc")[0], 201))
             connection, read = begin_to_read(cache, "/k")
+            before = metrics(cache)["journal_entries"]
             fixed, grown = SlowPut(cache, "/fixed", content, {"Content-Length": str(len(content))}), SlowPut(cache, "/grown", content[::-1], CHUNKED)
+            # each has begun, and put a part
+            found += differences((wait_until(lambda: metrics(cache)["journal_entries"] == before + 4), True))
             found += [] if fill_journal(cache, 120) else ["no move begins"]
             time.sleep(1)
             found += differences((len(children(cache.process)), 2), (cache.ask("GET", "/small"), (200, b"abc")), (cache.ask("GET", "/k")[1] == large, True))
@@ -175,11 +169,23 @@ def ends_requests_on_the_old_store():
             return found + killed_with_two_stores(cache, folder, {"/k": large, "/small": b"abc", "/fixed": content, "/grown": content[::-1]})
 
 
+def is_on_disk(cache, folder, key):
+    """Whether the log of a cache's folder has what a key leads to; then it has all earlier changes too."""
+    connection = http.client.HTTPConnection("127.0.0.1", cache.port, timeout=SECONDS)
+    try:
+        connection.request("HEAD", key)
+        address = connection.getresponse().headers["ETag"].strip('"')
+    finally:
+        connection.close()
+    lines = [text for text in texts_of_log(folder) if text.endswith(f" {key}")]
+    return lines[-1:] == [f"key all {address} {key}"]
+
+
 def killed_with_two_stores(cache, folder, contents):
     """A read holds the old store while the server is killed; then a new one starts with the same keys."""
     connection, _ = begin_to_read(cache, "/k")
     found = [] if fill_journal(cache, 400) else ["no other move begins"]
-    time.sleep(1.2)
+    found += differences((wait_until(lambda: is_on_disk(cache, folder, "/filler")), True))
     cache.process.kill()
     connection.close()
     cache.process.wait(SECONDS)
@@ -190,24 +196,24 @@ def killed_with_two_stores(cache, folder, contents):
 def loses_a_second_in_moves():
     """Killed at any moment of moves, it has all that was answered a second before."""
     with tempfile.TemporaryDirectory() as place:
-        lives = [1.3 + 0.13 * life for life in range(6)]
-        found, number, moves = killed_lives(os.path.join(place, "cache"), lives, ["--journal-limit", "1"], lambda cache: metrics(cache)["moves_total"])
-        return found if moves >= 3 else [*found, f"there are {moves} moves in {number} changes"]
+        return killed_lives(place, [1.3 + 0.13 * life for life in range(6)], ["--journal-limit", "1"], lambda cache: metrics(cache)["moves_total"] > 0)
 
 
 def keeps_quotas_in_moves():
     """With a full quota, what a move holds twice counts once: all that fits is stored while the content moves, no byte more, and keys are evicted in
     the order in which they were used."""
     with tempfile.TemporaryDirectory() as place:
-        found, statuses = [], collections.Counter()
+        found, statuses, wanted = [], collections.Counter(), collections.Counter()
         for words in ["--no-evict"], []:
             with Cache(os.path.join(place, "cache" + "".join(words)), words=["--journal-limit", "30", "--limit", "3000000", *words]) as cache:
                 for key in range(30):
                     statuses[cache.ask("PUT", f"/{key}", bytes([key]) * 99000)[0]] += 1
-                for number in range(300):
-                    key = number % 20
+                number, last = 0, time.monotonic() + SECONDS
+                while number < 300 or metrics(cache)["moves_total"] < 2 and time.monotonic() < last:
+                    key, number = number % 20, number + 1
                     statuses[cache.ask("DELETE", f"/{key}")[0]] += 1
                     statuses[cache.ask("PUT", f"/{key}", bytes([key]) * 99000)[0]] += 1
+                wanted.update({201: 30 + number, 204: number})
                 found += differences((cache.ask("GET", "/29"), (200, bytes([29]) * 99000)))
                 if words:
                     found += differences((cache.ask("PUT", "/more", b"m" * 30001)[0], 507), (cache.ask("PUT", "/more", b"m" * 30000)[0], 201))
@@ -215,7 +221,69 @@ def keeps_quotas_in_moves():
                     found += differences((cache.ask("PUT", "/more", b"m" * 300000)[0], 201))
                     found += differences(("".join(str(cache.ask("HEAD", f"/{key}")[0]) for key in (*range(20, 24), 29)), "404404404200200"))
                 found += [] if metrics(cache)["moves_total"] >= 2 else ["there are too few moves"]
-        return found + differences((dict(statuses), {201: 660, 204: 600}))
+        return found + differences((statuses, wanted))
+
+
+def grants_the_quota_alone_while_it_copies():
+    """At each moment of a move, also in a copy, a user can store as many bytes as are free of the quota, and no more. An object that is dropped while it is
+    copied is free."""
+    user, found = User("all", None, 4000000), []
+    cache = Stores(lambda: Store(PROGRAM, sessions=2), [user], 1 << 30, evicts=False)
+    contents = {"/large": os.urandom(2500000), "/dropped": os.urandom(1300000), **{f"/{key}": bytes([key]) * 9000 for key in range(20)}}
+    for key, content in contents.items():
+        cache.put(user, key, len(content), [content])
+    cache.old, cache.backend = cache.backend, cache.open_backend()
+    cache.share_quota(user)
+    fetch, asked = cache.old.store.fetch, collections.Counter()
+
+    def fetch_and_store(tenant, address, *range_of_it):
+        asked[address] += 1
+        if len(asked) == 2 and asked[address] == 2:
+            cache.drop(user, "/dropped")
+        if len(asked) in (1, 2, 12):
+            free = 20000 if "/dropped" in user.keys else 1320000
+            found.extend(differences((refusal(cache.put, user, "/more", free + 1, [bytes(free + 1)]), "S6"), (refusal(cache.put, user, "/more", free, [b"m" * free]), None)))
+            found.extend(differences((cache.drop(user, "/more"), True)))
+        return fetch(tenant, address, *range_of_it)
+
+    cache.old.store.fetch = fetch_and_store
+    refusals = [each for batch in cache.batches(user) for each in cache.move_batch(user, batch)]
+    del contents["/dropped"]
+    found += differences((refusals, []), (len(asked), 22), (cache.close_old(), True), (cache.totals(), (21, 2500000 + 20 * 9000)))
+    for key, content in contents.items():
+        with cache.reading(user, key) as entry:
+            found += differences((b"".join(cache.pieces(user, entry, 0, entry.length)) == content, True))
+    usage = cache.backend.store.usage(cache.backend.tenants[user])
+    cache.close_stores()
+    return found + differences((usage, (2500000 + 20 * 9000, 0, 4000000)))
+
+
+def counts_while_content_moves():
+    """The metrics are given though the store whose journal is counted is closed by a move meanwhile."""
+    user = User("all", None, 1 << 30)
+    cache = Stores(lambda: Store(PROGRAM, sessions=2), [user], 1 << 30)
+    cache.put(user, "/a", 3, [b"abc"])
+    entries = cache.backend.store.entries
+
+    def entries_after_a_move(first, count):
+        if cache.moves == 0:
+            cache.move()
+        return entries(first, count)
+
+    cache.backend.store.entries = entries_after_a_move
+    text = Metrics().text(cache)
+    wanted = cache.backend.count_entries()
+    cache.close_stores()
+    return differences((cache.moves, 1), (f"b3store_cache_journal_entries {wanted}\n" in text, True), (raised(cache.count_entries), Ended))
+
+
+def refusal(work, *words):
+    """The number of the refusal that a call raises, or None."""
+    try:
+        work(*words)
+    except Refused as fault:
+        return fault.number
+    return None
 
 
 def writes_from_both_stores():

@@ -7,10 +7,9 @@ import socket
 import subprocess
 import sys
 import tempfile
-import time
 
 from shared import ABC, FOUR, PROGRAM, SECONDS, TOP, differences
-from servers import USERS, Cache, ask, free_port, raw_answer, wait_for
+from servers import USERS, Cache, ask, ask_without_store, free_port, is_answered, metrics, raw_answer, wait_until
 
 
 def caches_keys():
@@ -76,8 +75,11 @@ def gives_what_is_new():
 
 
 def begin_to_read(cache, key):
-    """A connection on which an answer comes, of which the headers and a little were read, and what was read."""
-    connection = socket.create_connection(("127.0.0.1", cache.port), timeout=SECONDS)
+    """A connection on which an answer comes, of which the headers and a little were read, and what was read. The system keeps little of what follows."""
+    connection = socket.socket()
+    connection.setsockopt(socket.SOL_SOCKET, socket.SO_RCVBUF, 1 << 16)
+    connection.settimeout(SECONDS)
+    connection.connect(("127.0.0.1", cache.port))
     connection.sendall(f"GET {key} HTTP/1.1\r\nConnection: close\r\n\r\n".encode())
     read = b""
     while b"\r\n\r\n" not in read:
@@ -97,12 +99,7 @@ def gives_what_is_gone():
                 found += differences((cache.ask(*change)[0], 204 if change[2] is None else 201))
                 read += b"".join(iter(lambda: connection.recv(1 << 20), b""))
             found += [f"{name}: {len(read)} bytes come"] if read != large else []
-        for _ in range(100):
-            status = cache.ask("PUT", "/all", bytes(70000000))[0]
-            if status == 201:
-                return found
-            time.sleep(0.1)
-        return [*found, f"the status is {status}"]
+        return found + differences((wait_until(lambda: cache.ask("PUT", "/all", bytes(70000000))[0] == 201), True))
 
 
 def evicts_what_was_used_least_recently():
@@ -128,15 +125,16 @@ def evicts_what_was_used_least_recently():
 def reserves_as_a_body_grows():
     """A body of unknown length doesn't take the quota that others need, and is whole though it outgrew what it had reserved."""
     with tempfile.TemporaryDirectory() as place, Cache(os.path.join(place, "cache"), words=["--limit", "40000000", "--no-evict"]) as cache:
+        before = metrics(cache)["journal_entries"]
         slow = http.client.HTTPConnection("127.0.0.1", cache.port, timeout=SECONDS)
         slow.putrequest("PUT", "/slow")
         slow.putheader("Transfer-Encoding", "chunked")
         slow.endheaders()
         slow.send(b"3\r\nabc\r\n")
-        time.sleep(0.3)
         content, chunked = os.urandom(9500000), {"Transfer-Encoding": "chunked"}
         pieces = [content[at : at + 70000] for at in range(0, len(content), 70000)]
-        found = differences((cache.ask("PUT", "/other", bytes(10000000))[0], 201), (cache.ask("PUT", "/k", iter(pieces), None, chunked)[0], 201))
+        found = differences((wait_until(lambda: metrics(cache)["journal_entries"] > before), True))
+        found += differences((cache.ask("PUT", "/other", bytes(10000000))[0], 201), (cache.ask("PUT", "/k", iter(pieces), None, chunked)[0], 201))
         found += differences((cache.ask("GET", "/k")[1] == content, True))
         slow.send(b"1\r\nd\r\n0\r\n\r\n")
         found += differences((slow.getresponse().status, 201), (cache.ask("GET", "/slow"), (200, b"abcd")))
@@ -178,12 +176,7 @@ def aborts_what_is_cut():
             connection.endheaders()
             connection.send(bytes(1200))
             connection.close()
-        for _ in range(100):
-            status = cache.ask("PUT", "/k", bytes(1500), "token-b")[0]
-            if status == 201:
-                return []
-            time.sleep(0.1)
-    return [f"the status is {status}"]
+        return differences((wait_until(lambda: cache.ask("PUT", "/k", bytes(1500), "token-b")[0] == 201), True))
 
 
 def keeps_others_out():
@@ -236,14 +229,9 @@ def ends_with_its_store():
         with Cache(folder) as cache:
             cache.ask("PUT", "/k", b"abc")
         for method, key, body in ("GET", "/k", None), ("HEAD", "/k", None), ("PUT", "/l", b"four"), ("DELETE", "/k", None), ("GET", "/none", None):
-            with Cache(folder) as cache:
-                with open(f"/proc/{cache.process.pid}/task/{cache.process.pid}/children", encoding="ascii") as children:
-                    os.kill(int(children.read().split()[0]), signal.SIGKILL)
-                time.sleep(0.1)
-                found += differences((cache.begun.split(", ", 1)[1], "has 1 keys, 1 objects\n"), (cache.ask(method, key, body)[0], 503))
-                found += differences((cache.process.wait(SECONDS), 3))
-                _, err = cache.stop()
-                found += differences((err, "cache_server: the store has ended; its exit status is -9\n"))
+            cache, answer = ask_without_store(lambda: Cache(folder), method, key, body)
+            found += differences((cache.begun.split(", ", 1)[1], "has 1 keys, 1 objects\n"), (answer and answer[0], 503), (cache.process.returncode, 3))
+            found += differences((cache.told[1], "cache_server: the store has ended; its exit status is -9\n"))
         return found
 
 
@@ -255,7 +243,7 @@ def parts_the_keys():
         with subprocess.Popen(words, stdout=subprocess.PIPE) as cluster:
             cluster.stdout.readline()
             servers = [int(word) for word in cluster.stdout.readline().decode().split()[2:]]
-            wait_for(port)
+            wait_until(lambda: is_answered(port))
             keys = [f"/key{number}" for number in range(100)]
             found = differences(({ask(port, "PUT", key, key.encode())[0] for key in keys}, {201}))
             found += differences(({ask(port, "GET", key) == (200, key.encode()) for key in keys}, {True}))

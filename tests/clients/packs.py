@@ -202,7 +202,9 @@ def saves_that_are_killed():
         folder, repository, delays = os.path.join(place, "folder"), os.path.join(place, "repository"), random.Random(1)
         os.mkdir(folder)
         found, states, killed, seconds = [], {}, 0, 0.0
-        for number in range(KILLS):
+        for number in range(10 * KILLS):
+            if number >= KILLS and killed > KILLS / 3:
+                break
             for name in range(8):
                 with open(os.path.join(folder, f"{number % 3}.{name}"), "wb") as file:
                     file.write(os.urandom(40000))
@@ -213,6 +215,7 @@ def saves_that_are_killed():
                 run.kill()
             written = run.communicate(timeout=SECONDS)[0].decode().split()
             killed += run.returncode != 0
+            seconds *= 1 if run.returncode != 0 else 0.8
             if number % 5 == 0:
                 seconds = time.monotonic() - start
                 states[written[-1]] = state_of(folder)
@@ -231,7 +234,8 @@ def writes_that_fail():
         folder, repository = folder_of_abc(place)
         address, state = saved(folder, repository), state_of(folder)
         with open(os.path.join(folder, "large"), "wb") as file:
-            file.write(os.urandom(300000))
+            # random bytes whose pieces are shorter than a pack: of others a piece may be as long as the file
+            file.write(random.Random(1).randbytes(300000))
         found = []
         for limit in 1000, 60000, 150000:
             limited = ["sh", "-c", f"ulimit -f {limit // 512}; exec \"$@\"", "sh", *BY_SMALL_PACKS]

@@ -2,6 +2,7 @@
 import contextlib
 import http.client
 import os
+import random
 import re
 import signal
 import socket
@@ -24,7 +25,7 @@ class Cache:
                 file.write(users)
             command += ["--users", path]
         self.process = subprocess.Popen(command, stdout=subprocess.PIPE, stderr=subprocess.PIPE)
-        self.begun = self.process.stdout.readline().decode()
+        self.begun, self.told = self.process.stdout.readline().decode(), None
         self.port = int(self.begun.split("port ")[1].split(",")[0])
 
     def __enter__(self):
@@ -34,10 +35,12 @@ class Cache:
         self.stop()
 
     def stop(self):
-        """Ends it, and gives what it told since its beginning."""
-        self.process.send_signal(signal.SIGTERM)
-        out, err = self.process.communicate(timeout=SECONDS)
-        return out.decode(), err.decode()
+        """Ends it, and gives what it told since its beginning, also if it is called again."""
+        if self.told is None:
+            self.process.send_signal(signal.SIGTERM)
+            out, err = self.process.communicate(timeout=SECONDS)
+            self.told = out.decode(), err.decode()
+        return self.told
 
     def ask(self, method, key, body=None, token=None, headers=()):
         return ask(self.port, method, key, body, token, headers)
@@ -59,16 +62,31 @@ USERS = "ann token-a 10000000\nbob token-b 2000\n"
 
 
 def free_port():
-    with socket.socket() as it:
-        it.bind(("127.0.0.1", 0))
-        return it.getsockname()[1]
+    """A port that is free, and that the system gives to no connection meanwhile, unless it gives them nearly all ports."""
+    with open("/proc/sys/net/ipv4/ip_local_port_range", encoding="ascii") as numbers:
+        first = int(numbers.read().split()[0])
+    for port in random.sample(range(5000, max(first, 10000)), 100):
+        with contextlib.suppress(OSError), socket.socket() as it:
+            it.bind(("127.0.0.1", port))
+            return port
+    raise OSError("no port is free")
 
 
-def wait_for(port):
-    for _ in range(100):
-        with contextlib.suppress(OSError):
-            return ask(port, "GET", "/")
-        time.sleep(0.1)
+def wait_until(check, seconds=SECONDS):
+    """Whether something becomes true in time."""
+    end = time.monotonic() + seconds
+    while not check():
+        if time.monotonic() > end:
+            return False
+        time.sleep(0.02)
+    return True
+
+
+def is_answered(port):
+    """Whether something answers requests at a port."""
+    with contextlib.suppress(OSError):
+        return bool(ask(port, "GET", "/"))
+    return False
 
 
 def raw_answer(port, request):
@@ -83,9 +101,37 @@ def children(process):
     with open(f"/proc/{process.pid}/task/{process.pid}/children", encoding="ascii") as ids:
         own = ids.read().split()
     for task in os.listdir(f"/proc/{process.pid}/task"):
-        with contextlib.suppress(FileNotFoundError), open(f"/proc/{process.pid}/task/{task}/children", encoding="ascii") as ids:
+        with contextlib.suppress(FileNotFoundError, ProcessLookupError), open(f"/proc/{process.pid}/task/{task}/children", encoding="ascii") as ids:
             own += [word for word in ids.read().split() if word not in own]
     return [int(word) for word in own]
+
+
+def has_ended(process):
+    """Whether all threads of a process have ended, though its parent may not have asked for its status yet."""
+    try:
+        with open(f"/proc/{process}/stat", encoding="ascii", errors="replace") as stat:
+            return stat.read().rpartition(") ")[2][0] in "ZX" and len(os.listdir(f"/proc/{process}/task")) <= 1
+    except (FileNotFoundError, ProcessLookupError):
+        return True
+
+
+SECONDS_TO_ANSWER = 2
+"""How long a cache server answers once its store has ended."""
+
+
+def ask_without_store(start, *request):
+    """Starts a cache server, kills its store's process, and asks the server, which ends soon. If this took longer than the server answers, that is done again.
+    Returns the server, which has ended, and the answer."""
+    while True:
+        with start() as cache:
+            store, answer, begun = children(cache.process)[0], None, time.monotonic()
+            os.kill(store, signal.SIGKILL)
+            wait_until(lambda: has_ended(store))
+            with contextlib.suppress(OSError, http.client.HTTPException):
+                answer = cache.ask(*request)
+            if answer is not None or time.monotonic() - begun < SECONDS_TO_ANSWER:
+                cache.process.wait(SECONDS)
+                return cache, answer
 
 
 METRIC = re.compile(r"b3store_cache_(\w+(?:\{[^ ]*\})?) ([0-9]+)")

@@ -3,6 +3,7 @@ import typing
 
 from blake3 import address_of, keyed, output_of
 from check_files import check_answer
+from explaining import script_errors
 from journal import ANSWERS, HEADER
 from script import answers_of
 from session import answers_within, session_of
@@ -37,8 +38,8 @@ class Case(typing.NamedTuple):
     after_read: typing.Optional[typing.Callable]
 
 
-def stopped(output=b""):
-    return Answer(3, output, CANNOT_READ)
+def stopped(output=b"", errors=b""):
+    return Answer(3, output, errors + CANNOT_READ)
 
 
 def nothing_read(number):
@@ -65,13 +66,13 @@ def checked(unread=None):
     """The report on the check lines, where a file can't be read."""
     digests = {b"abc": ABC.encode(), b"empty": EMPTY.encode()}
     report, status = check_answer(LINES, {**digests, **({unread: None} if unread else {})})
-    return Answer(status, report)
+    return Answer(status, report, unreadable(unread) if unread else b"")
 
 
 def script_answers(count):
-    """The answers to the lines that end within so many bytes of the script."""
-    answers = answers_of(SCRIPT[: SCRIPT.rfind(b"\n", 0, count) + 1].decode())
-    return "".join(answer + "\n" for answer in answers[0]).encode()
+    """The answers to the lines that end within so many bytes of the script, and what is said of them."""
+    text = SCRIPT[: SCRIPT.rfind(b"\n", 0, count) + 1].decode()
+    return "".join(answer + "\n" for answer in answers_of(text)[0]).encode(), script_errors(text)
 
 
 def cases(program):
@@ -93,8 +94,8 @@ def cases(program):
     reports = checked(), [checked(b"abc"), checked(b"empty")]
     yield case(["check"], LINES, checked(), files_read(len(LINES), *reports))
     yield case(["check", "--threads", "1", "lines"], b"", checked(), files_read(len(LINES), *reports))
-    run = Answer(1, script_answers(len(SCRIPT)))
-    yield case(["run"], SCRIPT, run, lambda number: [stopped(script_answers(number - 1))])
+    run = Answer(1, *script_answers(len(SCRIPT)))
+    yield case(["run"], SCRIPT, run, lambda number: [stopped(*script_answers(number - 1))])
     output, status = session_of(SESSION)
     yield case(["serve"], SESSION, Answer(status, output), lambda number: [stopped(answers_within(SESSION, number - 1))])
     for word, answer_of in ANSWERS.items():

@@ -17,7 +17,7 @@ LONG_ADDRESS = "8516f8a0ae9a7a21cdd69df13aaa9b2a22a499848fb3185cea4cae496ce4d91a
 KEY = bytes(range(32))
 FILES = {"object": OBJECT, "abc": b"abc", "key": KEY}
 FROB = b"error: unexpected argument '--frob' found\n"
-HELP = b"A content-addressed store: objects under their BLAKE3 hash\n\nUsage: "
+HELP = b"Hash and check files, and serve a store that keeps each content once, in memory, until its process ends\n\nUsage: "
 SIGNED = b"b3store: a number is decimal digits, without a sign; see b3store sum --help\n"
 SCRIPT = f"""tenant 4096
 tenant 4096

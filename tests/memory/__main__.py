@@ -16,6 +16,7 @@ import os
 import subprocess
 import sys
 import tempfile
+import time
 
 sys.dont_write_bytecode = True
 HERE = os.path.dirname(os.path.abspath(__file__))
@@ -61,15 +62,27 @@ def counted(words, library, data=b""):
 
 
 def resident(program, folder, lines):
-    """The answers to a script, and the most memory that was resident, in bytes."""
-    paths = [os.path.join(folder, name) for name in ("script", "answers")]
-    with open(paths[0], "w", encoding="ascii") as script:
-        script.writelines(f"{line}\n" for line in lines)
-    with open(paths[0], "rb") as script, open(paths[1], "wb") as answers:
-        child = subprocess.Popen([program, "run"], stdin=script, stdout=answers)
-        _, child.returncode, used = os.wait4(child.pid, 0)
-    with open(paths[1], "rb") as answers:
-        return answers.read().decode(errors="replace").splitlines(), used.ru_maxrss * 1024
+    """The answers to a script, a line for each of its lines, and the most memory that was resident until then, in bytes. The system is asked while the
+    program runs: what it reports of an ended process includes the memory of this one, from before the program was loaded."""
+    path = os.path.join(folder, "answers")
+    with open(path, "wb") as answers:
+        child = subprocess.Popen([program, "run"], stdin=subprocess.PIPE, stdout=answers)
+    with child.stdin as script:
+        script.write("".join(f"{line}\n" for line in lines).encode())
+        script.flush()
+        end = time.monotonic() + SECONDS
+        while lines_in(path) < len(lines) and child.poll() is None and time.monotonic() < end:
+            time.sleep(0.01)
+        with open(f"/proc/{child.pid}/status", encoding="ascii") as status:
+            most = next((int(line.split()[1]) << 10 for line in status if line.startswith("VmHWM:")), 0)
+    child.wait(SECONDS)
+    with open(path, encoding="utf-8", errors="replace") as answers:
+        return answers.read().splitlines(), most
+
+
+def lines_in(path):
+    with open(path, "rb") as file:
+        return file.read().count(b"\n")
 
 
 @functools.lru_cache(maxsize=None)

@@ -21,7 +21,7 @@ from commands import Answer, cases
 from python_needed import end_where_older
 from test_programs import PASSED, tests_in_sources
 
-SECONDS = 300
+SECONDS = 1200
 STAND_IN = os.path.join(TESTS, "of_tests", "stand_in.c")
 NOT_THE_STORE = ("true", "cat")
 FEW_CASES = 50

@@ -35,7 +35,8 @@ def difference(program, folder, kind, case):
     except (OSError, subprocess.TimeoutExpired) as fault:
         return f"input {data!r}\n{fault}"
     differs = kind.differs(run.stdout, wanted, data) if kind is uploads else run.stdout != wanted
-    if not differs and run.returncode == status and not run.stderr:
+    errors = kind.errors(data, wanted) if hasattr(kind, "errors") else b""
+    if not differs and run.returncode == status and run.stderr == errors:
         return None
     return f"input {data!r}\nwanted {status} {wanted!r}\nanswered {run.returncode} {run.stdout!r} {run.stderr!r}"
 

@@ -1,9 +1,12 @@
 """Random check files over a few files."""
 from blake3 import address_of
 from check_files import check_answer, escaped
+from explaining import check_errors
 
 FILES = {b"f": b"abc", b"a\\b": b"", b"n\nl": b"\0" * 1025, b"r\rr": b"x" * 63, b"-": b"dash", b" s": b"s"}
 DIGESTS = {name: address_of(content).encode() for name, content in FILES.items()}
+READABLE = {**DIGESTS, b"-": None}
+"""In a list that is standard input, `-` is unreadable."""
 
 
 def line_of(chance):
@@ -23,11 +26,13 @@ def line_of(chance):
 
 def case(chance):
     data = b"\n".join(line_of(chance) for _ in range(chance.randrange(8))) + chance.choice((b"", b"\n", b"\n\n"))
-    reported, status = check_answer(data, DIGESTS)
-    if chance.random() < 0.2:
-        reported = b"".join(line for line in reported.splitlines(True)[:-1] if not line.startswith((b"good ", b"\\good "))) + reported.splitlines(True)[-1]
-        return ["check", "--quiet"], data, reported, status
-    if chance.random() < 0.1:
-        return ["check", "--status"], data, b"", status
-    threads = ["--threads", str(chance.choice((1, 2, 3, 16)))] if chance.random() < 0.3 else []
-    return ["check", *threads], data, reported, status
+    is_quiet, is_silent, ignores_missing = chance.random() < 0.2, chance.random() < 0.1, chance.random() < 0.2
+    reported, status = check_answer(data, READABLE, is_quiet, ignores_missing)
+    flags = {"--quiet": is_quiet, "--status": is_silent, "--ignore-missing": ignores_missing}
+    words = ["check", *(flag for flag, is_given in flags.items() if is_given)]
+    words += ["--threads", str(chance.choice((1, 2, 3, 16)))] if chance.random() < 0.3 else []
+    return words, data, b"" if is_silent else reported, status
+
+
+def errors(data, _answer):
+    return check_errors(data, READABLE)

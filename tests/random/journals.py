@@ -2,6 +2,7 @@
 import re
 
 import scripts
+from explaining import journal_errors
 from journal import ANSWERS, HEADER, entry_of
 
 
@@ -40,3 +41,7 @@ def case(chance):
     word = chance.choice(sorted(ANSWERS))
     reported, status = ANSWERS[word](text.encode())
     return [word], text.encode(), reported, status
+
+
+def errors(_data, answer):
+    return journal_errors(answer)

@@ -1,4 +1,5 @@
 """Random scripts: commands that mostly mean something, and lines that a little change has spoilt."""
+from explaining import script_errors
 from script import answers_of, call_of, pattern
 from store import Refused, Store
 
@@ -130,3 +131,7 @@ def journal_of(chance):
     for _ in range(chance.randrange(1, 60)):
         writer.add(writer.line())
     return writer.store.journal
+
+
+def errors(data, _answer):
+    return script_errors(data.decode("latin-1"))

@@ -46,7 +46,7 @@ def report_line(verdict, name):
     return (b"" if text == name else b"\\") + verdict.encode() + b" " + text + b"\n"
 
 
-def check_answer(text, files):
+def check_answer(text, files, is_quiet=False, ignores_missing=False):
     """A second reading of check files: the report on one, and the status."""
     counts = dict.fromkeys(["good", "bad", "missing", "unreadable", "faults"], 0)
     report = b""
@@ -57,6 +57,9 @@ def check_answer(text, files):
         fault, digest, name = check_line_of(line)
         verdict = "faults" if fault else verdict_on(digest, name, files)
         counts[verdict] += 1
+        if (is_quiet and verdict == "good") or (ignores_missing and verdict == "missing"):
+            continue
         report += b"fault %d %s\n" % (number, fault) if fault else report_line(verdict, name)
+    has_passed = 0 < counts["good"] == sum(counts.values()) - (counts["missing"] if ignores_missing else 0)
     totals = " ".join(f"{verdict} {count}" for verdict, count in counts.items())
-    return report + totals.encode() + b"\n", 0 if sum(counts.values()) == counts["good"] else 1
+    return report + (b"" if is_quiet and has_passed else totals.encode() + b"\n"), 0 if has_passed else 1

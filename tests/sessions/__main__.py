@@ -27,7 +27,7 @@ from same import answered_late
 PLAIN = os.path.join(TESTS, "sessions", "plain_server.py")
 SECONDS_PER_COMMAND = 0.02
 MAX_SHOWN = 3
-OF_LONE = {"half": "halves of commands", "waits": "a client that never reads", "trips": "bad lines at the door"}
+OF_LONE = {"half": "halves of commands", "lags": "answers before it waits", "waits": "a client that never reads", "trips": "bad lines at the door"}
 """The cases that find the mistakes that no history of clients shows."""
 COMMANDS_TO_FIND = 4000
 TENANTS = 3

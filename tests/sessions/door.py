@@ -159,6 +159,14 @@ class Server:
         count = int(words[1]) if words and words[0] in ROWS else 0
         return first + b"".join(self.process.stdout.readline() for _ in range(count))
 
+    def given(self, count, wait):
+        """The next bytes of that session's answers, which `ask` must not read from before."""
+        found = b""
+        while len(found) < count:
+            within(self.process.stdout, wait)
+            found += os.read(self.process.stdout.fileno(), count - len(found))
+        return found
+
     def end(self):
         """Closes standard input, and gives the exit status."""
         self.process.stdin.close()

@@ -9,7 +9,9 @@ With --wrong it breaks a promise, once in a while, so that the tests have someth
   swaps       a client's question is answered to another client
   shares      two clients that begin the same are both given one upload, by one entry
   reorders    an accepted command changes places with the entry before it
+  forgets     once the journal has 64 entries, taking the lock forgets an object
   half        a last line without a newline is taken as a command
+  lags        answers are kept back until there are many
   waits       no client is answered while one doesn't read its answers
   trips       a bad line at the door ends the server
 """
@@ -27,7 +29,7 @@ from journal import audit_answer
 from session import answer_of, request_of
 from store import Store
 
-WRONG = ("older", "loses", "doubles", "swaps", "shares", "reorders", "half", "waits", "trips")
+WRONG = ("older", "loses", "doubles", "swaps", "shares", "reorders", "forgets", "half", "lags", "waits", "trips")
 QUESTIONS = ("usage", "list", "stat", "has", "uploads", "tenants", "entries", "fetch", "fetchb")
 AGE = 12
 """How many entries older a state is that a wrong server answers from."""
@@ -81,6 +83,11 @@ class Answers:
             return self.asked[1]
         return None
 
+    def forgotten(self, *_):
+        held = [(min(holders), address) for address, (_, holders) in self.store.objects.items()]
+        if len(self.store.journal) >= 64 and held and self.is_due():
+            self.store.forget(*held[0])
+
     def shared(self, session, word, line, taken):
         if word not in ("begin", "open"):
             return None
@@ -93,7 +100,7 @@ class Answers:
         return given
 
 
-MISTAKES = {"older": Answers.from_older, "loses": Answers.lost, "swaps": Answers.swapped, "shares": Answers.shared}
+MISTAKES = {"older": Answers.from_older, "loses": Answers.lost, "swaps": Answers.swapped, "shares": Answers.shared, "forgets": Answers.forgotten}
 
 
 class Cut(Exception):
@@ -123,7 +130,8 @@ def serve(answers, session, reader, writer):
                 given = answers.answer(session, line, taken)
             with answers.lock if answers.wrong == "waits" else contextlib.nullcontext():
                 writer.write(given)
-                writer.flush()
+                if answers.wrong != "lags":
+                    writer.flush()
         return 0
     except Cut:
         return 1

@@ -1,5 +1,5 @@
 -- The definitions compute to the worked rows of the check file format.
-use Rattle.std.proofs.Common.{◌≡◌, ◌++◌, ◌∷◌, ℕ, List, [], Ok, Err, refl, arith, codes}
+use Rattle.std.proofs.Common.{◌≡◌, ◌++◌, ◌∷◌, ℕ, List, [], Ok, Err, refl, arith, codes, true, false}
 use Rattle.std.specs.Prelude.{Result, ⊤}
 use Rattle.std.proofs.lemmas.Fmt.{decimal_digit}
 use Rattle.hex.proofs.OnLiterals.{hex_on_literals}
@@ -12,6 +12,8 @@ use Rattle.b3_check.specs.Lines.{digest_at, line_at, rest_at, without_returns, w
 use Rattle.edge.specs.Lines.{lines_of}
 use Rattle.b3_check.specs.Files.{numbered_from, file_at}
 use Rattle.b3_check.specs.declared.report.Found.TheVariants.{Good, Bad, Missing}
+use Rattle.b3_check.specs.declared.report.ReportOptions.{ReportOptions}
+use Rattle.b3_check.specs.declared.report.Shown.{Shown}
 use Rattle.b3_check.specs.declared.report.Shown.TheVariants.{All, AllButGood, Nothing}
 use Rattle.b3_check.specs.Reports.{Verdict, report_text, verdict_text}
 use Rattle.b3_check.specs.Reports.Verdict.{faulty, named}
@@ -150,23 +152,32 @@ skipped_line = refl
 
 -- ---- reports
 
+abbrev lines : Shown → ReportOptions
+lines shown = record { shown = shown; ignores_missing = false }
+
 abbrev good_fault_missing : List Verdict
 good_fault_missing = named Good (codes "f") ∷ faulty 2 Short ∷ named Missing (codes "g") ∷ []
 
-three_verdicts : report_text All good_fault_missing ≡ codes "good f\nfault 2 C2\nmissing g\ngood 1 bad 0 missing 1 unreadable 0 faults 1\n"
+three_verdicts : report_text (lines All) good_fault_missing ≡ codes "good f\nfault 2 C2\nmissing g\ngood 1 bad 0 missing 1 unreadable 0 faults 1\n"
 unfolding on_literals
 three_verdicts = rw (decimal_digit 2 (omega arith), decimal_digit 1 (omega arith), decimal_digit 0 (omega arith)) refl
 
-without_good : report_text AllButGood good_fault_missing ≡ codes "fault 2 C2\nmissing g\ngood 1 bad 0 missing 1 unreadable 0 faults 1\n"
+without_good : report_text (lines AllButGood) good_fault_missing ≡ codes "fault 2 C2\nmissing g\ngood 1 bad 0 missing 1 unreadable 0 faults 1\n"
 unfolding on_literals
 without_good = rw (decimal_digit 2 (omega arith), decimal_digit 1 (omega arith), decimal_digit 0 (omega arith)) refl
 
-nothing_shown : report_text Nothing good_fault_missing ≡ []
+nothing_shown : report_text (lines Nothing) good_fault_missing ≡ []
 nothing_shown = refl
 
-two_verdicts : report_text All (named Bad (codes "f") ∷ faulty 3 Short ∷ []) ≡ codes "bad f\nfault 3 C2\ngood 0 bad 1 missing 0 unreadable 0 faults 1\n"
+two_verdicts : report_text (lines All) (named Bad (codes "f") ∷ faulty 3 Short ∷ []) ≡ codes "bad f\nfault 3 C2\ngood 0 bad 1 missing 0 unreadable 0 faults 1\n"
 unfolding on_literals
 two_verdicts = rw (decimal_digit 3 (omega arith), decimal_digit 1 (omega arith), decimal_digit 0 (omega arith)) refl
 
 escaped_verdict : verdict_text (named Good (codes "a\\b")) ≡ codes "\\good a\\\\b\n"
 escaped_verdict = refl
+
+only_good : report_text (lines AllButGood) (named Good (codes "f") ∷ []) ≡ []
+only_good = refl
+
+no_missing : report_text (record { shown = AllButGood; ignores_missing = true }) (named Good (codes "f") ∷ named Missing (codes "g") ∷ []) ≡ []
+no_missing = refl

@@ -1,5 +1,5 @@
 -- Reports on check files: a verdict on each line, and their text.
-use Rattle.std.specs.Prelude.{◌≡◌, ◌+◌, ℕ, Bool, true, false, not, List, [], ◌∷◌, ◌++◌, Option, Some, None, Result, Ok, Err, codes, if◌then◌else◌}
+use Rattle.std.specs.Prelude.{◌≡◌, ◌+◌, ◌&&◌, ◌||◌, ℕ, Bool, true, false, nat_eq, nat_lt, not, List, [], ◌∷◌, ◌++◌, Option, Some, None, Result, Ok, Err, codes, if◌then◌else◌}
 use Rattle.std.specs.Fmt.{decimal}
 use Rattle.std.specs.List.{flat_map}
 use Rattle.std.specs.Str.{bytes_eq}
@@ -11,6 +11,7 @@ use Rattle.b3_check.specs.declared.names.NameFault.TheVariants as faults
 use Rattle.b3_check.specs.declared.report.Counts.{Counts}
 use Rattle.b3_check.specs.declared.report.Found.{Found}
 use Rattle.b3_check.specs.declared.report.Found.TheVariants.{Good, Bad, Missing, Unreadable}
+use Rattle.b3_check.specs.declared.report.ReportOptions.{ReportOptions}
 use Rattle.b3_check.specs.declared.report.Shown.{Shown}
 use Rattle.b3_check.specs.declared.report.Shown.TheVariants.{All, AllButGood, Nothing}
 use Rattle.edge.specs.declared.outcome.Cause.{Cause}
@@ -112,19 +113,31 @@ abbrev pub verdict_text : Verdict → List ℕ
 verdict_text (named found name) = named_text (word_of found) name
 verdict_text (faulty line fault) = fault_line line fault
 
+-- the name has no file
+abbrev pub is_missing : Verdict → Bool
+is_missing (named Good name) = false
+is_missing (named Bad name) = false
+is_missing (named Missing name) = true
+is_missing (named Unreadable name) = false
+is_missing (faulty line fault) = false
+
+-- whether the line of a verdict is among those that are written
+abbrev pub is_among : Shown → Verdict → Bool
+is_among All verdict = true
+is_among AllButGood verdict = not (is_good verdict)
+is_among Nothing verdict = false
+
 -- whether the line of a verdict is shown
-abbrev pub shows : Shown → Verdict → Bool
-shows All verdict = true
-shows AllButGood verdict = not (is_good verdict)
-shows Nothing verdict = false
+abbrev pub shows : ReportOptions → Verdict → Bool
+shows options verdict = not (options.ignores_missing && is_missing verdict) && is_among options.shown verdict
 
 -- what is shown of a verdict
-abbrev pub shown_line : Shown → Verdict → List ℕ
-shown_line shown verdict = if shows shown verdict then verdict_text verdict else []
+abbrev pub shown_line : ReportOptions → Verdict → List ℕ
+shown_line options verdict = if shows options verdict then verdict_text verdict else []
 
 -- what is shown of verdicts, one after the other
-abbrev pub lines_text : Shown → List Verdict → List ℕ
-lines_text shown verdicts = flat_map (shown_line shown) verdicts
+abbrev pub lines_text : ReportOptions → List Verdict → List ℕ
+lines_text options verdicts = flat_map (shown_line options) verdicts
 
 -- a word and a count
 abbrev pub count_text : List ℕ → ℕ → List ℕ
@@ -136,29 +149,38 @@ counts_text counts =
     count_text (codes "good ") counts.good ++ (count_text (codes " bad ") counts.bad ++ (count_text (codes " missing ") counts.missing
     ++ (count_text (codes " unreadable ") counts.unreadable ++ (count_text (codes " faults ") counts.faults ++ newline ∷ []))))
 
+-- whether a report with these counts passes: some file has its hash, none has another or could not be read, and no line has a fault; and each
+-- name has a file, unless those without one are ignored
+abbrev pub passes : ReportOptions → Counts → Bool
+passes options counts = (options.ignores_missing || nat_eq counts.missing 0) && (nat_lt 0 counts.good && (nat_eq counts.bad 0 && (nat_eq counts.unreadable 0 && nat_eq counts.faults 0)))
+
+-- whether counts are shown: without the lines of good names, only if the report does not pass
+abbrev pub shows_counts : Shown → Bool → Bool
+shows_counts All passed = true
+shows_counts AllButGood passed = not passed
+shows_counts Nothing passed = false
+
 -- what is shown of counts
-abbrev pub shown_counts : Shown → Counts → List ℕ
-shown_counts All counts = counts_text counts
-shown_counts AllButGood counts = counts_text counts
-shown_counts Nothing counts = []
+abbrev pub shown_counts : ReportOptions → Counts → List ℕ
+shown_counts options counts = if shows_counts options.shown (passes options counts) then counts_text counts else []
 
 -- the lines of the verdicts that are shown, and then the counts
-abbrev pub report_text : Shown → List Verdict → List ℕ
-report_text shown verdicts = lines_text shown verdicts ++ shown_counts shown (counts_of verdicts)
+abbrev pub report_text : ReportOptions → List Verdict → List ℕ
+report_text options verdicts = lines_text options verdicts ++ shown_counts options (counts_of verdicts)
 
 -- ---- how a report ends early
 
 -- A write failed: the chain covers the lines that were asked for, and a proper prefix of the report on them was written.
-pub record IsBroken {S : Type 0} (gives : S → List ℕ → Answer → S → Type 0) (shown : Shown) (old : S) (lines : List NumberedLine) (new : S) (before after : Option (List ℕ)) : Type 0 where
+pub record IsBroken {S : Type 0} (gives : S → List ℕ → Answer → S → Type 0) (options : ReportOptions) (old : S) (lines : List NumberedLine) (new : S) (before after : Option (List ℕ)) : Type 0 where
   pub front : List NumberedLine
   pub back : List NumberedLine
   pub verdicts : List Verdict
   pub all : front ++ back ≡ lines
   pub asked : IsReport gives old front verdicts new
-  pub went : IsTruncated before after (report_text shown verdicts)
+  pub went : IsTruncated before after (report_text options verdicts)
 
 -- A lookup ended it: the chain covers the lines before, whose verdicts were written, and the lookup for the next line was out of memory.
-pub record EndsForMemory {S : Type 0} (gives : S → List ℕ → Answer → S → Type 0) (shown : Shown) (old : S) (lines : List NumberedLine) (new : S) (before after : Option (List ℕ)) : Type 0 where
+pub record EndsForMemory {S : Type 0} (gives : S → List ℕ → Answer → S → Type 0) (options : ReportOptions) (old : S) (lines : List NumberedLine) (new : S) (before after : Option (List ℕ)) : Type 0 where
   pub front : List NumberedLine
   pub line : NumberedLine
   pub back : List NumberedLine
@@ -167,10 +189,10 @@ pub record EndsForMemory {S : Type 0} (gives : S → List ℕ → Answer → S �
   pub all : front ++ line ∷ back ≡ lines
   pub asked : IsReport gives old front verdicts mid
   pub refused : IsRefusedFor gives mid line.line new
-  pub went : Appends before after (lines_text shown verdicts)
+  pub went : Appends before after (lines_text options verdicts)
 
 -- what ended a report
-abbrev pub IsEnded : {S : Type 0} → (S → List ℕ → Answer → S → Type 0) → Shown → S → List NumberedLine → Cause → S → Option (List ℕ) → Option (List ℕ) → Type 0
-IsEnded gives shown old lines CannotRead new before after = ⊥
-IsEnded gives shown old lines CannotWrite new before after = IsBroken gives shown old lines new before after
-IsEnded gives shown old lines OutOfMemory new before after = EndsForMemory gives shown old lines new before after
+abbrev pub IsEnded : {S : Type 0} → (S → List ℕ → Answer → S → Type 0) → ReportOptions → S → List NumberedLine → Cause → S → Option (List ℕ) → Option (List ℕ) → Type 0
+IsEnded gives options old lines CannotRead new before after = ⊥
+IsEnded gives options old lines CannotWrite new before after = IsBroken gives options old lines new before after
+IsEnded gives options old lines OutOfMemory new before after = EndsForMemory gives options old lines new before after

@@ -4,8 +4,12 @@
 //! let mut text = Vec::new(alloc);
 //! write(lines.as_slice(), &mut text)?;
 //! let file = CheckFile::read(alloc, text.as_slice())?;
-//! let counts = verify(&file, Shown::All, &mut names, &mut report)?;
-//! let is_good = counts.is_all_good();
+//! let options = ReportOptions {
+//!     shown: Shown::All,
+//!     ignores_missing: false,
+//! };
+//! let counts = verify(&file, options, &mut names, &mut report)?;
+//! let has_passed = counts.passes(options);
 //! ```
 //!
 //! A line is written as 64 lower-case hexadecimal digits, two spaces, the name and a newline. If the name contains a backslash, a newline
@@ -18,8 +22,8 @@
 //! - `CheckFile` holds the numbered lines of a file, each parsed or with its fault; a bad line does not affect the others.
 //! - `write` writes lines. Reading what it writes returns the same lines.
 //! - `Names` looks up the digests of names, such as those of files. `verify` asks it once for each line without a fault, in file order, and
-//!   writes the lines of the report that are `Shown`, each before it asks for the next. It returns their `Counts`. Before each line it
-//!   announces the following lines, so that their names can be looked up ahead.
+//!   writes the lines of the report that its `ReportOptions` ask for, each before it asks for the next. It returns the `Counts`, which say
+//!   whether the report passes. Before each line it announces the following lines, so that their names can be looked up ahead.
 //! - `check_file_laws` states facts about the definitions that these contracts use.
 //!
 //! Running out of memory is a separate error in every call that allocates, returned instead of any other result.
@@ -44,6 +48,6 @@ pub use line::Line;
 pub use name::{Name, RefusedName};
 pub use names::{NameFault, Names};
 pub use reading::read_line;
-pub use report::{Counts, Shown};
+pub use report::{Counts, ReportOptions, Shown};
 pub use verifying::verify;
 pub use writing::write;

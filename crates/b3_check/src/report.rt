@@ -1,9 +1,9 @@
 //! Reports on check files.
 
-ghost use Rattle.std.specs.Prelude.{◌≡◌, ◌↔◌, ◌+◌, ◌-◌, ◌^◌, ℕ, List, OnErr, OnOk, IsTrue};
+ghost use Rattle.std.specs.Prelude.{◌≡◌, ◌+◌, ◌-◌, ◌^◌, ℕ, List, OnErr, OnOk};
 ghost use Rattle.std.specs.Io.KnownBytes.{Appends};
 ghost use Rattle.edge.specs.Output.{IsTruncated};
-ghost use Rattle.b3_check.specs.Reports.{Verdict, with_verdict, counts_text, fault_line, shown_counts, shown_line, shows, verdict_text};
+ghost use Rattle.b3_check.specs.Reports.{Verdict, counts_text, fault_line, is_among, passes, shown_counts, shown_line, shows, verdict_text, with_verdict};
 ghost use Rattle.b3_check.specs.inner.Reports.{AreAtMost};
 ghost use Rattle.b3_check.specs.Reports.Verdict.{faulty, named};
 
@@ -20,10 +20,19 @@ use std::io::Write;
 pub enum Shown {
     /// All lines.
     All,
-    /// All lines but those of names whose file has its hash.
+    /// All lines but those of names whose file has its hash. The counts are written only if the report does not pass.
     AllButGood,
     /// No lines, and no counts.
     Nothing,
+}
+
+/// What a report has, and when it passes.
+#[derive(Clone, Copy, Debug, PartialEq, Eq)]
+pub struct ReportOptions {
+    /// Which lines are written.
+    pub shown: Shown,
+    /// Whether a name without a file has no line, and the report can pass all the same.
+    pub ignores_missing: bool,
 }
 
 /// The result for a name.
@@ -55,11 +64,13 @@ pub struct Counts {
 }
 
 impl Counts {
-    /// Whether all counts but the first are 0.
-    pub fn is_all_good(self) -> bool
-        ensures { IsTrue result ↔ ((self.bad ≡ 0) × (self.missing ≡ 0) × (self.unreadable ≡ 0) × (self.faults ≡ 0)) }
+    /// Whether a report with these counts passes: some file has its hash, none has another or could not be read, and no line has a fault; and
+    /// each name has a file, unless those without one are ignored.
+    pub fn passes(self, options: ReportOptions) -> bool
+        ensures { result ≡ passes options self }
     {
-        self.bad == 0 && self.missing == 0 && self.unreadable == 0 && self.faults == 0
+        (options.ignores_missing || self.missing == 0)
+            && (0 < self.good && (self.bad == 0 && (self.unreadable == 0 && self.faults == 0)))
     }
 
     /// Counts the result for a name.
@@ -86,15 +97,15 @@ impl Counts {
 
 /// Writes the line for a name, if it is shown.
 pub(crate) fn write_found<W: Write>(
-    shown: Shown,
+    options: ReportOptions,
     found: Found,
     name: &Name,
     writer: &mut W,
 ) -> io::Result<()>
-    ensures written { OnOk result (Appends (W.contents writer.old) (W.contents writer.new) (shown_line shown (named found name.now))) }
-    ensures failed { OnErr result (IsTruncated (W.contents writer.old) (W.contents writer.new) (shown_line shown (named found name.now))) }
+    ensures written { OnOk result (Appends (W.contents writer.old) (W.contents writer.new) (shown_line options (named found name.now))) }
+    ensures failed { OnErr result (IsTruncated (W.contents writer.old) (W.contents writer.new) (shown_line options (named found name.now))) }
 {
-    if shows_found(shown, found) {
+    if shows_found(options, found) {
         write_found_line(found, name, writer)
     } else {
         Ok(())
@@ -115,8 +126,15 @@ fn write_found_line<W: Write>(found: Found, name: &Name, writer: &mut W) -> io::
 }
 
 // Whether the line for a name with this result is shown.
-fn shows_found(shown: Shown, found: Found) -> bool
-    ensures { (name : List ℕ) → result ≡ shows shown (named found name) }
+fn shows_found(options: ReportOptions, found: Found) -> bool
+    ensures { (name : List ℕ) → result ≡ shows options (named found name) }
+{
+    !(options.ignores_missing && found == Found::Missing) && is_among(options.shown, found)
+}
+
+// Whether the line for a name with this result is among those that are written.
+fn is_among(shown: Shown, found: Found) -> bool
+    ensures { (name : List ℕ) → result ≡ is_among shown (named found name) }
 {
     match shown {
         Shown::All => true,
@@ -127,15 +145,15 @@ fn shows_found(shown: Shown, found: Found) -> bool
 
 /// Writes the line for a fault, if it is shown.
 pub(crate) fn write_fault<W: Write>(
-    shown: Shown,
+    options: ReportOptions,
     line: u64,
     fault: Fault,
     writer: &mut W,
 ) -> io::Result<()>
-    ensures written { OnOk result (Appends (W.contents writer.old) (W.contents writer.new) (shown_line shown (faulty line fault))) }
-    ensures failed { OnErr result (IsTruncated (W.contents writer.old) (W.contents writer.new) (shown_line shown (faulty line fault))) }
+    ensures written { OnOk result (Appends (W.contents writer.old) (W.contents writer.new) (shown_line options (faulty line fault))) }
+    ensures failed { OnErr result (IsTruncated (W.contents writer.old) (W.contents writer.new) (shown_line options (faulty line fault))) }
 {
-    match shown {
+    match options.shown {
         Shown::All | Shown::AllButGood => write_fault_line(line, fault, writer),
         Shown::Nothing => Ok(()),
     }
@@ -153,13 +171,23 @@ fn write_fault_line<W: Write>(line: u64, fault: Fault, writer: &mut W) -> io::Re
 }
 
 /// Writes the line of the counts, if it is shown.
-pub(crate) fn write_counts<W: Write>(shown: Shown, counts: Counts, writer: &mut W) -> io::Result<()>
-    ensures written { OnOk result (Appends (W.contents writer.old) (W.contents writer.new) (shown_counts shown counts)) }
-    ensures failed { OnErr result (IsTruncated (W.contents writer.old) (W.contents writer.new) (shown_counts shown counts)) }
+pub(crate) fn write_counts<W: Write>(
+    options: ReportOptions,
+    counts: Counts,
+    writer: &mut W,
+) -> io::Result<()>
+    ensures written { OnOk result (Appends (W.contents writer.old) (W.contents writer.new) (shown_counts options counts)) }
+    ensures failed { OnErr result (IsTruncated (W.contents writer.old) (W.contents writer.new) (shown_counts options counts)) }
 {
-    match shown {
-        Shown::All | Shown::AllButGood => write_counts_line(counts, writer),
-        Shown::Nothing => Ok(()),
+    let is_written = match options.shown {
+        Shown::All => true,
+        Shown::AllButGood => !counts.passes(options),
+        Shown::Nothing => false,
+    };
+    if is_written {
+        write_counts_line(counts, writer)
+    } else {
+        Ok(())
     }
 }
 

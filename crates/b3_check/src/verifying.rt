@@ -8,7 +8,7 @@ ghost use Rattle.b3_check.specs.inner.Reports.{AreAtMost, IsLineAsked, IsLineEnd
 use crate::file::{CheckFile, NumberedLine};
 use crate::line::Line;
 use crate::names::{NameFault, Names};
-use crate::report::{Counts, Found, Shown, write_counts, write_fault, write_found};
+use crate::report::{Counts, Found, ReportOptions, write_counts, write_fault, write_found};
 use edge::Cause;
 use std::alloc::AllocError;
 use std::io::Write;
@@ -19,21 +19,21 @@ use std::io::Write;
 /// Allocates nothing. It stops at the first failed write, or when `names` is out of memory.
 pub fn verify<N: Names, W: Write>(
     file: &CheckFile,
-    shown: Shown,
+    options: ReportOptions,
     names: &mut N,
     writer: &mut W,
 ) -> Result<Counts, Cause>
     ensures report { IfOk result (λ counts. (verdicts : List Verdict) × IsReport N.gives names.old file.now verdicts names.new
-        × (counts ≡ counts_of verdicts) × Appends (W.contents writer.old) (W.contents writer.new) (report_text shown verdicts)) }
-    ensures stopped { IfErr result (λ cause. IsEnded N.gives shown names.old file.now cause names.new (W.contents writer.old) (W.contents writer.new)) }
+        × (counts ≡ counts_of verdicts) × Appends (W.contents writer.old) (W.contents writer.new) (report_text options verdicts)) }
+    ensures stopped { IfErr result (λ cause. IsEnded N.gives options names.old file.now cause names.new (W.contents writer.old) (W.contents writer.new)) }
 {
     let mut counts = Counts::default();
     let lines = file.lines();
     for (index, line) in lines.iter().enumerate() {
         names.expect(&lines[index..]);
-        verify_line(line, shown, names, &mut counts, writer)?;
+        verify_line(line, options, names, &mut counts, writer)?;
     }
-    match write_counts(shown, counts, writer) {
+    match write_counts(options, counts, writer) {
         Ok(()) => Ok(counts),
         Err(_) => Err(Cause::CannotWrite),
     }
@@ -42,20 +42,20 @@ pub fn verify<N: Names, W: Write>(
 // Asks for one line, counts its verdict, and writes what is shown of it.
 fn verify_line<N: Names, W: Write>(
     line: &NumberedLine,
-    shown: Shown,
+    options: ReportOptions,
     names: &mut N,
     counts: &mut Counts,
     writer: &mut W,
 ) -> Result<(), Cause>
     requires { AreAtMost (2 ^ 64 - 2) counts.old }
-    ensures asked { OnOk result (IsLineAsked N.gives shown names.old line.now.number line.now.line names.new counts.old counts.new (W.contents writer.old) (W.contents writer.new)) }
-    ensures stopped { IfErr result (λ cause. IsLineEnded N.gives shown names.old line.now.number line.now.line cause names.new (W.contents writer.old) (W.contents writer.new)) }
+    ensures asked { OnOk result (IsLineAsked N.gives options names.old line.now.number line.now.line names.new counts.old counts.new (W.contents writer.old) (W.contents writer.new)) }
+    ensures stopped { IfErr result (λ cause. IsLineEnded N.gives options names.old line.now.number line.now.line cause names.new (W.contents writer.old) (W.contents writer.new)) }
 {
     match &line.line {
-        Ok(named) => verify_named(named, shown, names, counts, writer),
+        Ok(named) => verify_named(named, options, names, counts, writer),
         Err(fault) => {
             counts.add_fault();
-            match write_fault(shown, line.number, *fault, writer) {
+            match write_fault(options, line.number, *fault, writer) {
                 Ok(()) => Ok(()),
                 Err(_) => Err(Cause::CannotWrite),
             }
@@ -66,20 +66,20 @@ fn verify_line<N: Names, W: Write>(
 // The same for a line without a fault.
 fn verify_named<N: Names, W: Write>(
     line: &Line,
-    shown: Shown,
+    options: ReportOptions,
     names: &mut N,
     counts: &mut Counts,
     writer: &mut W,
 ) -> Result<(), Cause>
     requires { AreAtMost (2 ^ 64 - 2) counts.old }
-    ensures asked { OnOk result (IsLineAsked N.gives shown names.old 0 (Ok line.now) names.new counts.old counts.new (W.contents writer.old) (W.contents writer.new)) }
-    ensures stopped { IfErr result (λ cause. IsLineEnded N.gives shown names.old 0 (Ok line.now) cause names.new (W.contents writer.old) (W.contents writer.new)) }
+    ensures asked { OnOk result (IsLineAsked N.gives options names.old 0 (Ok line.now) names.new counts.old counts.new (W.contents writer.old) (W.contents writer.new)) }
+    ensures stopped { IfErr result (λ cause. IsLineEnded N.gives options names.old 0 (Ok line.now) cause names.new (W.contents writer.old) (W.contents writer.new)) }
 {
     let Ok(found) = found_of(line, names) else {
         return Err(Cause::OutOfMemory);
     };
     counts.add_found(found);
-    match write_found(shown, found, &line.name, writer) {
+    match write_found(options, found, &line.name, writer) {
         Ok(()) => Ok(()),
         Err(_) => Err(Cause::CannotWrite),
     }

@@ -8,7 +8,7 @@ use Rattle.std.proofs.Math.Pow.{pow_mono}
 use Rattle.std.proofs.Math.Nat.{two-pow-succ}
 use Rattle.std.proofs.lemmas.Bool.{cases_lt}
 use Rattle.std.proofs.lemmas.Nat.{pow_pos}
-use Rattle.b3_core.specs.Hashers.{AreAbove, AreFrom, AreSubtrees, ModelHasher, Holds, CountsRest, Subtrees, kept_work}
+use Rattle.b3_core.specs.Hashers.{AreAbove, AreFrom, AreSubtrees, ModelHasher, HasInput, CountsRest, Subtrees, kept_work}
 use Rattle.b3_core.specs.inner.Hashers.{IsNext, joined}
 use Rattle.b3_core.specs.Tree.{ModelTop, ModelMode, chunk_top, parent_top, tree_top}
 use Rattle.b3_core.specs.Work.{block_count, counted, hash_work}
@@ -188,21 +188,21 @@ has_room p items next x above is few =
     let fits = few_above p (reverse items) next.0 is.0 low is.6 above (omega (arith, few, ap length is.2, size)) in
     omega (arith, fits, length-reverse items)
 
--- ---- what a hasher holds
+-- ---- what a hasher was given
 
 pub makes_then : (k l m n w v : ℕ) → CountsRest k l n w → CountsRest l m w v → CountsRest k m n v
 makes_then k l m n w v first (made, up, at) = makes_more k l m n w v made first up at
 
 -- the next subtree of a hasher that has no bytes after the others
-pub next_of : (h : ModelHasher) (next : ℕ × ModelTop) (x mine : List ℕ) → h.tail ≡ [] → Holds h x → AreFrom next.0 h.subtrees → length mine ≡ 1024 * 2 ^ next.0
+pub next_of : (h : ModelHasher) (next : ℕ × ModelTop) (x mine : List ℕ) → h.tail ≡ [] → HasInput h x → AreFrom next.0 h.subtrees → length mine ≡ 1024 * 2 ^ next.0
     → next.1 ≡ tree_top mine (h.whole / 1024) h.mode → IsNext h.mode h.subtrees next (x ++ mine)
 next_of h next x mine none (before, cut, are, size, few) from len node =
     let same : x ≡ before = cut ∙ ap (λ t. before ++ t) none ∙ append-nil before in
     (before, mine, ap (λ z. z ++ mine) same, len, node ∙ ap (λ n. tree_top mine (n / 1024) h.mode) (sym size), from, are)
 
 -- after it
-pub holds_next : (h new : ModelHasher) (next : ℕ × ModelTop) (x mine : List ℕ) → h.tail ≡ [] → Holds h x → length mine ≡ 1024 * 2 ^ next.0
-    → new.mode ≡ h.mode → new.tail ≡ h.tail → new.whole ≡ h.whole + 1024 * 2 ^ next.0 → AreSubtrees h.mode new.subtrees (x ++ mine) → Holds new (x ++ mine)
+pub holds_next : (h new : ModelHasher) (next : ℕ × ModelTop) (x mine : List ℕ) → h.tail ≡ [] → HasInput h x → length mine ≡ 1024 * 2 ^ next.0
+    → new.mode ≡ h.mode → new.tail ≡ h.tail → new.whole ≡ h.whole + 1024 * 2 ^ next.0 → AreSubtrees h.mode new.subtrees (x ++ mine) → HasInput new (x ++ mine)
 holds_next h new next x mine none (before, cut, are, size, few) len mode tail whole more =
     let same : length x ≡ h.whole + length h.tail = ap length cut ∙ length-append before h.tail ∙ ap (λ n. n + length h.tail) size in
     let empty : length h.tail ≡ 0 = ap length none in (
@@ -257,24 +257,24 @@ tail_work p (s ∷ subtrees) before tail are few (inr none) = absurd (search (ru
 abbrev pub bare : ModelHasher → ModelHasher
 bare h = record { mode = h.mode; subtrees = h.subtrees; whole = h.whole; tail = [] }
 
-holds_bare : (h : ModelHasher) (x : List ℕ) → (is : Holds h x) → Holds (bare h) is.0
+holds_bare : (h : ModelHasher) (x : List ℕ) → (is : HasInput h x) → HasInput (bare h) is.0
 holds_bare h x (before, cut, are, size, few) = (before, sym (append-nil before), are, size, omega arith)
 
-filled_cut : (h : ModelHasher) (x front : List ℕ) → (is : Holds h x) → is.0 ++ (h.tail ++ front) ≡ x ++ front
+filled_cut : (h : ModelHasher) (x front : List ℕ) → (is : HasInput h x) → is.0 ++ (h.tail ++ front) ≡ x ++ front
 filled_cut h x front (before, cut, are, size, few) = sym (append_assoc before h.tail front) ∙ ap (λ z. z ++ front) (sym cut)
 
-pub next_filled : (h : ModelHasher) (top : ModelTop) (x front : List ℕ) → Holds h x → length (h.tail ++ front) ≡ 1024 → top ≡ chunk_top (h.tail ++ front) (h.whole / 1024) h.mode
+pub next_filled : (h : ModelHasher) (top : ModelTop) (x front : List ℕ) → HasInput h x → length (h.tail ++ front) ≡ 1024 → top ≡ chunk_top (h.tail ++ front) (h.whole / 1024) h.mode
     → IsNext h.mode h.subtrees (0, top) (x ++ front)
 next_filled h top x front is len node =
     subst (λ y. IsNext h.mode h.subtrees (0, top) y) (filled_cut h x front is)
     (next_of (bare h) (0, top) is.0 (h.tail ++ front) refl (holds_bare h x is) (from_zero h.subtrees) len
     (node ∙ sym (top_short (h.tail ++ front) (h.whole / 1024) h.mode (omega (arith, len)))))
 
-pub holds_filled : (h new : ModelHasher) (top : ModelTop) (x front : List ℕ) → Holds h x → length (h.tail ++ front) ≡ 1024
+pub holds_filled : (h new : ModelHasher) (top : ModelTop) (x front : List ℕ) → HasInput h x → length (h.tail ++ front) ≡ 1024
     → new.mode ≡ h.mode → new.tail ≡ [] → (h.whole + 1024 * 2 ^ 0 < 2 ^ 64 → new.whole ≡ h.whole + 1024 * 2 ^ 0) → length (x ++ front) < 2 ^ 64
-    → AreSubtrees h.mode new.subtrees (x ++ front) → Holds new (x ++ front)
+    → AreSubtrees h.mode new.subtrees (x ++ front) → HasInput new (x ++ front)
 holds_filled h new top x front is len mode tail whole few are =
     let cut = filled_cut h x front is in
     let size : length (x ++ front) ≡ h.whole + 1024 = ap length (sym cut) ∙ length-append is.0 (h.tail ++ front) ∙ omega (arith, len, is.3) in
-    subst (Holds new) cut (holds_next (bare h) new (0, top) is.0 (h.tail ++ front) refl (holds_bare h x is) len mode tail (whole (omega (arith, few, size)))
+    subst (HasInput new) cut (holds_next (bare h) new (0, top) is.0 (h.tail ++ front) refl (holds_bare h x is) len mode tail (whole (omega (arith, few, size)))
     (subst (AreSubtrees h.mode new.subtrees) (sym cut) are))

@@ -31,8 +31,8 @@ AreSubtrees p (s ∷ subtrees) x =
     × (s.1 ≡ tree_top mine (length before / chunk_len) p) × AreAbove s.0 subtrees × AreSubtrees p subtrees before
 
 -- the hasher has been given the bytes x
-abbrev pub Holds : ModelHasher → List ℕ → Type 0
-Holds h x = (before : List ℕ) × (x ≡ before ++ h.tail) × AreSubtrees h.mode h.subtrees before × (length before ≡ h.whole) × (length h.tail < chunk_len)
+abbrev pub HasInput : ModelHasher → List ℕ → Type 0
+HasInput h x = (before : List ℕ) × (x ≡ before ++ h.tail) × AreSubtrees h.mode h.subtrees before × (length before ≡ h.whole) × (length h.tail < chunk_len)
 
 -- a whole subtree of 2^k chunks can be appended to what the hasher has been given
 abbrev pub HasRoomFor : ℕ → ModelHasher → Type 0
@@ -41,7 +41,7 @@ HasRoomFor k h = (h.tail ≡ []) × AreFrom k h.subtrees
 -- and one is appended: after the bytes x given so far come the bytes mine, 2^k whole chunks, with the node t
 abbrev pub IsAfter : ModelHasher → ℕ → ModelTop → List ℕ → List ℕ → Type 0
 IsAfter h k t x mine =
-    Holds h x × HasRoomFor k h × (length mine ≡ chunk_len * 2 ^ k) × (t ≡ tree_top mine (h.whole / chunk_len) h.mode) × (length x + length mine < 2 ^ 64)
+    HasInput h x × HasRoomFor k h × (length mine ≡ chunk_len * 2 ^ k) × (t ≡ tree_top mine (h.whole / chunk_len) h.mode) × (length x + length mine < 2 ^ 64)
 
 -- the number of bytes a hasher has been given, counted below 2 ^ 64
 abbrev pub count_of : ModelHasher → ℕ

@@ -129,7 +129,7 @@ fn output_words(h: [u32; 8], v: (u32x4, u32x4, u32x4, u32x4)) -> [u32; 16]
     ]
 }
 
-/// Advances the chaining values of side-by-side states by one block. The last rows hold the counters, the block lengths and the flags.
+/// Advances the chaining values of side-by-side states by one block. The last rows contain the counters, the block lengths and the flags.
 pub(crate) fn compress_rows<V: Quads>(
     h: (V, V),
     m: (V, V, V, V),

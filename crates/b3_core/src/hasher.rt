@@ -1,7 +1,7 @@
 //! An incremental hasher.
 
 ghost use Rattle.std.specs.Prelude.{◌≡◌, ℕ, ◌+◌, ◌-◌, ◌/◌, ◌^◌, ◌<◌, ◌↔◌, ◌++◌, List, [], ◌∷◌, Some, length, true};
-ghost use Rattle.b3_core.specs.Hashers.{HasRoomFor, IsAfter, Holds, CountsRest, count_of, kept_work};
+ghost use Rattle.b3_core.specs.Hashers.{HasRoomFor, IsAfter, HasInput, CountsRest, count_of, kept_work};
 ghost use Rattle.b3_core.specs.Kept.{max_levels};
 ghost use Rattle.b3_core.specs.Modes.{digest_of};
 ghost use Rattle.b3_core.specs.Texts.{hasher_text};
@@ -19,7 +19,7 @@ use std::marker::Model;
 /// Hashes bytes that arrive in pieces (sections 2.1 to 2.5). It allocates nothing, and its size is fixed: it keeps one node for each level
 /// of the tree and the bytes after the last whole chunk. An input must be shorter than 2^64 bytes.
 ///
-/// In contracts a hasher is its mode and what it keeps; `Holds` says that it was given certain bytes.
+/// In contracts a hasher is its mode and what it keeps; `HasInput` says that it was given certain bytes.
 #[derive(Drop)]
 pub struct Hasher {
     mode: Mode,
@@ -49,8 +49,8 @@ impl Hasher {
     /// Appends `bytes` to the input. They are hashed in whole subtrees, each as large as possible.
     pub fn update(&mut self, bytes: &[u8], work: &mut Work)
         ensures mode { self.new.mode ≡ self.old.mode }
-        ensures bytes { (x : List ℕ) → Holds self.old x → length x + length bytes.now < 2 ^ 64 → Holds self.new (x ++ bytes.now) }
-        ensures count { (x : List ℕ) → Holds self.old x → length x + length bytes.now < 2 ^ 64
+        ensures bytes { (x : List ℕ) → HasInput self.old x → length x + length bytes.now < 2 ^ 64 → HasInput self.new (x ++ bytes.now) }
+        ensures count { (x : List ℕ) → HasInput self.old x → length x + length bytes.now < 2 ^ 64
             → CountsRest (kept_work self.old.subtrees) (kept_work self.new.subtrees) work.old work.new }
         ensures never_falls { NeverFalls work.old work.new }
     {
@@ -85,7 +85,7 @@ impl Hasher {
     pub fn append(&mut self, top: &Top, level: u32, work: &mut Work)
         requires { level < max_levels }
         ensures mode { self.new.mode ≡ self.old.mode }
-        ensures bytes { (x mine : List ℕ) → IsAfter self.old level top.now x mine → Holds self.new (x ++ mine) }
+        ensures bytes { (x mine : List ℕ) → IsAfter self.old level top.now x mine → HasInput self.new (x ++ mine) }
         ensures fits { (x mine : List ℕ) → IsAfter self.old level top.now x mine → HasRoomFor level self.new }
         ensures count { (x mine : List ℕ) → IsAfter self.old level top.now x mine
             → CountsRest (kept_work ((level, top.now) ∷ self.old.subtrees)) (kept_work self.new.subtrees) work.old work.new }
@@ -97,15 +97,15 @@ impl Hasher {
     /// The number of bytes given so far, if it is below 2^64.
     pub fn count(&self) -> u64
         ensures value { result ≡ count_of self.now }
-        ensures bytes { (x : List ℕ) → Holds self.now x → length x < 2 ^ 64 → result ≡ length x }
+        ensures bytes { (x : List ℕ) → HasInput self.now x → length x < 2 ^ 64 → result ≡ length x }
     {
         self.kept.count()
     }
 
     /// The hash of all bytes given so far, in the hasher's mode. More bytes can be given afterwards.
     pub fn digest(&self, work: &mut Work) -> [u8; 32]
-        ensures bytes { (x : List ℕ) → Holds self.now x → result ≡ digest_of x self.now.mode }
-        ensures count { (x : List ℕ) → Holds self.now x
+        ensures bytes { (x : List ℕ) → HasInput self.now x → result ≡ digest_of x self.now.mode }
+        ensures count { (x : List ℕ) → HasInput self.now x
             → CountsRest (kept_work self.now.subtrees) (hash_work (length x)) work.old work.new }
         ensures never_falls { NeverFalls work.old work.new }
     {
@@ -115,8 +115,8 @@ impl Hasher {
     /// The node of the tree over all bytes given so far. Its `root32` is their hash, and an `OutputReader` reads their extended output.
     /// More bytes can be given afterwards.
     pub fn top(&self, work: &mut Work) -> Top
-        ensures node { (x : List ℕ) → Holds self.now x → result ≡ tree_top x 0 self.now.mode }
-        ensures count { (x : List ℕ) → Holds self.now x
+        ensures node { (x : List ℕ) → HasInput self.now x → result ≡ tree_top x 0 self.now.mode }
+        ensures count { (x : List ℕ) → HasInput self.now x
             → CountsRest (kept_work self.now.subtrees) (hash_work (length x) - 1) work.old work.new }
         ensures never_falls { NeverFalls work.old work.new }
     {

@@ -1,7 +1,7 @@
 //! What a hasher keeps, and how it changes as bytes arrive.
 
 ghost use Rattle.std.specs.Prelude.{◌≡◌, ℕ, ◌+◌, ◌-◌, ◌*◌, ◌/◌, ◌^◌, ◌<◌, ◌≤◌, ◌↔◌, ◌++◌, List, [], ◌∷◌, length, reverse, true};
-ghost use Rattle.b3_core.specs.Hashers.{AreFrom, AreSubtrees, HasRoomFor, IsAfter, Holds, CountsRest, count_of, kept_work};
+ghost use Rattle.b3_core.specs.Hashers.{AreFrom, AreSubtrees, HasRoomFor, IsAfter, HasInput, CountsRest, count_of, kept_work};
 ghost use Rattle.b3_core.specs.inner.Hashers.{IsLeft, IsNext, joined};
 ghost use Rattle.b3_core.specs.Kept.{FitsItsPlaces, kept_of, max_levels, nodes_of};
 ghost use Rattle.b3_core.specs.Tree.{ModelMode, chunk_len, tree_top};
@@ -58,9 +58,9 @@ impl Kept {
 
     /// Appends `bytes` to the input. They are hashed in whole subtrees, each as large as possible.
     pub(crate) fn update(&mut self, mode: &Mode, bytes: &[u8], work: &mut Work)
-        ensures bytes { (x : List ℕ) → Holds (kept_of mode.now self.old) x → length x + length bytes.now < 2 ^ 64
-            → Holds (kept_of mode.now self.new) (x ++ bytes.now) }
-        ensures count { (x : List ℕ) → Holds (kept_of mode.now self.old) x → length x + length bytes.now < 2 ^ 64
+        ensures bytes { (x : List ℕ) → HasInput (kept_of mode.now self.old) x → length x + length bytes.now < 2 ^ 64
+            → HasInput (kept_of mode.now self.new) (x ++ bytes.now) }
+        ensures count { (x : List ℕ) → HasInput (kept_of mode.now self.old) x → length x + length bytes.now < 2 ^ 64
             → CountsRest (kept_work (kept_of mode.now self.old).subtrees) (kept_work (kept_of mode.now self.new).subtrees) work.old work.new }
         ensures never_falls { NeverFalls work.old work.new }
         ensures within { FitsItsPlaces self.old → FitsItsPlaces self.new }
@@ -78,7 +78,7 @@ impl Kept {
 
     // Fills up a chunk that was begun, and returns the remaining bytes.
     fn fill_tail<'a>(&mut self, mode: &Mode, bytes: &'a [u8], work: &mut Work) -> &'a [u8]
-        ensures bytes { (x : List ℕ) → Holds (kept_of mode.now self.old) x → length x + length bytes.now < 2 ^ 64
+        ensures bytes { (x : List ℕ) → HasInput (kept_of mode.now self.old) x → length x + length bytes.now < 2 ^ 64
             → IsLeft (kept_of mode.now self.old) x bytes.now work.old (kept_of mode.now self.new) result.now work.new }
         ensures never_falls { NeverFalls work.old work.new }
         ensures within { FitsItsPlaces self.old → FitsItsPlaces self.new }
@@ -123,7 +123,7 @@ impl Kept {
     pub(crate) fn append(&mut self, mode: &Mode, top: &Top, level: u32, work: &mut Work)
         requires { level < max_levels }
         ensures bytes { (x mine : List ℕ) → IsAfter (kept_of mode.now self.old) level top.now x mine
-            → Holds (kept_of mode.now self.new) (x ++ mine) }
+            → HasInput (kept_of mode.now self.new) (x ++ mine) }
         ensures fits { (x mine : List ℕ) → IsAfter (kept_of mode.now self.old) level top.now x mine
             → HasRoomFor level (kept_of mode.now self.new) }
         ensures count { (x mine : List ℕ) → IsAfter (kept_of mode.now self.old) level top.now x mine
@@ -174,8 +174,8 @@ impl Kept {
 
     /// The node of the tree over all bytes given so far.
     pub(crate) fn top(&self, mode: &Mode, work: &mut Work) -> Top
-        ensures node { (x : List ℕ) → Holds (kept_of mode.now self.now) x → result ≡ tree_top x 0 mode.now }
-        ensures count { (x : List ℕ) → Holds (kept_of mode.now self.now) x
+        ensures node { (x : List ℕ) → HasInput (kept_of mode.now self.now) x → result ≡ tree_top x 0 mode.now }
+        ensures count { (x : List ℕ) → HasInput (kept_of mode.now self.now) x
             → CountsRest (kept_work (kept_of mode.now self.now).subtrees) (hash_work (length x) - 1) work.old work.new }
         ensures never_falls { NeverFalls work.old work.new }
     {

@@ -1,4 +1,4 @@
--- What is noted of lent bytes.
+-- What is noted of borrowed bytes.
 use Rattle.std.proofs.Common.{◌≡◌, ℕ, zero, suc, ◌+◌, ◌-◌, ◌*◌, ◌/◌, ◌%◌, ◌^◌, ◌<◌, ◌≤◌, ◌⊎◌, ◌++◌, List, [], ◌∷◌, length, take, drop, Some, None, true, false, nat_lt, arith, refl, ap, ap₂, subst, sym, ◌∙◌, inl, inr}
 use Rattle.std.specs.Prelude.{Bool, nat_le, ◌&&◌, ◌||◌, ◌↔◌, IfNone, IfSome}
 use Rattle.std.specs.List.Sorted.{IsStrictlySortedBy}

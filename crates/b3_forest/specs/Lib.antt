@@ -1,5 +1,5 @@
 -- The definitions that a reader has to trust, each file after those it uses.
-pub mod Lent
+pub mod Borrowed
 pub mod Stretches
 pub mod Parts
 pub mod Gaps

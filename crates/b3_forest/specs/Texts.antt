@@ -1,11 +1,8 @@
 -- The texts of refusals and the debug texts of types that hold bytes: numbers and sizes, but no bytes.
 use Rattle.std.specs.Prelude.{ℕ, List, ◌++◌, codes, length}
 use Rattle.std.specs.Fmt.{decimal}
-use Rattle.store_upload.specs.Texts.{add_fault_text, part_fault_text}
 use Rattle.store_upload.specs.Uploads.{ModelUpload, held_bytes, length_of}
 use Rattle.b3_forest.specs.Parts.{HeldPart, Part}
-use Rattle.store_upload.specs.declared.refusal.PartFault.{PartFault}
-use Rattle.store_upload.specs.declared.refusal.AddFault.{AddFault}
 use Rattle.b3_forest.specs.declared.refusal.NoteFault.{NoteFault}
 use Rattle.b3_forest.specs.declared.refusal.NoteFault.TheVariants as note
 
@@ -36,15 +33,6 @@ prepared_text p = codes "Prepared" ++ bytes_text p.offset (length p.bytes)
 -- a part as an upload keeps it
 abbrev pub segment_text : HeldPart → List ℕ
 segment_text p = codes "Segment" ++ bytes_text p.0 (length p.1)
-
-abbrev pub part_refused_text : PartFault → ℕ → List ℕ
-part_refused_text fault len = codes "PartRefused { fault: " ++ (part_fault_text fault ++ (codes ", bytes: " ++ (decimal len ++ codes " }")))
-
-abbrev pub share_refused_text : PartFault → ℕ → List ℕ
-share_refused_text fault len = codes "ShareRefused { fault: " ++ (part_fault_text fault ++ (codes ", bytes: " ++ (decimal len ++ codes " }")))
-
-abbrev pub add_refused_text : AddFault → Part → List ℕ
-add_refused_text fault p = codes "AddRefused { fault: " ++ (add_fault_text fault ++ (codes ", part: " ++ (prepared_text p ++ codes " }")))
 
 -- a forest: the numbers of bytes and parts that it holds, and its length
 abbrev pub forest_text : ModelUpload (List ℕ) → List ℕ

@@ -6,12 +6,12 @@ ghost use Rattle.b3_core.specs.Modes.{hash_mode};
 ghost use Rattle.b3_core.specs.Tree.{tree_top};
 ghost use Rattle.b3_core.specs.Work.{counted};
 ghost use Rattle.b3_forest.specs.Followed.{AllNoted, IsFirstUnnoted, IsNoted, IsNotedWith, IsRefused, MayNote, bytes_at, noting_merges, pieces_noted};
-ghost use Rattle.b3_forest.specs.Lent.{lent_bytes};
+ghost use Rattle.b3_forest.specs.Borrowed.{borrowed_bytes};
 ghost use Rattle.store_upload.specs.Uploads.{closed_plan, max_bytes};
 ghost use Rattle.b3_forest.specs.Texts.{follow_text};
 
+use crate::borrowed::BorrowedBytes;
 use crate::held;
-use crate::lent::Lent;
 use crate::piece::Subtree;
 use crate::prepared::Prepared;
 use crate::refusal::{Incomplete, NoteFault};
@@ -26,20 +26,20 @@ use store_upload::{Plan, TooLong, upload_laws};
 /// The parts of an upload whose bytes are borrowed: the pieces of the noted parts, without copies of their bytes.
 #[derive(Drop)]
 pub struct Follow<'a> {
-    lent: Lent<'a>,
+    borrowed: BorrowedBytes<'a>,
     subtrees: BTreeMap<u64, Subtree>,
 }
 
 impl<'a> Model for Follow<'a> {
     ghost use Rattle.store_upload.specs.Uploads.{max_bytes};
     ghost use Rattle.b3_forest.specs.Followed.{ModelFollow, Follows, followed};
-    ghost use Rattle.b3_forest.specs.Lent.{lent_bytes};
+    ghost use Rattle.b3_forest.specs.Borrowed.{borrowed_bytes};
 
     ghost Value = { ModelFollow };
 
-    ghost view = { λ f. followed (lent_bytes f.lent) f.subtrees.entries };
+    ghost view = { λ f. followed (borrowed_bytes f.borrowed) f.subtrees.entries };
 
-    ghost invariant = { λ f. Follows (lent_bytes f.lent) f.subtrees.entries };
+    ghost invariant = { λ f. Follows (borrowed_bytes f.borrowed) f.subtrees.entries };
 }
 
 impl<'a> Follow<'a> {
@@ -50,21 +50,21 @@ impl<'a> Follow<'a> {
         ensures no_pieces { IfOk result (λ f. pieces_noted f ≡ 0) }
         ensures too_long { IsErr result ↔ max_bytes < length bytes.now }
     {
-        Follow::of(alloc, Lent::Slice(bytes))
+        Follow::of(alloc, BorrowedBytes::Slice(bytes))
     }
 
     /// Follows the parts of an upload of bytes borrowed as one slice or in stretches, as `new` does.
-    pub fn of(alloc: Global, lent: Lent<'a>) -> Result<Follow<'a>, TooLong>
-        ensures bytes { IfOk result (λ f. f.bytes ≡ lent_bytes lent.entry) }
+    pub fn of(alloc: Global, borrowed: BorrowedBytes<'a>) -> Result<Follow<'a>, TooLong>
+        ensures bytes { IfOk result (λ f. f.bytes ≡ borrowed_bytes borrowed.entry) }
         ensures nothing { IfOk result (λ f. (i : ℕ) → IsNoted f i → ⊥) }
         ensures no_pieces { IfOk result (λ f. pieces_noted f ≡ 0) }
-        ensures too_long { IsErr result ↔ max_bytes < length (lent_bytes lent.entry) }
+        ensures too_long { IsErr result ↔ max_bytes < length (borrowed_bytes borrowed.entry) }
     {
-        let plan = Plan::new(lent.len())?;
+        let plan = Plan::new(borrowed.len())?;
         // For the proof alone: the bound of a plan is at most 2^44.
         let _most = plan.bound();
         let subtrees = BTreeMap::new(alloc);
-        Ok(Follow { lent, subtrees })
+        Ok(Follow { borrowed, subtrees })
     }
 
     /// Notes a part, and returns the number of merges, of two compressions each.
@@ -82,14 +82,14 @@ impl<'a> Follow<'a> {
     {
         // For the proof alone: the laws of uploads.
         upload_laws::<SharedBytes>();
-        if !part.plan().is_of(self.lent.len()) {
+        if !part.plan().is_of(self.borrowed.len()) {
             return Err(NoteFault::WrongPlan);
         }
         let len = part.fitting().len() as u64;
         if let Some(at) = held::overlap(&self.subtrees, part.offset(), len) {
             return Err(NoteFault::Overlap { at });
         }
-        if !has_bytes(self.lent, part) {
+        if !has_bytes(self.borrowed, part) {
             return Err(NoteFault::Stranger);
         }
         let Ok(merges) = held::add(&mut self.subtrees, part, work) else {
@@ -105,7 +105,7 @@ impl<'a> Follow<'a> {
     {
         // For the proof alone: the laws of uploads.
         upload_laws::<SharedBytes>();
-        let len = self.lent.len();
+        let len = self.borrowed.len();
         let missing = held::least_missing(&self.subtrees, len);
         if missing < len { Some(missing) } else { None }
     }
@@ -121,7 +121,7 @@ impl<'a> Follow<'a> {
     {
         // For the proof alone: the laws of uploads.
         upload_laws::<SharedBytes>();
-        let len = self.lent.len();
+        let len = self.borrowed.len();
         let missing = held::least_missing(&self.subtrees, len);
         if missing < len {
             return Err(Incomplete { missing });
@@ -135,17 +135,17 @@ impl fmt::Debug for Follow<'_> {
     ghost debug_output = { λ follow. Some (follow_text (length follow.bytes)) };
 
     fn fmt<W: fmt::Write>(&self, f: &mut fmt::Formatter<W>) -> fmt::Result {
-        let len = self.lent.len();
+        let len = self.borrowed.len();
         write!(f, "Follow {{ bytes: {len} }}")
     }
 }
 
 // Whether the part's bytes are the borrowed bytes at its offset.
-fn has_bytes(lent: Lent<'_>, part: &Prepared) -> bool
-    requires plan { part.now.plan ≡ closed_plan (length (lent_bytes lent)) }
-    ensures yes { result ≡ true → part.now.part.bytes ≡ bytes_at (lent_bytes lent.entry) part.now.part }
-    ensures no { result ≡ false → part.now.part.bytes ≢ bytes_at (lent_bytes lent.entry) part.now.part }
+fn has_bytes(borrowed: BorrowedBytes<'_>, part: &Prepared) -> bool
+    requires plan { part.now.plan ≡ closed_plan (length (borrowed_bytes borrowed)) }
+    ensures yes { result ≡ true → part.now.part.bytes ≡ bytes_at (borrowed_bytes borrowed.entry) part.now.part }
+    ensures no { result ≡ false → part.now.part.bytes ≢ bytes_at (borrowed_bytes borrowed.entry) part.now.part }
 {
     let own = part.fitting();
-    lent.has(part.offset(), own)
+    borrowed.has(part.offset(), own)
 }

@@ -10,7 +10,6 @@ ghost use Rattle.b3_forest.specs.Gaps.{gaps_of};
 ghost use Rattle.b3_forest.specs.Texts.{forest_text};
 ghost use Rattle.b3_forest.specs.Uploads.{add_fault, content_of, finish_work, merges_of, part_of, put_work, with_more};
 
-use crate::add_refused::AddRefused;
 use crate::gap::Gap;
 use crate::hashed_parts::HashedParts;
 use crate::prepared::Prepared;
@@ -21,7 +20,7 @@ use std::alloc::{AllocError, Global};
 use std::collections::btree_map::Iter;
 use std::fmt;
 use std::marker::Model;
-use store_upload::{AddFault, FinishFault, FixFault, Plan, Upload};
+use store_upload::{AddFault, FinishFault, FixFault, Plan, Refused, Upload};
 
 /// The parts that an upload holds. It keeps their bytes by offset and the pieces of all of them. Neighbouring pieces that are the halves of
 /// one aligned range are merged, so a run of held chunks has at most two pieces of each width.
@@ -82,7 +81,7 @@ impl Forest {
     /// Why a part would not be added, apart from running out of memory. The first matching one of: F7, the part was made for another plan;
     /// F8, some offset of the part is held already; F12, the part ends past the upload's end, or its length is not a multiple of 1024 and
     /// it ends before the upload's end (if that is not fixed: before the end of the last part).
-    pub fn refusal_of(&self, part: &Prepared) -> Option<AddFault>
+    pub fn add_fault(&self, part: &Prepared) -> Option<AddFault>
         ensures { result ≡ add_fault self.now part.now }
     {
         if !part.plan().is_same(&self.open.plan()) {
@@ -94,7 +93,7 @@ impl Forest {
 
     /// Why the upload's end would not be fixed at `len`. The first matching one of: F1, `len` exceeds the plan's bound; F12, the upload has
     /// another end, or holds a part that ends after `len`.
-    pub fn fix_refusal_of(&self, len: u64) -> Option<FixFault>
+    pub fn fix_fault(&self, len: u64) -> Option<FixFault>
         ensures { result ≡ fix_fault length self.now len }
     {
         self.open.fix_fault(len)
@@ -123,27 +122,34 @@ impl Forest {
     /// A refusal returns the part, leaves the forest unchanged and makes no compression: F7 the part was made for another plan, F8 some
     /// offset of the part is held already, F12 the part ends past the upload's end, or its length is not a multiple of 1024 and it ends
     /// before the upload's end (if that is not fixed: before the end of the last part). F9 if out of memory.
-    pub fn add(&mut self, part: Prepared, work: &mut Work) -> Result<u64, AddRefused>
+    pub fn add(
+        &mut self,
+        part: Prepared,
+        work: &mut Work,
+    ) -> Result<u64, Refused<AddFault, Prepared>>
         ensures added { OnOk result (self.new ≡ with_more self.old part.part) }
         ensures allowed { OnOk result (add_fault self.old part ≡ None) }
         ensures merges { IfOk result (λ n. n ≡ merges_of self.old.parts part.part) }
         ensures count { OnOk result (work.new ≡ counted work.old (put_work self.old.parts part.part)) }
-        ensures fault { IfErr result (λ r. r.fault ≡ unwrap_or (add_fault self.old part) NoMemory) }
-        ensures back { IfErr result (λ r. r.part ≡ part) }
+        ensures fault { IfErr result (λ r. r.reason ≡ unwrap_or (add_fault self.old part) NoMemory) }
+        ensures back { IfErr result (λ r. r.value ≡ part) }
         ensures unchanged { OnErr result (self.new ≡ self.old) }
         ensures uncounted { OnErr result (work.new ≡ work.old) }
     {
-        if let Some(fault) = self.refusal_of(&part) {
-            return Err(AddRefused { fault, part });
+        if let Some(reason) = self.add_fault(&part) {
+            return Err(Refused {
+                reason,
+                value: part,
+            });
         }
         // For the proof alone: a prepared part fits its plan.
         let _fitting = part.fitting();
         let pieces = self.open.parts().pieces() + part.pieces();
         match self.open.put(part, work) {
             Ok(()) => Ok((pieces - self.open.parts().pieces()) as u64),
-            Err(part) => Err(AddRefused {
-                fault: AddFault::NoMemory,
-                part,
+            Err(part) => Err(Refused {
+                reason: AddFault::NoMemory,
+                value: part,
             }),
         }
     }
@@ -204,19 +210,19 @@ impl Forest {
     {
         match self.open.finish_fault() {
             Some(fault) => Err(fault),
-            None => Ok(top_of(&self.open, work)),
+            None => Ok(Forest::top_of(&self.open, work)),
         }
     }
-}
 
-/// The top of the tree over the whole content of a complete upload. It makes two compressions for each piece after the first.
-pub fn top_of(upload: &Upload<HashedParts>, work: &mut Work) -> Top
-    requires { finish_fault length upload.now ≡ None }
-    ensures top { result ≡ tree_top (content_of upload.now.parts) 0 hash_mode }
-    ensures len { length (content_of upload.now.parts) ≡ length_of upload.now }
-    ensures count { work.new ≡ counted work.old (finish_work upload.now.parts) }
-{
-    upload.parts().top(work)
+    /// The top of the tree over the whole content of a complete upload. It makes two compressions for each piece after the first.
+    pub fn top_of(upload: &Upload<HashedParts>, work: &mut Work) -> Top
+        requires { finish_fault length upload.now ≡ None }
+        ensures top { result ≡ tree_top (content_of upload.now.parts) 0 hash_mode }
+        ensures len { length (content_of upload.now.parts) ≡ length_of upload.now }
+        ensures count { work.new ≡ counted work.old (finish_work upload.now.parts) }
+    {
+        upload.parts().top(work)
+    }
 }
 
 /// Shows the numbers of parts and bytes held, and the upload's length.

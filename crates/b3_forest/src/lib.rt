@@ -16,7 +16,7 @@
 //! The rules of an upload (where parts may be, what is missing and where it ends) are those of `store_upload`: a `Forest` is an `Upload`
 //! upload that holds its parts as `HashedParts`, which know only about bytes and pieces.
 //!
-//! A `Follow` does the same for borrowed bytes: it notes parts of them, and returns their top, without copies. `Lent` bytes are in one
+//! A `Follow` does the same for borrowed bytes: it notes parts of them, and returns their top, without copies. `BorrowedBytes` bytes are in one
 //! slice, or in `Stretches` of one length, which a `StretchesBuilder` gathers. `Prepared::share` makes a part of bytes that may be shared,
 //! such as a stretch, without a copy.
 //!
@@ -24,7 +24,7 @@
 //! kept in an ordered map by their first chunk.
 #![tactic(auto)]
 
-mod add_refused;
+mod borrowed;
 mod cutting;
 mod follow;
 mod forest;
@@ -32,7 +32,6 @@ mod gap;
 mod hashed_parts;
 mod held;
 mod laws;
-mod lent;
 mod piece;
 mod prepared;
 mod refusal;
@@ -41,18 +40,17 @@ mod shared_bytes;
 mod stretches;
 mod subtrees;
 
-pub use add_refused::AddRefused;
+pub use borrowed::BorrowedBytes;
 pub use follow::Follow;
-pub use forest::{Forest, top_of};
+pub use forest::Forest;
 pub use gap::Gap;
 pub use hashed_parts::HashedParts;
 pub use laws::forest_laws;
-pub use lent::Lent;
 pub use prepared::Prepared;
-pub use refusal::{Incomplete, NoteFault, PartRefused, ShareRefused};
+pub use refusal::{Incomplete, NoteFault};
 pub use segment::Segment;
 pub use shared_bytes::SharedBytes;
 pub use store_upload::{
-    AddFault, FinishFault, FixFault, MAX_BYTES, MAX_PART_BYTES, PartFault, Plan, TooLong,
+    AddFault, FinishFault, FixFault, MAX_BYTES, MAX_PART_BYTES, PartFault, Plan, Refused, TooLong,
 };
 pub use stretches::{Stretches, StretchesBuilder};

@@ -10,14 +10,13 @@ ghost use Rattle.b3_forest.specs.Pieces.{IsPrepared, part_work, piece_count, pie
 
 use crate::cutting::push_all;
 use crate::piece::Piece;
-use crate::refusal::{PartRefused, ShareRefused};
 use crate::shared_bytes::SharedBytes;
 use b3_core::Work;
 use std::alloc::Global;
 use std::fmt;
 use std::marker::Model;
 use std::sync::Arc;
-use store_upload::{CHUNK_LEN, PartFault, Plan};
+use store_upload::{CHUNK_LEN, PartFault, Plan, Refused};
 
 /// A part of an upload with its pieces: complete subtrees of the tree over the whole upload. It is hashed without any other part.
 #[derive(Drop)]
@@ -51,11 +50,11 @@ impl Prepared {
         offset: u64,
         bytes: Vec<u8>,
         work: &mut Work,
-    ) -> Result<Prepared, PartRefused>
+    ) -> Result<Prepared, Refused<PartFault, Vec<u8>>>
         ensures made { IfOk result (λ p. p ≡ planned plan.now offset bytes.items) }
         ensures fits { OnOk result (part_fault plan.now offset (vec_len bytes) ≡ None) }
-        ensures fault { IfErr result (λ r. r.fault ≡ unwrap_or (part_fault plan.now offset (vec_len bytes)) PartFault.NoMemory) }
-        ensures back { IfErr result (λ r. r.bytes.items ≡ bytes.items) }
+        ensures fault { IfErr result (λ r. r.reason ≡ unwrap_or (part_fault plan.now offset (vec_len bytes)) PartFault.NoMemory) }
+        ensures back { IfErr result (λ r. r.value.items ≡ bytes.items) }
         ensures count { OnOk result (work.new ≡ counted work.old (part_work (vec_len bytes)
             (piece_count (chunks_of (planned plan.now offset bytes.items).part)))) }
         ensures uncounted { IfSome (part_fault plan.now offset (vec_len bytes)) (λ _. work.new ≡ work.old) }
@@ -63,7 +62,10 @@ impl Prepared {
     {
         let pieces = match hashed(alloc, plan, offset, bytes.as_slice(), work) {
             Ok(pieces) => pieces,
-            Err(fault) => return Err(PartRefused { fault, bytes }),
+            Err(reason) => return Err(Refused {
+                reason,
+                value: bytes,
+            }),
         };
         match Arc::new(alloc, bytes) {
             Ok(bytes) => Ok(Prepared {
@@ -72,9 +74,9 @@ impl Prepared {
                 bytes,
                 pieces,
             }),
-            Err(refused) => Err(PartRefused {
-                fault: PartFault::NoMemory,
-                bytes: refused.value,
+            Err(refused) => Err(Refused {
+                reason: PartFault::NoMemory,
+                value: refused.value,
             }),
         }
     }
@@ -86,11 +88,11 @@ impl Prepared {
         offset: u64,
         bytes: Arc<Vec<u8>>,
         work: &mut Work,
-    ) -> Result<Prepared, ShareRefused>
+    ) -> Result<Prepared, Refused<PartFault, Arc<Vec<u8>>>>
         ensures made { IfOk result (λ p. p ≡ planned plan.now offset (arc_value bytes).items) }
         ensures fits { OnOk result (part_fault plan.now offset (vec_len (arc_value bytes)) ≡ None) }
-        ensures fault { IfErr result (λ r. r.fault ≡ unwrap_or (part_fault plan.now offset (vec_len (arc_value bytes))) PartFault.NoMemory) }
-        ensures back { IfErr result (λ r. (arc_value r.bytes).items ≡ (arc_value bytes).items) }
+        ensures fault { IfErr result (λ r. r.reason ≡ unwrap_or (part_fault plan.now offset (vec_len (arc_value bytes))) PartFault.NoMemory) }
+        ensures back { IfErr result (λ r. (arc_value r.value).items ≡ (arc_value bytes).items) }
         ensures count { OnOk result (work.new ≡ counted work.old (part_work (vec_len (arc_value bytes))
             (piece_count (chunks_of (planned plan.now offset (arc_value bytes).items).part)))) }
         ensures uncounted { IfSome (part_fault plan.now offset (vec_len (arc_value bytes))) (λ _. work.new ≡ work.old) }
@@ -103,7 +105,10 @@ impl Prepared {
                 bytes,
                 pieces,
             }),
-            Err(fault) => Err(ShareRefused { fault, bytes }),
+            Err(reason) => Err(Refused {
+                reason,
+                value: bytes,
+            }),
         }
     }
 

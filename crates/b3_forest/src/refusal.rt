@@ -1,70 +1,11 @@
-//! Why parts are refused, and why there is no top yet.
+//! Why parts are not noted, and why there is no top yet.
 
-ghost use Rattle.std.specs.Prelude.{◌≡◌, Some, vec_len};
-ghost use Rattle.store_upload.specs.Texts.{incomplete_code, incomplete_text, part_fault_text};
-ghost use Rattle.b3_forest.specs.Texts.{note_fault_code, note_fault_text, part_refused_text, share_refused_text};
-ghost use Rattle.std.specs.Arc.{arc_value};
+ghost use Rattle.std.specs.Prelude.{◌≡◌, Some};
+ghost use Rattle.store_upload.specs.Texts.{incomplete_code, incomplete_text};
+ghost use Rattle.b3_forest.specs.Texts.{note_fault_code, note_fault_text};
 
 use std::error::Error;
 use std::fmt;
-use std::sync::Arc;
-use store_upload::PartFault;
-
-/// A refused part; its bytes are returned to the caller.
-#[derive(Drop)]
-pub struct PartRefused {
-    pub fault: PartFault,
-    pub bytes: Vec<u8>,
-}
-
-/// The code of the refusal.
-impl fmt::Display for PartRefused {
-    ghost output = { λ refused. Some (part_fault_text refused.fault) };
-
-    fn fmt<W: fmt::Write>(&self, f: &mut fmt::Formatter<W>) -> fmt::Result {
-        f.write_str(self.fault.code())
-    }
-}
-
-/// Shows the refusal and the number of bytes returned.
-impl fmt::Debug for PartRefused {
-    ghost debug_output = { λ refused. Some (part_refused_text refused.fault (vec_len refused.bytes)) };
-
-    fn fmt<W: fmt::Write>(&self, f: &mut fmt::Formatter<W>) -> fmt::Result {
-        let len = self.bytes.len();
-        write!(f, "PartRefused {{ fault: {}, bytes: {len} }}", self.fault)
-    }
-}
-
-impl Error for PartRefused {}
-
-/// A refused part with bytes that may be shared; they are returned to the caller.
-#[derive(Drop)]
-pub struct ShareRefused {
-    pub fault: PartFault,
-    pub bytes: Arc<Vec<u8>>,
-}
-
-/// The code of the refusal.
-impl fmt::Display for ShareRefused {
-    ghost output = { λ refused. Some (part_fault_text refused.fault) };
-
-    fn fmt<W: fmt::Write>(&self, f: &mut fmt::Formatter<W>) -> fmt::Result {
-        f.write_str(self.fault.code())
-    }
-}
-
-/// Shows the refusal and the number of bytes returned.
-impl fmt::Debug for ShareRefused {
-    ghost debug_output = { λ refused. Some (share_refused_text refused.fault (vec_len (arc_value refused.bytes))) };
-
-    fn fmt<W: fmt::Write>(&self, f: &mut fmt::Formatter<W>) -> fmt::Result {
-        let len = self.bytes.len();
-        write!(f, "ShareRefused {{ fault: {}, bytes: {len} }}", self.fault)
-    }
-}
-
-impl Error for ShareRefused {}
 
 /// F10: the lowest offset of the upload that is not held.
 #[derive(Clone, Copy, PartialEq, Eq, Debug)]

@@ -24,7 +24,8 @@ impl Model for Stretches {
 
     ghost view = { λ s. stretched s.stretch_len s.full.items (stretch_bytes s.last) };
 
-    ghost invariant = { λ s. (0 < s.stretch_len) × AreFull s.stretch_len s.full.items × (length (stretched s.stretch_len s.full.items (stretch_bytes s.last)).bytes ≡ s.len) × (length (stretch_bytes s.last) ≤ s.stretch_len) };
+    ghost invariant = { λ s. (0 < s.stretch_len) × AreFull s.stretch_len s.full.items
+        × (length (stretched s.stretch_len s.full.items (stretch_bytes s.last)).bytes ≡ s.len) × (length (stretch_bytes s.last) ≤ s.stretch_len) };
 }
 
 impl Stretches {

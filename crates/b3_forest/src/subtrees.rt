@@ -5,7 +5,9 @@ ghost use Rattle.std.specs.Map.{values_of};
 ghost use Rattle.b3_core.specs.Laws.{NeighboursJoin};
 ghost use Rattle.b3_core.specs.Work.{counted};
 ghost use Rattle.b3_forest.specs.Subtrees.{AreForest};
-ghost use Rattle.b3_forest.specs.inner.Subtrees.{AreBoth, AreChunks, AreFresh, ArePiecesOfSome, IsAlone, IsBound, IsFirstGap, IsLastUpto, IsLeastHeld, IsMerged, IsNextFrom, IsOtherHalf, IsPair, IsSettling, NoneFrom, NoneHeld, NoneUpto, firsts, is_held, top_over, with_subtrees};
+ghost use Rattle.b3_forest.specs.inner.Subtrees.{AreBoth, AreChunks, AreFresh, ArePiecesOfSome, IsAlone, IsBound, IsFirstGap, IsLastUpto};
+ghost use Rattle.b3_forest.specs.inner.Subtrees.{IsLeastHeld, IsMerged, IsNextFrom, IsOtherHalf, IsPair, IsSettling, NoneFrom, NoneHeld};
+ghost use Rattle.b3_forest.specs.inner.Subtrees.{NoneUpto, firsts, is_held, top_over, with_subtrees};
 ghost use Rattle.b3_forest.specs.Pieces.{max_chunks, root_level};
 
 use crate::piece::{MAX_CHUNKS, Piece, Subtree};

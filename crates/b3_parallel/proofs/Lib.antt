@@ -1,5 +1,6 @@
 pub mod Carrying
 pub mod Consuming
+pub mod Counting
 pub mod Fitting
 pub mod Lining
 pub mod Standing

@@ -1,22 +1,18 @@
 -- Blocks of a source, after those that a hasher was given.
-use Rattle.std.proofs.Common.{suc, zero, ◌≡◌, ℕ, ◌+◌, ◌-◌, ◌*◌, ◌/◌, ◌^◌, ◌<◌, ◌≤◌, ◌++◌, List, [], ◌∷◌, Option, Some, None, IfSome, length, take, drop, set, arith, refl, ap, ap₂, sym, ◌∙◌, subst, length-append}
+use Rattle.std.proofs.Common.{suc, zero, ◌≡◌, ℕ, ◌+◌, ◌*◌, ◌/◌, ◌^◌, ◌<◌, ◌≤◌, ◌++◌, List, [], ◌∷◌, Option, Some, None, IfSome, length, take, drop, set, arith, refl, ap, ap₂, sym, ◌∙◌, subst, length-append}
 use Rattle.std.proofs.lemmas.List.{append-nil, take-append-drop}
 use Rattle.std.proofs.Math.Nat.{mul-le-mul_left}
 use Rattle.std.proofs.Math.Seq.{take-add, take-append_seam}
 use Rattle.std.specs.Global.{Vec}
 use Rattle.std.specs.Io.KnownBytes.{Consumes, IsAtEnd}
-use Rattle.b3_core.specs.Hashers.{HasRoomFor, ModelHasher, Holds, IsAfter, CountsRest, kept_work}
-use Rattle.b3_core.specs.Tree.{ModelTop, ModelMode, tree_top}
-use Rattle.b3_core.specs.Work.{counted, hash_work}
-use Rattle.b3_parallel.specs.inner.Blocks.{IsGiven, IsHashed}
-use Rattle.b3_parallel.specs.inner.Lines.{Carries}
+use Rattle.b3_core.specs.Tree.{ModelMode}
+use Rattle.b3_parallel.specs.inner.Blocks.{IsHashed, IsReady}
 use Rattle.b3_parallel.specs.Rounds.{AreAll}
 use Rattle.b3_parallel.specs.inner.Rounds.{ArePlaced, AreSlots, AreTaken, HasFront, IsPlaced, StandsAt}
 use Rattle.b3_parallel.specs.Sources.{known_from}
+use Rattle.b3_parallel.specs.declared.counted_hasher.CountedHasher.{CountedHasher}
 use Rattle.b3_parallel.specs.declared.taking.Placed.{Placed}
-use Rattle.b3_parallel.proofs.Carrying.{given_carries, is_after_all, makes_given}
-use Rattle.b3_parallel.proofs.Consuming.{nothing_given}
-use Rattle.b3_parallel.proofs.Standing.{same_count}
+use Rattle.b3_parallel.proofs.Carrying.{few_bytes, hashed_as}
 
 -- what a reader gives from a place on is there
 pub read_stands : (known new : Option (List ℕ)) (start : ℕ) (x : List ℕ) → Consumes (known_from known start) new x → StandsAt known start x
@@ -44,31 +40,16 @@ room_within place end size below most =
     let up : size * (place + 1) ≤ size * end = mul-le-mul_left size (omega (arith, below)) in
     omega (arith, up, most)
 
--- a block's bytes end below 2^64
-pub few_bytes : (x place size len : ℕ) → x ≡ 1024 * (place * size) → len ≡ 1024 * size → (place + 1) * size ≤ 2 ^ 53 → x + len < 2 ^ 64
-few_bytes x place size len before mine most = let sum : (place + 1) * size ≡ place * size + size = omega arith in omega (arith, before, mine, most, sum)
-
--- a block at the end of all bytes
-at_end : (p : ModelMode) (top : ModelTop) (mine x : List ℕ) (number own : ℕ) → IsHashed p mine number top own → length x ≡ 1024 * number → IsHashed p mine (length x / 1024) top own
-at_end p top mine x number own (node, made) size =
-    let count : number ≡ length x / 1024 = omega (arith, size) in
-    (node ∙ ap (λ n. tree_top mine n p) count, made)
-
--- the next block follows what the hasher was given
-pub placed_is_after : (p : ModelMode) (known : Option (List ℕ)) (k place n m : ℕ) (h : ModelHasher) (s : Placed) → (front : HasFront p known k h place n m)
-    → (block : IsPlaced p known k s) → s.place ≡ place → (place + 1) * 2 ^ k ≤ 2 ^ 53 → IsAfter h k s.top front.0 block.0
-placed_is_after p known k place n m h s (x, carries, size, first) (mine, len, hashed, at) same most =
-    let number : length x ≡ 1024 * (s.place * 2 ^ k) = size ∙ ap (λ n. 1024 * (n * 2 ^ k)) (sym same) in
-    is_after_all p k h x mine n m s.work s.top carries len (at_end p s.top mine x (s.place * 2 ^ k) s.work hashed number)
-    (few_bytes (length x) place (2 ^ k) (length mine) size len most)
-
-pub front_grows : (p : ModelMode) (known : Option (List ℕ)) (k place n m u : ℕ) (h new : ModelHasher) (s : Placed) → (front : HasFront p known k h place n m)
-    → (block : IsPlaced p known k s) → s.place ≡ place → Carries p k new [] (front.0 ++ block.0) n u → HasFront p known k new (place + 1) n u
-front_grows p known k place n m u h new s (x, carries, size, first) (mine, len, hashed, at) same now =
+-- the first blocks, and the next one, which was appended
+pub front_grows : (p : ModelMode) (known : Option (List ℕ)) (k place : ℕ) (front new : CountedHasher) (s : Placed) → (place + 1) * 2 ^ k ≤ 2 ^ 53 → s.place ≡ place
+    → ((x mine : List ℕ) → IsReady p k front x → length mine ≡ 1024 * 2 ^ k → IsHashed p mine (length x / 1024) s.top s.work → length x + length mine < 2 ^ 64 → IsReady p k new (x ++ mine))
+    → IsPlaced p known k s → HasFront p known k front place → HasFront p known k new (place + 1)
+front_grows p known k place front new s most same append (mine, len, hashed, at) (x, ready, size, first) =
     let sum : (place + 1) * 2 ^ k ≡ place * 2 ^ k + 2 ^ k = omega arith in
-    let start : 1024 * (s.place * 2 ^ k) ≡ length x = ap (λ n. 1024 * (n * 2 ^ k)) same ∙ sym size in (
+    let start : 1024 * (s.place * 2 ^ k) ≡ length x = ap (λ n. 1024 * (n * 2 ^ k)) same ∙ sym size in
+    let following = hashed_as p p mine (length x / 1024) (s.place * 2 ^ k) s.top s.work hashed (omega (arith, start)) refl in (
       x ++ mine,
-      now,
+      append x mine ready len following (few_bytes (length x) place (2 ^ k) (length mine) size len most),
       omega (arith, length-append x mine, size, len, sum),
       front_more known x mine first (subst (λ n. StandsAt known n mine) start at),
     )
@@ -98,20 +79,10 @@ nothing_stands None = tt
 nothing_stands (Some all) = refl
 
 -- a hasher that was given nothing
-pub front_begins : (p : ModelMode) (known : Option (List ℕ)) (k n : ℕ) (h : ModelHasher) → h ≡ record { mode = p; subtrees = []; whole = 0; tail = [] } → HasFront p known k h 0 n n
-front_begins p known k n h is =
-    let fits : HasRoomFor k h = rw is (refl, tt) in
-    ([], given_carries p k h [] n n (ap (λ (h : ModelHasher). h.mode) is) (nothing_given p h n is) fits, omega arith, nothing_stands known)
+pub front_begins : (p : ModelMode) (known : Option (List ℕ)) (k : ℕ) (front : CountedHasher) → IsReady p k front [] → HasFront p known k front 0
+front_begins p known k front ready = ([], ready, omega arith, nothing_stands known)
 
 -- a number of blocks, of which the last ends within 2^53 chunks
 pub all_within : (blocks limit size : ℕ) → blocks ≤ limit → ((n : ℕ) → n < limit → (n + 1) * size ≤ 2 ^ 53) → blocks * size ≤ 2 ^ 53
 all_within zero limit size few within = omega arith
 all_within (suc n) limit size few within = let last : (n + 1) * size ≤ 2 ^ 53 = within n (omega (arith, few)) in omega (arith, last)
-
--- the node of all bytes, and their compressions with those of before
-pub top_of_all : (p : ModelMode) (known : Option (List ℕ)) (h : ModelHasher) (top : ModelTop) (x : List ℕ) (m u w v : ℕ) → h.mode ≡ p → IsGiven h x 0 m → AreAll known x
-    → ((z : List ℕ) → Holds h z → top ≡ tree_top z 0 h.mode) → ((z : List ℕ) → Holds h z → CountsRest (kept_work h.subtrees) (hash_work (length z) - 1) m u) → v ≡ counted w u
-    → (x : List ℕ) × (top ≡ tree_top x 0 p) × AreAll known x × (v ≡ counted w (hash_work (length x) - 1))
-top_of_all p known h top x m u w v mode (held, count) are node makes added =
-    let own = makes_given 0 (kept_work h.subtrees) (hash_work (length x) - 1) m u count (makes x held) in
-    (x, node x held ∙ ap (tree_top x 0) mode, are, added ∙ ap (counted w) own ∙ same_count w (hash_work (length x) - 1))

@@ -6,7 +6,7 @@ use Rattle.std.proofs.lemmas.Nat.{pow-add, pow_pos}
 use Rattle.std.proofs.Math.Pow.{pow_mono}
 use Rattle.std.proofs.Math.Nat.{div-add-mod, mul-le-mul_left, mul-mod_right}
 use Rattle.std.proofs.Math.Seq.{take-add}
-use Rattle.b3_core.specs.Hashers.{HasRoomFor, ModelHasher, Holds, IsAfter, CountsRest, kept_work}
+use Rattle.b3_core.specs.Hashers.{HasRoomFor, ModelHasher, HasInput, IsAfter, CountsRest, kept_work}
 use Rattle.b3_core.specs.Tree.{IsSubtree, tree_top}
 use Rattle.b3_core.specs.Work.{counted, hash_work}
 use Rattle.b3_core.proofs.Hashings.{makes_more, makes_then}
@@ -18,7 +18,7 @@ within : (s n i : ℕ) → i < n → i * s + s ≤ s * n
 within s n i below = let most : s * (i + 1) ≤ s * n = mul-le-mul_left s (omega (arith, below)) in omega (arith, most)
 
 -- a hasher that began no chunk was given whole ones alone
-pub bare_length : (h : ModelHasher) (x : List ℕ) → h.tail ≡ [] → Holds h x → length x ≡ h.whole
+pub bare_length : (h : ModelHasher) (x : List ℕ) → h.tail ≡ [] → HasInput h x → length x ≡ h.whole
 bare_length h x none (before, cut, are, size, few) = omega (arith, ap length cut, length-append before h.tail, ap length none, size)
 
 -- the bytes before part i
@@ -47,7 +47,7 @@ number_of : (w v i p : ℕ) → v ≡ w + i * (1024 * p) → w / 1024 + p * i �
 number_of w v i p is = let all : i * (1024 * p) ≡ 1024 * (p * i) = omega arith in omega (arith, is, all)
 
 pub part_is_after : (old h : ModelHasher) (k i : ℕ) (parts : List Part) (part : Part) (x bytes : List ℕ) → AreAfter old k parts x bytes → i < length parts
-    → part ≡ slice_index_or parts i part → h.mode ≡ old.mode → Holds h (x ++ before_part bytes k i) → HasRoomFor k h
+    → part ≡ slice_index_or parts i part → h.mode ≡ old.mode → HasInput h (x ++ before_part bytes k i) → HasRoomFor k h
     → IsAfter h k part.top (x ++ before_part bytes k i) (stretch_at bytes k i)
 part_is_after old h k i parts part x bytes (held, fits, few, (len, each)) below is mode now now_fits =
     let size = part_length bytes k (length parts) i len below in

@@ -1,11 +1,13 @@
 //! The hash by several threads: the values that `b3_core` returns, with the same counts of compressions.
 //!
 //! ```rust
+//! let threads = HashThreads { rt, alloc, count: None };
 //! let mut work = Work::new(rt);
-//! let top = hash_all(rt, alloc, &Mode::hash(), reader, None, &mut work)?;
+//! let top = hash_all(&threads, &Mode::hash(), reader, &mut work)?;
 //! Ok(top.root32(&mut work))
 //! ```
 //!
+//! - `HashThreads` has the runtime, the memory and the number of threads.
 //! - `hash_all` returns the node of the tree over everything that a reader has left. The calling thread reads; after the first 2 MiB each
 //!   block of 2 MiB is hashed by a new thread.
 //! - `hash_source` returns the node of the tree over a `Source`, such as an open file, that threads can read at any offset: each thread
@@ -18,20 +20,24 @@
 #![tactic(auto)]
 
 mod blocks;
+mod counted_hasher;
 mod line;
 mod parts;
 mod promised;
 mod reading;
+mod round;
 mod rounds;
 mod sizes;
 mod source;
 mod sourcing;
 mod takers;
 mod taking;
+mod threads;
 mod updating;
 
 pub use reading::hash_all;
 pub use sizes::thread_count;
 pub use source::Source;
 pub use sourcing::hash_source;
+pub use threads::HashThreads;
 pub use updating::update;

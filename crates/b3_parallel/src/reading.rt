@@ -5,17 +5,14 @@ ghost use Rattle.std.specs.Io.KnownBytes.{Consumes, IsAtEnd, Keeps};
 ghost use Rattle.b3_core.specs.Hashers.{count_of};
 ghost use Rattle.b3_core.specs.Tree.{ModelMode, chunk_len, tree_top};
 ghost use Rattle.b3_core.specs.Work.{NeverFalls, counted, hash_work};
-ghost use Rattle.b3_parallel.specs.inner.Blocks.{HasRead, IsGiven};
+ghost use Rattle.b3_parallel.specs.inner.Blocks.{HasRead, IsGiven, IsReady};
 ghost use Rattle.b3_parallel.specs.inner.Lines.{Carries, last_of};
 
-use crate::blocks::Handle;
-use crate::line::{next_place, put, settle_all};
-use crate::sizes::{
-    BLOCK_LEVEL, BlockPlan, MAX_BLOCKS, block_limit, buffer_len, bytes_of, thread_count,
-};
-use b3_core::{Hasher, Mode, Runtime, Top, Work};
-use std::alloc::Global;
-use std::collections::VecDeque;
+use crate::counted_hasher::CountedHasher;
+use crate::line::BlockLine;
+use crate::sizes::{BLOCK_LEVEL, MAX_BLOCKS, block_limit, buffer_len, bytes_of};
+use crate::threads::HashThreads;
+use b3_core::{Mode, Runtime, Top, Work};
 use std::io;
 use std::io::{Error, ErrorKind, Read};
 use std::thread::Threads;
@@ -87,28 +84,27 @@ fn read_some<R: Read>(reader: &mut R, buffer: &mut [u8], most: u64) -> io::Resul
 // Reads bytes into a hasher, a buffer at a time, until it has been given `until` bytes or the reader is at its end. Returns whether the
 // reader is at its end.
 pub(crate) fn hash_until<R: Read>(
-    hasher: &mut Hasher,
+    front: &mut CountedHasher,
     reader: &mut R,
     buffer: &mut [u8],
     until: u64,
-    work: &mut Work,
 ) -> io::Result<bool>
     requires { 0 < length buffer.old }
-    ensures mode { hasher.new.mode ≡ hasher.old.mode }
+    ensures mode { front.new.hasher.mode ≡ front.old.hasher.mode }
     ensures len { length buffer.new ≡ length buffer.old }
-    ensures given { (x : List ℕ) (n : ℕ) → IsGiven hasher.old x n work.old → length x ≤ until
-        → OnOk result (HasRead until hasher.new x n work.new (R.remaining reader.old) (R.remaining reader.new)) }
-    ensures full { IfOk result (λ ended. ended ≡ false → until ≤ count_of hasher.new) }
+    ensures given { (x : List ℕ) → IsGiven front.old x → length x ≤ until
+        → OnOk result (HasRead until front.new x (R.remaining reader.old) (R.remaining reader.new)) }
+    ensures full { IfOk result (λ ended. ended ≡ false → until ≤ count_of front.new.hasher) }
     ensures end { IfOk result (λ ended. ended ≡ true → IsAtEnd (R.remaining reader.new)) }
 {
     for _ in 0..u64::MAX {
-        let given = hasher.count();
+        let given = front.hasher.count();
         if given >= until {
             return Ok(false);
         }
         match read_some(reader, buffer, until - given) {
             Ok(0) => return Ok(true),
-            Ok(count) => hasher.update(&buffer[..count], work),
+            Ok(count) => front.update(&buffer[..count]),
             Err(error) if error.kind() == ErrorKind::Interrupted => {}
             Err(error) => return Err(error),
         }
@@ -123,16 +119,14 @@ pub(crate) fn hash_until<R: Read>(
 /// hashes the remaining bytes. No thread is left running, even after a failed read. Shorter inputs start no thread. A reader that returns a
 /// block in small reads, as a pipe does, is slower than this thread hashes; then this thread hashes the remaining bytes too.
 ///
-/// `threads` is the number of blocks hashed at once, up to 10 (more threads would find no block to hash). With 1, this thread hashes alone;
-/// with `None` there are as many as the machine has processors.
+/// `threads.count` is the number of blocks hashed at once, up to 10 (more threads would find no block to hash). With 1, this thread hashes
+/// alone.
 ///
 /// The error is that of the first failed read, `OutOfMemory` if 64 KiB cannot be allocated, or `FileTooLarge` for 2^64-1 bytes or more.
 pub fn hash_all<T: Threads + Runtime, R: Read>(
-    rt: &T,
-    alloc: Global,
+    threads: &HashThreads<'_, T>,
     mode: &Mode,
     reader: &mut R,
-    threads: Option<u32>,
     work: &mut Work,
 ) -> io::Result<Top>
     ensures node { IfOk result (λ top. (input : List ℕ) × (top ≡ tree_top input 0 mode.now) × Consumes (R.remaining reader.old) (R.remaining reader.new) input
@@ -140,98 +134,81 @@ pub fn hash_all<T: Threads + Runtime, R: Read>(
     ensures end { OnOk result (IsAtEnd (R.remaining reader.new)) }
     ensures never_falls { NeverFalls work.old work.new }
 {
-    let mut own = Work::new(rt);
-    let made = hash_in_blocks(rt, alloc, mode, reader, threads, BLOCK_LEVEL, &mut own);
-    work.absorb(own);
+    let mut line = BlockLine::new(threads, mode, BLOCK_LEVEL);
+    let made = hash_in_blocks(threads, &mut line, reader);
+    work.absorb(line.front.work);
     made
 }
 
-// The same in blocks of 2^`level` chunks.
-pub(crate) fn hash_in_blocks<T: Threads + Runtime, R: Read>(
-    rt: &T,
-    alloc: Global,
-    mode: &Mode,
+// The same with a line that has been given nothing yet.
+fn hash_in_blocks<T: Threads + Runtime, R: Read>(
+    threads: &HashThreads<'_, T>,
+    line: &mut BlockLine,
     reader: &mut R,
-    threads: Option<u32>,
-    level: u32,
-    work: &mut Work,
 ) -> io::Result<Top>
-    requires { level < 40 }
-    ensures node { IfOk result (λ top. (input : List ℕ) × (top ≡ tree_top input 0 mode.now) × Consumes (R.remaining reader.old) (R.remaining reader.new) input
-        × (work.new ≡ counted work.old (hash_work (length input) - 1))) }
+    requires { line.old.handles.items ≡ [] }
+    ensures node { (p : ModelMode) → IsReady p line.old.level line.old.front [] → IfOk result (λ top. (input : List ℕ) × (top ≡ tree_top input 0 p)
+        × Consumes (R.remaining reader.old) (R.remaining reader.new) input × (line.new.front.work ≡ counted 0 (hash_work (length input) - 1))) }
     ensures end { OnOk result (IsAtEnd (R.remaining reader.new)) }
 {
-    let mut buffer = vec![in alloc; 0u8; buffer_len()]?;
-    let mut hasher = Hasher::new(mode);
-    let first = bytes_of(level) as u64;
-    if hash_until(&mut hasher, reader, &mut buffer, first, work)? {
-        return Ok(hasher.top(work));
+    let mut buffer = vec![in threads.alloc; 0u8; buffer_len()]?;
+    let first = bytes_of(line.level) as u64;
+    if hash_until(&mut line.front, reader, &mut buffer, first)? {
+        return Ok(line.front.top());
     }
-    if hash_in_line(rt, alloc, &mut hasher, reader, threads, level, work)? {
-        return Ok(hasher.top(work));
+    if hash_in_line(threads, line, reader)? {
+        return Ok(line.front.top());
     }
-    if hash_until(&mut hasher, reader, &mut buffer, u64::MAX, work)? {
-        return Ok(hasher.top(work));
+    if hash_until(&mut line.front, reader, &mut buffer, u64::MAX)? {
+        return Ok(line.front.top());
     }
     Err(Error::from(ErrorKind::FileTooLarge))
 }
 
-// Hashes the bytes after the first 2^`level` chunks, which the hasher has been given, in a line of blocks. Returns whether the reader is at
-// its end. It stops earlier if there is only one thread, a thread cannot be started, or an allocation fails.
+// Hashes the bytes after the first block, which the hasher has been given, in a line of blocks. Returns whether the reader is at its end.
+// It stops earlier if there is only one thread, a thread cannot be started, or an allocation fails.
 fn hash_in_line<T: Threads + Runtime, R: Read>(
-    rt: &T,
-    alloc: Global,
-    hasher: &mut Hasher,
+    threads: &HashThreads<'_, T>,
+    line: &mut BlockLine,
     reader: &mut R,
-    threads: Option<u32>,
-    level: u32,
-    work: &mut Work,
 ) -> io::Result<bool>
-    requires { level < 40 }
-    ensures given { (x : List ℕ) (n : ℕ) → IsGiven hasher.old x n work.old → length x ≡ chunk_len * 2 ^ level
-        → OnOk result ((hasher.new.mode ≡ hasher.old.mode) × HasRead (2 ^ 64 - 1) hasher.new x n work.new (R.remaining reader.old) (R.remaining reader.new)) }
+    requires { line.old.handles.items ≡ [] }
+    ensures given { (x : List ℕ) → IsGiven line.old.front x → length x ≡ chunk_len * 2 ^ line.old.level
+        → OnOk result ((line.new.front.hasher.mode ≡ line.old.front.hasher.mode) × HasRead (2 ^ 64 - 1) line.new.front x (R.remaining reader.old) (R.remaining reader.new)) }
     ensures end { IfOk result (λ ended. ended ≡ true → IsAtEnd (R.remaining reader.new)) }
 {
-    let threads = thread_count(rt, threads);
-    if threads < 2 {
+    let count = threads.number();
+    if count < 2 {
         return Ok(false);
     }
-    let plan = BlockPlan {
-        level,
-        most: threads.min(MAX_BLOCKS),
-    };
-    let mut line: VecDeque<Handle> = VecDeque::new(alloc);
-    let last = read_in_line(rt, alloc, hasher, &mut line, reader, plan, work);
+    let last = read_in_line(threads, line, reader, count.min(MAX_BLOCKS));
     // After a failed read some threads may still be running.
-    settle_all(rt, hasher, &mut line, level, work);
+    line.settle_all(threads.rt);
     match last? {
         Some(bytes) => {
-            hasher.update(&bytes, work);
+            line.front.update(&bytes);
             Ok(true)
         }
         None => Ok(false),
     }
 }
 
-// Reads blocks after the first one and appends each to the line, as long as each arrives in one read. Returns the last bytes, fewer than a
-// block, or `None` if the reader may have more.
+// Reads blocks after the first one and appends each to the line, as long as each arrives in one read; `most` are hashed at once. Returns
+// the last bytes, fewer than a block, or `None` if the reader may have more.
 fn read_in_line<T: Threads + Runtime, R: Read>(
-    rt: &T,
-    alloc: Global,
-    hasher: &mut Hasher,
-    line: &mut VecDeque<Handle>,
+    threads: &HashThreads<'_, T>,
+    line: &mut BlockLine,
     reader: &mut R,
-    plan: BlockPlan,
-    work: &mut Work,
+    most: usize,
 ) -> io::Result<Option<Vec<u8>>>
-    requires { plan.level < 40 }
-    ensures carries { (x : List ℕ) (n : ℕ) → Carries hasher.old.mode plan.level hasher.old line.old.items x n work.old → length x ≡ chunk_len * 2 ^ plan.level
-        → IfOk result (λ last. (y : List ℕ) × Carries hasher.old.mode plan.level hasher.new line.new.items (x ++ y) n work.new
+    ensures level { line.new.level ≡ line.old.level }
+    ensures carries { (p : ModelMode) (x : List ℕ) → Carries p line.old x → length x ≡ chunk_len * 2 ^ line.old.level
+        → IfOk result (λ last. (y : List ℕ) × Carries p line.new (x ++ y)
         × Consumes (R.remaining reader.old) (R.remaining reader.new) (y ++ last_of last) × (length (x ++ y) + length (last_of last) < 2 ^ 64)) }
     ensures end { IfOk result (λ last. last ≢ None → IsAtEnd (R.remaining reader.new)) }
 {
-    for place in 1..block_limit(plan.level) {
-        let Some(mut block) = next_place(rt, alloc, hasher, line, plan, work) else {
+    for place in 1..block_limit(line.level) {
+        let Some(mut block) = line.next_place(threads, most) else {
             return Ok(None);
         };
         let filled = fill_block(reader, &mut block)?;
@@ -239,7 +216,7 @@ fn read_in_line<T: Threads + Runtime, R: Read>(
             block.truncate(filled.count);
             return Ok(Some(block));
         }
-        if !put(rt, hasher, line, block, place, plan.level, work) || !filled.at_once {
+        if !line.put(threads.rt, block, place) || !filled.at_once {
             return Ok(None);
         }
     }

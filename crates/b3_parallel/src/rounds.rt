@@ -4,10 +4,13 @@ ghost use Rattle.std.specs.Prelude.{◌≡◌, ℕ, ◌+◌, ◌*◌, ◌^◌, �
 ghost use Rattle.b3_core.specs.Tree.{ModelMode};
 ghost use Rattle.b3_parallel.specs.inner.Rounds.{ArePlaced, AreSlots, AreTaken, HasFront, IsPlaced};
 
+use crate::counted_hasher::CountedHasher;
+use crate::round::Round;
 use crate::source::Source;
 use crate::takers::take_all;
-use crate::taking::{Placed, Round};
-use b3_core::{Hasher, Runtime, Work};
+use crate::taking::Placed;
+use crate::threads::HashThreads;
+use b3_core::Runtime;
 use std::alloc::{AllocError, Global};
 use std::thread::Threads;
 
@@ -40,11 +43,11 @@ fn put_in_slots(slots: &mut Vec<Option<Placed>>, taken: Vec<Placed>, first: u64)
 fn slots_of(
     alloc: Global,
     lists: Vec<Vec<Placed>>,
-    round: Round,
+    round: &Round,
 ) -> Result<Vec<Option<Placed>>, AllocError>
     ensures { (p : ModelMode) (known : Option (List ℕ)) (k : ℕ) → AreTaken p known k lists.items → IfOk result (λ slots. AreSlots p known k slots.items) }
 {
-    let mut slots = empty_slots(alloc, round.end.saturating_sub(round.first) as usize)?;
+    let mut slots = empty_slots(alloc, (round.end - round.first) as usize)?;
     let mut rest = lists.into_iter();
     while let Some(list) = rest.next() {
         put_in_slots(&mut slots, list, round.first);
@@ -53,22 +56,15 @@ fn slots_of(
 }
 
 // Appends a block to a hasher if it was made and is the one for this place, and returns whether it was appended.
-fn append_slot(
-    hasher: &mut Hasher,
-    slot: Option<Placed>,
-    place: u64,
-    level: u32,
-    work: &mut Work,
-) -> bool
-    requires level { level < 53 }
-    requires place { (place + 1) * 2 ^ level ≤ 2 ^ 53 }
-    ensures { (p : ModelMode) (known : Option (List ℕ)) (n : ℕ) → IfSome slot (IsPlaced p known level) → HasFront p known level hasher.old place n work.old
-        → result ≡ true → HasFront p known level hasher.new (place + 1) n work.new }
+fn append_slot(front: &mut CountedHasher, slot: Option<Placed>, round: &Round, place: u64) -> bool
+    requires { place < round.now.end }
+    ensures { (known : Option (List ℕ)) → IfSome slot (IsPlaced round.now.mode known round.now.level) → HasFront round.now.mode known round.now.level front.old place
+        → result ≡ true → HasFront round.now.mode known round.now.level front.new (place + 1) }
 {
     match slot {
         Some(placed) if placed.place == place => {
-            work.absorb(placed.work);
-            hasher.append(&placed.top, level, work);
+            let Placed { top, work, .. } = placed;
+            front.append(&top, round.level, work);
             true
         }
         _ => false,
@@ -76,21 +72,15 @@ fn append_slot(
 }
 
 // Appends the blocks of a round to a hasher, and returns whether all were appended.
-fn append_slots(
-    hasher: &mut Hasher,
-    slots: Vec<Option<Placed>>,
-    round: Round,
-    work: &mut Work,
-) -> bool
-    requires level { round.level < 53 }
-    requires end { round.end * 2 ^ round.level ≤ 2 ^ 53 }
-    ensures { (p : ModelMode) (known : Option (List ℕ)) (n : ℕ) → AreSlots p known round.level slots.items
-        → HasFront p known round.level hasher.old round.first n work.old → result ≡ true → HasFront p known round.level hasher.new round.end n work.new }
+fn append_slots(front: &mut CountedHasher, slots: Vec<Option<Placed>>, round: &Round) -> bool
+    ensures { (known : Option (List ℕ)) → AreSlots round.now.mode known round.now.level slots.items
+        → HasFront round.now.mode known round.now.level front.old round.now.first
+        → result ≡ true → HasFront round.now.mode known round.now.level front.new round.now.end }
 {
     let mut rest = slots.into_iter();
     let mut place = round.first;
     while let Some(slot) = rest.next() {
-        if place >= round.end || !append_slot(hasher, slot, place, round.level, work) {
+        if place >= round.end || !append_slot(front, slot, round, place) {
             return false;
         }
         place += 1;
@@ -98,28 +88,22 @@ fn append_slots(
     place == round.end
 }
 
-/// Hashes the blocks of a round by `threads` threads, appends them to a hasher that was given the blocks before them, and returns whether
+/// Hashes the blocks of a round by several threads, appends them to a hasher that was given the blocks before them, and returns whether
 /// all were appended.
 pub(crate) fn hash_round<T: Threads + Runtime, S: Source + Send + Drop + 'static>(
-    rt: &T,
-    alloc: Global,
+    threads: &HashThreads<'_, T>,
+    round: &Round,
     source: &S,
-    hasher: &mut Hasher,
-    threads: usize,
-    round: Round,
-    work: &mut Work,
+    front: &mut CountedHasher,
 ) -> bool
-    requires level { round.level < 53 }
-    requires end { round.end * 2 ^ round.level ≤ 2 ^ 53 }
-    ensures { (p : ModelMode) (n : ℕ) → HasFront p (S.bytes source.now) round.level hasher.old round.first n work.old
-        → result ≡ true → HasFront p (S.bytes source.now) round.level hasher.new round.end n work.new }
+    ensures { HasFront round.now.mode (S.bytes source.now) round.now.level front.old round.now.first
+        → result ≡ true → HasFront round.now.mode (S.bytes source.now) round.now.level front.new round.now.end }
 {
-    let mode = hasher.mode();
-    let Ok(lists) = take_all(rt, alloc, &mode, source, threads, round) else {
+    let Ok(lists) = take_all(threads, round, source) else {
         return false;
     };
-    match slots_of(alloc, lists, round) {
-        Ok(slots) => append_slots(hasher, slots, round, work),
+    match slots_of(threads.alloc, lists, round) {
+        Ok(slots) => append_slots(front, slots, round),
         Err(_) => false,
     }
 }

@@ -6,13 +6,6 @@ ghost use Rattle.b3_core.specs.Tree.{chunk_len};
 use b3_core::CHUNK_LEN;
 use std::thread::{Threads, available_parallelism};
 
-/// How an input is split: into blocks of 2^`level` chunks, of which up to `most` are hashed at once.
-#[derive(Clone, Copy)]
-pub(crate) struct BlockPlan {
-    pub(crate) level: u32,
-    pub(crate) most: usize,
-}
-
 /// The level of the blocks that `hash_all` reads: 2^11 chunks, 2 MiB.
 pub(crate) const BLOCK_LEVEL: u32 = 11;
 

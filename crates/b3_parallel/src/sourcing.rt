@@ -1,18 +1,20 @@
 //! The hash of all bytes of a source that threads read in parallel.
 
-ghost use Rattle.std.specs.Prelude.{◌≡◌, ℕ, ◌+◌, ◌-◌, ◌*◌, ◌^◌, ◌<◌, ◌≤◌, IfSome, List, None, length, true};
-ghost use Rattle.b3_core.specs.Tree.{ModelMode, tree_top};
+ghost use Rattle.std.specs.Prelude.{◌≡◌, ℕ, ◌-◌, ◌^◌, ◌<◌, IfSome, List, None, length, true};
+ghost use Rattle.b3_core.specs.Tree.{tree_top};
 ghost use Rattle.b3_core.specs.Work.{counted, hash_work};
 ghost use Rattle.b3_parallel.specs.inner.Blocks.{IsGiven};
 ghost use Rattle.b3_parallel.specs.Rounds.{AreAll};
-ghost use Rattle.b3_parallel.specs.inner.Rounds.{HasFront};
+ghost use Rattle.b3_parallel.specs.inner.Rounds.{HasFront, StandsAt};
 
+use crate::counted_hasher::CountedHasher;
 use crate::reading::hash_until;
+use crate::round::Round;
 use crate::rounds::hash_round;
-use crate::sizes::{block_limit, buffer_len, bytes_of, thread_count};
+use crate::sizes::buffer_len;
 use crate::source::{Places, Source};
-use crate::taking::Round;
-use b3_core::{Hasher, Mode, Runtime, Top, Work};
+use crate::threads::HashThreads;
+use b3_core::{Mode, Runtime, Top, Work};
 use std::alloc::Global;
 use std::thread::Threads;
 
@@ -36,89 +38,46 @@ const ROUND: u64 = 1 << 10;
 /// Returns `None` if the expected length is shorter or only one thread is to hash; if a block cannot be read, or the source has become
 /// shorter; if out of memory; and for 2^64-1 bytes or more. Then nothing is counted, and the caller reads the source as a stream. Threads
 /// that cannot be started are no reason: this thread takes their blocks. No thread is left running.
-///
-/// `threads` is the number of threads that hash, up to 16; with `None` there are as many as the machine has processors.
 pub fn hash_source<T: Threads + Runtime, S: Source + Send + Drop + 'static>(
-    rt: &T,
-    alloc: Global,
+    threads: &HashThreads<'_, T>,
     mode: &Mode,
     source: &S,
     len: u64,
-    threads: Option<u32>,
     work: &mut Work,
 ) -> Option<Top>
     ensures node { IfSome result (λ top. (input : List ℕ) × (top ≡ tree_top input 0 mode.now) × AreAll (S.bytes source.now) input
         × (work.new ≡ counted work.old (hash_work (length input) - 1))) }
     ensures none { result ≡ None → work.new ≡ work.old }
 {
-    if len < LEAST {
+    if len < LEAST || threads.number() < 2 {
         return None;
     }
-    hash_by_blocks(rt, alloc, mode, source, len, threads, LEVEL, work)
-}
-
-// The same in blocks of 2^`level` chunks.
-pub(crate) fn hash_by_blocks<T: Threads + Runtime, S: Source + Send + Drop + 'static>(
-    rt: &T,
-    alloc: Global,
-    mode: &Mode,
-    source: &S,
-    len: u64,
-    threads: Option<u32>,
-    level: u32,
-    work: &mut Work,
-) -> Option<Top>
-    requires { level < 40 }
-    ensures node { IfSome result (λ top. (input : List ℕ) × (top ≡ tree_top input 0 mode.now) × AreAll (S.bytes source.now) input
-        × (work.new ≡ counted work.old (hash_work (length input) - 1))) }
-    ensures none { result ≡ None → work.new ≡ work.old }
-{
-    let threads = thread_count(rt, threads);
-    if threads < 2 {
-        return None;
-    }
-    let mut hasher = Hasher::new(mode);
-    let mut own = Work::new(rt);
-    let blocks = (len / bytes_of(level) as u64).min(block_limit(level));
-    if hash_rounds(
-        rt,
-        alloc,
-        source,
-        &mut hasher,
-        threads,
-        blocks,
-        level,
-        &mut own,
-    ) && hash_rest(alloc, source, &mut hasher, &mut own)
+    let all = Round::whole(mode, LEVEL, len);
+    let mut front = CountedHasher::new(threads.rt, mode);
+    if !hash_rounds(threads, &all, source, &mut front)
+        || !hash_rest(threads.alloc, source, &mut front)
     {
-        let top = hasher.top(&mut own);
-        work.absorb(own);
-        return Some(top);
+        return None;
     }
-    None
+    let top = front.top();
+    work.absorb(front.work);
+    Some(top)
 }
 
-// Appends the first `blocks` blocks of a source to a hasher, and returns whether all were appended.
+// Appends the first blocks of a source to a hasher, and returns whether all were appended.
 fn hash_rounds<T: Threads + Runtime, S: Source + Send + Drop + 'static>(
-    rt: &T,
-    alloc: Global,
+    threads: &HashThreads<'_, T>,
+    all: &Round,
     source: &S,
-    hasher: &mut Hasher,
-    threads: usize,
-    blocks: u64,
-    level: u32,
-    work: &mut Work,
+    front: &mut CountedHasher,
 ) -> bool
-    requires level { level < 53 }
-    requires blocks { blocks * 2 ^ level ≤ 2 ^ 53 }
-    ensures { (p : ModelMode) (n : ℕ) → HasFront p (S.bytes source.now) level hasher.old 0 n work.old
-        → result ≡ true → HasFront p (S.bytes source.now) level hasher.new blocks n work.new }
+    ensures { HasFront all.now.mode (S.bytes source.now) all.now.level front.old all.now.first
+        → result ≡ true → HasFront all.now.mode (S.bytes source.now) all.now.level front.new all.now.end }
 {
-    let mut first = 0;
-    while first < blocks {
-        let end = first + ROUND.min(blocks - first);
-        let round = Round { level, first, end };
-        if !hash_round(rt, alloc, source, hasher, threads, round, work) {
+    let mut first = all.first;
+    while first < all.end {
+        let end = first + ROUND.min(all.end - first);
+        if !hash_round(threads, &all.part(first, end), source, front) {
             return false;
         }
         first = end;
@@ -127,15 +86,16 @@ fn hash_rounds<T: Threads + Runtime, S: Source + Send + Drop + 'static>(
 }
 
 // Appends the bytes of a source after those given so far to a hasher, and returns whether all were appended.
-fn hash_rest<S: Source>(alloc: Global, source: &S, hasher: &mut Hasher, work: &mut Work) -> bool
-    ensures { (p : ModelMode) (level count n : ℕ) → HasFront p (S.bytes source.now) level hasher.old count n work.old → count * 2 ^ level ≤ 2 ^ 53
-        → result ≡ true → (hasher.new.mode ≡ p) × (x : List ℕ) × IsGiven hasher.new x n work.new × AreAll (S.bytes source.now) x }
+fn hash_rest<S: Source>(alloc: Global, source: &S, front: &mut CountedHasher) -> bool
+    ensures mode { front.new.hasher.mode ≡ front.old.hasher.mode }
+    ensures all { (x : List ℕ) → IsGiven front.old x → length x < 2 ^ 64 → StandsAt (S.bytes source.now) 0 x
+        → result ≡ true → (y : List ℕ) × IsGiven front.new y × AreAll (S.bytes source.now) y }
 {
     let Ok(mut buffer) = vec![in alloc; 0u8; buffer_len()] else {
         return false;
     };
-    let mut reader = Places::new(source, hasher.count());
-    match hash_until(hasher, &mut reader, &mut buffer, u64::MAX, work) {
+    let mut reader = Places::new(source, front.hasher.count());
+    match hash_until(front, &mut reader, &mut buffer, u64::MAX) {
         Ok(ended) => ended,
         Err(_) => false,
     }

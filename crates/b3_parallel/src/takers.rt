@@ -6,9 +6,11 @@ ghost use Rattle.b3_parallel.specs.inner.Rounds.{ArePlaced, AreTaken};
 ghost use Rattle.b3_parallel.specs.inner.Takers.{AreTaking, IsTaking};
 
 use crate::promised::TakenOf;
+use crate::round::Round;
 use crate::source::Source;
-use crate::taking::{Placed, Round, take_blocks};
-use b3_core::{Mode, Runtime, Work};
+use crate::taking::{Placed, take_blocks};
+use crate::threads::HashThreads;
+use b3_core::{Runtime, Work};
 use std::alloc::{AllocError, Global};
 use std::snapshot::Snapshot;
 use std::sync::Arc;
@@ -19,44 +21,24 @@ use std::thread::{PromisedHandle, Threads};
 type Handle<S> = PromisedHandle<Vec<Placed>, TakenOf<S>>;
 
 // A count for each block of a round, or fewer if an allocation fails.
-fn works_of<T: Runtime>(rt: &T, alloc: Global, round: Round) -> Vec<Work> {
-    let mut works = Vec::new(alloc);
+fn works_of<T: Runtime>(threads: &HashThreads<'_, T>, round: &Round) -> Vec<Work> {
+    let mut works = Vec::new(threads.alloc);
     for _ in round.first..round.end {
-        if works.push(Work::new(rt)).is_err() {
+        if works.push(Work::new(threads.rt)).is_err() {
             break;
         }
     }
     works
 }
 
-// Takes blocks of the thread's own handle on the source.
-fn take_own<S: Source + Drop>(
-    alloc: Global,
-    mode: Mode,
-    source: S,
-    round: Round,
-    next: Arc<AtomicU64>,
-    works: Vec<Work>,
-) -> Vec<Placed>
-    requires level { round.level < 53 }
-    requires end { round.end * 2 ^ round.level ≤ 2 ^ 53 }
-    ensures { ArePlaced mode (S.bytes source) round.level result.items }
-{
-    take_blocks(alloc, &mode, &source, round, &next, works)
-}
-
 // Starts a thread that takes blocks, if possible.
 fn start<T: Threads + Runtime, S: Source + Send + Drop + 'static>(
-    rt: &T,
-    alloc: Global,
-    mode: Mode,
+    threads: &HashThreads<'_, T>,
+    round: &Round,
     source: &S,
-    round: Round,
     next: &Arc<AtomicU64>,
 ) -> Option<Handle<S>>
-    requires level { round.level < 53 }
-    requires end { round.end * 2 ^ round.level ≤ 2 ^ 53 }
-    ensures { IfSome result (IsTaking S.bytes mode (S.bytes source.now) round.level) }
+    ensures { IfSome result (IsTaking S.bytes round.now.mode (S.bytes source.now) round.now.level) }
 {
     let Ok(mine) = source.again() else {
         return None;
@@ -64,45 +46,42 @@ fn start<T: Threads + Runtime, S: Source + Send + Drop + 'static>(
     let Ok(next) = Arc::try_clone(next) else {
         return None;
     };
-    let works = works_of(rt, alloc, round);
+    let alloc = threads.alloc;
+    let works = works_of(threads, round);
+    let round = round.part(round.first, round.end);
     let promise = TakenOf {
-        mode,
+        mode: round.mode,
         source: Snapshot::of(&mine),
         level: round.level,
     };
     match thread::spawn_with(
-        rt,
+        threads.rt,
         promise,
-        move || take_own(alloc, mode, mine, round, next, works),
+        move || take_blocks(alloc, &round, &mine, &next, works),
     ) {
         Ok(handle) => Some(handle),
         Err(_) => None,
     }
 }
 
-// Starts `count` threads, or fewer if one cannot be started.
+// Starts the other threads, or fewer if one cannot be started.
 fn start_all<T: Threads + Runtime, S: Source + Send + Drop + 'static>(
-    rt: &T,
-    alloc: Global,
-    mode: Mode,
+    threads: &HashThreads<'_, T>,
+    round: &Round,
     source: &S,
-    threads: usize,
-    round: Round,
     next: &Arc<AtomicU64>,
 ) -> Vec<Handle<S>>
-    requires level { round.level < 53 }
-    requires end { round.end * 2 ^ round.level ≤ 2 ^ 53 }
-    ensures { AreTaking S.bytes mode (S.bytes source.now) round.level result.items }
+    ensures { AreTaking S.bytes round.now.mode (S.bytes source.now) round.now.level result.items }
 {
-    let mut handles: Vec<Handle<S>> = Vec::new(alloc);
-    for _ in 0..threads {
-        let Some(handle) = start(rt, alloc, mode, source, round, next) else {
+    let mut handles: Vec<Handle<S>> = Vec::new(threads.alloc);
+    for _ in 1..threads.number() {
+        let Some(handle) = start(threads, round, source, next) else {
             break;
         };
         match handles.push(handle) {
             Ok(()) => {}
             Err(refused) => {
-                let _taken = refused.value.join(rt);
+                let _taken = refused.value.join(threads.rt);
                 break;
             }
         }
@@ -136,25 +115,19 @@ fn join_all<T: Threads, S: Source>(
     lists
 }
 
-/// The results of `threads` threads, this one included, for the blocks of a round: for each thread those of the blocks that it took.
+/// The results of all threads, this one included, for the blocks of a round: for each thread those of the blocks that it took.
 pub(crate) fn take_all<T: Threads + Runtime, S: Source + Send + Drop + 'static>(
-    rt: &T,
-    alloc: Global,
-    mode: &Mode,
+    threads: &HashThreads<'_, T>,
+    round: &Round,
     source: &S,
-    threads: usize,
-    round: Round,
 ) -> Result<Vec<Vec<Placed>>, AllocError>
-    requires level { round.level < 53 }
-    requires end { round.end * 2 ^ round.level ≤ 2 ^ 53 }
-    ensures { IfOk result (λ lists. AreTaken mode.now (S.bytes source.now) round.level lists.items) }
+    ensures { IfOk result (λ lists. AreTaken round.now.mode (S.bytes source.now) round.now.level lists.items) }
 {
-    let next = Arc::new(alloc, AtomicU64::new(round.first))?;
-    let others = threads.saturating_sub(1);
-    let handles = start_all(rt, alloc, *mode, source, others, round, &next);
-    let works = works_of(rt, alloc, round);
-    let mine = take_blocks(alloc, mode, source, round, &next, works);
-    let mut lists: Vec<Vec<Placed>> = Vec::new(alloc);
+    let next = Arc::new(threads.alloc, AtomicU64::new(round.first))?;
+    let handles = start_all(threads, round, source, &next);
+    let works = works_of(threads, round);
+    let mine = take_blocks(threads.alloc, round, source, &next, works);
+    let mut lists: Vec<Vec<Placed>> = Vec::new(threads.alloc);
     let _added = add(&mut lists, mine);
-    Ok(join_all(rt, handles, lists))
+    Ok(join_all(threads.rt, handles, lists))
 }

@@ -5,9 +5,10 @@ ghost use Rattle.b3_core.specs.Tree.{ModelMode, chunk_len};
 ghost use Rattle.b3_parallel.specs.inner.Rounds.{ArePlaced, IsPlaced};
 
 use crate::reading::fill_block;
+use crate::round::Round;
 use crate::sizes::{bytes_of, chunks_of};
 use crate::source::{Places, Source};
-use b3_core::{CHUNK_LEN, Mode, Top, Work};
+use b3_core::{CHUNK_LEN, Top, Work};
 use std::alloc::Global;
 use std::sync::atomic::{AtomicU64, Ordering};
 
@@ -19,38 +20,28 @@ pub(crate) struct Placed {
     pub(crate) work: Work,
 }
 
-/// A round: the blocks of 2^`level` chunks from `first` to below `end`, which threads take.
-#[derive(Clone, Copy)]
-pub(crate) struct Round {
-    pub(crate) level: u32,
-    pub(crate) first: u64,
-    pub(crate) end: u64,
-}
-
 // Reads and hashes the block at `place`, if the source has all of it.
 fn place_block<S: Source>(
-    mode: &Mode,
+    round: &Round,
     source: &S,
     block: &mut Vec<u8>,
     place: u64,
-    level: u32,
     work: Work,
 ) -> Option<Placed>
-    requires level { level < 53 }
-    requires len { length block.old.items ≡ chunk_len * 2 ^ level }
-    requires place { (place + 1) * 2 ^ level ≤ 2 ^ 53 }
+    requires len { length block.old.items ≡ chunk_len * 2 ^ round.now.level }
+    requires place { place < round.now.end }
     requires none { work ≡ 0 }
     ensures len { length block.new.items ≡ length block.old.items }
-    ensures placed { IfSome result (IsPlaced mode.now (S.bytes source.now) level) }
+    ensures placed { IfSome result (IsPlaced round.now.mode (S.bytes source.now) round.now.level) }
 {
-    let number = place * chunks_of(level);
+    let number = place * chunks_of(round.level);
     let mut reader = Places::new(source, number * CHUNK_LEN as u64);
     match fill_block(&mut reader, block) {
         Ok(filled) if filled.count == block.len() => {}
         _ => return None,
     }
     let mut work = work;
-    let top = Top::of_subtree(mode, block.as_slice(), number, &mut work);
+    let top = Top::of_subtree(&round.mode, block.as_slice(), number, &mut work);
     Some(Placed { place, top, work })
 }
 
@@ -68,15 +59,12 @@ fn next_work(works: &mut Vec<Work>) -> Option<Work>
 /// not return a whole block or an allocation fails; then no thread finds another block to take.
 pub(crate) fn take_blocks<S: Source>(
     alloc: Global,
-    mode: &Mode,
+    round: &Round,
     source: &S,
-    round: Round,
     next: &AtomicU64,
     works: Vec<Work>,
 ) -> Vec<Placed>
-    requires level { round.level < 53 }
-    requires end { round.end * 2 ^ round.level ≤ 2 ^ 53 }
-    ensures { ArePlaced mode.now (S.bytes source.now) round.level result.items }
+    ensures { ArePlaced round.now.mode (S.bytes source.now) round.now.level result.items }
 {
     let mut works = works;
     let mut taken: Vec<Placed> = Vec::new(alloc);
@@ -89,7 +77,7 @@ pub(crate) fn take_blocks<S: Source>(
             break;
         }
         let made = match next_work(&mut works) {
-            Some(work) => place_block(mode, source, &mut block, place, round.level, work),
+            Some(work) => place_block(round, source, &mut block, place, work),
             None => None,
         };
         if !keep(&mut taken, made) {

@@ -1,14 +1,14 @@
 //! A hasher's next bytes, by several threads.
 
 ghost use Rattle.std.specs.Prelude.{◌≡◌, ℕ, ◌+◌, ◌*◌, ◌/◌, ◌^◌, ◌<◌, ◌++◌, IfSome, List, length};
-ghost use Rattle.b3_core.specs.Hashers.{HasRoomFor, Holds, CountsRest, kept_work};
+ghost use Rattle.b3_core.specs.Hashers.{HasRoomFor, HasInput, CountsRest, kept_work};
 ghost use Rattle.b3_core.specs.Tree.{IsSubtree, chunk_len};
 ghost use Rattle.b3_core.specs.Work.{NeverFalls};
 
 use crate::parts::{append_all, parts_of};
-use crate::sizes::{bytes_of, thread_count};
+use crate::sizes::bytes_of;
+use crate::threads::HashThreads;
 use b3_core::{CHUNK_LEN, Hasher, Runtime, Work, is_subtree};
-use std::alloc::Global;
 use std::thread::Threads;
 
 // The minimum number of chunks for which a thread is started.
@@ -29,19 +29,15 @@ fn level_of(chunks: usize, threads: usize) -> Option<u32>
 /// split into whole subtrees of one size: at least one for each thread, and fewer than two for each. Each subtree is hashed on a new
 /// thread, or on this one if none can be started; this thread hashes the remaining bytes. If there are fewer than 64 chunks for each
 /// thread, no thread is started; if an allocation fails, this thread hashes everything.
-///
-/// `threads` is the number of threads that hash, up to 16; with `None` there are as many as the machine has processors.
 pub fn update<T: Threads + Sync + Runtime>(
-    rt: &T,
-    alloc: Global,
+    threads: &HashThreads<'_, T>,
     hasher: &mut Hasher,
     bytes: &[u8],
-    threads: Option<u32>,
     work: &mut Work,
 )
     ensures mode { hasher.new.mode ≡ hasher.old.mode }
-    ensures bytes { (x : List ℕ) → Holds hasher.old x → length x + length bytes.now < 2 ^ 64 → Holds hasher.new (x ++ bytes.now) }
-    ensures count { (x : List ℕ) → Holds hasher.old x → length x + length bytes.now < 2 ^ 64
+    ensures bytes { (x : List ℕ) → HasInput hasher.old x → length x + length bytes.now < 2 ^ 64 → HasInput hasher.new (x ++ bytes.now) }
+    ensures count { (x : List ℕ) → HasInput hasher.old x → length x + length bytes.now < 2 ^ 64
         → CountsRest (kept_work hasher.old.subtrees) (kept_work hasher.new.subtrees) work.old work.new }
     ensures never_falls { NeverFalls work.old work.new }
 {
@@ -50,9 +46,9 @@ pub fn update<T: Threads + Sync + Runtime>(
         hasher.update(bytes, work);
         return;
     }
-    match level_of(chunks, thread_count(rt, threads)) {
+    match level_of(chunks, threads.number()) {
         Some(level) if hasher.fits(level) && is_subtree(bytes_of(level), hasher.number()) => {
-            update_in_parts(rt, alloc, hasher, bytes, level, work);
+            update_in_parts(threads, hasher, bytes, level, work);
         }
         _ => hasher.update(bytes, work),
     }
@@ -60,8 +56,7 @@ pub fn update<T: Threads + Sync + Runtime>(
 
 // The same in parts of 2^`level` chunks.
 fn update_in_parts<T: Threads + Sync + Runtime>(
-    rt: &T,
-    alloc: Global,
+    threads: &HashThreads<'_, T>,
     hasher: &mut Hasher,
     bytes: &[u8],
     level: u32,
@@ -71,8 +66,8 @@ fn update_in_parts<T: Threads + Sync + Runtime>(
     requires fits { HasRoomFor level hasher.old }
     requires subtree { IsSubtree (chunk_len * 2 ^ level) (hasher.old.whole / chunk_len) }
     ensures mode { hasher.new.mode ≡ hasher.old.mode }
-    ensures bytes { (x : List ℕ) → Holds hasher.old x → length x + length bytes.now < 2 ^ 64 → Holds hasher.new (x ++ bytes.now) }
-    ensures count { (x : List ℕ) → Holds hasher.old x → length x + length bytes.now < 2 ^ 64
+    ensures bytes { (x : List ℕ) → HasInput hasher.old x → length x + length bytes.now < 2 ^ 64 → HasInput hasher.new (x ++ bytes.now) }
+    ensures count { (x : List ℕ) → HasInput hasher.old x → length x + length bytes.now < 2 ^ 64
         → CountsRest (kept_work hasher.old.subtrees) (kept_work hasher.new.subtrees) work.old work.new }
     ensures never_falls { NeverFalls work.old work.new }
 {
@@ -80,7 +75,7 @@ fn update_in_parts<T: Threads + Sync + Runtime>(
     let mode = hasher.mode();
     let number = hasher.number();
     let (front, rest) = bytes.split_at(bytes.len() - bytes.len() % size);
-    match parts_of(rt, alloc, &mode, front, level, number) {
+    match parts_of(threads, &mode, front, level, number) {
         Ok(parts) => {
             append_all(hasher, parts, level, work);
             hasher.update(rest, work);

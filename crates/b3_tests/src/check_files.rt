@@ -4,7 +4,8 @@
 use crate::fakes::FailingWriter;
 use crate::helpers::{ABC, THREE_LINES, digest};
 use b3_check::{
-    CheckFile, Line, NameFault, Names, NumberedLine, ReadError, Shown, read_line, verify, write,
+    CheckFile, Line, NameFault, Names, NumberedLine, ReadError, ReportOptions, Shown, read_line,
+    verify, write,
 };
 use std::alloc::{AllocError, Global};
 use std::io::{ErrorKind, Write};
@@ -102,7 +103,15 @@ impl Names for Hinted {
     }
 }
 
-// Looks up the names of three lines. Returns whether all lines are good; fails unless there were `calls` lookups.
+// A report with these lines, in which each name needs a file.
+fn showing(shown: Shown) -> ReportOptions {
+    ReportOptions {
+        shown,
+        ignores_missing: false,
+    }
+}
+
+// Looks up the names of three lines. Returns whether the report passes; fails unless there were `calls` lookups.
 fn verified<W: Write>(
     alloc: Global,
     shown: Shown,
@@ -112,12 +121,12 @@ fn verified<W: Write>(
 ) -> Result<Option<bool>, Fail> {
     let mut names = Table { answer, calls: 0 };
     let file = CheckFile::read(alloc, THREE_LINES)?;
-    let counts = verify(&file, shown, &mut names, writer);
+    let counts = verify(&file, showing(shown), &mut names, writer);
     if names.calls != calls {
         return Err(Fail::new("other calls"));
     }
     match counts {
-        Ok(counts) => Ok(Some(counts.is_all_good())),
+        Ok(counts) => Ok(Some(counts.passes(showing(shown)))),
         Err(_) => Ok(None),
     }
 }
@@ -175,10 +184,32 @@ fn what_is_written_is_verified(rt: HostRuntime) -> Result<(), Fail> {
     let mut text = Vec::new(alloc);
     write(lines.as_slice(), &mut text)?;
     let file = CheckFile::read(alloc, text.as_slice())?;
-    let counts = verify(&file, Shown::All, &mut names, &mut report)?;
-    let is_good = counts.is_all_good();
+    let counts = verify(&file, showing(Shown::All), &mut names, &mut report)?;
+    let has_passed = counts.passes(showing(Shown::All));
     let wanted: &[u8] = b"good f\ngood 1 bad 0 missing 0 unreadable 0 faults 0\n";
-    assert!(rt; is_good && report.as_slice() == wanted);
+    assert!(rt; has_passed && report.as_slice() == wanted);
+    Ok(())
+}
+
+#[test]
+fn missing_files_are_ignored(rt: HostRuntime) -> Result<(), Fail> {
+    let alloc = rt.alloc();
+    let lines = vec![in alloc; line_of_abc(alloc, b"f")?]?;
+    let mut text = Vec::new(alloc);
+    write(lines.as_slice(), &mut text)?;
+    let file = CheckFile::read(alloc, text.as_slice())?;
+    let options = ReportOptions {
+        shown: Shown::AllButGood,
+        ignores_missing: true,
+    };
+    let mut report: Vec<u8> = Vec::new(alloc);
+    let answer = Ok(Some(digest(ABC)?));
+    let good = verify(&file, options, &mut Table { answer, calls: 0 }, &mut report)?;
+    assert!(rt; good.passes(options) && report.is_empty());
+    let answer = Ok(None);
+    let missing = verify(&file, options, &mut Table { answer, calls: 0 }, &mut report)?;
+    let wanted: &[u8] = b"good 0 bad 0 missing 1 unreadable 0 faults 0\n";
+    assert!(rt; !missing.passes(options) && report.as_slice() == wanted);
     Ok(())
 }
 
@@ -190,7 +221,7 @@ fn lines_are_reported_before_they_are_asked_for(rt: HostRuntime) -> Result<(), F
     };
     let file = CheckFile::read(alloc, THREE_LINES)?;
     let mut text = Vec::new(alloc);
-    assert!(rt; verify(&file, Shown::Nothing, &mut names, &mut text).is_ok());
+    assert!(rt; verify(&file, showing(Shown::Nothing), &mut names, &mut text).is_ok());
     let wanted: &[u8] = b" 1 2 3;f? 2 3; 3;g?";
     assert!(rt; names.asked().as_slice() == wanted);
     Ok(())

@@ -12,13 +12,13 @@ use std::test::Fail;
 
 // `note` makes a part of the pattern and notes it, `missing` returns what is not noted, and `root` the hash.
 #[derive(Drop)]
-struct Lent<'a> {
+struct Borrowed<'a> {
     alloc: Global,
     follow: Follow<'a>,
     work: Work,
 }
 
-impl Answers for Lent<'_> {
+impl Answers for Borrowed<'_> {
     fn answer(&mut self, command: &str) -> Result<String, AllocError> {
         let (word, rest) = cut(command);
         match word {
@@ -29,7 +29,7 @@ impl Answers for Lent<'_> {
     }
 }
 
-impl Lent<'_> {
+impl Borrowed<'_> {
     fn note(&mut self, part: &str) -> Result<String, AllocError> {
         let (kind, rest) = cut(part);
         let (bound, rest) = cut(rest);
@@ -45,8 +45,8 @@ impl Lent<'_> {
         let bytes = pattern(self.alloc, offset, size)?;
         match Prepared::make(self.alloc, &plan, offset, bytes, &mut self.work) {
             Ok(part) => self.note_part(&part),
-            Err(refused) if refused.fault == PartFault::NoMemory => Err(AllocError),
-            Err(refused) => format!(in self.alloc; "{}", refused.fault),
+            Err(refused) if refused.reason == PartFault::NoMemory => Err(AllocError),
+            Err(refused) => format!(in self.alloc; "{}", refused.reason),
         }
     }
 
@@ -104,12 +104,12 @@ fn reported_of<R: AllocGlobal + Runtime>(
     let Ok(follow) = Follow::new(rt.alloc(), bytes) else {
         return format!(in rt.alloc(); "F1");
     };
-    let mut lent = Lent {
+    let mut borrowed = Borrowed {
         alloc: rt.alloc(),
         follow,
         work: Work::new(rt),
     };
-    reported(rt.alloc(), &mut lent, script)
+    reported(rt.alloc(), &mut borrowed, script)
 }
 
 /// These bytes in stretches of `stretch_len`, gathered from pieces of at most 1500 bytes.
@@ -137,15 +137,15 @@ fn reported_of_stretches<R: AllocGlobal + Runtime>(
     requires { 0 < stretch_len }
 {
     let stretches = in_stretches(rt.alloc(), bytes, stretch_len)?;
-    let Ok(follow) = Follow::of(rt.alloc(), b3_forest::Lent::Stretches(&stretches)) else {
+    let Ok(follow) = Follow::of(rt.alloc(), b3_forest::BorrowedBytes::Stretches(&stretches)) else {
         return format!(in rt.alloc(); "F1");
     };
-    let mut lent = Lent {
+    let mut borrowed = Borrowed {
         alloc: rt.alloc(),
         follow,
         work: Work::new(rt),
     };
-    reported(rt.alloc(), &mut lent, script)
+    reported(rt.alloc(), &mut borrowed, script)
 }
 
 /// Like `holds`, over these bytes in stretches.

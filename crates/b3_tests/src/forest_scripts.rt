@@ -5,7 +5,7 @@
 use crate::fakes::{is_pattern, pattern};
 use crate::scripts::{Answers, cut, number, reported, two_numbers};
 use b3_core::{Runtime, Top, Work};
-use b3_forest::{AddFault, AddRefused, Forest, PartFault, PartRefused, Plan, Prepared, TooLong};
+use b3_forest::{AddFault, Forest, PartFault, Plan, Prepared, Refused, TooLong};
 use std::alloc::{AllocError, Global};
 use std::process::Abort;
 use std::test::Fail;
@@ -75,7 +75,7 @@ impl Upload {
         plan: Plan,
         offset: u64,
         bytes: Vec<u8>,
-    ) -> Result<Prepared, PartRefused> {
+    ) -> Result<Prepared, Refused<PartFault, Vec<u8>>> {
         let before = self.work.count();
         let made = Prepared::make(self.alloc, &plan, offset, bytes, &mut self.work);
         self.count = self.work.count().wrapping_sub(before);
@@ -83,14 +83,19 @@ impl Upload {
     }
 
     // Makes a part. If an allocation fails, it is made again from the returned bytes.
-    fn made(&mut self, plan: Plan, offset: u64, bytes: Vec<u8>) -> Result<Prepared, PartRefused> {
+    fn made(
+        &mut self,
+        plan: Plan,
+        offset: u64,
+        bytes: Vec<u8>,
+    ) -> Result<Prepared, Refused<PartFault, Vec<u8>>> {
         match self.made_once(plan, offset, bytes) {
             Ok(part) => Ok(part),
             Err(refused) => {
-                if refused.fault != PartFault::NoMemory {
+                if refused.reason != PartFault::NoMemory {
                     return Err(refused);
                 }
-                self.made_once(plan, offset, refused.bytes)
+                self.made_once(plan, offset, refused.value)
             }
         }
     }
@@ -106,14 +111,14 @@ impl Upload {
                 format!(in self.alloc; "{pieces} pieces by {count} {is_wanted}")
             }
             Err(refused) => {
-                let is_back = is_pattern(refused.bytes.as_slice(), offset, size);
-                format!(in self.alloc; "{} back {is_back}", refused.fault)
+                let is_back = is_pattern(refused.value.as_slice(), offset, size);
+                format!(in self.alloc; "{} back {is_back}", refused.reason)
             }
         }
     }
 
     // Adds a part. If an allocation fails, nothing has changed and it is added again.
-    fn added(&mut self, part: Prepared) -> Result<u64, AddRefused> {
+    fn added(&mut self, part: Prepared) -> Result<u64, Refused<AddFault, Prepared>> {
         let before = (
             self.forest.end(),
             self.forest.held(),
@@ -121,9 +126,9 @@ impl Upload {
         );
         let part = match self.forest.add(part, &mut self.work) {
             Err(
-                AddRefused {
-                    fault: AddFault::NoMemory,
-                    part,
+                Refused {
+                    reason: AddFault::NoMemory,
+                    value: part,
                 },
             ) => part,
             added => return added,
@@ -134,9 +139,9 @@ impl Upload {
             self.forest.first_missing(),
         );
         if after != before {
-            return Err(AddRefused {
-                fault: AddFault::NoMemory,
-                part,
+            return Err(Refused {
+                reason: AddFault::NoMemory,
+                value: part,
             });
         }
         self.forest.add(part, &mut self.work)
@@ -148,7 +153,7 @@ impl Upload {
         let Some(part) = self.part.take() else {
             return Ok(made);
         };
-        let reported = self.forest.refusal_of(&part);
+        let reported = self.forest.add_fault(&part);
         let before = self.work.count();
         let added = self.added(part);
         let count = self.work.count().wrapping_sub(before);
@@ -158,18 +163,18 @@ impl Upload {
                 format!(in self.alloc; "{made}, {merges} merges by {count} {is_reported}")
             }
             Err(refused) => {
-                let is_back = is_part(&refused.part, &plan, offset, size);
-                let is_reported = reported == Some(refused.fault);
+                let is_back = is_part(&refused.value, &plan, offset, size);
+                let is_reported = reported == Some(refused.reason);
                 format!(in self.alloc;
                     "{:?} by {count} back {is_back} {is_reported}",
-                    refused.fault
+                    refused.reason
                 )
             }
         }
     }
 
     fn fix(&mut self, len: u64) -> Result<String, AllocError> {
-        let reported = self.forest.fix_refusal_of(len);
+        let reported = self.forest.fix_fault(len);
         let fault = self.forest.fix(len).err();
         let is_reported = reported == fault;
         format!(in self.alloc; "{fault:?} {is_reported}")

@@ -8,7 +8,7 @@
 use crate::fakes::pattern;
 use crate::helpers::THREE_LINES;
 use crate::{follows, forest_scripts};
-use b3_check::{CheckFile, NameFault, Names, Shown, verify};
+use b3_check::{CheckFile, NameFault, Names, ReportOptions, Shown, verify};
 use std::alloc::{AllocError, Global};
 use std::test::Fail;
 
@@ -86,7 +86,11 @@ fn read_and_verify(rt: HostRuntime) -> Result<(), Fail> {
     let alloc = rt.alloc();
     let file = lines_of(alloc)?;
     let mut text = Vec::new(alloc);
-    let counts = match verify(&file, Shown::Nothing, &mut NoNames, &mut text) {
+    let options = ReportOptions {
+        shown: Shown::Nothing,
+        ignores_missing: false,
+    };
+    let counts = match verify(&file, options, &mut NoNames, &mut text) {
         Ok(counts) => counts,
         Err(_) => return Err(Fail::new("no counts")),
     };

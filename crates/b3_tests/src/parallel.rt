@@ -2,7 +2,7 @@
 
 use crate::fakes::pattern;
 use b3_core::{Hasher, Mode, Runtime, Work};
-use b3_parallel::{hash_all, update};
+use b3_parallel::{HashThreads, hash_all, update};
 use std::alloc::Global;
 use std::io;
 use std::io::{ErrorKind, Read};
@@ -52,7 +52,12 @@ fn is_read_alike<T: Threads + Runtime>(
         fails_at: usize::MAX,
         given: 0,
     };
-    let top = hash_all(rt, alloc, &mode, &mut reader, threads, &mut several)?;
+    let threads = HashThreads {
+        rt,
+        alloc,
+        count: threads,
+    };
+    let top = hash_all(&threads, &mode, &mut reader, &mut several)?;
     Ok(top == wanted && several.count() == one.count() && reader.bytes.is_empty())
 }
 
@@ -100,14 +105,12 @@ fn failed_kind<T: Threads + Runtime>(
     threads: Option<u32>,
 ) -> Option<ErrorKind> {
     let mut reader = reader;
-    let reported = hash_all(
+    let threads = HashThreads {
         rt,
         alloc,
-        &Mode::hash(),
-        &mut reader,
-        threads,
-        &mut Work::new(rt),
-    );
+        count: threads,
+    };
+    let reported = hash_all(&threads, &Mode::hash(), &mut reader, &mut Work::new(rt));
     reported.err().map(|error| error.kind())
 }
 
@@ -161,8 +164,13 @@ fn is_updated_alike<T: Threads + Sync + Runtime>(
     wanted.update(first, &mut one);
     wanted.update(then, &mut one);
     let mut hasher = Hasher::new(&mode);
-    update(rt, alloc, &mut hasher, first, threads, &mut several);
-    update(rt, alloc, &mut hasher, then, threads, &mut several);
+    let threads = HashThreads {
+        rt,
+        alloc,
+        count: threads,
+    };
+    update(&threads, &mut hasher, first, &mut several);
+    update(&threads, &mut hasher, then, &mut several);
     hasher.digest(&mut several) == wanted.digest(&mut one) && several.count() == one.count()
 }
 

@@ -5,7 +5,7 @@ ghost use Rattle.std.specs.Arc.{arc_value};
 
 use crate::fakes::pattern;
 use b3_core::{Hasher, Mode, Runtime, Top, Work};
-use b3_parallel::{Source, hash_source};
+use b3_parallel::{HashThreads, Source, hash_source};
 use std::alloc::{AllocError, Global};
 use std::io;
 use std::io::{ErrorKind, Read};
@@ -84,7 +84,12 @@ fn reported<T: Threads + Runtime, S: Source + Send + Drop + 'static>(
 ) -> &'static str {
     let mut work = Work::new(rt);
     let mode = Mode::keyed(&[7; 32]);
-    match hash_source(rt, alloc, &mode, source, len, Some(threads), &mut work) {
+    let threads = HashThreads {
+        rt,
+        alloc,
+        count: Some(threads),
+    };
+    match hash_source(&threads, &mode, source, len, &mut work) {
         Some(top) if (top, work.count()) == *wanted => "alike",
         Some(_) => "other",
         None if work.count() == 0 => "none",

@@ -5,7 +5,7 @@ ghost use Rattle.std.specs.Prelude.{◌<◌};
 use crate::fakes::pattern;
 use crate::follows::in_stretches;
 use b3_core::Work;
-use b3_forest::{Lent, Plan, Prepared};
+use b3_forest::{BorrowedBytes, Plan, Prepared};
 use std::alloc::{AllocError, Global};
 use std::sync::Arc;
 use std::test::Fail;
@@ -56,12 +56,12 @@ fn prepared(
 {
     let plan = Plan::new(2049).ok().ok_or("no plan")?;
     let stretches = in_stretches(alloc, pattern(alloc, 0, 2049)?.as_slice(), stretch_len)?;
-    let lent = Lent::Stretches(&stretches);
-    if offset > 4096 || len > 4096 || offset + len > lent.len() {
+    let borrowed = BorrowedBytes::Stretches(&stretches);
+    if offset > 4096 || len > 4096 || offset + len > borrowed.len() {
         return Err(Fail::new("no such part"));
     }
     let before = work.count();
-    let part = lent.prepare(alloc, &plan, offset, len as usize, work);
+    let part = borrowed.prepare(alloc, &plan, offset, len as usize, work);
     Ok(shown(alloc, part.ok().as_ref(), before, work)?)
 }
 
@@ -103,18 +103,18 @@ fn stretches_are_shared_where_they_are_parts(rt: HostRuntime) -> Result<(), Fail
     let bytes = pattern(alloc, 0, 2049)?;
     for (stretch_len, is_shared) in [(1024usize, true), (1000, false), (2048, false)] {
         let stretches = in_stretches(alloc, bytes.as_slice(), stretch_len)?;
-        let lent = Lent::Stretches(&stretches);
-        if lent.len() != 2049 {
+        let borrowed = BorrowedBytes::Stretches(&stretches);
+        if borrowed.len() != 2049 {
             return Err(Fail::new("another length"));
         }
         for (offset, len) in [(0u64, 1024usize), (1024, 1024)] {
-            let part = lent
+            let part = borrowed
                 .prepare(alloc, &plan, offset, len, &mut work)
                 .ok()
                 .ok_or("refused")?;
             assert_eq!(rt; part.into_bytes().is_err(), is_shared);
         }
-        let part = lent
+        let part = borrowed
             .prepare(alloc, &plan, 2048, 1, &mut work)
             .ok()
             .ok_or("refused")?;

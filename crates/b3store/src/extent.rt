@@ -1,6 +1,7 @@
 //! How much there is to hash, and how much of it remains.
 
-use b3_check::{Name, NameFault, Names, NumberedLine};
+use crate::standard::StandardInput;
+use b3_check::{Name, NumberedLine};
 use b3_core::Top;
 use hash_engines::{FileFault, Reason, Sources};
 use std::fs;
@@ -16,7 +17,7 @@ pub(crate) struct Extent {
 }
 
 impl Extent {
-    /// Nothing is known yet. The sizes of files are looked up only if progress is shown.
+    /// Nothing is known yet. Sizes are looked up only if progress is shown.
     pub(crate) fn new(is_reported: bool) -> Extent {
         Extent {
             is_reported,
@@ -26,8 +27,15 @@ impl Extent {
         }
     }
 
-    /// Records the number of bytes, if it is known.
-    pub(crate) fn note_bytes(&self, bytes: Option<u64>) {
+    /// Records the number of remaining bytes of standard input, if it is known.
+    pub(crate) fn note_input(&self, input: &StandardInput<'_>) {
+        if self.is_reported {
+            self.note_bytes(input.len_left());
+        }
+    }
+
+    // Records the number of bytes, if it is known.
+    fn note_bytes(&self, bytes: Option<u64>) {
         self.bytes.store(bytes.unwrap_or(0), Ordering::Relaxed);
     }
 
@@ -118,26 +126,18 @@ impl<S: Sources + Drop> Sources for Metered<'_, S> {
         self.within.expect(names);
     }
 
+    fn expect_lines(&mut self, lines: &[NumberedLine]) {
+        if self.extent.note_left(lines.len()) {
+            self.extent.note_bytes(self.bytes_of_lines(lines));
+        }
+        self.within.expect_lines(lines);
+    }
+
     fn root_of(&mut self, name: &[u8]) -> Result<Top, FileFault> {
         self.within.root_of(name)
     }
 
     fn report(&mut self, name: &[u8], reason: Reason) {
         self.within.report(name, reason);
-    }
-}
-
-impl<S: Names + Drop> Names for Metered<'_, S> {
-    ghost gives = { λ old name answer new. S.gives old.within name answer new.within };
-
-    fn expect(&mut self, lines: &[NumberedLine]) {
-        if self.extent.note_left(lines.len()) {
-            self.extent.note_bytes(self.bytes_of_lines(lines));
-        }
-        self.within.expect(lines);
-    }
-
-    fn digest_of(&mut self, name: &[u8]) -> Result<Option<[u8; 32]>, NameFault> {
-        self.within.digest_of(name)
     }
 }

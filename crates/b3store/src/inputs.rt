@@ -4,16 +4,16 @@ ghost use Rattle.std.specs.Prelude.{All, IfOk};
 ghost use Rattle.b3_check.specs.Names.{IsName};
 ghost use Rattle.store_command_line.specs.Ranges.{IsSumInRange};
 
+use crate::explaining::{ExplainedNames, Refusals};
 use crate::extent::{Extent, Metered};
-use crate::reporting::{misused, opened, status, stopped};
+use crate::reporting::{GOOD, misused, opened, status, stopped};
 use crate::standard::{StandardError, StandardInput, standard_output};
 use crate::words::{Foreign, names_of_words};
 use b3_check::Name;
 use b3_core::{Runtime, Work};
-use edge::SumMode;
 use hash_engines::{
-    Cause, SumRequest, SystemFiles, SystemInputs, Verdict, check, names_of, read_key, read_names,
-    sum, sum_files, write_root,
+    Cause, Digests, HashThreads, SumLine, SumLines, SumMode, SumRequest, SystemFiles, SystemInputs,
+    Verdict, check, names_of, read_key, read_names, sum, sum_files, write_root,
 };
 use std::alloc::{AllocError, Global};
 use std::io::{LineWriter, Read};
@@ -23,7 +23,9 @@ use store_command_line::{AskedMode, CheckOptions, Input, NameList, SumInputs, Su
 // The requested mode, or the exit status if its key is not available.
 fn mode_of<'a>(rt: &HostRuntime, asked: AskedMode<'a>) -> Result<SumMode<'a>, u8> {
     let path = match asked {
-        AskedMode::Known(mode) => return Ok(mode),
+        AskedMode::Hash => return Ok(SumMode::Hash),
+        AskedMode::Keyed(key) => return Ok(SumMode::Keyed(key)),
+        AskedMode::Derive(context) => return Ok(SumMode::Derive(context)),
         AskedMode::KeyFile(path) => path,
     };
     let mut file = opened(rt, path)?;
@@ -71,63 +73,40 @@ fn names(alloc: Global, words: &[&str], foreign: &[Foreign]) -> Result<Vec<Name>
 // Writes the hash of standard input.
 fn sum_standard<T: Threads + Runtime>(
     rt: &HostRuntime,
-    threads: &T,
+    threads: &HashThreads<'_, T>,
     extent: &Extent,
     request: &SumRequest<'_>,
 ) -> Result<Verdict, Cause>
-    requires { IsName request.now.name.now }
+    requires { IsName request.now.line.name.now }
 {
     let mut work = Work::new(rt);
     let (mut input, mut writer) = (StandardInput::new(rt), standard_output(rt));
-    extent.note_bytes(input.len_left());
-    let mut files = SystemFiles::new(rt, threads, request.mode, request.threads);
-    if let Some(root) = files.root_of_file_input(&mut input) {
-        let name = request.name.as_bytes();
-        write_root(
-            rt.alloc(),
-            request.length,
-            name,
-            root,
-            &mut writer,
-            &mut work,
-        )?;
-        return Ok(Verdict::Good);
+    extent.note_input(&input);
+    let mut files = SystemFiles::new(rt, threads, request.mode);
+    match files.root_of_file_input(&mut input) {
+        Some(root) => write_root(rt.alloc(), &request.line, root, &mut writer, &mut work)?,
+        None => sum(threads, request, &mut input, &mut writer, &mut work)?,
     }
-    sum(
-        threads,
-        rt.alloc(),
-        request,
-        &mut input,
-        &mut writer,
-        &mut work,
-    )?;
     Ok(Verdict::Good)
 }
 
 // Writes the hash of each named file.
 fn sum_named<T: Threads + Runtime>(
     rt: &HostRuntime,
-    threads: &T,
+    threads: &HashThreads<'_, T>,
     extent: &Extent,
     mode: SumMode<'_>,
-    options: &SumOptions<'_>,
-    names: &[Name],
+    lines: &SumLines<'_>,
 ) -> Result<Verdict, Cause> {
     let Ok(mut writer) = LineWriter::new(rt.alloc(), standard_output(rt)) else {
         return Err(Cause::OutOfMemory);
     };
-    let files = SystemFiles::new(rt, threads, mode, options.threads);
-    let inputs = SystemInputs::new(files, StandardInput::new(rt), StandardError::new(rt));
+    let files = SystemFiles::new(rt, threads, mode);
+    let input = Some(StandardInput::new(rt));
+    let inputs = SystemInputs::new(files, input, StandardError::new(rt));
     let mut inputs = Metered::new(rt, extent, inputs);
     let mut work = Work::new(rt);
-    sum_files(
-        rt.alloc(),
-        options.length,
-        names,
-        &mut inputs,
-        &mut writer,
-        &mut work,
-    )
+    sum_files(rt.alloc(), lines, &mut inputs, &mut writer, &mut work)
 }
 
 // The exit status of `sum`, or that of something it needs and cannot get.
@@ -141,15 +120,18 @@ fn summed<T: Threads + Runtime>(
     requires { IsSumInRange options.now }
 {
     let mode = mode_of(rt, options.mode)?;
+    let length = options.length;
+    let threads = HashThreads {
+        rt: threads,
+        alloc: rt.alloc(),
+        count: options.threads,
+    };
     let names = match &options.inputs {
         SumInputs::Standard(name) => {
-            let request = SumRequest {
-                name,
-                mode,
-                length: options.length,
-                threads: options.threads,
-            };
-            return Ok(status(rt, sum_standard(rt, threads, extent, &request)));
+            let name = name.as_bytes();
+            let line = SumLine { name, length };
+            let request = SumRequest { line, mode };
+            return Ok(status(rt, sum_standard(rt, &threads, extent, &request)));
         }
         SumInputs::Named(words) => match names(rt.alloc(), words.as_slice(), foreign) {
             Ok(names) => names,
@@ -157,10 +139,9 @@ fn summed<T: Threads + Runtime>(
         },
         SumInputs::Listed(names) => names_in(rt, names)?,
     };
-    Ok(status(
-        rt,
-        sum_named(rt, threads, extent, mode, options, names.as_slice()),
-    ))
+    let names = names.as_slice();
+    let lines = SumLines { names, length };
+    Ok(status(rt, sum_named(rt, &threads, extent, mode, &lines)))
 }
 
 /// The exit status of `sum`.
@@ -179,34 +160,73 @@ pub(crate) fn sum_status<T: Threads + Runtime>(
     }
 }
 
-// Verifies the check lines that a reader returns.
+// Verifies the check lines that a reader returns, and explains those with faults. The name `-` in a line is standard input, unless the lines
+// come from there.
 fn checked<T: Threads + Runtime, R: Read>(
-    rt: &HostRuntime,
     threads: &T,
     extent: &Extent,
     options: &CheckOptions<'_>,
+    refusals: &Refusals<'_>,
     reader: &mut R,
 ) -> Result<Verdict, Cause> {
+    let rt = refusals.runtime();
     let Ok(mut writer) = LineWriter::new(rt.alloc(), standard_output(rt)) else {
         return Err(Cause::OutOfMemory);
     };
-    let files = SystemFiles::new(rt, threads, SumMode::Hash, options.threads);
-    let mut names = Metered::new(rt, extent, files);
-    check(rt.alloc(), options.shown, &mut names, reader, &mut writer)
+    let input = if refusals.is_standard() {
+        None
+    } else {
+        Some(StandardInput::new(rt))
+    };
+    let threads = HashThreads {
+        rt: threads,
+        alloc: rt.alloc(),
+        count: options.threads,
+    };
+    let files = SystemFiles::new(rt, &threads, SumMode::Hash);
+    let inputs = SystemInputs::new(files, input, StandardError::new(rt));
+    let digests = Digests::new(Metered::new(rt, extent, inputs), Work::new(rt));
+    let mut names = ExplainedNames::new(refusals, digests);
+    let verdict = check(rt.alloc(), options.report, &mut names, reader, &mut writer)?;
+    refusals.finish_list();
+    Ok(verdict)
 }
 
-/// The exit status of `check`.
+// Verifies one list, and returns the exit status.
+fn list_status<T: Threads + Runtime>(
+    threads: &T,
+    extent: &Extent,
+    options: &CheckOptions<'_>,
+    refusals: &Refusals<'_>,
+    list: Input<'_>,
+) -> u8 {
+    let rt = refusals.runtime();
+    let ended = match list {
+        Input::Standard => checked(threads, extent, options, refusals, &mut rt.stdin()),
+        Input::File(path) => match opened(rt, path) {
+            Ok(mut file) => checked(threads, extent, options, refusals, &mut file),
+            Err(status) => return status,
+        },
+    };
+    status(rt, ended)
+}
+
+/// The exit status of `check`: the highest among those of its lists.
 pub(crate) fn check_status<T: Threads + Runtime>(
     rt: &HostRuntime,
     threads: &T,
     extent: &Extent,
     options: &CheckOptions<'_>,
 ) -> u8 {
-    match options.list {
-        Input::Standard => status(rt, checked(rt, threads, extent, options, &mut rt.stdin())),
-        Input::File(path) => match opened(rt, path) {
-            Ok(mut file) => status(rt, checked(rt, threads, extent, options, &mut file)),
-            Err(status) => status,
-        },
+    if options.lists.is_empty() {
+        let refusals = Refusals::new(rt, Input::Standard);
+        return list_status(threads, extent, options, &refusals, Input::Standard);
     }
+    let mut highest = GOOD;
+    for text in options.lists.as_slice() {
+        let list = Input::of(text);
+        let refusals = Refusals::new(rt, list);
+        highest = highest.max(list_status(threads, extent, options, &refusals, list));
+    }
+    highest
 }

@@ -3,51 +3,61 @@
 
 ghost use Rattle.store_command_line.specs.Ranges.{InRange};
 
+mod explaining;
 mod extent;
 mod inputs;
 mod progress;
+mod replies;
 mod reporting;
 mod sessions;
 mod standard;
 mod words;
 
 use b3_core::{Runtime, Work};
-use edge::UploadOptions;
+use explaining::{ExplainedAnswers, ExplainedJournal, LastLine, NotedLines, Refusals};
 use extent::Extent;
 use inputs::{check_status, sum_status};
 use progress::with_progress;
+use replies::Replies;
 use reporting::{GOOD, USAGE, status, stopped};
 use sessions::serve_status;
-use standard::{StandardInput, standard_output, standard_streams};
-use std::io::{BufReader, BufWriter, IsTerminal};
+use standard::{StandardInput, standard_output};
+use std::io::{self, BufReader, BufWriter, IsTerminal};
 use std::marker::Brand;
 use std::process::ExitCode;
 use std::sync::Wait;
 use std::sync::ledger::Blank;
 use std::thread::Threads;
-use store_command_line::{Fault, Options, SumInputs, options};
-use store_engines::{ALL_PARTS, Cause, Verdict, audit, migrate, upload};
+use store_command_line::{AskedUpload, Fault, Input, Options, SumInputs, options};
+use store_engines::{ALL_PARTS, Cause, UploadOptions, Verdict, audit, migrate, upload};
 use store_history::UnnamedHistory;
 use store_lines::{run, serve};
 use words::{Foreign, are_among, no_files, words_of};
 
 // Answers a script.
 fn answered(rt: &HostRuntime) -> Result<Verdict, Cause> {
-    let Ok(mut lines) = BufReader::new(rt.alloc(), rt.stdin()) else {
+    let Ok(lines) = BufReader::new(rt.alloc(), rt.stdin()) else {
         return Err(Cause::OutOfMemory);
     };
-    let Ok(mut answers) = BufWriter::new(rt.alloc(), standard_output(rt)) else {
+    let Ok(answers) = BufWriter::new(rt.alloc(), standard_output(rt)) else {
         return Err(Cause::OutOfMemory);
     };
+    let (refusals, last) = (Refusals::new(rt, Input::Standard), LastLine::new());
+    let mut lines = NotedLines::new(&last, lines);
+    let mut answers = ExplainedAnswers::new(&refusals, &last, answers);
     let mut work = Work::new(rt);
-    run(rt.alloc(), &mut lines, &mut answers, &mut work)
+    let ended = run(rt.alloc(), &mut lines, &mut answers, &mut work);
+    refusals.finish();
+    ended
 }
 
 // Serves a session over standard input and output.
 fn served(rt: &HostRuntime) -> Result<Verdict, Cause> {
-    let (mut lines, mut answers) = standard_streams(rt)?;
+    let replies = Replies::new(rt, io::writer(rt))?;
+    let (mut lines, mut answers) = replies.streams(rt, rt.stdin())?;
     let mut work = Work::new(rt);
-    serve(rt.alloc(), &mut lines, &mut answers, &mut work)
+    let ended = serve(rt.alloc(), &mut lines, &mut answers, &mut work);
+    replies.finish(ended)
 }
 
 // Uploads standard input.
@@ -55,12 +65,17 @@ fn uploaded<T: Threads + Wait + Sync + Runtime>(
     rt: &HostRuntime,
     threads: &T,
     extent: &Extent,
-    options: UploadOptions,
+    asked: &AskedUpload,
 ) -> Result<Verdict, Cause> {
-    extent.note_bytes(StandardInput::new(rt).len_left());
+    extent.note_input(&StandardInput::new(rt));
     let (mut reader, mut writer) = (rt.stdin(), standard_output(rt));
     let (bytes, calls) = (Blank::new(ALL_PARTS), Blank::new(ALL_PARTS));
     let history = UnnamedHistory::new(rt.alloc())?;
+    let options = UploadOptions {
+        workers: asked.workers,
+        part_chunks: asked.part_chunks,
+        journal: asked.journal,
+    };
     upload::<Brand, _, _, _>(
         threads,
         rt.alloc(),
@@ -84,13 +99,15 @@ fn perform<T: Threads + Wait + Copy + Send + Sync + Runtime + 'static>(
     requires { InRange options.now }
 {
     let alloc = rt.alloc();
-    let (mut reader, mut writer) = (rt.stdin(), standard_output(rt));
+    let refusals = Refusals::new(rt, Input::Standard);
+    let mut reader = rt.stdin();
+    let mut writer = ExplainedJournal::new(&refusals, standard_output(rt));
     match options {
         Options::Sum(options) => sum_status(rt, threads, extent, options, foreign),
         Options::Run => status(rt, answered(rt)),
         Options::Serve(None) => status(rt, served(rt)),
         Options::Serve(Some(door)) => serve_status(rt, threads, door),
-        Options::Upload(asked) => status(rt, uploaded(rt, threads, extent, asked.options)),
+        Options::Upload(asked) => status(rt, uploaded(rt, threads, extent, asked)),
         Options::Check(options) => check_status(rt, threads, extent, options),
         Options::Audit => status(rt, audit(alloc, &mut reader, &mut writer)),
         Options::Migrate => status(rt, migrate(alloc, &mut reader, &mut writer)),

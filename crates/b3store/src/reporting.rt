@@ -3,6 +3,7 @@
 use hash_engines::{Cause, FileFault, Verdict, fault_of};
 use std::fs::File;
 use std::io;
+use std::io::ErrorKind;
 
 pub(crate) const GOOD: u8 = 0;
 
@@ -45,10 +46,14 @@ pub(crate) fn unopened(rt: &HostRuntime, path: &str, error: &io::Error) -> u8 {
     }
 }
 
-/// Opens a file for reading; if that fails, reports why and returns the exit status.
+/// Opens a file for reading; if that fails, or it is a folder, reports why and returns the exit status.
 pub(crate) fn opened(rt: &HostRuntime, path: &str) -> Result<File, u8> {
-    match File::open(rt, path) {
-        Ok(file) => Ok(file),
-        Err(error) => Err(unopened(rt, path, &error)),
+    let file = match File::open(rt, path) {
+        Ok(file) => file,
+        Err(error) => return Err(unopened(rt, path, &error)),
+    };
+    match file.metadata() {
+        Ok(found) if found.is_dir() => { Err(unopened(rt, path, &ErrorKind::IsADirectory.into())) }
+        _ => Ok(file),
     }
 }

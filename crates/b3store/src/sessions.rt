@@ -4,13 +4,12 @@
 ghost use Rattle.std.specs.Prelude.{◌≡◌};
 ghost use Rattle.store_ledger.specs.Shares.{all_parts};
 
+use crate::replies::serve_streams;
 use crate::reporting::{misused, status, unopened};
-use crate::standard::{AT_A_TIME, LastingFailure, standard_streams};
-use b3_core::Work;
 use edge::{Cause, Verdict, number, read_line};
 use std::alloc::{AllocError, Global};
 use std::fs::{File, OpenOptions};
-use std::io::{BufReader, BufWriter, ErrorKind};
+use std::io::{BufReader, ErrorKind};
 use std::marker::Brand;
 use std::os::unix::fs::FileTypeExt;
 use std::sync::ledger::Blank;
@@ -22,7 +21,7 @@ use store_core::Limits;
 use store_history::{Front, UnnamedHistory};
 use store_lease::Lease;
 use store_ledger::{ALL_PARTS, Ledgers, Share};
-use store_lines::{Access, serve_over};
+use store_lines::Access;
 use store_shared::Shared;
 
 // The maximum length in bytes of a line with a number: 20 digits and a newline.
@@ -69,6 +68,14 @@ struct Server<L: Ledgers> {
     door: Mutex<Door>,
 }
 
+// The ledgers and the history of a new store, which a type parameter is to name.
+#[derive(Drop)]
+struct UnnamedLedgers {
+    bytes: Blank,
+    calls: Blank,
+    history: UnnamedHistory,
+}
+
 // Opens a named pipe for reading without waiting for a writer. If there is no writer any more, its input is at its end.
 fn open_input(rt: &HostRuntime, path: &str) -> io::Result<File> {
     let _writer = OpenOptions::new().read(true).write(true).open(rt, path)?;
@@ -88,10 +95,7 @@ fn serve_files<A: Access>(
     input: File,
     output: File,
 ) -> io::Result<()> {
-    let mut lines = BufReader::with_capacity(rt.alloc(), AT_A_TIME, input)?;
-    let mut answers = BufWriter::new(rt.alloc(), LastingFailure::new(output))?;
-    let mut work = Work::new(rt);
-    match serve_over(rt.alloc(), access, &mut lines, &mut answers, &mut work) {
+    match serve_streams(rt, access, input, output) {
         Err(Cause::OutOfMemory) => Err(ErrorKind::OutOfMemory.into()),
         _ => Ok(()),
     }
@@ -219,15 +223,18 @@ fn serve_all<L: Ledgers + Send + Sync + 'static, T: Threads + Wait + Copy + Send
     threads: T,
     door: Door,
     options: &DoorOptions<'_>,
-    bytes: Blank,
-    calls: Blank,
-    history: UnnamedHistory,
+    ledgers: UnnamedLedgers,
 ) -> Result<Verdict, Cause>
-    requires bytes { (bytes.name ≡ L.bytes_name) × (bytes.parts ≡ L.bytes_parts) × (bytes.parts ≡ all_parts) }
-    requires calls { (calls.name ≡ L.calls_name) × (calls.parts ≡ L.calls_parts) × (calls.parts ≡ all_parts) }
-    requires history { history ≡ L.history }
+    requires bytes { (ledgers.bytes.name ≡ L.bytes_name) × (ledgers.bytes.parts ≡ L.bytes_parts) × (ledgers.bytes.parts ≡ all_parts) }
+    requires calls { (ledgers.calls.name ≡ L.calls_name) × (ledgers.calls.parts ≡ L.calls_parts) × (ledgers.calls.parts ≡ all_parts) }
+    requires history { ledgers.history ≡ L.history }
 {
     let alloc: Global = rt.alloc();
+    let UnnamedLedgers {
+        bytes,
+        calls,
+        history,
+    } = ledgers;
     let (store, mut share) = Shared::<L>::new(alloc, Limits::full(), bytes, calls, history);
     let server = Server {
         store,
@@ -240,9 +247,7 @@ fn serve_all<L: Ledgers + Send + Sync + 'static, T: Threads + Wait + Copy + Send
     start_all(rt, threads, &server, &mut share, options.sessions)?;
     let front = server.store.lock(&threads).front();
     let mut access = Lease::new(&threads, &server.store, share, front);
-    let (mut lines, mut answers) = standard_streams(&rt)?;
-    let mut work = Work::new(&rt);
-    serve_over(alloc, &mut access, &mut lines, &mut answers, &mut work)
+    serve_streams(&rt, &mut access, rt.stdin(), io::writer(&rt))
 }
 
 // The same, for a store whose ledgers and history are named here.
@@ -252,9 +257,12 @@ fn serve_named<T: Threads + Wait + Copy + Send + 'static>(
     door: Door,
     options: &DoorOptions<'_>,
 ) -> Result<Verdict, Cause> {
-    let (bytes, calls) = (Blank::new(ALL_PARTS), Blank::new(ALL_PARTS));
-    let history = UnnamedHistory::new(rt.alloc())?;
-    serve_all::<Brand, _>(rt, threads, door, options, bytes, calls, history)
+    let ledgers = UnnamedLedgers {
+        bytes: Blank::new(ALL_PARTS),
+        calls: Blank::new(ALL_PARTS),
+        history: UnnamedHistory::new(rt.alloc())?,
+    };
+    serve_all::<Brand, _>(rt, threads, door, options, ledgers)
 }
 
 // Whether a path is that of a named pipe, according to the system.

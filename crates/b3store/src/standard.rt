@@ -1,8 +1,8 @@
 //! The standard streams.
 
-use hash_engines::{Cause, Standing};
+use hash_engines::Standing;
 use std::fs::File;
-use std::io::{BufReader, BufWriter, ErrorKind, IsTerminal, Printer, Read, Write};
+use std::io::{ErrorKind, IsTerminal, Printer, Read, Write};
 use std::rt::Stdin;
 use std::{fs, io};
 
@@ -110,22 +110,6 @@ pub(crate) type StandardOutput<'a> = LastingFailure<Printer<'a, HostRuntime>>;
 /// Standard output, with nothing written yet.
 pub(crate) fn standard_output(rt: &HostRuntime) -> StandardOutput<'_> {
     LastingFailure::new(io::writer(rt))
-}
-
-/// The number of bytes that a session reads at a time.
-pub(crate) const AT_A_TIME: usize = 1 << 16;
-
-/// The buffered streams of a session over standard input and output.
-pub(crate) fn standard_streams(
-    rt: &HostRuntime,
-) -> Result<(BufReader<Stdin>, BufWriter<StandardOutput<'_>>), Cause> {
-    let Ok(lines) = BufReader::with_capacity(rt.alloc(), AT_A_TIME, rt.stdin()) else {
-        return Err(Cause::OutOfMemory);
-    };
-    let Ok(answers) = BufWriter::new(rt.alloc(), standard_output(rt)) else {
-        return Err(Cause::OutOfMemory);
-    };
-    Ok((lines, answers))
 }
 
 // Erases the rest of a terminal's line, from the cursor on.

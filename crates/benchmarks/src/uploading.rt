@@ -37,11 +37,7 @@ struct Slow<'a, K: Clock> {
 }
 
 impl<'a, K: Clock> Gate for Slow<'a, K> {
-    ghost may_stop = { λ gate part. ⊥ };
-
-    ghost may_fault = { λ gate part code. ⊥ };
-
-    ghost has_passed = { λ gate part. Unit {0} };
+    ghost rule = { λ gate. record { may_stop = λ part. ⊥; may_fault = λ part code. ⊥; has_passed = λ part. Unit {0} } };
 
     fn passed(&self, _part: Draw) -> Result<(), GateStop> {
         thread::sleep(self.clock, Duration::from_millis(10));

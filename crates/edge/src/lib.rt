@@ -2,7 +2,6 @@
 //!
 //! - `Cause` says what stopped an engine; `Verdict` is the result of one that completed. `write_all`, or `write_bytes` and `flush`, write
 //!   an output; `write_whole` returns the writer's own error. `read_all` reads an input to its end.
-//! - `SumMode` and `UploadOptions` are what a command line asks of an engine.
 //! - `read_line` reads a line and keeps it up to a maximum length; `first_line` splits one off bytes in memory. Each line ends with a newline, which may
 //!   be missing on the last line (`specs/Lines.antt`).
 //! - `split_at`, `number`, `two_numbers` and `three_numbers` read fields separated by one space (`specs/Fields.antt`).
@@ -12,7 +11,6 @@
 mod digits;
 mod fields;
 mod lines;
-mod options;
 mod outcome;
 mod reading;
 mod streams;
@@ -20,7 +18,6 @@ mod streams;
 pub use digits::{decode, write_encoded};
 pub use fields::{number, split_at, three_numbers, two_numbers};
 pub use lines::{LineRead, first_line, len_through, read_line};
-pub use options::{SumMode, UploadOptions};
 pub use outcome::{Cause, Verdict};
 pub use reading::{read_all, read_cause};
 pub use streams::{flush, write_all, write_bytes, write_whole};

@@ -1,6 +1,6 @@
 //! The meaning of the arguments of a command line.
 
-use edge::{SumMode, UploadOptions};
+use b3_check::ReportOptions;
 use std::alloc::{AllocError, Global};
 use std::test::Fail;
 use store_command_line::{
@@ -10,9 +10,9 @@ use store_command_line::{
 // The requested mode.
 fn mode_text(alloc: Global, mode: AskedMode<'_>) -> Result<String, AllocError> {
     match mode {
-        AskedMode::Known(SumMode::Hash) => format!(in alloc; "hash"),
-        AskedMode::Known(SumMode::Keyed(key)) => format!(in alloc; "key {key:?}"),
-        AskedMode::Known(SumMode::Derive(text)) => format!(in alloc; "context {text}"),
+        AskedMode::Hash => format!(in alloc; "hash"),
+        AskedMode::Keyed(key) => format!(in alloc; "key {key:?}"),
+        AskedMode::Derive(text) => format!(in alloc; "context {text}"),
         AskedMode::KeyFile(path) => format!(in alloc; "key in {path}"),
     }
 }
@@ -34,31 +34,33 @@ fn sum_text(alloc: Global, said: &SumOptions<'_>) -> Result<String, AllocError> 
     format!(in alloc; "sum {inputs} {mode} {length:?} {threads:?} {no_progress}")
 }
 
+// The options of `upload`.
+fn upload_text(alloc: Global, said: &AskedUpload) -> Result<String, AllocError> {
+    let AskedUpload {
+        workers,
+        part_chunks,
+        journal,
+        no_progress,
+    } = said;
+    format!(in alloc; "upload {workers} {part_chunks} {journal} {no_progress}")
+}
+
+// The options of `check`.
+fn check_text(alloc: Global, said: &CheckOptions<'_>) -> Result<String, AllocError> {
+    let (lists, threads, no_progress) = (&said.lists, said.threads, said.no_progress);
+    let ReportOptions {
+        shown,
+        ignores_missing,
+    } = &said.report;
+    format!(in alloc; "check {lists:?} {shown:?} {ignores_missing} {threads:?} {no_progress}")
+}
+
 // The meaning of the arguments. A usage fault has a text.
 fn said(alloc: Global, words: &[&str]) -> Result<String, AllocError> {
     match options(alloc, words) {
         Ok(Options::Sum(said)) => sum_text(alloc, &said),
-        Ok(Options::Upload(said)) => {
-            let AskedUpload {
-                options,
-                no_progress,
-            } = said;
-            let UploadOptions {
-                workers,
-                part_chunks,
-                journal,
-            } = options;
-            format!(in alloc; "upload {workers} {part_chunks} {journal} {no_progress}")
-        }
-        Ok(Options::Check(said)) => {
-            let CheckOptions {
-                list,
-                shown,
-                threads,
-                no_progress,
-            } = said;
-            format!(in alloc; "check {list:?} {shown:?} {threads:?} {no_progress}")
-        }
+        Ok(Options::Upload(said)) => upload_text(alloc, &said),
+        Ok(Options::Check(said)) => check_text(alloc, &said),
         Ok(_) => String::from_str(alloc, "no options"),
         Err(Fault::Usage(text)) => {
             if text.is_empty() {
@@ -100,10 +102,10 @@ const SAID: &[(&[&str], &str)] = &[
         &["b3store", "sum", "--files-from", "-"],
         "sum Standard false hash None None false",
     ),
-    (&["b3store", "check"], "check Standard All None false"),
+    (&["b3store", "check"], "check [] All false None false"),
     (
         &["b3store", "check", "--threads", "1", "--quiet", "l"],
-        "check File(\"l\") AllButGood Some(1) false",
+        "check [\"l\"] AllButGood false Some(1) false",
     ),
     (
         &[
@@ -113,8 +115,10 @@ const SAID: &[(&[&str], &str)] = &[
             "--no-progress",
             "--status",
             "-",
+            "--ignore-missing",
+            "k",
         ],
-        "check Standard Nothing None true",
+        "check [\"-\", \"k\"] Nothing true None true",
     ),
     (&["b3store", "--version"], "version"),
     (&["b3store", "sum", "a", ""], "usage"),

@@ -2,16 +2,15 @@
 
 use crate::fakes::{ByteReader, ByteWriter, NoNames};
 use crate::uploads::uploaded;
-use b3_check::Shown;
+use b3_check::{ReportOptions, Shown};
 use b3_core::{Runtime, Work};
 use b3_tests::pattern;
-use edge::{SumMode, UploadOptions};
-use hash_engines::{Cause, SumRequest, Verdict, check, sum};
+use hash_engines::{Cause, HashThreads, SumLine, SumMode, SumRequest, Verdict, check, sum};
 use std::io::BufReader;
 use std::sync::Wait;
 use std::test::Fail;
 use std::thread::Threads;
-use store_engines::{audit, migrate};
+use store_engines::{UploadOptions, audit, migrate};
 use store_lines::{run, serve};
 
 #[derive(Clone, Copy, Debug, PartialEq, Eq)]
@@ -87,11 +86,17 @@ fn answered(engine: Engine, fails_at: u64) -> &'static [u8] {
     }
 }
 
+const ALL: ReportOptions = ReportOptions {
+    shown: Shown::All,
+    ignores_missing: false,
+};
+
 const PLAIN: SumRequest<'static> = SumRequest {
-    name: "-",
+    line: SumLine {
+        name: b"-",
+        length: None,
+    },
     mode: SumMode::Hash,
-    length: None,
-    threads: None,
 };
 
 const ONE_WORKER: UploadOptions = UploadOptions {
@@ -112,7 +117,7 @@ fn ended<R: Threads + Wait + Sync + AllocGlobal + Runtime>(
     let mut work = Work::new(rt);
     match engine {
         Engine::Audit => audit(alloc, reader, writer),
-        Engine::Check => check(alloc, Shown::All, names, reader, writer),
+        Engine::Check => check(alloc, ALL, names, reader, writer),
         Engine::Migrate => migrate(alloc, reader, writer),
         Engine::Run => {
             let Ok(mut lines) = BufReader::new(alloc, reader) else {
@@ -126,10 +131,15 @@ fn ended<R: Threads + Wait + Sync + AllocGlobal + Runtime>(
             };
             serve(alloc, &mut lines, writer, &mut work)
         }
-        Engine::Sum => match sum(rt, alloc, &PLAIN, reader, writer, &mut work) {
-            Ok(()) => Ok(Verdict::Good),
-            Err(cause) => Err(cause),
-        },
+        Engine::Sum => {
+            let threads = HashThreads {
+                rt,
+                alloc,
+                count: None,
+            };
+            sum(&threads, &PLAIN, reader, writer, &mut work)?;
+            Ok(Verdict::Good)
+        }
         Engine::Upload => uploaded(rt, ONE_WORKER, reader, writer),
     }
 }
@@ -191,14 +201,15 @@ const LONG_LINE: &[u8] = b"52dc212cb4cc61cb94d25bd7b1d47b256e4c3a6d68956df50c235
 #[test]
 fn a_long_input_is_read_on_after_interruptions(rt: HostRuntime) -> Result<(), Fail> {
     let input = pattern(rt.alloc(), 0, 2_097_153)?;
-    let two = SumRequest {
-        threads: Some(2),
-        ..PLAIN
+    let threads = HashThreads {
+        rt: &rt,
+        alloc: rt.alloc(),
+        count: Some(2),
     };
     let mut reader = ByteReader::new(&input, u64::MAX, true);
     let mut writer = ByteWriter::new(rt.alloc(), u64::MAX);
     let mut work = Work::new(&rt);
-    let found = sum(&rt, rt.alloc(), &two, &mut reader, &mut writer, &mut work);
+    let found = sum(&threads, &PLAIN, &mut reader, &mut writer, &mut work);
     assert_eq!(rt; found, Ok(()));
     assert_eq!(rt; writer.taken.as_slice(), LONG_LINE);
     Ok(())

@@ -3,7 +3,7 @@
 use crate::fakes::{AbcSources, ByteWriter, HintedSources};
 use b3_check::Name;
 use b3_core::{Runtime, Work};
-use hash_engines::{Cause, Verdict, names_of, sum_files};
+use hash_engines::{Cause, SumLines, Verdict, names_of, sum_files};
 use std::alloc::{AllocError, Global};
 use std::test::Fail;
 
@@ -30,14 +30,11 @@ fn summed<R: AllocGlobal + Runtime>(
     let mut sources = AbcSources::new(alloc, Work::new(rt));
     let mut writer = ByteWriter::new(alloc, fails_at);
     let mut work = Work::new(rt);
-    let ended = sum_files(
-        alloc,
+    let lines = SumLines {
+        names: names.as_slice(),
         length,
-        names.as_slice(),
-        &mut sources,
-        &mut writer,
-        &mut work,
-    );
+    };
+    let ended = sum_files(alloc, &lines, &mut sources, &mut writer, &mut work);
     let AbcSources {
         calls,
         reported,
@@ -77,14 +74,11 @@ fn names_are_reported_before_they_are_asked_for(rt: HostRuntime) -> Result<(), F
     let mut sources = HintedSources::new(alloc);
     let mut text = Vec::new(alloc);
     let mut work = Work::new(&rt);
-    let ended = sum_files(
-        alloc,
-        None,
-        names.as_slice(),
-        &mut sources,
-        &mut text,
-        &mut work,
-    );
+    let lines = SumLines {
+        names: names.as_slice(),
+        length: None,
+    };
+    let ended = sum_files(alloc, &lines, &mut sources, &mut text, &mut work);
     let wanted: &[u8] = b" x abc -;x? abc -;abc? -;-?";
     assert_eq!(rt; ended, Ok(Verdict::Refused));
     assert!(rt; sources.asked().as_slice() == wanted && text.is_empty());

@@ -3,13 +3,12 @@
 use crate::fakes::{ByteReader, ByteWriter};
 use b3_core::Runtime;
 use b3_tests::pattern;
-use edge::UploadOptions;
 use std::marker::Brand;
 use std::sync::Wait;
 use std::sync::ledger::Blank;
 use std::test::Fail;
 use std::thread::Threads;
-use store_engines::{Cause, Verdict, audit, upload};
+use store_engines::{Cause, UploadOptions, Verdict, audit, upload};
 use store_history::UnnamedHistory;
 use store_ledger::ALL_PARTS;
 

@@ -3,7 +3,7 @@
 use anyhow::Result;
 use b3_core::{Hasher, Mode, Runtime, Work};
 use b3_forest::Prepared;
-use b3_parallel::hash_all;
+use b3_parallel::{HashThreads, hash_all};
 use std::alloc::Global;
 use std::io::Read;
 use std::thread::Threads;
@@ -24,8 +24,13 @@ pub fn digest_of_reader<T: Threads + Runtime, R: Read>(
     alloc: Global,
     reader: &mut R,
 ) -> Result<[u8; 32]> {
+    let threads = HashThreads {
+        rt,
+        alloc,
+        count: None,
+    };
     let mut work = Work::new(rt);
-    let top = hash_all(rt, alloc, &Mode::hash(), reader, None, &mut work)?;
+    let top = hash_all(&threads, &Mode::hash(), reader, &mut work)?;
     Ok(top.root32(&mut work))
 }
 

@@ -6,7 +6,7 @@ ghost use Rattle.store_ledger.specs.Shares.{all_parts};
 
 use anyhow::Result;
 use b3_core::Runtime;
-use b3_forest::Lent;
+use b3_forest::BorrowedBytes;
 use std::alloc::Global;
 use std::marker::Brand;
 use std::sync::Wait;
@@ -53,7 +53,7 @@ fn back_up_counted<L: Ledgers, T: Threads + Wait + Sync + Runtime>(
     let tenant = lent_open_tenant(&mut *shared.lock(threads), 1 << 40)?;
     let request = UploadRequest {
         tenant,
-        bytes: Lent::Slice(bytes),
+        bytes: BorrowedBytes::Slice(bytes),
         part_chunks: PART_CHUNKS,
         workers: WORKERS,
         gate: &PassAll,

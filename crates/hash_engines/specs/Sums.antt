@@ -1,7 +1,7 @@
 -- What `sum` writes.
-use Rattle.std.specs.Prelude.{◌≡◌, ◌≢◌, ◌⊎◌, ℕ, Bool, true, false, List, [], ◌∷◌, ◌++◌, Option, Some, None, Result, Ok, Err, codes, if◌then◌else◌}
+use Rattle.std.specs.Prelude.{◌≡◌, ◌≢◌, ◌⊎◌, ℕ, Bool, true, false, List, [], ◌∷◌, ◌++◌, Option, Some, None, Result, Ok, Err, codes, OnOk, if◌then◌else◌}
 use Rattle.std.specs.List.{list_all}
-use Rattle.std.specs.Io.KnownBytes.{Appends}
+use Rattle.std.specs.Io.KnownBytes.{Appends, IsAtEnd}
 use Rattle.std.specs.Str.{IsUtf8}
 use Rattle.hex.specs.Hex.{encode_lower}
 use Rattle.b3_core.specs.Tree.{ModelTop, ModelMode, tree_top}
@@ -12,13 +12,13 @@ use Rattle.edge.specs.declared.outcome.Cause.{Cause}
 use Rattle.edge.specs.declared.outcome.Cause.TheVariants.{CannotRead, CannotWrite, OutOfMemory}
 use Rattle.edge.specs.declared.outcome.Verdict.{Verdict}
 use Rattle.edge.specs.declared.outcome.Verdict.TheVariants.{Good, Refused}
-use Rattle.edge.specs.declared.options.SumMode.{SumMode}
-use Rattle.edge.specs.declared.options.SumMode.TheVariants.{Hash, Keyed, Derive}
 use Rattle.edge.specs.Output.{WroteSome}
 use Rattle.hash_engines.specs.declared.sources.FileFault.{FileFault}
 use Rattle.hash_engines.specs.declared.sources.Reason.{Reason}
-use Rattle.hash_engines.specs.declared.sources.Reason.TheVariants.{IsFolder, Missing, NoPermission, NotUtf8, Unreadable}
+use Rattle.hash_engines.specs.declared.sources.Reason.TheVariants.{InputTaken, IsFolder, Missing, NoPermission, NotUtf8, Unreadable}
 use Rattle.hash_engines.specs.declared.sources.FileFault.TheVariants.{Failed, NoMemory}
+use Rattle.hash_engines.specs.declared.summing.SumMode.{SumMode}
+use Rattle.hash_engines.specs.declared.summing.SumMode.TheVariants.{Hash, Keyed, Derive}
 
 -- the mode that the options ask for
 abbrev pub sum_mode : SumMode → ModelMode
@@ -43,6 +43,7 @@ abbrev pub reason_text : Reason → List ℕ
 reason_text Missing = codes "no such file"
 reason_text IsFolder = codes "it is a folder"
 reason_text NoPermission = codes "no permission"
+reason_text InputTaken = codes "standard input is the list itself"
 reason_text NotUtf8 = codes "the name is not UTF-8"
 reason_text Unreadable = codes "it can't be read"
 
@@ -115,3 +116,9 @@ abbrev pub IsRootOfLeft : Option (List ℕ) → ModelMode → Result ModelTop Fi
 IsRootOfLeft None mode answer = Unit {0}
 IsRootOfLeft (Some left) mode (Ok root) = root ≡ tree_top left 0 mode
 IsRootOfLeft (Some left) mode (Err fault) = Unit {0}
+
+-- the possible results for an input, if there is one: after a root it is at its end
+abbrev pub IsRootOfInput : {I : Type 0} → (I → Option (List ℕ)) → ModelMode → Option I → Result ModelTop FileFault → Option I → Type 0
+IsRootOfInput remaining mode None answer new = (answer ≡ Err (Failed InputTaken)) × (new ≡ None)
+IsRootOfInput remaining mode (Some old) answer None = ⊥
+IsRootOfInput remaining mode (Some old) answer (Some new) = OnOk answer (IsAtEnd (remaining new)) × (answer ≢ Err (Failed NotUtf8)) × IsRootOfLeft (remaining old) mode answer

@@ -1,17 +1,17 @@
 //! Files that several threads hash before they are asked for.
 
-ghost use Rattle.std.specs.Prelude.{◌≡◌, ◌<◌, All, IfErr, IfOk, IfSome};
-ghost use Rattle.b3_core.specs.Tree.{ModelMode};
+ghost use Rattle.std.specs.Prelude.{◌≡◌, ◌<◌, ℕ, All, IfErr, IfOk, IfSome, List};
+ghost use Rattle.b3_core.specs.Tree.{ModelMode, tree_top};
 ghost use Rattle.hash_engines.specs.Files.{IsNamedRoot, IsSomeRoot};
 
 use b3_check::{Name, NumberedLine};
 use b3_core::{Mode, Top, Work};
 use std::alloc::{AllocError, Global};
-use std::fs::File;
-use std::io::Read;
+use std::fs::{File, Metadata};
+use std::os::unix::fs::FileExt;
 use std::rt::HostRuntime;
 use std::thread::{Promise, PromisedHandle, Threads};
-use std::{fs, thread};
+use std::{fs, io, thread};
 
 // Files smaller than this many bytes are small.
 const LIMIT: u64 = 1 << 20;
@@ -26,30 +26,46 @@ pub(crate) struct NamedRoot {
     pub(crate) root: Option<Top>,
 }
 
-// Whether the name is that of a small regular file that is not empty. A file of length 0 may be a special file of the system, and reading
-// it may block.
-fn is_small(rt: &HostRuntime, path: &str) -> bool {
-    match fs::metadata(rt, path) {
-        Ok(found) => found.is_file() && 0 < found.len() && found.len() < LIMIT,
-        Err(_) => false,
+/// The length of a regular file, from what the system reports about it. `None` for any other file.
+pub(crate) fn regular_len(found: io::Result<Metadata>) -> Option<u64> {
+    match found {
+        Ok(found) if found.is_file() => Some(found.len()),
+        _ => None,
     }
 }
 
-// Reads all bytes of a file, and returns whether this succeeded and they are fewer than 1 MiB.
-fn read_small(rt: &HostRuntime, path: &str, room: &mut Vec<u8>) -> bool {
-    let Ok(file) = File::open(rt, path) else {
-        return false;
-    };
-    room.clear();
-    match file.take(LIMIT).read_to_end(room) {
-        Ok(count) => (count as u64) < LIMIT,
-        Err(_) => false,
+/// Whether a regular file of this length is small and not empty. A file of length 0 may be a special file of the system, and reading it may
+/// block.
+pub(crate) fn is_small(len: u64) -> bool {
+    0 < len && len < LIMIT
+}
+
+/// The root of an open file of `len` bytes, which are read at once from its start; its position is not moved. `None` if that fails, or the
+/// file has another length by now. `room` is memory for the bytes; it grows to fit them.
+pub(crate) fn root_at_once(
+    file: &File,
+    len: u64,
+    mode: &Mode,
+    room: &mut Vec<u8>,
+    work: &mut Work,
+) -> Option<Top>
+    ensures { IfSome result (λ root. (bytes : List ℕ) × (root ≡ tree_top bytes 0 mode.now)) }
+{
+    let count = len as usize;
+    if room.len() < count {
+        room.resize(count, 0).ok()?;
+    }
+    let bytes = &mut room[..count];
+    file.read_exact_at(bytes, 0).ok()?;
+    match file.read_at(&mut [0], len) {
+        Ok(0) => Some(Top::of_input(mode, bytes, work)),
+        _ => None,
     }
 }
 
-/// The root of all bytes of a nonempty regular file of less than 1 MiB. `None` for any other file, which is not opened, and if the file
-/// cannot be read: the caller then reads it like any other file, and gets the reason. `room` is memory for the bytes; it grows to fit them.
-pub(crate) fn small_root(
+// The root of all bytes of a nonempty regular file of less than 1 MiB. `None` for any other file, which is not opened, and if the file
+// cannot be read: it is then read when it is asked for, like any other file.
+fn small_root(
     rt: &HostRuntime,
     mode: &Mode,
     name: &[u8],
@@ -58,14 +74,12 @@ pub(crate) fn small_root(
 ) -> Option<Top>
     ensures { IfSome result (IsSomeRoot mode.now name.now) }
 {
-    let Ok(path) = str::from_utf8(name) else {
+    let path = str::from_utf8(name).ok()?;
+    let len = regular_len(fs::metadata(rt, path))?;
+    if !is_small(len) {
         return None;
-    };
-    if is_small(rt, path) && read_small(rt, path, room) {
-        Some(Top::of_input(mode, room.as_slice(), work))
-    } else {
-        None
     }
+    root_at_once(&File::open(rt, path).ok()?, len, mode, room, work)
 }
 
 // Hashes the small files among the named ones, one after the other.

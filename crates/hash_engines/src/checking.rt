@@ -1,18 +1,19 @@
 //! The engine of `check`.
 
-ghost use Rattle.std.specs.Prelude.{◌≡◌, ◌↔◌, ℕ, List, IfErr, IfOk, IfSome, OnOk};
+ghost use Rattle.std.specs.Prelude.{◌≡◌, ◌↔◌, IfErr, IfOk, IfSome, OnOk, true};
+ghost use Rattle.b3_check.specs.Reports.{passes};
 ghost use Rattle.std.specs.Io.KnownBytes.{Appends, IsAtEnd};
-ghost use Rattle.hash_engines.specs.Checks.{IsAllGood, IsChecked, IsStopped, IsUntouched};
+ghost use Rattle.hash_engines.specs.Checks.{IsChecked, IsStopped, IsUntouched};
 
-use b3_check::{CheckFile, Counts, Names, Shown, verify};
+use b3_check::{CheckFile, Counts, Names, ReportOptions, verify};
 use edge::{Cause, Verdict, read_all};
 use std::alloc::Global;
 use std::io::{Read, Write};
 
-fn verdict_of(counts: Counts) -> Verdict
-    ensures { (result ≡ Verdict.Good) ↔ IsAllGood counts }
+fn verdict_of(options: ReportOptions, counts: Counts) -> Verdict
+    ensures { (result ≡ Verdict.Good) ↔ (passes options counts ≡ true) }
 {
-    if counts.is_all_good() {
+    if counts.passes(options) {
         Verdict::Good
     } else {
         Verdict::Refused
@@ -22,29 +23,29 @@ fn verdict_of(counts: Counts) -> Verdict
 /// Verifies a check file, and writes what is shown of the report.
 ///
 /// It reads all its input as a check file, and then asks `names` for the digest of each line without a fault. It writes what is shown of a
-/// line before it asks for the next, and the counts, if they are shown, at the end. Returns `Good` if all lines are good.
+/// line before it asks for the next, and the counts, if they are shown, at the end. Returns `Good` if the report passes.
 ///
 /// It stops at the first failed read or write, or if it or `names` is out of memory. It writes and asks nothing before it has read
 /// everything.
 pub fn check<R: Read, W: Write, N: Names>(
     alloc: Global,
-    shown: Shown,
+    options: ReportOptions,
     names: &mut N,
     reader: &mut R,
     writer: &mut W,
 ) -> Result<Verdict, Cause>
     ensures checked { IfOk result (λ verdict. IfSome (R.remaining reader.old) (λ input.
-        IsChecked N.gives shown names.old input verdict names.new (W.contents writer.old) (W.contents writer.new))) }
+        IsChecked N.gives options names.old input verdict names.new (W.contents writer.old) (W.contents writer.new))) }
     ensures end { OnOk result (IsAtEnd (R.remaining reader.new)) }
     ensures stopped { IfErr result (λ cause. IfSome (R.remaining reader.old) (λ input.
-        IsStopped N.gives shown names.old input cause names.new (W.contents writer.old) (W.contents writer.new))) }
+        IsStopped N.gives options names.old input cause names.new (W.contents writer.old) (W.contents writer.new))) }
     ensures silent { IfErr result (IsUntouched names.old names.new (W.contents writer.old) (W.contents writer.new)) }
 {
     let input = read_all(alloc, reader)?;
     let file = CheckFile::read(alloc, &input)?;
-    let counts = verify(&file, shown, names, writer)?;
+    let counts = verify(&file, options, names, writer)?;
     match writer.flush() {
-        Ok(()) => Ok(verdict_of(counts)),
+        Ok(()) => Ok(verdict_of(options, counts)),
         Err(_) => Err(Cause::CannotWrite),
     }
 }

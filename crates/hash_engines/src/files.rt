@@ -9,13 +9,14 @@ ghost use Rattle.hash_engines.specs.Sums.{IsRootOfFile, IsRootOfLeft, IsRootOfSo
 ghost use Rattle.hash_engines.specs.declared.sources.FileFault.TheVariants.{Failed, NoMemory};
 ghost use Rattle.hash_engines.specs.declared.sources.Reason.TheVariants.{IsFolder, Missing, NoPermission, NotUtf8};
 
-use crate::ahead::{NamedRoot, hash_groups, names_of_lines, next_names, small_root};
+use crate::ahead::{
+    NamedRoot, hash_groups, is_small, names_of_lines, next_names, regular_len, root_at_once,
+};
 use crate::sources::{FileFault, Reason, Sources, Standing};
-use crate::summing::mode_of;
-use b3_check::{Name, NameFault, Names, NumberedLine};
+use crate::summing::{SumMode, mode_of};
+use b3_check::{Name, NumberedLine};
 use b3_core::{Mode, Runtime, Top, Work};
-use b3_parallel::{Source, hash_all, hash_source, thread_count};
-use edge::SumMode;
+use b3_parallel::{HashThreads, Source, hash_all, hash_source, thread_count};
 use std::fs::File;
 use std::io;
 use std::io::{ErrorKind, Read, Write};
@@ -53,9 +54,8 @@ impl Source for FileBytes {
 #[derive(Drop)]
 struct FileHasher<'a, T> {
     rt: &'a HostRuntime,
-    starter: &'a T,
+    threads: &'a HashThreads<'a, T>,
     mode: Mode,
-    threads: Option<u32>,
     room: Vec<u8>,
     work: Work,
 }
@@ -86,40 +86,39 @@ impl<T: Threads + Runtime> FileHasher<'_, T> {
         ensures left { IsRootOfLeft (I.remaining input.old) self.old.mode result }
         ensures read { result ≡ Err (Failed NotUtf8) → ⊥ }
     {
-        let (starter, alloc, mode) = (self.starter, self.rt.alloc(), self.mode);
-        match hash_all(starter, alloc, &mode, input, self.threads, &mut self.work) {
+        let mode = self.mode;
+        match hash_all(self.threads, &mode, input, &mut self.work) {
             Ok(root) => Ok(root),
             Err(error) => Err(fault_of(&error)),
         }
     }
 
-    // The root of an open file by threads that read it at any offset, if it is a regular file and that is possible.
-    fn root_from_places(&mut self, file: &FileBytes) -> Option<Top>
+    // The root of an open file of `len` bytes by threads that read it at any offset, if that is possible.
+    fn root_from_places(&mut self, file: &FileBytes, len: u64) -> Option<Top>
         ensures root { IfSome result (λ top. (bytes : List ℕ) × (top ≡ tree_top bytes 0 self.old.mode)) }
         ensures mode { self.new.mode ≡ self.old.mode }
     {
-        let Ok(found) = file.file.metadata() else {
-            return None;
-        };
-        if !found.is_file() {
-            return None;
-        }
         let mode = self.mode;
-        hash_source(
-            self.starter,
-            self.rt.alloc(),
-            &mode,
-            file,
-            found.len().saturating_sub(file.start),
-            self.threads,
-            &mut self.work,
-        )
+        let left = len.saturating_sub(file.start);
+        hash_source(self.threads, &mode, file, left, &mut self.work)
     }
 
-    // The root of all bytes of the file with this name.
-    //
-    // A small file is read whole. Threads read a regular file of 16 MiB or more at any offset, each the blocks that it takes. If that
-    // fails, or the file has become shorter, this thread reads the file from its start, and hashes it as `sum` hashes its input.
+    // The root of all bytes of an open file, if it is a regular file. A small file is read at once. Threads read a file of 16 MiB or more at
+    // any offset, each the blocks that it takes. The file's position is not moved.
+    fn regular_root(&mut self, file: &FileBytes) -> Option<Top>
+        ensures root { IfSome result (λ top. (bytes : List ℕ) × (top ≡ tree_top bytes 0 self.old.mode)) }
+        ensures mode { self.new.mode ≡ self.old.mode }
+    {
+        let len = regular_len(file.file.metadata())?;
+        if !is_small(len) {
+            return self.root_from_places(file, len);
+        }
+        let mode = self.mode;
+        root_at_once(&file.file, len, &mode, &mut self.room, &mut self.work)
+    }
+
+    // The root of all bytes of the file with this name, which is opened and looked up once. If the file is not regular, has another length by
+    // now, or cannot be read in that way, this thread reads it from its start, and hashes it as `sum` hashes its input.
     fn file_root(&mut self, name: &[u8]) -> Result<Top, FileFault>
         ensures root { IsRootOfSome self.old.mode result }
         ensures mode { self.new.mode ≡ self.old.mode }
@@ -128,18 +127,28 @@ impl<T: Threads + Runtime> FileHasher<'_, T> {
         let Ok(path) = str::from_utf8(name) else {
             return Err(FileFault::Failed(Reason::NotUtf8));
         };
-        let mode = self.mode;
-        if let Some(root) = small_root(self.rt, &mode, name, &mut self.room, &mut self.work) {
-            return Ok(root);
-        }
         let mut file = match File::open(self.rt, path) {
             Ok(file) => FileBytes { file, start: 0 },
             Err(error) => return Err(fault_of(&error)),
         };
-        if let Some(root) = self.root_from_places(&file) {
+        if let Some(root) = self.regular_root(&file) {
             return Ok(root);
         }
         self.stream_root(&mut file.file)
+    }
+
+    // The root of all remaining bytes of an input. Then no bytes remain.
+    fn input_root<I: Standing>(&mut self, input: &mut I) -> Result<Top, FileFault>
+        ensures root { IsRootOfSome self.old.mode result }
+        ensures mode { self.new.mode ≡ self.old.mode }
+        ensures end { OnOk result (IsAtEnd (I.remaining input.new)) }
+        ensures left { IsRootOfLeft (I.remaining input.old) self.old.mode result }
+        ensures read { result ≡ Err (Failed NotUtf8) → ⊥ }
+    {
+        match self.standing_root(input) {
+            Some(root) => Ok(root),
+            None => self.stream_root(input),
+        }
     }
 
     // The root of all remaining bytes of an input, if it is an open file that threads can read at any offset. Then no bytes remain.
@@ -150,16 +159,15 @@ impl<T: Threads + Runtime> FileHasher<'_, T> {
         ensures unknown { IfSome result (λ _. I.remaining input.old ≡ None) }
         ensures none { IfNone result (input.new ≡ input.old) }
     {
-        let Some((file, start)) = input.as_file() else {
-            return None;
-        };
-        let root = self.root_from_places(&FileBytes { file, start })?;
+        let (file, start) = input.as_file()?;
+        let len = regular_len(file.metadata())?;
+        let root = self.root_from_places(&FileBytes { file, start }, len)?;
         input.take_all();
         Some(root)
     }
 }
 
-/// The files of the file system. A name is a path, and so is `-`. In contracts this is the mode that they are hashed in, and the number of
+/// The files of the file system. A name is a path, and so is `-` here. In contracts this is the mode that they are hashed in, and the number of
 /// threads.
 ///
 /// Names that are expected are looked up ahead, 1024 at a time: several threads hash the regular files among them that are not empty and
@@ -178,35 +186,32 @@ impl<'a, T> Model for SystemFiles<'a, T> {
 
     ghost Value = { Setting };
 
-    ghost view = { λ f. record { mode = f.hasher.mode; threads = f.hasher.threads } };
+    ghost view = { λ f. record { mode = f.hasher.mode; threads = f.hasher.threads.now.count } };
 
     ghost invariant = { λ f. All (IsNamedRoot f.hasher.mode) f.known.items };
 }
 
 impl<'a, T: Threads + Runtime> SystemFiles<'a, T> {
-    /// The files that `rt` can reach, hashed in a mode. At most `threads` threads, started by `starter`, hash a file, and at most as many
-    /// files at a time; with `None` there are as many as the machine has processors.
+    /// The files that `rt` can reach, hashed in a mode. At most `threads.count` threads hash a file, and at most as many files at a time.
     pub fn new(
         rt: &'a HostRuntime,
-        starter: &'a T,
+        threads: &'a HashThreads<'a, T>,
         mode: SumMode<'_>,
-        threads: Option<u32>,
     ) -> SystemFiles<'a, T>
         ensures mode { result.mode ≡ sum_mode mode.entry }
-        ensures threads { result.threads ≡ threads }
+        ensures threads { result.threads ≡ threads.entry.now.count }
     {
         let mut work = Work::new(rt);
         let hasher = FileHasher {
             rt,
-            starter,
-            mode: mode_of(mode, &mut work),
             threads,
+            mode: mode_of(mode, &mut work),
             room: Vec::new(rt.alloc()),
             work,
         };
         SystemFiles {
             hasher,
-            workers: thread_count(starter, threads),
+            workers: thread_count(threads.rt, threads.count),
             known: Vec::new(rt.alloc()),
             next: 0,
         }
@@ -235,11 +240,11 @@ impl<'a, T: Threads + Runtime> SystemFiles<'a, T> {
         let size = names.len().div_ceil(self.workers.max(1)).max(1);
         let FileHasher {
             rt,
-            starter,
+            threads,
             mode,
             ..
         } = &self.hasher;
-        self.known = hash_groups(rt, starter, *mode, size, names);
+        self.known = hash_groups(rt, threads.rt, *mode, size, names);
         self.next = 0;
     }
 
@@ -251,6 +256,18 @@ impl<'a, T: Threads + Runtime> SystemFiles<'a, T> {
             return;
         }
         if let Ok(names) = next_names(self.hasher.rt.alloc(), names) {
+            self.look_up(names);
+        }
+    }
+
+    // Looks the names in the first of these lines up ahead.
+    fn expect_lines(&mut self, lines: &[NumberedLine])
+        ensures { self.new ≡ self.old }
+    {
+        if !self.looks_ahead(lines.len()) {
+            return;
+        }
+        if let Ok(names) = names_of_lines(self.hasher.rt.alloc(), lines) {
             self.look_up(names);
         }
     }
@@ -285,50 +302,23 @@ impl<'a, T: Threads + Runtime> SystemFiles<'a, T> {
     }
 }
 
-impl<T: Threads + Runtime> Names for SystemFiles<'_, T> {
-    ghost use Rattle.std.specs.Prelude.{◌≡◌};
-    ghost use Rattle.hash_engines.specs.Checks.{IsAnswerOfFiles};
-
-    ghost gives = { λ old name answer new. IsAnswerOfFiles old.mode name answer × (new.mode ≡ old.mode) };
-
-    fn expect(&mut self, lines: &[NumberedLine]) {
-        if !self.looks_ahead(lines.len()) {
-            return;
-        }
-        if let Ok(names) = names_of_lines(self.hasher.rt.alloc(), lines) {
-            self.look_up(names);
-        }
-    }
-
-    /// The hash of all bytes of the file. If the system reports that there is no such file, also for a dangling link, the result is `None`;
-    /// any other failure, such as for a directory, is `Unreadable`.
-    fn digest_of(&mut self, name: &[u8]) -> Result<Option<[u8; 32]>, NameFault> {
-        match self.root_of_file(name) {
-            Ok(root) => Ok(Some(root.root32(&mut self.hasher.work))),
-            Err(FileFault::NoMemory) => Err(NameFault::NoMemory),
-            Err(FileFault::Failed(reason)) => {
-                if reason == Reason::Missing {
-                    Ok(None)
-                } else {
-                    Err(NameFault::Unreadable)
-                }
-            }
-        }
-    }
-}
-
-/// The files of the file system, with another input for `-`, and a writer for messages.
+/// The files of the file system, with an input for `-`, if it is free, and a writer for messages.
 #[derive(Drop)]
 pub struct SystemInputs<'a, T, I: Standing + Drop, E: Write + Drop> {
     files: SystemFiles<'a, T>,
-    input: I,
+    input: Option<I>,
     reported: E,
 }
 
 impl<'a, T, I: Standing + Drop, E: Write + Drop> SystemInputs<'a, T, I, E> {
-    /// These files and this input; messages are written to `reported`.
-    pub fn new(files: SystemFiles<'a, T>, input: I, reported: E) -> SystemInputs<'a, T, I, E>
-        ensures { result.files ≡ files.entry }
+    /// These files, and this input, or none for `-`; messages are written to `reported`.
+    pub fn new(
+        files: SystemFiles<'a, T>,
+        input: Option<I>,
+        reported: E,
+    ) -> SystemInputs<'a, T, I, E>
+        ensures files { result.files ≡ files.entry }
+        ensures input { result.input ≡ input }
     {
         SystemInputs {
             files,
@@ -350,16 +340,13 @@ fn write_reason<E: Write>(name: &[u8], reason: Reason, reported: &mut E) -> io::
 
 impl<T: Threads + Runtime, I: Standing + Drop, E: Write + Drop> Sources
     for SystemInputs<'_, T, I, E> {
-    ghost use Rattle.std.specs.Prelude.{◌≡◌, ◌≢◌, Err, OnOk, codes};
-    ghost use Rattle.std.specs.Io.KnownBytes.{IsAtEnd};
-    ghost use Rattle.hash_engines.specs.Sums.{IsRootOfFile, IsRootOfLeft, IsRootOfSome};
-    ghost use Rattle.hash_engines.specs.declared.sources.FileFault.TheVariants.{Failed};
-    ghost use Rattle.hash_engines.specs.declared.sources.Reason.TheVariants.{NotUtf8};
+    ghost use Rattle.std.specs.Prelude.{◌≡◌, ◌≢◌, codes};
+    ghost use Rattle.hash_engines.specs.Sums.{IsRootOfFile, IsRootOfInput, IsRootOfSome};
 
-    // For a name other than `-` the input is not read; after a root for `-`, which is UTF-8, it is at its end. No message is written.
+    // For a name other than `-` the input is not read; after a root for `-` it is at its end. No message is written.
     ghost gives = { λ old name answer new. IsRootOfSome old.files.mode answer
         × (name ≢ codes "-" → IsRootOfFile name answer × (new.input ≡ old.input))
-        × (name ≡ codes "-" → OnOk answer (IsAtEnd (I.remaining new.input)) × (answer ≢ Err (Failed NotUtf8)) × IsRootOfLeft (I.remaining old.input) old.files.mode answer)
+        × (name ≡ codes "-" → IsRootOfInput I.remaining old.files.mode old.input answer new.input)
         × (new.files.mode ≡ old.files.mode) × (new.reported ≡ old.reported) };
 
     ghost reports = { λ old name reason new. (new.files ≡ old.files) × (new.input ≡ old.input) };
@@ -368,15 +355,19 @@ impl<T: Threads + Runtime, I: Standing + Drop, E: Write + Drop> Sources
         self.files.expect_names(names);
     }
 
+    fn expect_lines(&mut self, lines: &[NumberedLine]) {
+        self.files.expect_lines(lines);
+    }
+
     fn root_of(&mut self, name: &[u8]) -> Result<Top, FileFault> {
         if name != b"-".as_slice() {
             return self.files.root_of_file(name);
         }
         // It may have been looked up as a path.
         let _ahead = self.files.known_root(name);
-        match self.files.hasher.standing_root(&mut self.input) {
-            Some(root) => Ok(root),
-            None => self.files.hasher.stream_root(&mut self.input),
+        match &mut self.input {
+            Some(input) => self.files.hasher.input_root(input),
+            None => Err(FileFault::Failed(Reason::InputTaken)),
         }
     }
 

@@ -1,16 +1,26 @@
 //! The engines that hash and check files, each over a reader or named inputs, and a writer. They need no store.
 //!
 //! ```rust
+//! let threads = HashThreads {
+//!     rt: &rt,
+//!     alloc,
+//!     count: None,
+//! };
 //! let request = SumRequest {
-//!     name: "notes.txt",
+//!     line: SumLine {
+//!         name: b"notes.txt",
+//!         length: None,
+//!     },
 //!     mode: SumMode::Hash,
-//!     length: None,
-//!     threads: None,
 //! };
 //! let mut line = Vec::new(alloc);
-//! sum(&rt, alloc, &request, &mut reader, &mut line, &mut work)?;
+//! sum(&threads, &request, &mut reader, &mut line, &mut work)?;
 //! let mut list = line.as_slice();
-//! let verdict = check(alloc, Shown::All, &mut names, &mut list, &mut report)?;
+//! let options = ReportOptions {
+//!     shown: Shown::All,
+//!     ignores_missing: false,
+//! };
+//! let verdict = check(alloc, options, &mut names, &mut list, &mut report)?;
 //! ```
 //!
 //! | Engine | Reads | Writes |
@@ -19,8 +29,8 @@
 //! | `sum_files` | the files of several names | the same for each, when it is known |
 //! | `check` | check lines | for each, whether the file of its name has its hash |
 //!
-//! An engine ends with its `Verdict`, or with the `Cause` that stopped it. `SystemFiles` are the names that `check` uses in the program,
-//! and `SystemInputs` the sources of `sum_files`; several threads hash small files of both before they are asked for. If the input of `sum`
+//! An engine ends with its `Verdict`, or with the `Cause` that stopped it. `SystemInputs` are the sources of `sum_files` in the program, and
+//! `Digests` of them the names of `check`; several threads hash small files of both before they are asked for. If the input of `sum`
 //! is an open file, `SystemFiles::root_of_file_input` returns its root, and `write_root` writes what `sum` does. `read_key` and
 //! `read_names` read the key and the names that `sum` takes from files.
 //!
@@ -30,16 +40,19 @@
 
 mod ahead;
 mod checking;
+mod digests;
 mod files;
 mod keys;
 mod lists;
 mod sources;
 mod summing;
 
+pub use b3_parallel::HashThreads;
 pub use checking::check;
+pub use digests::Digests;
 pub use edge::{Cause, Verdict};
 pub use files::{SystemFiles, SystemInputs, fault_of};
 pub use keys::read_key;
 pub use lists::{names_of, read_names};
 pub use sources::{FileFault, Reason, Sources, Standing};
-pub use summing::{SumRequest, sum, sum_files, write_root};
+pub use summing::{SumLine, SumLines, SumMode, SumRequest, sum, sum_files, write_root};

@@ -7,7 +7,7 @@ ghost use Rattle.hash_engines.specs.Sums.{reason_text};
 ghost use Rattle.hash_engines.specs.declared.sources.FileFault.{FileFault as Refusal};
 ghost use Rattle.hash_engines.specs.declared.sources.Reason.{Reason as Cause};
 
-use b3_check::Name;
+use b3_check::{Name, NumberedLine};
 use b3_core::Top;
 use std::fs::File;
 use std::io::Read;
@@ -23,6 +23,8 @@ pub enum Reason {
     NoPermission,
     /// The name is not UTF-8, and the program cannot open such files.
     NotUtf8,
+    /// It is standard input, which is read for something else.
+    InputTaken,
     /// Something else, such as a loop of links, or a failed read.
     Unreadable,
 }
@@ -37,6 +39,7 @@ impl Reason {
             Reason::IsFolder => "it is a folder",
             Reason::NoPermission => "no permission",
             Reason::NotUtf8 => "the name is not UTF-8",
+            Reason::InputTaken => "standard input is the list itself",
             Reason::Unreadable => "it can't be read",
         }
     }
@@ -62,6 +65,11 @@ pub trait Sources {
     /// Announces the following names, in their order, so that they can be looked up ahead. It is a hint: no result depends on it, and any
     /// other name may be asked for.
     fn expect(&mut self, _names: &[Name])
+        ensures { self.new ≡ self.old }
+    {}
+
+    /// Announces the names in the following lines, in the same way.
+    fn expect_lines(&mut self, _lines: &[NumberedLine])
         ensures { self.new ≡ self.old }
     {}
 

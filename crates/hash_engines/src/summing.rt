@@ -14,23 +14,48 @@ ghost use Rattle.hash_engines.specs.inner.Sums.{IsSumOf, both};
 use crate::sources::{FileFault, Sources};
 use b3_check::{Line, Name};
 use b3_core::{Mode, OutputReader, Runtime, Top, Work};
-use b3_parallel::hash_all;
-use edge::{Cause, SumMode, Verdict, read_cause, write_all};
+use b3_parallel::{HashThreads, hash_all};
+use edge::{Cause, Verdict, read_cause, write_all};
 use std::alloc::{AllocError, Global};
 use std::io::{Read, Write};
 use std::thread::Threads;
 
-/// How an input is hashed, and what is written about it.
+/// The mode that `sum` hashes in.
 #[derive(Clone, Copy)]
-pub struct SumRequest<'a> {
+pub enum SumMode<'a> {
+    /// The default hash, without a key.
+    Hash,
+    /// The keyed hash with this key.
+    Keyed([u8; 32]),
+    /// A key derived in this context.
+    Derive(&'a str),
+}
+
+/// The line that is written for an input.
+#[derive(Clone, Copy)]
+pub struct SumLine<'a> {
     /// The name in the check line.
-    pub name: &'a str,
-    /// The mode that the input is hashed in.
-    pub mode: SumMode<'a>,
+    pub name: &'a [u8],
     /// The number of bytes of extended output to write instead of the check line.
     pub length: Option<u32>,
-    /// The maximum number of threads that hash the input; `None` for as many as the machine has processors.
-    pub threads: Option<u32>,
+}
+
+/// The lines that are written for files.
+#[derive(Clone, Copy)]
+pub struct SumLines<'a> {
+    /// The names of the files.
+    pub names: &'a [Name],
+    /// The number of bytes of extended output to write instead of each check line.
+    pub length: Option<u32>,
+}
+
+/// How an input is hashed, and the line that is written for it.
+#[derive(Clone, Copy)]
+pub struct SumRequest<'a> {
+    /// The line.
+    pub line: SumLine<'a>,
+    /// The mode that the input is hashed in.
+    pub mode: SumMode<'a>,
 }
 
 /// The mode that the options ask for.
@@ -73,39 +98,37 @@ fn output_line(alloc: Global, root: Top, len: u32, work: &mut Work) -> Result<Ve
 // What is written for the input with this root.
 fn text_of(
     alloc: Global,
-    length: Option<u32>,
-    name: &[u8],
+    line: &SumLine<'_>,
     root: Top,
     work: &mut Work,
 ) -> Result<Vec<u8>, AllocError>
-    requires { IsName name.now }
-    ensures { IfOk result (λ text. text.items ≡ root_text length name.now root) }
+    requires { IsName line.now.name.now }
+    ensures { IfOk result (λ text. text.items ≡ root_text line.now.length line.now.name.now root) }
 {
-    match length {
-        None => check_line(alloc, name, &root, work),
+    match line.length {
+        None => check_line(alloc, line.name, &root, work),
         Some(len) => output_line(alloc, root, len, work),
     }
 }
 
-/// Writes the result for an input with this root: without a length the check line of its hash and the name, with one the digits of `length`
+/// Writes the line for an input with this root: without a length the check line of its hash and the name, with one the digits of `length`
 /// bytes of the extended output, and a newline.
 ///
-/// It stops if out of memory, with nothing written, or at a failed write, after which a prefix of the result was written.
+/// It stops if out of memory, with nothing written, or at a failed write, after which a prefix of the line was written.
 pub fn write_root<W: Write>(
     alloc: Global,
-    length: Option<u32>,
-    name: &[u8],
+    line: &SumLine<'_>,
     root: Top,
     writer: &mut W,
     work: &mut Work,
 ) -> Result<(), Cause>
-    requires { IsName name.now }
-    ensures written { OnOk result (Appends (W.contents writer.old) (W.contents writer.new) (root_text length name.now root)) }
+    requires { IsName line.now.name.now }
+    ensures written { OnOk result (Appends (W.contents writer.old) (W.contents writer.new) (root_text line.now.length line.now.name.now root)) }
     ensures cause { IfErr result (λ cause. cause ≢ Cause.CannotRead) }
     ensures silent { IfErr result (λ cause. cause ≡ Cause.OutOfMemory → W.contents writer.new ≡ W.contents writer.old) }
-    ensures failed { result ≡ Err Cause.CannotWrite → WroteSome (W.contents writer.old) (W.contents writer.new) (root_text length name.now root) }
+    ensures failed { result ≡ Err Cause.CannotWrite → WroteSome (W.contents writer.old) (W.contents writer.new) (root_text line.now.length line.now.name.now root) }
 {
-    let text = text_of(alloc, length, name, root, work)?;
+    let text = text_of(alloc, line, root, work)?;
     write_all(writer, &text)
 }
 
@@ -114,34 +137,31 @@ pub fn write_root<W: Write>(
 /// Without a length that is the check line with the requested name; with a length it is the digits of that many bytes of the extended
 /// output, and a newline.
 ///
-/// The input is hashed as it is read, by at most the requested number of threads, in memory that does not grow with it. No thread is left
-/// running.
+/// The input is hashed as it is read, by at most `threads.count` threads, in memory that does not grow with it. No thread is left running.
 ///
 /// It stops at the first failed read or write, or if out of memory. It writes nothing before it has read everything; after a failed write a
 /// prefix of the result was written.
 pub fn sum<T: Threads + Runtime, R: Read, W: Write>(
-    rt: &T,
-    alloc: Global,
+    threads: &HashThreads<'_, T>,
     request: &SumRequest<'_>,
     reader: &mut R,
     writer: &mut W,
     work: &mut Work,
 ) -> Result<(), Cause>
-    requires { IsName request.now.name.now }
+    requires { IsName request.now.line.name.now }
     ensures written { OnOk result (IfSome (R.remaining reader.old) (λ input.
-        Appends (W.contents writer.old) (W.contents writer.new) (sum_text request.now.length request.now.name.now (sum_mode request.now.mode) input))) }
+        Appends (W.contents writer.old) (W.contents writer.new) (sum_text request.now.line.length request.now.line.name.now (sum_mode request.now.mode) input))) }
     ensures end { OnOk result (IsAtEnd (R.remaining reader.new)) }
     ensures silent { IfErr result (λ cause. cause ≢ Cause.CannotWrite → W.contents writer.new ≡ W.contents writer.old) }
     ensures failed { result ≡ Err Cause.CannotWrite → IfSome (R.remaining reader.old) (λ input.
-        WroteSome (W.contents writer.old) (W.contents writer.new) (sum_text request.now.length request.now.name.now (sum_mode request.now.mode) input)) }
+        WroteSome (W.contents writer.old) (W.contents writer.new) (sum_text request.now.line.length request.now.line.name.now (sum_mode request.now.mode) input)) }
 {
     let mode = mode_of(request.mode, work);
-    let root = match hash_all(rt, alloc, &mode, reader, request.threads, work) {
+    let root = match hash_all(threads, &mode, reader, work) {
         Ok(root) => root,
         Err(error) => return Err(read_cause(&error)),
     };
-    let name = request.name.as_bytes();
-    write_root(alloc, request.length, name, root, writer, work)
+    write_root(threads.alloc, &request.line, root, writer, work)
 }
 
 /// Writes the hash of the file of each name, in order, each when it is known: its check line, or with a length the digits of `length` bytes
@@ -152,20 +172,21 @@ pub fn sum<T: Threads + Runtime, R: Read, W: Write>(
 /// name at which it stopped, a prefix was written if a write failed, otherwise nothing.
 pub fn sum_files<S: Sources, W: Write>(
     alloc: Global,
-    length: Option<u32>,
-    names: &[Name],
+    lines: &SumLines<'_>,
     sources: &mut S,
     writer: &mut W,
     work: &mut Work,
 ) -> Result<Verdict, Cause>
-    ensures summed { IfOk result (λ verdict. (answers : List RootAnswer) × AreRootAnswers S.gives S.reports sources.old names.now answers sources.new
-        × Appends (W.contents writer.old) (W.contents writer.new) (root_answers_text length names.now answers) × (verdict ≡ root_answers_verdict answers)) }
-    ensures stopped { IfErr result (λ cause. IsSumStopped S.gives S.reports length sources.old names.now cause sources.new (W.contents writer.old) (W.contents writer.new)) }
+    ensures summed { IfOk result (λ verdict. (answers : List RootAnswer) × AreRootAnswers S.gives S.reports sources.old lines.now.names.now answers sources.new
+        × Appends (W.contents writer.old) (W.contents writer.new) (root_answers_text lines.now.length lines.now.names.now answers) × (verdict ≡ root_answers_verdict answers)) }
+    ensures stopped { IfErr result (λ cause. IsSumStopped S.gives S.reports lines.now.length sources.old lines.now.names.now cause sources.new (W.contents writer.old) (W.contents writer.new)) }
 {
+    let (names, length) = (lines.names, lines.length);
     let mut verdict = Verdict::Good;
     for (index, name) in names.iter().enumerate() {
         sources.expect(&names[index..]);
-        let found = sum_file(alloc, length, name, sources, writer, work)?;
+        let name = name.as_bytes();
+        let found = sum_file(alloc, &SumLine { name, length }, sources, writer, work)?;
         verdict = both(verdict, found);
     }
     Ok(verdict)
@@ -181,26 +202,25 @@ fn both(first: Verdict, second: Verdict) -> Verdict
     }
 }
 
-// Writes the hash of the file of a name, or reports why there is none.
+// Writes the line for the file of a name, or reports why there is no root.
 fn sum_file<S: Sources, W: Write>(
     alloc: Global,
-    length: Option<u32>,
-    name: &Name,
+    line: &SumLine<'_>,
     sources: &mut S,
     writer: &mut W,
     work: &mut Work,
 ) -> Result<Verdict, Cause>
-    ensures summed { IfOk result (IsSumOf S.gives S.reports length sources.old name.now sources.new (W.contents writer.old) (W.contents writer.new)) }
-    ensures stopped { IfErr result (λ cause. IsStoppedAt S.gives length cause sources.old name.now sources.new (W.contents writer.old) (W.contents writer.new)) }
+    requires { IsName line.now.name.now }
+    ensures summed { IfOk result (IsSumOf S.gives S.reports line.now.length sources.old line.now.name.now sources.new (W.contents writer.old) (W.contents writer.new)) }
+    ensures stopped { IfErr result (λ cause. IsStoppedAt S.gives line.now.length cause sources.old line.now.name.now sources.new (W.contents writer.old) (W.contents writer.new)) }
 {
-    let bytes = name.as_bytes();
-    match sources.root_of(bytes) {
+    match sources.root_of(line.name) {
         Ok(root) => {
-            write_root(alloc, length, bytes, root, writer, work)?;
+            write_root(alloc, line, root, writer, work)?;
             Ok(Verdict::Good)
         }
         Err(FileFault::Failed(reason)) => {
-            sources.report(bytes, reason);
+            sources.report(line.name, reason);
             Ok(Verdict::Refused)
         }
         Err(FileFault::NoMemory) => Err(Cause::OutOfMemory),

@@ -10,7 +10,8 @@ use Rattle.std.specs.Ordering.{nat_cmp}
 use Rattle.std.specs.Str.{bytes_eq}
 use Rattle.std.proofs.lemmas.Slice.Eq.{bytes_eq-Decides}
 use Rattle.store_books.specs.Books.{Filed, addressed, object_among}
-use Rattle.store_books.specs.inner.Catalog.{AreCatalogued, ModelCatalog, IsAddressed}
+use Rattle.store_books.specs.Kept.{ModelCatalog}
+use Rattle.store_books.specs.inner.Catalog.{AreCatalogued, IsAddressed}
 use Rattle.store_books.specs.Commands.{with_holders}
 use Rattle.store_books.proofs.AddressedObjects.{readdressed}
 use Rattle.store_books.proofs.Lists.{all_push, all_removed, all_set, values_push as values-push}

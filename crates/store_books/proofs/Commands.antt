@@ -3,20 +3,22 @@ use Rattle.std.proofs.Common.{◌≡◌, ◌∙◌, ◌+◌, ◌^◌, ◌<◌, �
 use Rattle.std.specs.Prelude.{if◌then◌else◌, nat_lt, option_map, sum_by, unwrap_or}
 use Rattle.std.specs.List.{AllByRecursion}
 use Rattle.std.specs.Map.{keys_of, lookup, remove_entry, set_value, values_of}
-use Rattle.std.specs.Option.{option_or}
+use Rattle.std.specs.Option.{option_map_or, option_or}
 use Rattle.std.proofs.lemmas.Bool.{cases_Bool, eq-eqb, leb-false, ltb-false, ne_eqb}
 use Rattle.std.proofs.lemmas.List.Sums.{sum_by_push}
 use Rattle.std.proofs.lemmas.Map.{keys-set_value}
 use Rattle.std.proofs.lemmas.Map.Entries.{sum_by-remove_entry, sum_by-set_value}
-use Rattle.store_books.specs.declared.refusal.Refusal.TheVariants.{JournalFull, NoTenant, TooLong}
-use Rattle.store_books.specs.declared.tenant.Change.{Change}
-use Rattle.store_books.specs.Books.{AreSound, ModelOwnedUpload, ModelBooks, IsOwnedUpload, IsRisingFrom, held_bytes_of, in_use, is_absent, is_full, is_number, limit_of, parts_of, reserved_by, reserved_of, upload_at}
-use Rattle.store_books.specs.Commands.{add_refused, begin_refusal, fix_refused, full_refusal, with_begun, with_upload, without_upload}
-use Rattle.store_upload.specs.Uploads.{Fits, IsUpload, UploadPlan, first_end, fix_fault, fixed_at, held_bytes, length_of, max_bytes, new_upload, place_fault, with_more}
+use Rattle.store_books.specs.declared.refusal.Refusal.{Refusal}
+use Rattle.store_books.specs.declared.refusal.Refusal.TheVariants.{JournalFull, NoTenant, NoUpload, TooLong}
+use Rattle.store_books.specs.declared.accounts.Amounts.{Amounts}
+use Rattle.store_books.specs.Books.{AreSound, ModelOwnedUpload, ModelBooks, IsOwnedUpload, IsRisingFrom, in_use, is_absent, is_full, is_number, limit_of, reserved_by, reserved_of, upload_at}
+use Rattle.store_books.specs.Commands.{add_refused, begin_refusal, fix_refused, full_refusal, on_upload, with_begun, with_upload, without_upload}
+use Rattle.store_books.specs.inner.Kept.{held_by}
+use Rattle.store_upload.specs.Uploads.{Fits, IsUpload, ModelUpload, UploadPlan, first_end, fix_fault, fixed_at, held_bytes, length_of, max_bytes, new_upload, place_fault, with_more}
 use Rattle.store_upload.proofs.Ends.{fixed_within, fixes, grown, nothing_held}
 use Rattle.store_upload.proofs.Places.{not_some}
 use Rattle.store_books.proofs.Lists.{all_found, all_push, all_removed, all_set, all_weaker, values_push}
-use Rattle.store_books.proofs.Sums.{Moves}
+use Rattle.store_books.proofs.Sums.{Moves, MovesObjects, MovesUploads, same}
 
 -- ---- tests
 
@@ -39,19 +41,32 @@ pub none_mapped : {X Y : Type 0} (f : X → Y) (o : Option X) → option_map f o
 none_mapped f None h = refl
 none_mapped f (Some x) h = absurd (not_some (f x) (sym h))
 
-pub room : {P O : Type 0} (b : ModelBooks P O) → full_refusal b ≡ None → b.accepted < b.max_entries
-room b h = leb-false b.max_entries b.accepted (passed (is_full b) JournalFull None h).0
+pub room : {P O : Type 0} (b : ModelBooks P O) → full_refusal b ≡ None → b.entry_count < b.max_entries
+room b h = leb-false b.max_entries b.entry_count (passed (is_full b) JournalFull None h).0
 
--- ---- changes of a sum
+-- what a command on the open upload of a number is about
+pub on_found : {P O : Type 0} (b : ModelBooks P O) (number : ℕ) (rest : ModelOwnedUpload P → Option Refusal) → on_upload b number rest ≡ None → (u : ModelOwnedUpload P) × (upload_at b number ≡ Some u) × (rest u ≡ None)
+on_found {P = P} b number rest = by (upload_at b number) refl
+  where
+    by : (found : Option (ModelOwnedUpload P)) → upload_at b number ≡ found → option_map_or rest found (Some NoUpload) ≡ None → (u : ModelOwnedUpload P) × (upload_at b number ≡ Some u) × (rest u ≡ None)
+    by None is h = absurd (not_some NoUpload (sym h))
+    by (Some u) is h = (u, is, h)
 
-abbrev pub none : Change
-none = record { less = 0; more = 0 }
+-- ---- amounts
 
-abbrev pub rises : ℕ → Change
-rises n = record { less = 0; more = n }
+-- of an open upload: its reservation, the bytes and the number of its parts
+abbrev pub open_amounts : ℕ → ℕ → ℕ → Amounts
+open_amounts reserved held parts = record { used = 0; reserved = reserved; object_bytes = 0; held = held; parts = parts }
 
-abbrev pub falls : ℕ → Change
-falls n = record { less = n; more = 0 }
+abbrev pub reserving : ℕ → Amounts
+reserving n = open_amounts n 0 0
+
+-- of an object: what a tenant uses by it, and its bytes
+abbrev pub object_amounts : ℕ → ℕ → Amounts
+object_amounts used bytes = record { used = used; reserved = 0; object_bytes = bytes; held = 0; parts = 0 }
+
+abbrev pub none : Amounts
+none = open_amounts 0 0 0
 
 -- ---- numbers
 
@@ -81,8 +96,8 @@ all_keys n (e ∷ es) h = (h.0, all_keys n es h.1)
 -- ---- what is reserved
 
 module _ {P : Type 0} where
-  pub reserved_mine : (u : ModelOwnedUpload P) → reserved_by u.tenant u ≡ length_of u.upload
-  reserved_mine u = rw (eq-eqb u.tenant u.tenant refl) refl
+  pub reserved_mine : (t : ℕ) (u : ModelOwnedUpload P) → u.tenant ≡ t → reserved_by t u ≡ length_of u.upload
+  reserved_mine t u mine = rw (eq-eqb u.tenant t mine) refl
 
   pub reserved_others : (q : ℕ) (u : ModelOwnedUpload P) → (u.tenant ≡ q → ⊥) → reserved_by q u ≡ 0
   reserved_others q u apart = rw (ne_eqb u.tenant q apart) refl
@@ -107,178 +122,131 @@ no_longer_than plan = by plan.is_open
     by false = refl
 
 module _ {P O : Type 0} (len : P → ℕ) (size : O → ℕ) (address : O → List ℕ) where
-  pub record Begins (b : ModelBooks P O) (tenant : ℕ) (plan : UploadPlan) : Type 0 where
-    pub moves : Moves len size address tenant none (rises plan.bound) b (with_begun b tenant plan)
-    pub held : held_bytes_of len (with_begun b tenant plan) ≡ held_bytes_of len b
-    pub parts : parts_of (with_begun b tenant plan) ≡ parts_of b
+  objects_stay : {t r h p reserved held parts : ℕ} (b : ModelBooks P O) → AreSound len size address b → MovesObjects size address t (open_amounts r h p) (open_amounts reserved held parts) b b.objects
+  objects_stay b sound = record { objects = sound.objects; apart = sound.apart; used = same; others = λ q apart. refl; bytes = same }
 
-  pub begins : (b : ModelBooks P O) (tenant : ℕ) (plan : UploadPlan) → begin_refusal size b tenant plan.bound ≡ None → AreSound len size address b → Begins b tenant plan
-  begins b tenant plan free sound =
-      let there = passed (is_absent b tenant) NoTenant _ free in
-      let short = passed (nat_lt max_bytes plan.bound) TooLong _ there.1 in
-      let fits = passed (nat_lt (limit_of b tenant) (in_use size b tenant + plan.bound)) _ _ short.1 in
-      let u : ModelOwnedUpload P = record { tenant = tenant; upload = new_upload plan } in
-      let within = ltb-false (limit_of b tenant) (in_use size b tenant + plan.bound) fits.0 in
+  pub begins : (b : ModelBooks P O) (t : ℕ) (plan : UploadPlan) (n : ℕ) → n ≡ plan.bound → begin_refusal size b t plan.bound ≡ None → AreSound len size address b → Moves len size address t none (reserving n) b (with_begun b t plan)
+  begins b t plan n is free sound =
+      let present = passed (is_absent b t) NoTenant _ free in
+      let short = passed (nat_lt max_bytes plan.bound) TooLong _ present.1 in
+      let fits = passed (nat_lt (limit_of b t) (in_use size b t + plan.bound)) _ _ short.1 in
+      let there = leb-false (length b.tenant_limits) t present.0 in
+      let u : ModelOwnedUpload P = record { tenant = t; upload = new_upload plan } in
+      let within = ltb-false (limit_of b t) (in_use size b t + plan.bound) fits.0 in
       let bound = no_longer_than plan in
-      let mine = more (reserved_by tenant) b.uploads b.begun u in
-      let own = reserved_mine u in
+      let mine = more (reserved_by t) b.uploads b.begun u in
+      let own = reserved_mine t u refl in
       let held = more (λ (v : ModelOwnedUpload P). held_bytes len v.upload.parts) b.uploads b.begun u in
       let parts = more (λ (v : ModelOwnedUpload P). length v.upload.parts) b.uploads b.begun u in
-      let among : IsOwnedUpload len (length b.tenant_limits) (b.begun + 1) (b.begun, u) = record {
-        number = omega arith;
-        tenant = leb-false (length b.tenant_limits) tenant there.0;
-        upload = nothing_held len plan [] (ltb-false max_bytes plan.bound short.0) refl;
-      } in
+      let among : IsOwnedUpload len (length b.tenant_limits) (b.begun + 1) (b.begun, u) = record { number = omega arith; tenant = there; upload = nothing_held len plan [] (ltb-false max_bytes plan.bound short.0) refl } in
       record {
-        moves = record {
-          tenants = refl;
-          entries = refl;
-          tenant_limits = refl;
-          accepted = refl;
-          room = room b fits.1;
-          there = leb-false (length b.tenant_limits) tenant there.0;
-          uses = refl;
-          use_low = omega arith;
-          reserves = omega (arith, mine, own, bound);
-          reserved_low = omega arith;
-          others_use = λ q apart. refl;
-          others_reserve = λ q apart. let other = reserved_others q u apart in let sum = more (reserved_by q) b.uploads b.begun u in omega (arith, other, sum);
-          fits = omega (arith, mine, own, bound, within);
-          begun = omega arith;
+        room = room b fits.1;
+        there = there;
+        uploads = record {
+          few = omega arith;
           uploads = all_push (IsOwnedUpload len (length b.tenant_limits) (b.begun + 1)) b.uploads (b.begun, u)
               (all_weaker (IsOwnedUpload len (length b.tenant_limits) b.begun) (IsOwnedUpload len (length b.tenant_limits) (b.begun + 1)) b.uploads (λ e is. record { number = omega (arith, is.number); tenant = is.tenant; upload = is.upload }) sound.uploads) among;
           sorted = subst (IsRisingFrom 0) (sym (keys_push b.uploads (b.begun, u)))
               (rising_push 0 b.begun (keys_of b.uploads) (omega arith) (all_keys b.begun b.uploads (all_weaker (IsOwnedUpload len (length b.tenant_limits) b.begun) (λ e. e.0 < b.begun) b.uploads (λ e is. is.number) sound.uploads)) sound.sorted);
-          objects = sound.objects;
-          apart = sound.apart;
-          stored = omega (arith, held);
-          parts = omega (arith, parts);
+          reserved = record { is = omega (arith, mine, own, bound, is); low = omega arith };
+          others = λ q apart. let other = reserved_others q u apart in let sum = more (reserved_by q) b.uploads b.begun u in omega (arith, other, sum);
+          held = record { is = omega (arith, held); low = omega arith };
+          parts = record { is = omega (arith, parts); low = omega arith };
         };
-        held = omega (arith, held);
-        parts = omega (arith, parts);
+        objects = objects_stay b sound;
+        fits = omega (arith, mine, own, bound, within);
+        stored = omega arith;
+        few = omega arith;
       }
 
-  -- ---- an upload is replaced by a lawful one that is no longer
-
-  pub record Replaces (b : ModelBooks P O) (number : ℕ) (u w : ModelOwnedUpload P) : Type 0 where
-    pub moves : Moves len size address u.tenant none (record { less = length_of u.upload; more = length_of w.upload }) b (with_upload b number w)
-    pub held : held_bytes_of len (with_upload b number w) + held_bytes len u.upload.parts ≡ held_bytes_of len b + held_bytes len w.upload.parts
-    pub parts : parts_of (with_upload b number w) + length u.upload.parts ≡ parts_of b + length w.upload.parts
+  -- ---- an open upload
 
   pub found_among : (b : ModelBooks P O) (number : ℕ) (u : ModelOwnedUpload P) → upload_at b number ≡ Some u → AreSound len size address b → (u.tenant < length b.tenant_limits) × IsUpload len u.upload
   found_among b number u found sound =
       all_found (IsOwnedUpload len (length b.tenant_limits) b.begun) (λ v. (v.tenant < length b.tenant_limits) × IsUpload len v.upload) (is_number number) b.uploads u (λ k x is. (is.tenant, is.upload)) found sound.uploads
 
   reserved_within : (b : ModelBooks P O) (number : ℕ) (u : ModelOwnedUpload P) → upload_at b number ≡ Some u → length_of u.upload ≤ reserved_of b u.tenant
-  reserved_within b number u found = let sum = less (reserved_by u.tenant) number b.uploads u found in let own = reserved_mine u in omega (arith, sum, own)
+  reserved_within b number u found = let sum = less (reserved_by u.tenant) number b.uploads u found in let own = reserved_mine u.tenant u refl in omega (arith, sum, own)
 
-  pub replaces : (b : ModelBooks P O) (number : ℕ) (u w : ModelOwnedUpload P) → upload_at b number ≡ Some u → AreSound len size address b → b.accepted < b.max_entries → w.tenant ≡ u.tenant → IsUpload len w.upload → length_of w.upload ≤ length_of u.upload
-      → held_bytes len w.upload.parts ≤ held_bytes len u.upload.parts + 2 ^ 24 → length w.upload.parts ≤ length u.upload.parts + 1 → Replaces b number u w
-  replaces b number u w found sound room tenant lawful no_longer bytes count =
-      let was = found_among b number u found sound in
-      let there = was.0 in
+  -- another in its place is lawful and no longer, with these numbers of bytes and parts more
+  pub record Grows (u w : ModelUpload P) (bytes count : ℕ) : Type 0 where
+    pub lawful : IsUpload len w
+    pub no_longer : length_of w ≤ length_of u
+    pub held : held_bytes len w.parts ≡ held_bytes len u.parts + bytes
+    pub parts : length w.parts ≡ length u.parts + count
+    pub small : bytes ≤ 2 ^ 24
+    pub few : count ≤ 1
+
+  -- it is replaced
+  pub replaces : {bytes count : ℕ} (b : ModelBooks P O) (number : ℕ) (u : ModelOwnedUpload P) (w : ModelUpload P) → upload_at b number ≡ Some u → AreSound len size address b → b.entry_count < b.max_entries → Grows u.upload w bytes count
+      → Moves len size address u.tenant (reserving (length_of u.upload)) (open_amounts (length_of w) bytes count) b (with_upload b number (record u { upload = w }))
+  replaces b number u upload found sound room grows =
+      let w : ModelOwnedUpload P = record u { upload = upload } in
+      let there = (found_among b number u found sound).0 in
       let within = sound.within u.tenant there in
       let reserved = instead (reserved_by u.tenant) number b.uploads u w found in
-      let own = reserved_mine u in
-      let now : reserved_by u.tenant w ≡ length_of w.upload = subst (λ (t : ℕ). reserved_by t w ≡ length_of w.upload) tenant (reserved_mine w) in
+      let own = reserved_mine u.tenant u refl in
+      let now = reserved_mine u.tenant w refl in
       let held = instead (λ (v : ModelOwnedUpload P). held_bytes len v.upload.parts) number b.uploads u w found in
       let parts = instead (λ (v : ModelOwnedUpload P). length v.upload.parts) number b.uploads u w found in
       record {
-        moves = record {
-          tenants = refl;
-          entries = refl;
-          tenant_limits = refl;
-          accepted = refl;
-          room = room;
-          there = there;
-          uses = refl;
-          use_low = omega arith;
-          reserves = omega (arith, reserved, own, now);
-          reserved_low = reserved_within b number u found;
-          others_use = λ q apart. refl;
-          others_reserve = λ q apart.
-              let before = reserved_others q u apart in
-              let after = reserved_others q w (λ same. apart (sym tenant ∙ same)) in
-              let sum = instead (reserved_by q) number b.uploads u w found in
-              omega (arith, before, after, sum);
-          fits = omega (arith, within, reserved, own, now, no_longer);
-          begun = omega arith;
-          uploads = all_set (IsOwnedUpload len (length b.tenant_limits) b.begun) (is_number number) b.uploads u w (λ k is. record { number = is.number; tenant = omega (arith, tenant, there); upload = lawful }) found sound.uploads;
+        room = room;
+        there = there;
+        uploads = record {
+          few = omega arith;
+          uploads = all_set (IsOwnedUpload len (length b.tenant_limits) b.begun) (is_number number) b.uploads u w (λ k is. record { number = is.number; tenant = there; upload = grows.lawful }) found sound.uploads;
           sorted = subst (IsRisingFrom 0) (sym (keys-set_value (is_number number) b.uploads w)) sound.sorted;
-          objects = sound.objects;
-          apart = sound.apart;
-          stored = omega (arith, held, bytes);
-          parts = omega (arith, parts, count);
+          reserved = record { is = omega (arith, reserved, own, now); low = reserved_within b number u found };
+          others = λ q apart. let before = reserved_others q u apart in let after = reserved_others q w apart in let sum = instead (reserved_by q) number b.uploads u w found in omega (arith, before, after, sum);
+          held = record { is = omega (arith, held, grows.held); low = omega arith };
+          parts = record { is = omega (arith, parts, grows.parts); low = omega arith };
         };
-        held = held;
-        parts = parts;
+        objects = objects_stay b sound;
+        fits = omega (arith, within, reserved, own, now, grows.no_longer);
+        stored = omega (arith, grows.small);
+        few = omega (arith, grows.few);
       }
 
   -- a part is put
-  pub record Puts (b : ModelBooks P O) (number offset : ℕ) (part : P) (u : ModelOwnedUpload P) : Type 0 where
-    pub replaced : Replaces b number u (record u { upload = with_more len u.upload offset part })
-    pub held : held_bytes_of len (with_upload b number (record u { upload = with_more len u.upload offset part })) ≡ held_bytes_of len b + len part
-    pub parts : parts_of (with_upload b number (record u { upload = with_more len u.upload offset part })) ≡ parts_of b + 1
-
   pub puts : (b : ModelBooks P O) (number offset : ℕ) (part : P) (u : ModelOwnedUpload P) → upload_at b number ≡ Some u → AreSound len size address b → Fits u.upload.plan offset (len part)
-      → option_or (option_map add_refused (place_fault len u.upload offset (len part))) (full_refusal b) ≡ None → Puts b number offset part u
+      → option_or (option_map add_refused (place_fault len u.upload offset (len part))) (full_refusal b) ≡ None
+      → Moves len size address u.tenant (reserving (length_of u.upload)) (open_amounts (length_of (with_more len u.upload offset part)) (len part) 1) b (with_upload b number (record u { upload = with_more len u.upload offset part }))
   puts b number offset part u found sound fits free =
       let both = neither add_refused (place_fault len u.upload offset (len part)) (full_refusal b) free in
-      let was = found_among b number u found sound in
-      let grow = grown len u.upload offset part was.1 both.0 fits in
-      let w : ModelOwnedUpload P = record u { upload = with_more len u.upload offset part } in
+      let grow = grown len u.upload offset part (found_among b number u found sound).1 both.0 fits in
       let small = fits.small in
-      let put = replaces b number u w found sound (room b both.1) refl grow.lawful grow.no_longer (omega (arith, grow.bytes, small)) (omega (arith, grow.count)) in
-      record { replaced = put; held = omega (arith, put.held, grow.bytes); parts = omega (arith, put.parts, grow.count) }
+      replaces b number u (with_more len u.upload offset part) found sound (room b both.1)
+      (record { lawful = grow.lawful; no_longer = grow.no_longer; held = omega (arith, grow.bytes); parts = omega (arith, grow.count); small = omega (arith, small); few = omega arith })
 
   -- an end is fixed
   pub ends : (b : ModelBooks P O) (number n : ℕ) (u : ModelOwnedUpload P) → upload_at b number ≡ Some u → AreSound len size address b → option_or (option_map fix_refused (fix_fault len u.upload n)) (full_refusal b) ≡ None
-      → Replaces b number u (record u { upload = fixed_at u.upload n })
+      → Moves len size address u.tenant (reserving (length_of u.upload)) (reserving n) b (with_upload b number (record u { upload = fixed_at u.upload n }))
   ends b number n u found sound free =
       let both = neither fix_refused (fix_fault len u.upload n) (full_refusal b) free in
       let was = found_among b number u found sound in
-      let fixed = fixes len u.upload n was.1 both.0 in
-      replaces b number u (record u { upload = fixed_at u.upload n }) found sound (room b both.1) refl fixed (fixed_within len u.upload n was.1 both.0) (omega arith) (omega arith)
+      replaces b number u (fixed_at u.upload n) found sound (room b both.1)
+      (record { lawful = fixes len u.upload n was.1 both.0; no_longer = fixed_within len u.upload n was.1 both.0; held = omega arith; parts = omega arith; small = omega arith; few = omega arith })
 
-  -- ---- an upload goes
-
-  pub record Goes (b : ModelBooks P O) (number : ℕ) (u : ModelOwnedUpload P) : Type 0 where
-    pub moves : Moves len size address u.tenant none (falls (length_of u.upload)) b (without_upload b number)
-    pub held : held_bytes_of len (without_upload b number) + held_bytes len u.upload.parts ≡ held_bytes_of len b
-    pub parts : parts_of (without_upload b number) + length u.upload.parts ≡ parts_of b
-
-  pub goes : (b : ModelBooks P O) (number : ℕ) (u : ModelOwnedUpload P) → upload_at b number ≡ Some u → AreSound len size address b → b.accepted < b.max_entries → Goes b number u
-  goes b number u found sound room =
-      let was = found_among b number u found sound in
-      let there = was.0 in
-      let within = sound.within u.tenant there in
+  -- it is removed
+  pub without : (used bytes : ℕ) (b : ModelBooks P O) (number : ℕ) (u : ModelOwnedUpload P) → upload_at b number ≡ Some u → AreSound len size address b
+      → MovesUploads len u.tenant (held_by len u.upload) (object_amounts used bytes) b b.begun (remove_entry (is_number number) b.uploads)
+  without used bytes b number u found sound =
       let reserved = less (reserved_by u.tenant) number b.uploads u found in
-      let own = reserved_mine u in
+      let own = reserved_mine u.tenant u refl in
       let held = less (λ (v : ModelOwnedUpload P). held_bytes len v.upload.parts) number b.uploads u found in
       let parts = less (λ (v : ModelOwnedUpload P). length v.upload.parts) number b.uploads u found in
       record {
-        moves = record {
-          tenants = refl;
-          entries = refl;
-          tenant_limits = refl;
-          accepted = refl;
-          room = room;
-          there = there;
-          uses = refl;
-          use_low = omega arith;
-          reserves = omega (arith, reserved, own);
-          reserved_low = reserved_within b number u found;
-          others_use = λ q apart. refl;
-          others_reserve = λ q apart. let other = reserved_others q u apart in let sum = less (reserved_by q) number b.uploads u found in omega (arith, other, sum);
-          fits = omega (arith, within, reserved, own);
-          begun = omega arith;
-          uploads = all_removed (IsOwnedUpload len (length b.tenant_limits) b.begun) (is_number number) b.uploads sound.uploads;
-          sorted = rising_removed (is_number number) 0 b.uploads sound.sorted;
-          objects = sound.objects;
-          apart = sound.apart;
-          stored = omega (arith, held);
-          parts = omega (arith, parts);
-        };
-        held = held;
-        parts = parts;
+        few = omega arith;
+        uploads = all_removed (IsOwnedUpload len (length b.tenant_limits) b.begun) (is_number number) b.uploads sound.uploads;
+        sorted = rising_removed (is_number number) 0 b.uploads sound.sorted;
+        reserved = record { is = omega (arith, reserved, own); low = omega (arith, reserved, own) };
+        others = λ q apart. let other = reserved_others q u apart in let sum = less (reserved_by q) number b.uploads u found in omega (arith, other, sum);
+        held = record { is = omega (arith, held); low = omega (arith, held) };
+        parts = record { is = omega (arith, parts); low = omega (arith, parts) };
       }
+
+  pub goes : (b : ModelBooks P O) (number : ℕ) (u : ModelOwnedUpload P) → upload_at b number ≡ Some u → AreSound len size address b → b.entry_count < b.max_entries → Moves len size address u.tenant (held_by len u.upload) none b (without_upload b number)
+  goes b number u found sound room =
+      let there = (found_among b number u found sound).0 in
+      let uploads = without 0 0 b number u found sound in
+      record { room = room; there = there; uploads = uploads; objects = objects_stay b sound; fits = omega (arith, sound.within u.tenant there, uploads.reserved.is); stored = omega arith; few = omega arith }

@@ -202,7 +202,7 @@ module _ {P O : Type 0} (len : P → ℕ) (size : O → ℕ) (address : O → Li
   -- ---- what commands leave
 
   abbrev with_uploads : ModelBooks P O → List (ℕ × ModelOwnedUpload ℕ) → Bare
-  with_uploads b us = record (bare len size address b) { uploads = us; accepted = b.accepted + 1 }
+  with_uploads b us = record (bare len size address b) { uploads = us; entry_count = b.entry_count + 1 }
 
   set_same : (b : ModelBooks P O) (number : ℕ) (w : ModelOwnedUpload P) → seen (bare_begun len) (set_value (is_number number) b.uploads w) ≡ set_value (is_number number) (seen (bare_begun len) b.uploads) (bare_begun len w)
   set_same b number w = sym (set_seen (bare_begun len) (is_number number) b.uploads w)
@@ -221,7 +221,7 @@ module _ {P O : Type 0} (len : P → ℕ) (size : O → ℕ) (address : O → Li
   end_same b number n (Some u) = ap (with_uploads b) (set_same b number _)
 
   abbrev with_both : ModelBooks P O → List (ℕ × ModelOwnedUpload ℕ) → List (Filed ObjectLabel) → Bare
-  with_both b us os = record (bare len size address b) { uploads = us; objects = os; accepted = b.accepted + 1 }
+  with_both b us os = record (bare len size address b) { uploads = us; objects = os; entry_count = b.entry_count + 1 }
 
   new_same : (b : ModelBooks P O) (number : ℕ) (content : O) (o : Option (ModelOwnedUpload P)) → bare len size address (with_new b number content o) ≡ with_new (bare len size address b) number (label_of size address content) (option_map (bare_begun len) o)
   new_same b number content None = refl
@@ -234,7 +234,7 @@ module _ {P O : Type 0} (len : P → ℕ) (size : O → ℕ) (address : O → Li
   known_same b number at (Some u) (Some object) = ap₂ (with_both b) (removed_same b number) (holders_seen size address b.objects at object (with_holder u.tenant object.holders))
 
   abbrev with_objects : ModelBooks P O → List (Filed ObjectLabel) → Bare
-  with_objects b os = record (bare len size address b) { objects = os; accepted = b.accepted + 1 }
+  with_objects b os = record (bare len size address b) { objects = os; entry_count = b.entry_count + 1 }
 
   left_same : (b : ModelBooks P O) (t : ℕ) (at : List ℕ) (f : Option (Filed O)) → bare len size address (with_left address b t at f) ≡ with_left label_address (bare len size address b) t at (option_map (bare_object size address) f)
   left_same b t at None = refl

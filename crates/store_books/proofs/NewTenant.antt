@@ -12,7 +12,7 @@ use Rattle.store_books.specs.declared.refusal.Refusal.TheVariants.{LimitTooLarge
 use Rattle.store_books.specs.declared.tenant.Tenant.{Tenant}
 use Rattle.store_books.specs.Books.{AreSound, ModelOwnedUpload, ModelBooks, Filed, IsOwnedUpload, IsFiledAmong, max_limit, reserved_by, reserved_of, use_by, use_of}
 use Rattle.store_books.specs.Commands.{tenant_refusal, with_tenant}
-use Rattle.store_books.specs.Kept.{AreKept, IsSummed, limits_of, no_tenant, tenant_at}
+use Rattle.store_books.specs.Kept.{IsKept, IsSummed, KeptBooks, limits_of, no_tenant, tenant_at, view_of}
 use Rattle.store_upload.specs.Uploads.{length_of}
 use Rattle.store_books.proofs.Commands.{passed, room}
 use Rattle.store_books.proofs.Lists.{all_weaker}
@@ -49,7 +49,7 @@ module _ {P O : Type 0} (len : P → ℕ) (size : O → ℕ) (address : O → Li
         few_tenants = old.few_tenants;
         few_entries = old.few_entries;
         tenants = omega (arith, count, few);
-        accepted = omega (arith, room);
+        entry_count = omega (arith, room);
         begun = omega (arith, old.begun);
         uploads = all_weaker (IsOwnedUpload len n b.begun) (IsOwnedUpload len (length (b.tenant_limits ++ limit ∷ [])) b.begun) b.uploads (λ e is. record { number = is.number; tenant = omega (arith, is.tenant, count); upload = is.upload }) old.uploads;
         sorted = old.sorted;
@@ -71,30 +71,36 @@ module _ {P O : Type 0} (len : P → ℕ) (size : O → ℕ) (address : O → Li
         parts = omega (arith, old.parts);
       }
 
-  -- the books with a tenant more, as the code keeps them
-  pub tenant_kept : (b : ModelBooks P O) (tenants now : List Tenant) (limit filings object_bytes held parts : ℕ) → b.tenant_limits ≡ limits_of tenants → tenant_refusal b limit ≡ None → AreKept len size address b tenants filings object_bytes held parts
-      → now ≡ tenants ++ record { limit = limit; used = 0; reserved = 0 } ∷ [] → AreKept len size address (record b { tenant_limits = limits_of now; accepted = b.accepted + 1 }) now filings object_bytes held parts
-  tenant_kept b tenants now limit filings object_bytes held parts limits free kept is =
-      let fresh : Tenant = record { limit = limit; used = 0; reserved = 0 } in
-      let count = length-append tenants (fresh ∷ []) in
-      let same = ap (λ (ns : List ℕ). length ns) limits ∙ count_is tenants in
-      let all : limits_of now ≡ b.tenant_limits ++ limit ∷ [] = ap limits_of is ∙ map-append (λ (t : Tenant). t.limit) tenants (fresh ∷ []) ∙ ap (λ (ns : List ℕ). ns ++ limit ∷ []) (sym limits) in
-      let n = length tenants in
-      let used : use_of size b n ≡ 0 = ap (λ (q : ℕ). use_of size b q) (sym same) ∙ nothing_used size (length b.tenant_limits) b.objects kept.sound.objects in
-      let reserved : reserved_of b n ≡ 0 = ap (λ (q : ℕ). reserved_of b q) (sym same) ∙ nothing_reserved len (length b.tenant_limits) b.begun b.uploads kept.sound.uploads in
-      let sums : (k : ℕ) → k < length (tenants ++ fresh ∷ []) → IsSummed size (with_tenant b limit) k (tenant_at (tenants ++ fresh ∷ []) k) = λ k there. elim (cases_lt k n) [
-        | inl before ↦ let old = kept.sums k before in subst (λ (t : Tenant). IsSummed size (with_tenant b limit) k t) (sym (get_or-append tenants (fresh ∷ []) no_tenant k before)) (record { used = old.used; reserved = old.reserved })
-        | inr following ↦
-            let last : k ≡ n = omega (arith, following, there, count) in
-            subst (λ (q : ℕ). IsSummed size (with_tenant b limit) q (tenant_at (tenants ++ fresh ∷ []) q)) (sym last)
-            (subst (λ (t : Tenant). IsSummed size (with_tenant b limit) n t) (sym (get_or-append_seam tenants fresh [] no_tenant)) (record { used = sym used; reserved = sym reserved }))
-      ] in
-      subst (λ (ns : List ℕ). AreKept len size address (record b { tenant_limits = ns; accepted = b.accepted + 1 }) now filings object_bytes held parts) (sym all)
-      (subst (λ (ts : List Tenant). AreKept len size address (with_tenant b limit) ts filings object_bytes held parts) (sym is) (record {
-        sound = all_tenants b limit free kept.sound;
+-- the books with a tenant more, as the code keeps them
+pub tenant_kept : {P O : Type 0} {len : P → ℕ} {size : O → ℕ} {address : O → List ℕ} {k : KeptBooks P O} {b : ModelBooks P O} {now : List Tenant} (limit : ℕ) → IsKept len size address k → view_of k ≡ b → tenant_refusal b limit ≡ None
+    → now ≡ k.accounts.tenants ++ record { limit = limit; used = 0; reserved = 0 } ∷ [] → IsKept len size address (record k { accounts = record k.accounts { tenants = now; entry_count = k.accounts.entry_count + 1 } })
+tenant_kept {P = P} {O = O} {len = len} {size} {address} {k} {now = now} limit kept is free now_is =
+    let b : ModelBooks P O = view_of k in
+    let old = kept.all in
+    let tenants = k.accounts.tenants in
+    let fresh : Tenant = record { limit = limit; used = 0; reserved = 0 } in
+    let count = length-append tenants (fresh ∷ []) in
+    let same = count_is tenants in
+    let all : limits_of (tenants ++ fresh ∷ []) ≡ b.tenant_limits ++ limit ∷ [] = map-append (λ (t : Tenant). t.limit) tenants (fresh ∷ []) in
+    let n = length tenants in
+    let used : use_of size b n ≡ 0 = ap (λ (q : ℕ). use_of size b q) (sym same) ∙ nothing_used size (length b.tenant_limits) b.objects old.sound.objects in
+    let reserved : reserved_of b n ≡ 0 = ap (λ (q : ℕ). reserved_of b q) (sym same) ∙ nothing_reserved len (length b.tenant_limits) b.begun b.uploads old.sound.uploads in
+    let after : List Tenant → KeptBooks P O = λ ts. record k { accounts = record k.accounts { tenants = ts; entry_count = k.accounts.entry_count + 1 } } in
+    let sums : (q : ℕ) → q < length (tenants ++ fresh ∷ []) → IsSummed size (view_of (after (tenants ++ fresh ∷ []))) q (tenant_at (tenants ++ fresh ∷ []) q) = λ q there. elim (cases_lt q n) [
+      | inl before ↦
+          let sum = old.sums q before in
+          rw (get_or-append tenants (fresh ∷ []) no_tenant q before) (record { used = sum.used; reserved = sum.reserved })
+      | inr following ↦
+          let last : q ≡ n = omega (arith, following, there, count) in
+          rw (last, get_or-append_seam tenants fresh [] no_tenant) (record { used = sym used; reserved = sym reserved })
+    ] in
+    subst (λ (ts : List Tenant). IsKept len size address (after ts)) (sym now_is) (record {
+      all = record {
+        sound = subst (λ (ns : List ℕ). AreSound len size address (record b { tenant_limits = ns; entry_count = b.entry_count + 1 })) (sym all) (all_tenants len size address b limit (ap (λ b. tenant_refusal b limit) is ∙ free) old.sound);
         sums = sums;
-        filings = let old = kept.filings in omega (arith, old);
-        object_bytes_is = kept.object_bytes_is;
-        held_is = kept.held_is;
-        parts_is = kept.parts_is;
-      }))
+        filings = let filings = old.filings in omega (arith, filings);
+        object_bytes_is = old.object_bytes_is;
+        held_is = old.held_is;
+        parts_is = old.parts_is;
+      };
+    })

@@ -8,16 +8,17 @@ use Rattle.std.proofs.lemmas.Bool.{cases_Bool, eq-eqb, ltb-false, ne_eqb}
 use Rattle.std.proofs.lemmas.List.Sums.{sum_by_push}
 use Rattle.store_books.specs.declared.refusal.Refusal.{Refusal}
 use Rattle.store_books.specs.declared.refusal.Refusal.TheVariants.{NotHeld}
-use Rattle.store_books.specs.Books.{AreSound, ModelOwnedUpload, ModelBooks, Filed, IsFiledAmong, IsRisingFrom, addressed, free_of, is_held_by, object_among, object_at, object_bytes_of, upload_at, use_by, use_of, held_bytes_of, parts_of}
+use Rattle.store_books.specs.Books.{AreSound, ModelOwnedUpload, ModelBooks, Filed, IsFiledAmong, IsRisingFrom, addressed, free_of, is_held_by, object_among, object_at, upload_at, use_by, use_of}
 use Rattle.store_books.specs.Commands.{is_over, with_holder, with_holders, with_known, with_left, with_new, without_holder}
-use Rattle.store_upload.specs.Uploads.{finish_fault, held_bytes, length_of}
+use Rattle.store_books.specs.inner.Kept.{held_by}
+use Rattle.store_upload.specs.Uploads.{finish_fault, length_of}
 use Rattle.store_upload.proofs.Complete.{whole_is}
 use Rattle.store_upload.proofs.Places.{not_some}
 use Rattle.store_books.proofs.AddressedObjects.{apart_filed, apart_with, sum_with, weight, weight_some, weight_with}
-use Rattle.store_books.proofs.Commands.{falls, found_among, goes, none, rises}
+use Rattle.store_books.proofs.Commands.{found_among, none, object_amounts, without}
 use Rattle.store_books.proofs.Lists.{all_found, all_push, all_removed, all_set, all_values}
 use Rattle.store_books.proofs.RisingHolders.{alone_without, below_with, below_without, has, has_with, has_without, rising_with, rising_without, several_without}
-use Rattle.store_books.proofs.Sums.{Moves}
+use Rattle.store_books.proofs.Sums.{Moves, same}
 
 -- ---- what a tenant uses by an object
 
@@ -81,54 +82,35 @@ module _ {O : Type 0} (address : O → List ℕ) where
 module _ {P O : Type 0} (len : P → ℕ) (size : O → ℕ) (address : O → List ℕ) where
   -- ---- a complete upload is filed
 
-  pub record Files (b : ModelBooks P O) (number : ℕ) (content : O) (u : ModelOwnedUpload P) : Type 0 where
-    pub moves : Moves len size address u.tenant (rises (length_of u.upload)) (falls (length_of u.upload)) b (with_new b number content (Some u))
-    pub bytes : object_bytes_of size (with_new b number content (Some u)) ≡ object_bytes_of size b + length_of u.upload
-    pub held : held_bytes_of len (with_new b number content (Some u)) + held_bytes len u.upload.parts ≡ held_bytes_of len b
-    pub parts : parts_of (with_new b number content (Some u)) + length u.upload.parts ≡ parts_of b
-
-  pub files : (b : ModelBooks P O) (number : ℕ) (content : O) (u : ModelOwnedUpload P) → upload_at b number ≡ Some u → AreSound len size address b → b.accepted < b.max_entries → finish_fault len u.upload ≡ None → object_at address b (address content) ≡ None
-      → size content ≡ length_of u.upload → Files b number content u
-  files b number content u found sound room ready absent long =
+  pub files : (b : ModelBooks P O) (number : ℕ) (content : O) (u : ModelOwnedUpload P) (n : ℕ) → n ≡ length_of u.upload → upload_at b number ≡ Some u → AreSound len size address b → b.entry_count < b.max_entries → finish_fault len u.upload ≡ None
+      → object_at address b (address content) ≡ None → size content ≡ length_of u.upload → Moves len size address u.tenant (held_by len u.upload) (object_amounts n n) b (with_new b number content (Some u))
+  files b number content u n is found sound room ready absent long =
       let was = found_among len size address b number u found sound in
-      let there = was.0 in
-      let freed = goes len size address b number u found sound room in
-      let m = freed.moves in
+      let uploads = without len size address n n b number u found sound in
       let o : Filed O = record { content = content; holders = u.tenant ∷ [] } in
       let whole = whole_is len u.upload was.1 ready in
-      let within = sound.within u.tenant there in
+      let within = sound.within u.tenant was.0 in
       let uses = sum_by_push (use_by size u.tenant) b.objects o in
       let mine : use_by size u.tenant o ≡ length_of u.upload = used_by size u.tenant content u.tenant ∙ ap (λ (x : Bool). where_so x (size content)) (eq-eqb u.tenant u.tenant refl) ∙ long in
       let bytes = sum_by_push (λ (x : Filed O). size x.content) b.objects o in
+      let reserved = uploads.reserved in
       record {
-        moves = record {
-          tenants = refl;
-          entries = refl;
-          tenant_limits = refl;
-          accepted = refl;
-          room = room;
-          there = there;
-          uses = omega (arith, uses, mine);
-          use_low = omega arith;
-          reserves = m.reserves;
-          reserved_low = m.reserved_low;
-          others_use = λ q apart.
+        room = room;
+        there = was.0;
+        uploads = uploads;
+        objects = record {
+          objects = all_push (IsFiledAmong (length b.tenant_limits)) b.objects o sound.objects (record { tenants = (was.0, tt); rising = (omega arith, tt) });
+          apart = apart_filed address b.objects o sound.apart absent;
+          used = record { is = omega (arith, uses, mine, is); low = omega arith };
+          others = λ q apart.
               let other = used_by size q content u.tenant ∙ ap (λ (x : Bool). where_so x (size content)) (ne_eqb u.tenant q apart) in
               let sum = sum_by_push (use_by size q) b.objects o in
               omega (arith, other, sum);
-          others_reserve = m.others_reserve;
-          fits = omega (arith, uses, mine, m.reserves, within);
-          begun = m.begun;
-          uploads = m.uploads;
-          sorted = m.sorted;
-          objects = all_push (IsFiledAmong (length b.tenant_limits)) b.objects o sound.objects (record { tenants = (there, tt); rising = (omega arith, tt) });
-          apart = apart_filed address b.objects o sound.apart absent;
-          stored = omega (arith, bytes, long, freed.held, whole.held);
-          parts = m.parts;
+          bytes = record { is = omega (arith, bytes, long, is); low = omega arith };
         };
-        bytes = omega (arith, bytes, long);
-        held = freed.held;
-        parts = freed.parts;
+        fits = omega (arith, uses, mine, reserved.is, reserved.low, within);
+        stored = omega (arith, whole.held, is);
+        few = omega arith;
       }
 
   -- ---- a complete upload's tenant joins
@@ -136,12 +118,6 @@ module _ {P O : Type 0} (len : P → ℕ) (size : O → ℕ) (address : O → Li
   -- what the tenant uses more
   abbrev pub more_by : ModelOwnedUpload P → Filed O → ℕ
   more_by u o = where_so (not (is_held_by u.tenant o)) (size o.content)
-
-  pub record Joins (b : ModelBooks P O) (number : ℕ) (at : List ℕ) (u : ModelOwnedUpload P) (o : Filed O) : Type 0 where
-    pub moves : Moves len size address u.tenant (rises (more_by u o)) (falls (length_of u.upload)) b (with_known address b number at (Some u) (Some o))
-    pub bytes : object_bytes_of size (with_known address b number at (Some u) (Some o)) ≡ object_bytes_of size b
-    pub held : held_bytes_of len (with_known address b number at (Some u) (Some o)) + held_bytes len u.upload.parts ≡ held_bytes_of len b
-    pub parts : parts_of (with_known address b number at (Some u) (Some o)) + length u.upload.parts ≡ parts_of b
 
   more_used : (held : Bool) (n now before : ℕ) → now + where_so held n ≡ before + n → now ≡ before + where_so (not held) n
   more_used true n now before sum = omega (arith, sum)
@@ -151,13 +127,12 @@ module _ {P O : Type 0} (len : P → ℕ) (size : O → ℕ) (address : O → Li
   more_fits true n most over = omega arith
   more_fits false n most over = ltb-false most n over
 
-  pub joins : (b : ModelBooks P O) (number : ℕ) (at : List ℕ) (u : ModelOwnedUpload P) (o : Filed O) → upload_at b number ≡ Some u → object_at address b at ≡ Some o → AreSound len size address b → b.accepted < b.max_entries → is_over size address b u o ≡ false → Joins b number at u o
-  joins b number at u o found known sound room over =
-      let was = found_among len size address b number u found sound in
-      let there = was.0 in
-      let freed = goes len size address b number u found sound room in
-      let m = freed.moves in
+  pub joins : (b : ModelBooks P O) (number : ℕ) (at : List ℕ) (u : ModelOwnedUpload P) (o : Filed O) (n : ℕ) → n ≡ more_by u o → upload_at b number ≡ Some u → object_at address b at ≡ Some o → AreSound len size address b → b.entry_count < b.max_entries → is_over size address b u o ≡ false
+      → Moves len size address u.tenant (held_by len u.upload) (object_amounts n 0) b (with_known address b number at (Some u) (Some o))
+  joins b number at u o n is found known sound room over =
       let t = u.tenant in
+      let there = (found_among len size address b number u found sound).0 in
+      let uploads = without len size address n 0 b number u found sound in
       let holders = with_holder t o.holders in
       let filed = object_found address (IsFiledAmong (length b.tenant_limits)) b.objects at o known sound.objects in
       let within = sound.within t there in
@@ -166,43 +141,28 @@ module _ {P O : Type 0} (len : P → ℕ) (size : O → ℕ) (address : O → Li
       let more = more_used (is_held_by t o) (size o.content) (use_of size (with_known address b number at (Some u) (Some o)) t) (use_of size b t) (omega (arith, uses, now)) in
       let fits = more_fits (is_held_by t o) (size o.content) (length_of u.upload + free_of size b t) over in
       let bytes = sum_with address (λ (x : Filed O). size x.content) b.objects at o holders known in
-      let same = weight_with size o t in
+      let all = weight_with size o t in
+      let reserved = uploads.reserved in
       record {
-        moves = record {
-          tenants = refl;
-          entries = refl;
-          tenant_limits = refl;
-          accepted = refl;
-          room = room;
-          there = there;
-          uses = omega (arith, more);
-          use_low = omega arith;
-          reserves = m.reserves;
-          reserved_low = m.reserved_low;
-          others_use = λ q apart.
+        room = room;
+        there = there;
+        uploads = uploads;
+        objects = record {
+          objects = all_with address (IsFiledAmong (length b.tenant_limits)) b.objects at o holders known sound.objects (record { tenants = below_with (length b.tenant_limits) t o.holders there filed.tenants; rising = rising_with 0 t o.holders (omega arith) filed.rising });
+          apart = apart_with address b.objects at o holders known sound.apart;
+          used = record { is = omega (arith, more, is); low = omega arith };
+          others = λ q apart.
               let sum = sum_with address (use_by size q) b.objects at o holders known in
               let other = weight_use size q o holders ∙ ap (λ (x : Bool). where_so x (size o.content)) (has_other t q o.holders apart) in
               omega (arith, sum, other);
-          others_reserve = m.others_reserve;
-          fits = omega (arith, more, fits, m.reserves, m.reserved_low, within);
-          begun = m.begun;
-          uploads = m.uploads;
-          sorted = m.sorted;
-          objects = all_with address (IsFiledAmong (length b.tenant_limits)) b.objects at o holders known sound.objects (record { tenants = below_with (length b.tenant_limits) t o.holders there filed.tenants; rising = rising_with 0 t o.holders (omega arith) filed.rising });
-          apart = apart_with address b.objects at o holders known sound.apart;
-          stored = omega (arith, bytes, same, freed.held);
-          parts = m.parts;
+          bytes = record { is = omega (arith, bytes, all); low = omega arith };
         };
-        bytes = omega (arith, bytes, same);
-        held = freed.held;
-        parts = freed.parts;
+        fits = omega (arith, more, fits, reserved.is, reserved.low, within);
+        stored = omega arith;
+        few = omega arith;
       }
 
   -- ---- a tenant holds an object no longer
-
-  pub record Leaves (b : ModelBooks P O) (t : ℕ) (at : List ℕ) (o : Filed O) : Type 0 where
-    pub moves : Moves len size address t (falls (size o.content)) none b (with_left address b t at (Some o))
-    pub bytes : object_bytes_of size (with_left address b t at (Some o)) + where_so (nat_le (length o.holders) 1) (size o.content) ≡ object_bytes_of size b
 
   bytes_left : (t : ℕ) (o : Filed O) → is_held_by t o ≡ true → weight (λ x. size x.content) o (without_holder t o.holders) + where_so (nat_le (length o.holders) 1) (size o.content) ≡ size o.content
   bytes_left t o held = elim (cases_Bool (nat_le (length o.holders) 1)) [
@@ -216,8 +176,9 @@ module _ {P O : Type 0} (len : P → ℕ) (size : O → ℕ) (address : O → Li
         omega (arith, stays, none)
   ]
 
-  pub leaves : (b : ModelBooks P O) (t : ℕ) (at : List ℕ) (o : Filed O) → object_at address b at ≡ Some o → AreSound len size address b → b.accepted < b.max_entries → t < length b.tenant_limits → is_held_by t o ≡ true → Leaves b t at o
-  leaves b t at o known sound room there held =
+  pub leaves : (b : ModelBooks P O) (t : ℕ) (at : List ℕ) (o : Filed O) (used bytes : ℕ) → used ≡ size o.content → bytes ≡ where_so (nat_le (length o.holders) 1) (size o.content) → object_at address b at ≡ Some o → AreSound len size address b → b.entry_count < b.max_entries
+      → t < length b.tenant_limits → is_held_by t o ≡ true → Moves len size address t (object_amounts used bytes) none b (with_left address b t at (Some o))
+  leaves b t at o used freed used_is freed_is known sound room there held =
       let holders = without_holder t o.holders in
       let filed = object_found address (IsFiledAmong (length b.tenant_limits)) b.objects at o known sound.objects in
       let within = sound.within t there in
@@ -227,30 +188,20 @@ module _ {P O : Type 0} (len : P → ℕ) (size : O → ℕ) (address : O → Li
       let bytes = sum_with address (λ (x : Filed O). size x.content) b.objects at o holders known in
       let left = bytes_left t o held in
       record {
-        moves = record {
-          tenants = refl;
-          entries = refl;
-          tenant_limits = refl;
-          accepted = refl;
-          room = room;
-          there = there;
-          uses = omega (arith, uses, mine, now);
-          use_low = omega (arith, uses, mine, now);
-          reserves = refl;
-          reserved_low = omega arith;
-          others_use = λ q apart.
+        room = room;
+        there = there;
+        uploads = record { few = omega arith; uploads = sound.uploads; sorted = sound.sorted; reserved = same; others = λ q apart. refl; held = same; parts = same };
+        objects = record {
+          objects = all_with address (IsFiledAmong (length b.tenant_limits)) b.objects at o holders known sound.objects (record { tenants = below_without (length b.tenant_limits) t o.holders filed.tenants; rising = rising_without 0 t o.holders filed.rising });
+          apart = apart_with address b.objects at o holders known sound.apart;
+          used = record { is = omega (arith, uses, mine, now, used_is); low = omega (arith, uses, mine, now, used_is) };
+          others = λ q apart.
               let sum = sum_with address (use_by size q) b.objects at o holders known in
               let other = weight_use size q o holders ∙ ap (λ (x : Bool). where_so x (size o.content)) (stays_other t q o.holders filed.rising apart) in
               omega (arith, sum, other);
-          others_reserve = λ q apart. refl;
-          fits = omega (arith, uses, mine, now, within);
-          begun = omega arith;
-          uploads = sound.uploads;
-          sorted = sound.sorted;
-          objects = all_with address (IsFiledAmong (length b.tenant_limits)) b.objects at o holders known sound.objects (record { tenants = below_without (length b.tenant_limits) t o.holders filed.tenants; rising = rising_without 0 t o.holders filed.rising });
-          apart = apart_with address b.objects at o holders known sound.apart;
-          stored = omega (arith, bytes, left);
-          parts = omega arith;
+          bytes = record { is = omega (arith, bytes, left, freed_is); low = omega (arith, bytes, left, freed_is) };
         };
-        bytes = omega (arith, bytes, left);
+        fits = omega (arith, uses, mine, now, within);
+        stored = omega arith;
+        few = omega arith;
       }

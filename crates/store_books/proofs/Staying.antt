@@ -11,9 +11,9 @@ use Rattle.store_books.specs.Commands.{add_refused, begin_refusal, finish_refuse
 use Rattle.store_books.specs.Staying.{StaySound}
 use Rattle.store_upload.specs.Uploads.{Fits, UploadPlan, finish_fault, fix_fault, length_of, place_fault}
 use Rattle.store_upload.proofs.Places.{not_some}
-use Rattle.store_books.proofs.Commands.{begins, both, ends, goes, none, none_mapped, passed, puts, rises, room}
+use Rattle.store_books.proofs.Commands.{begins, both, ends, goes, none_mapped, passed, puts, room}
 use Rattle.store_books.proofs.NewTenant.{all_tenants}
-use Rattle.store_books.proofs.Objects.{files, is_held, joins, leaves}
+use Rattle.store_books.proofs.Objects.{files, is_held, joins, leaves, more_by}
 use Rattle.store_books.proofs.Sums.{sound_after}
 
 module _ {P O : Type 0} (len : P → ℕ) (size : O → ℕ) (address : O → List ℕ) where
@@ -31,7 +31,7 @@ module _ {P O : Type 0} (len : P → ℕ) (size : O → ℕ) (address : O → Li
         few_tenants = old.few_tenants;
         few_entries = old.few_entries;
         tenants = omega (arith, count, old.tenants);
-        accepted = omega (arith, room);
+        entry_count = omega (arith, room);
         begun = omega (arith, old.begun);
         uploads = subst (λ (n : ℕ). AllByRecursion (IsOwnedUpload len n b.begun) b.uploads) (sym count) old.uploads;
         sorted = old.sorted;
@@ -61,22 +61,22 @@ module _ {P O : Type 0} (len : P → ℕ) (size : O → ℕ) (address : O → Li
       }
 
   begin_sound : (b : ModelBooks P O) (t : ℕ) (plan : UploadPlan) → begin_refusal size b t plan.bound ≡ None → AreSound len size address b → AreSound len size address (with_begun b t plan)
-  begin_sound b t plan free old = sound_after len size address t none (rises plan.bound) b (with_begun b t plan) (begins len size address b t plan free old).moves old
+  begin_sound b t plan free old = sound_after len size address (begins len size address b t plan plan.bound refl free old) old
 
   put_sound : (b : ModelBooks P O) (number offset : ℕ) (part : P) (found : Option (ModelOwnedUpload P)) → upload_at b number ≡ found → ((u : ModelOwnedUpload P) → found ≡ Some u → Fits u.upload.plan offset (len part))
       → option_map_or (λ (u : ModelOwnedUpload P). option_or (option_map add_refused (place_fault len u.upload offset (len part))) (full_refusal b)) found (Some NoUpload) ≡ None
       → AreSound len size address b → AreSound len size address (with_part len b number offset part found)
   put_sound b number offset part None is fits free old = old
-  put_sound b number offset part (Some u) is fits free old = sound_after len size address u.tenant none _ b (with_part len b number offset part (Some u)) (puts len size address b number offset part u is old (fits u refl) free).replaced.moves old
+  put_sound b number offset part (Some u) is fits free old = sound_after len size address (puts len size address b number offset part u is old (fits u refl) free) old
 
   fix_sound : (b : ModelBooks P O) (number n : ℕ) (found : Option (ModelOwnedUpload P)) → upload_at b number ≡ found → option_map_or (λ (u : ModelOwnedUpload P). option_or (option_map fix_refused (fix_fault len u.upload n)) (full_refusal b)) found (Some NoUpload) ≡ None
       → AreSound len size address b → AreSound len size address (with_end b number n found)
   fix_sound b number n None is free old = old
-  fix_sound b number n (Some u) is free old = sound_after len size address u.tenant none _ b (with_end b number n (Some u)) (ends len size address b number n u is old free).moves old
+  fix_sound b number n (Some u) is free old = sound_after len size address (ends len size address b number n u is old free) old
 
   abort_sound : (b : ModelBooks P O) (number : ℕ) (found : Option (ModelOwnedUpload P)) → upload_at b number ≡ found → option_map_or (λ (u : ModelOwnedUpload P). full_refusal b) found (Some NoUpload) ≡ None → AreSound len size address b → AreSound len size address (without_upload b number)
   abort_sound b number None is free old = absurd (not_some NoUpload (sym free))
-  abort_sound b number (Some u) is free old = sound_after len size address u.tenant none _ b (without_upload b number) (goes len size address b number u is old (room b free)).moves old
+  abort_sound b number (Some u) is free old = sound_after len size address (goes len size address b number u is old (room b free)) old
 
   new_sound : (b : ModelBooks P O) (number : ℕ) (content : O) (found : Option (ModelOwnedUpload P)) → upload_at b number ≡ found
       → option_map_or (λ (u : ModelOwnedUpload P). option_map finish_refused (finish_fault len u.upload)) found (Some NoUpload) ≡ None
@@ -86,7 +86,7 @@ module _ {P O : Type 0} (len : P → ℕ) (size : O → ℕ) (address : O → Li
       → AreSound len size address b → AreSound len size address (with_new b number content found)
   new_sound b number content None is ready free absent long old = old
   new_sound b number content (Some u) is ready free absent long old =
-      sound_after len size address u.tenant _ _ b (with_new b number content (Some u)) (files len size address b number content u is old (room b free) (none_mapped finish_refused (finish_fault len u.upload) ready) absent (long u refl)).moves old
+      sound_after len size address (files len size address b number content u (length_of u.upload) refl is old (room b free) (none_mapped finish_refused (finish_fault len u.upload) ready) absent (long u refl)) old
 
   known_sound : (b : ModelBooks P O) (number : ℕ) (at : List ℕ) (found : Option (ModelOwnedUpload P)) (known : Option (Filed O)) → upload_at b number ≡ found → object_at address b at ≡ known
       → option_map_or (λ (u : ModelOwnedUpload P). join_refusal size address b u known) found (Some NoUpload) ≡ None → AreSound len size address b → AreSound len size address (with_known address b number at found known)
@@ -94,14 +94,14 @@ module _ {P O : Type 0} (len : P → ℕ) (size : O → ℕ) (address : O → Li
   known_sound b number at (Some u) None is object free old = old
   known_sound b number at (Some u) (Some o) is object free old =
       let tests = passed (is_over size address b u o) _ (full_refusal b) free in
-      sound_after len size address u.tenant _ _ b (with_known address b number at (Some u) (Some o)) (joins len size address b number at u o is object old (room b tests.1) tests.0).moves old
+      sound_after len size address (joins len size address b number at u o (more_by len size address u o) refl is object old (room b tests.1) tests.0) old
 
   forget_sound : (b : ModelBooks P O) (t : ℕ) (at : List ℕ) (known : Option (Filed O)) → object_at address b at ≡ known → t < length b.tenant_limits → full_refusal b ≡ None
       → option_map_or (λ (o : Filed O). if is_held_by t o then None else Some NotHeld) known (Some NotHeld) ≡ None → AreSound len size address b → AreSound len size address (with_left address b t at known)
   forget_sound b t at None is there full free old = old
   forget_sound b t at (Some o) is there full free old =
       let held = is_held (is_held_by t o) None free in
-      sound_after len size address t _ _ b (with_left address b t at (Some o)) (leaves len size address b t at o is old (room b full) there held.0).moves old
+      sound_after len size address (leaves len size address b t at o (size o.content) _ refl refl is old (room b full) there held.0) old
 
   pub stay_sound : StaySound len size address
   stay_sound b old = record {

@@ -45,12 +45,12 @@ pub record ModelBooks (P O : Type 0) : Type 0 where
   pub uploads : List (ℕ × ModelOwnedUpload P)
   -- the objects, in filing order
   pub objects : List (Filed O)
-  -- the number of commands accepted
-  pub accepted : ℕ
+  -- the number of commands accepted, each of which has an entry in the journal
+  pub entry_count : ℕ
 
 -- empty books
 abbrev pub empty_books : {P O : Type 0} → ℕ → ℕ → ℕ → ModelBooks P O
-empty_books tenants entries workers = record { max_tenants = tenants; max_entries = entries; max_workers = workers; tenant_limits = []; begun = 0; uploads = []; objects = []; accepted = 0 }
+empty_books tenants entries workers = record { max_tenants = tenants; max_entries = entries; max_workers = workers; tenant_limits = []; begun = 0; uploads = []; objects = []; entry_count = 0 }
 
 -- the test of an upload's number
 abbrev pub is_number : ℕ → ℕ → Bool
@@ -77,7 +77,7 @@ module _ {P O : Type 0} where
   is_absent b tenant = nat_le (length b.tenant_limits) tenant
 
   abbrev pub is_full : ModelBooks P O → Bool
-  is_full b = nat_le b.max_entries b.accepted
+  is_full b = nat_le b.max_entries b.entry_count
 
   -- the sum of the lengths of the tenant's open uploads
   abbrev pub reserved_of : ModelBooks P O → ℕ → ℕ
@@ -160,8 +160,8 @@ pub record AreSound {P O : Type 0} (len : P → ℕ) (size : O → ℕ) (address
   pub few_tenants : b.max_tenants ≤ max_tenants
   pub few_entries : b.max_entries ≤ max_entries
   pub tenants : length b.tenant_limits ≤ b.max_tenants
-  pub accepted : b.accepted ≤ b.max_entries
-  pub begun : b.begun ≤ b.accepted
+  pub entry_count : b.entry_count ≤ b.max_entries
+  pub begun : b.begun ≤ b.entry_count
   pub uploads : AllByRecursion (IsOwnedUpload len (length b.tenant_limits) b.begun) b.uploads
   -- each number occurs once, in order
   pub sorted : IsRisingFrom 0 (keys_of b.uploads)
@@ -171,5 +171,5 @@ pub record AreSound {P O : Type 0} (len : P → ℕ) (size : O → ℕ) (address
   pub within : (n : ℕ) → n < length b.tenant_limits → in_use size b n ≤ limit_of b n
   pub limited : (n : ℕ) → n < length b.tenant_limits → limit_of b n ≤ max_limit
   -- no more is stored than was put
-  pub stored : object_bytes_of size b + held_bytes_of len b ≤ max_part_bytes * b.accepted
-  pub parts : parts_of b ≤ b.accepted
+  pub stored : object_bytes_of size b + held_bytes_of len b ≤ max_part_bytes * b.entry_count
+  pub parts : parts_of b ≤ b.entry_count

@@ -48,10 +48,10 @@ module _ {P O : Type 0} where
 
   -- one more tenant, under the next number
   abbrev pub with_tenant : ModelBooks P O → ℕ → ModelBooks P O
-  with_tenant b limit = record b { tenant_limits = b.tenant_limits ++ limit ∷ []; accepted = b.accepted + 1 }
+  with_tenant b limit = record b { tenant_limits = b.tenant_limits ++ limit ∷ []; entry_count = b.entry_count + 1 }
 
   abbrev pub with_limit : ModelBooks P O → ℕ → ℕ → ModelBooks P O
-  with_limit b tenant limit = record b { tenant_limits = slice_set b.tenant_limits tenant limit; accepted = b.accepted + 1 }
+  with_limit b tenant limit = record b { tenant_limits = slice_set b.tenant_limits tenant limit; entry_count = b.entry_count + 1 }
 
 module _ {P O : Type 0} (size : O → ℕ) where
   abbrev pub limit_refusal : ModelBooks P O → ℕ → ℕ → Option Refusal
@@ -77,16 +77,16 @@ module _ {P O : Type 0} where
   with_begun b tenant plan = record b {
     begun = b.begun + 1;
     uploads = b.uploads ++ (b.begun, record { tenant = tenant; upload = new_upload plan }) ∷ [];
-    accepted = b.accepted + 1;
+    entry_count = b.entry_count + 1;
   }
 
   -- the upload of the number is replaced
   abbrev pub with_upload : ModelBooks P O → ℕ → ModelOwnedUpload P → ModelBooks P O
-  with_upload b number u = record b { uploads = set_value (is_number number) b.uploads u; accepted = b.accepted + 1 }
+  with_upload b number u = record b { uploads = set_value (is_number number) b.uploads u; entry_count = b.entry_count + 1 }
 
   -- the upload of the number is removed
   abbrev pub without_upload : ModelBooks P O → ℕ → ModelBooks P O
-  without_upload b number = record b { uploads = remove_entry (is_number number) b.uploads; accepted = b.accepted + 1 }
+  without_upload b number = record b { uploads = remove_entry (is_number number) b.uploads; entry_count = b.entry_count + 1 }
 
   abbrev pub abort_refusal : ModelBooks P O → ℕ → Option Refusal
   abort_refusal b number = on_upload b number (λ u. full_refusal b)
@@ -177,7 +177,7 @@ module _ {P O : Type 0} (address : O → List ℕ) where
   -- the tenant is removed from the holders of the object at the address; an object without holders is removed
   abbrev pub with_left : ModelBooks P O → ℕ → List ℕ → Option (Filed O) → ModelBooks P O
   with_left b tenant at None = b
-  with_left b tenant at (Some object) = record b { objects = with_holders address b.objects at object (without_holder tenant object.holders); accepted = b.accepted + 1 }
+  with_left b tenant at (Some object) = record b { objects = with_holders address b.objects at object (without_holder tenant object.holders); entry_count = b.entry_count + 1 }
 
   abbrev pub with_forgotten : ModelBooks P O → ℕ → List ℕ → ModelBooks P O
   with_forgotten b tenant at = with_left b tenant at (object_at address b at)

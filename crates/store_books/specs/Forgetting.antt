@@ -30,7 +30,7 @@ module _ {P O : Type 0} (len : P → ℕ) (size : O → ℕ) (address : O → Li
     begun = b.begun;
     uploads = map (λ e. (e.0, bare_begun len e.1)) b.uploads;
     objects = map (bare_object size address) b.objects;
-    accepted = b.accepted;
+    entry_count = b.entry_count;
   }
 
   -- each refusal can be determined without parts and objects

@@ -1,12 +1,10 @@
 //! Open uploads with their tenants, by number.
 
-ghost use Rattle.std.specs.Prelude.{◌≡◌, ◌<◌, ◌∷◌, ◌++◌, [], IfErr, IfOk, IfSome, IsSome, None, OnErr, OnOk, Some, length};
-ghost use Rattle.std.specs.List.{AllByRecursion};
-ghost use Rattle.std.specs.Map.{lookup, remove_entry, set_value};
+ghost use Rattle.std.specs.Prelude.{◌≡◌, IfErr, IfOk, IfSome, IsSome, None, OnErr, OnOk, Some};
+ghost use Rattle.std.specs.Map.{lookup, set_value};
 ghost use Rattle.store_books.specs.Books.{ModelOwnedUpload, is_number};
-ghost use Rattle.store_upload.specs.Uploads.{Fits, IsUpload, fix_fault, fixed_at, length_of, place_fault, with_more};
+ghost use Rattle.store_upload.specs.Uploads.{Fits, fix_fault, fixed_at, length_of, place_fault, with_more};
 
-use std::alloc::AllocError;
 use std::collections::BTreeMap;
 use std::marker::Model;
 use store_upload::{HeldParts, Upload};
@@ -55,47 +53,6 @@ impl<H: HeldParts> OwnedUpload<H> {
         let OwnedUpload { upload, .. } = self;
         upload
     }
-
-    // Adds a part to the upload. Returns the upload's length afterwards.
-    fn put(&mut self, part: H::Given, work: &mut H::Work) -> Result<u64, H::Given>
-        requires fits { Fits self.old.upload.plan (H.start part) (H.Part.len (H.kept part)) }
-        requires free { place_fault H.Part.len self.old.upload (H.start part) (H.Part.len (H.kept part)) ≡ None }
-        ensures put { OnOk result (self.new ≡ record self.old { upload = with_more H.Part.len self.old.upload (H.start part) (H.kept part) }) }
-        ensures length { IfOk result (λ n. n ≡ length_of self.new.upload) }
-        ensures count { OnOk result (work.new ≡ H.works self.old.upload.parts (H.start part) (H.kept part) work.old) }
-        ensures back { IfErr result (λ back. back ≡ part) }
-        ensures unchanged { OnErr result (self.new ≡ self.old) }
-        ensures uncounted { OnErr result (work.new ≡ work.old) }
-    {
-        match self.upload.put(part, work) {
-            Ok(()) => Ok(self.upload.length()),
-            Err(part) => Err(part),
-        }
-    }
-
-    // Fixes the upload's end.
-    fn fix(&mut self, len: u64)
-        requires { fix_fault H.Part.len self.old.upload len ≡ None }
-        ensures { self.new ≡ record self.old { upload = fixed_at self.old.upload len } }
-    {
-        self.upload.fix(len);
-    }
-}
-
-/// Adds an upload after all others.
-pub(crate) fn begin<H: HeldParts>(
-    uploads: &mut BTreeMap<u64, OwnedUpload<H>>,
-    number: u64,
-    begun: OwnedUpload<H>,
-) -> Result<(), AllocError>
-    requires { AllByRecursion (λ e. e.0 < number) uploads.old.entries }
-    ensures begun { OnOk result (uploads.new.entries ≡ uploads.old.entries ++ (number, begun) ∷ []) }
-    ensures unchanged { OnErr result (uploads.new.entries ≡ uploads.old.entries) }
-{
-    let Ok(_none) = uploads.insert(number, begun) else {
-        return Err(AllocError);
-    };
-    Ok(())
 }
 
 /// Adds a part to the upload `number`. Returns the upload's length afterwards.
@@ -110,15 +67,20 @@ pub(crate) fn put<H: HeldParts>(
     requires free { IfSome (lookup (is_number number) uploads.old.entries) (λ u. place_fault H.Part.len u.upload (H.start part) (H.Part.len (H.kept part)) ≡ None) }
     ensures put { OnOk result ((u : ModelOwnedUpload H.Part) → lookup (is_number number) uploads.old.entries ≡ Some u
         → uploads.new.entries ≡ set_value (is_number number) uploads.old.entries (record u { upload = with_more H.Part.len u.upload (H.start part) (H.kept part) })) }
-    ensures length { IfOk result (λ n. (u : ModelOwnedUpload H.Part) → lookup (is_number number) uploads.old.entries ≡ Some u → n ≡ length_of (with_more H.Part.len u.upload (H.start part) (H.kept part))) }
-    ensures count { OnOk result ((u : ModelOwnedUpload H.Part) → lookup (is_number number) uploads.old.entries ≡ Some u → work.new ≡ H.works u.upload.parts (H.start part) (H.kept part) work.old) }
+    ensures length { IfOk result (λ n. (u : ModelOwnedUpload H.Part) → lookup (is_number number) uploads.old.entries ≡ Some u
+        → n ≡ length_of (with_more H.Part.len u.upload (H.start part) (H.kept part))) }
+    ensures count { OnOk result ((u : ModelOwnedUpload H.Part) → lookup (is_number number) uploads.old.entries ≡ Some u
+        → work.new ≡ H.works u.upload.parts (H.start part) (H.kept part) work.old) }
     ensures back { IfErr result (λ back. back ≡ part) }
     ensures unchanged { OnErr result (uploads.new.entries ≡ uploads.old.entries) }
     ensures uncounted { OnErr result (work.new ≡ work.old) }
 {
-    match uploads.get_mut(&number) {
-        Some(begun) => begun.put(part, work),
-        None => unreachable!(),
+    let Some(begun) = uploads.get_mut(&number) else {
+        unreachable!();
+    };
+    match begun.upload.put(part, work) {
+        Ok(()) => Ok(begun.upload.length()),
+        Err(part) => Err(part),
     }
 }
 
@@ -126,10 +88,11 @@ pub(crate) fn put<H: HeldParts>(
 pub(crate) fn fix<H: HeldParts>(uploads: &mut BTreeMap<u64, OwnedUpload<H>>, number: u64, len: u64)
     requires there { IsSome (lookup (is_number number) uploads.old.entries) }
     requires may { IfSome (lookup (is_number number) uploads.old.entries) (λ u. fix_fault H.Part.len u.upload len ≡ None) }
-    ensures { (u : ModelOwnedUpload H.Part) → lookup (is_number number) uploads.old.entries ≡ Some u → uploads.new.entries ≡ set_value (is_number number) uploads.old.entries (record u { upload = fixed_at u.upload len }) }
+    ensures { (u : ModelOwnedUpload H.Part) → lookup (is_number number) uploads.old.entries ≡ Some u
+        → uploads.new.entries ≡ set_value (is_number number) uploads.old.entries (record u { upload = fixed_at u.upload len }) }
 {
     match uploads.get_mut(&number) {
-        Some(begun) => begun.fix(len),
+        Some(begun) => begun.upload.fix(len),
         None => unreachable!(),
     }
 }

@@ -1,6 +1,7 @@
 //! Filed objects in filing order, found by their addresses, and who holds which.
 
-ghost use Rattle.std.specs.Prelude.{◌≡◌, ◌+◌, ◌<◌, ◌∷◌, ◌++◌, [], false, ℕ, List, None, Some, IfNone, IfOk, IfSome, IsSome, OnErr, OnOk, length, nat_le, true, if◌then◌else◌};
+ghost use Rattle.std.specs.Prelude.{◌≡◌, ◌+◌, ◌<◌, ◌∷◌, ◌++◌, [], false, ℕ, List, length, nat_le, true, if◌then◌else◌};
+ghost use Rattle.std.specs.Prelude.{None, Some, IfNone, IfOk, IfSome, IsSome, OnErr, OnOk};
 ghost use Rattle.std.specs.BTreeMap.{WritesThrough, get};
 ghost use Rattle.std.specs.Map.{values_of};
 ghost use Rattle.std.specs.Option.{option_map};
@@ -32,7 +33,8 @@ pub(crate) struct Catalog<O: Content, I: AddressIndex> {
 // In contracts it is the objects in filing order, and the number of filings.
 impl<O: Content, I: AddressIndex> Model for Catalog<O, I> {
     ghost use Rattle.std.specs.Map.{values_of};
-    ghost use Rattle.store_books.specs.inner.Catalog.{AreCatalogued, AreHoldings, ModelCatalog};
+    ghost use Rattle.store_books.specs.Kept.{ModelCatalog};
+    ghost use Rattle.store_books.specs.inner.Catalog.{AreCatalogued, AreHoldings};
 
     ghost Value = { ModelCatalog O };
 
@@ -83,9 +85,7 @@ impl<O: Content, I: AddressIndex> Catalog<O, I> {
         ensures found { IfSome result (IsKnown O.size O.address self.now.objects address tenant) }
         ensures absent { IfNone result (object_among O.address self.now.objects address ≡ None) }
     {
-        let Some(filed) = self.find(address) else {
-            return None;
-        };
+        let filed = self.find(address)?;
         Some(Known {
             size: filed.length(),
             is_holder: filed.is_held_by(tenant),
@@ -201,7 +201,8 @@ fn add_at<O: Content>(
     tenant: u64,
 ) -> Result<(), AllocError>
     requires { IsSome (get nat_cmp filed.old number) }
-    ensures added { OnOk result ((f : List ℕ × Item O) → get nat_cmp filed.old number ≡ Some f → WritesThrough nat_cmp (nat_cmp number) filed.old (f.0, record f.1 { holders = with_holder tenant f.1.holders }) filed.new) }
+    ensures added { OnOk result ((f : List ℕ × Item O) → get nat_cmp filed.old number ≡ Some f
+        → WritesThrough nat_cmp (nat_cmp number) filed.old (f.0, record f.1 { holders = with_holder tenant f.1.holders }) filed.new) }
     ensures unchanged { OnErr result (filed.new.entries ≡ filed.old.entries) }
 {
     match filed.get_mut(&number) {
@@ -213,7 +214,8 @@ fn add_at<O: Content>(
 // Removes a holder from the object `number`.
 fn leave_at<O: Content>(filed: &mut BTreeMap<u64, FiledObject<O>>, number: u64, tenant: u64)
     requires { IsSome (get nat_cmp filed.old number) }
-    ensures left { (f : List ℕ × Item O) → get nat_cmp filed.old number ≡ Some f → WritesThrough nat_cmp (nat_cmp number) filed.old (f.0, record f.1 { holders = without_holder tenant f.1.holders }) filed.new }
+    ensures left { (f : List ℕ × Item O) → get nat_cmp filed.old number ≡ Some f
+        → WritesThrough nat_cmp (nat_cmp number) filed.old (f.0, record f.1 { holders = without_holder tenant f.1.holders }) filed.new }
     ensures freed { (f : List ℕ × Item O) → get nat_cmp filed.old number ≡ Some f → is_held_by tenant (record f.1 { holders = without_holder tenant f.1.holders }) ≡ false }
 {
     match filed.get_mut(&number) {

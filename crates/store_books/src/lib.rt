@@ -10,6 +10,7 @@
 //! `forgetting_laws` states that both depend only on the lengths of parts and the labels of objects.
 #![tactic(auto)]
 
+mod accounts;
 mod address;
 mod begun;
 mod books;

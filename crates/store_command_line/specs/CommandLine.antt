@@ -45,11 +45,8 @@ abbrev pub short_flag_rule : Text → ℕ → Rule
 short_flag_rule id letter = record (flag_rule id) { short = Some letter }
 
 -- a positional argument, and any number of them
-abbrev pub word_rule : Text → Rule
-word_rule id = record (new_rule id) { value_names = 1 }
-
 abbrev pub words_rule : Text → Rule
-words_rule id = record (word_rule id) { action = Some Append }
+words_rule id = record (new_rule id) { value_names = 1; action = Some Append }
 
 -- `[FILE].. [--name NAME]`
 abbrev pub with_names : App → App
@@ -91,13 +88,17 @@ with_cut a = with_rule (with_rule a (number_rule (codes "workers") max_threads))
 abbrev pub upload_line : App
 upload_line = with_rule (with_rule (with_cut (new_app (codes "upload"))) (flag_rule (codes "journal"))) (flag_rule (codes "no-progress"))
 
--- `[LIST] [--quiet] [--status]`
+-- `[LIST].. [--quiet] [--status]`
 abbrev pub with_shown : App → App
-with_shown a = with_rule (with_rule (with_rule a (word_rule (codes "list"))) (flag_rule (codes "quiet"))) (flag_rule (codes "status"))
+with_shown a = with_rule (with_rule (with_rule a (words_rule (codes "list"))) (flag_rule (codes "quiet"))) (flag_rule (codes "status"))
+
+-- `[--ignore-missing]`
+abbrev pub with_missing : App → App
+with_missing a = with_rule a (flag_rule (codes "ignore-missing"))
 
 -- `check` with these
 abbrev pub check_line : App
-check_line = with_work (with_shown (new_app (codes "check")))
+check_line = with_work (with_missing (with_shown (new_app (codes "check"))))
 
 -- `audit`
 abbrev pub audit_line : App

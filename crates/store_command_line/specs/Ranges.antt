@@ -2,8 +2,8 @@
 use Rattle.std.specs.Prelude.{◌≤◌, ℕ, All, IfSome, Option}
 use Rattle.b3_check.specs.Names.{IsName}
 use Rattle.store_upload.specs.Uploads.{max_part_chunks}
-use Rattle.edge.specs.declared.options.UploadOptions.{UploadOptions}
 use Rattle.store_command_line.specs.CommandLine.{max_sessions, max_output_len, max_threads}
+use Rattle.store_command_line.specs.declared.said.AskedUpload.{AskedUpload}
 use Rattle.store_command_line.specs.declared.said.DoorOptions.{DoorOptions}
 use Rattle.store_command_line.specs.declared.said.Options.{Options}
 use Rattle.store_command_line.specs.declared.said.Options.TheVariants.{Sum, Run, Serve, Upload, Check, Audit, Migrate}
@@ -16,7 +16,7 @@ abbrev pub IsWithin : ℕ → ℕ → Type 0
 IsWithin most n = (1 ≤ n) × (n ≤ most)
 
 -- the number of workers, and of chunks of a part
-abbrev pub AreWithin : UploadOptions → Type 0
+abbrev pub AreWithin : AskedUpload → Type 0
 AreWithin o = IsWithin max_threads o.workers × IsWithin max_part_chunks o.part_chunks
 
 -- each name can be in a check line
@@ -37,7 +37,7 @@ abbrev pub InRange : Options → Type 0
 InRange (Sum o) = IsSumInRange o
 InRange Run = Unit {0}
 InRange (Serve door) = IsDoorInRange door
-InRange (Upload asked) = AreWithin asked.options
+InRange (Upload asked) = AreWithin asked
 InRange (Check o) = IfSome o.threads (IsWithin max_threads)
 InRange Audit = Unit {0}
 InRange Migrate = Unit {0}

@@ -1,15 +1,14 @@
 -- What the arguments of a command line mean to the program.
-use Rattle.std.specs.Prelude.{◌≡◌, ◌≢◌, ℕ, Bool, true, false, Option, Some, None, Result, Ok, IfErr, IsSomeAnd, List, codes, map}
+use Rattle.std.specs.Prelude.{◌≡◌, ◌≢◌, ℕ, Bool, true, false, Option, Some, None, Result, Ok, IfErr, IsSomeAnd, List, [], codes, map}
+use Rattle.std.specs.Borrow.{Bor}
 use Rattle.std.specs.Str.Parse.{IsNumeral, digits_value}
 use Rattle.b3_check.specs.declared.report.Shown.{Shown}
 use Rattle.b3_check.specs.declared.report.Shown.TheVariants.{All, AllButGood, Nothing}
 use Rattle.clap.specs.Words.{Row, Text, all_of, first_of, one_of}
-use Rattle.edge.specs.declared.options.SumMode.{SumMode}
-use Rattle.edge.specs.declared.options.SumMode.TheVariants.{Hash, Keyed, Derive}
 use Rattle.hex.specs.Hex.{decode_sized}
 use Rattle.store_command_line.specs.CommandLine.{AsksVersion, MayAskVersion, default_sessions, default_part_chunks, default_workers}
 use Rattle.store_command_line.specs.declared.said.AskedMode.{AskedMode}
-use Rattle.store_command_line.specs.declared.said.AskedMode.TheVariants.{Known, KeyFile}
+use Rattle.store_command_line.specs.declared.said.AskedMode.TheVariants.{Hash, Keyed, KeyFile, Derive}
 use Rattle.store_command_line.specs.declared.said.AskedUpload.{AskedUpload}
 use Rattle.store_command_line.specs.declared.said.CheckOptions.{CheckOptions}
 use Rattle.store_command_line.specs.declared.said.DoorOptions.{DoorOptions}
@@ -44,26 +43,22 @@ abbrev pub SaysFlag : Option Text → Bool → Type 0
 SaysFlag None given = given ≡ false
 SaysFlag (Some t) given = (t ≡ codes "true" → given ≡ true) × (t ≡ codes "false" → given ≡ false)
 
--- the mode, from the texts of `--key` and of `--context`
-abbrev pub SaysMode : SumMode → Option Text → Option Text → Type 0
-SaysMode Hash key context = (key ≡ None) × (context ≡ None)
-SaysMode (Keyed k) key context = IsSomeAnd key (λ t. decode_sized t 32 ≡ Ok k) × (context ≡ None)
-SaysMode (Derive c) key context = (key ≡ None) × (context ≡ Some c.now)
-
--- the same, from that of `--key-file` too: at most one of the three options is given
-abbrev pub SaysAsked : AskedMode → Option Text → Option Text → Option Text → Type 0
-SaysAsked (Known mode) key context file = SaysMode mode key context × (file ≡ None)
-SaysAsked (KeyFile path) key context file = (key ≡ None) × (context ≡ None) × (file ≡ Some path.now)
+-- the mode, from the texts of `--key`, `--key-file` and `--context`, of which at most one is given
+abbrev pub SaysMode : AskedMode → Option Text → Option Text → Option Text → Type 0
+SaysMode Hash key file context = (key ≡ None) × (file ≡ None) × (context ≡ None)
+SaysMode (Keyed k) key file context = IsSomeAnd key (λ t. decode_sized t 32 ≡ Ok k) × (file ≡ None) × (context ≡ None)
+SaysMode (KeyFile path) key file context = (key ≡ None) × (file ≡ Some path.now) × (context ≡ None)
+SaysMode (Derive c) key file context = (key ≡ None) × (file ≡ None) × (context ≡ Some c.now)
 
 -- an input, from the text that names it
 abbrev pub NamesInput : Input → Text → Type 0
 NamesInput inputs.Standard t = t ≡ codes "-"
 NamesInput (inputs.File path) t = (t ≡ path.now) × (t ≢ codes "-")
 
--- the same, with standard input as the default
-abbrev pub SaysInput : Input → Option Text → Type 0
-SaysInput input (Some t) = NamesInput input t
-SaysInput input None = input ≡ inputs.Standard
+-- the paths of lists, from the positional arguments
+abbrev pub SaysLists : List (Bor Text) → Option (List Text) → Type 0
+SaysLists lists None = lists ≡ []
+SaysLists lists (Some ts) = ts ≡ map (λ list. list.now) lists
 
 -- the name in the check line, from the text of `--name`
 abbrev pub SaysName : Text → Option Text → Type 0
@@ -79,15 +74,15 @@ SaysInputs (Listed names) files said list null = IsSomeAnd list (NamesInput name
 
 pub record SaysSum (o : SumOptions) (rows : List Row) : Type 0 where
   pub inputs : SaysInputs o.inputs (all_of (codes "file") rows) (first_of (codes "name") rows) (first_of (codes "files-from") rows) (one_of (codes "null") rows)
-  pub mode : SaysAsked o.mode (first_of (codes "key") rows) (first_of (codes "context") rows) (first_of (codes "key-file") rows)
+  pub mode : SaysMode o.mode (first_of (codes "key") rows) (first_of (codes "key-file") rows) (first_of (codes "context") rows)
   pub length : SaysNumber (first_of (codes "length") rows) o.length
   pub threads : SaysNumber (first_of (codes "threads") rows) o.threads
   pub no_progress : SaysFlag (one_of (codes "no-progress") rows) o.no_progress
 
 pub record SaysUpload (asked : AskedUpload) (rows : List Row) : Type 0 where
-  pub workers : SpellsOr default_workers (first_of (codes "workers") rows) asked.options.workers
-  pub part_chunks : SpellsOr default_part_chunks (first_of (codes "part-chunks") rows) asked.options.part_chunks
-  pub journal : SaysFlag (one_of (codes "journal") rows) asked.options.journal
+  pub workers : SpellsOr default_workers (first_of (codes "workers") rows) asked.workers
+  pub part_chunks : SpellsOr default_part_chunks (first_of (codes "part-chunks") rows) asked.part_chunks
+  pub journal : SaysFlag (one_of (codes "journal") rows) asked.journal
   pub no_progress : SaysFlag (one_of (codes "no-progress") rows) asked.no_progress
 
 -- how clients connect, from the texts of `--at` and of `--sessions`, which is given only with it
@@ -109,8 +104,9 @@ pub record SaysShown (shown : Shown) (quiet status : Option Text) : Type 0 where
   pub by : shown ≡ shown_by is_quiet is_status
 
 pub record SaysCheck (o : CheckOptions) (rows : List Row) : Type 0 where
-  pub list : SaysInput o.list (first_of (codes "list") rows)
-  pub shown : SaysShown o.shown (one_of (codes "quiet") rows) (one_of (codes "status") rows)
+  pub lists : SaysLists o.lists.items (all_of (codes "list") rows)
+  pub shown : SaysShown o.report.shown (one_of (codes "quiet") rows) (one_of (codes "status") rows)
+  pub ignores_missing : SaysFlag (one_of (codes "ignore-missing") rows) o.report.ignores_missing
   pub threads : SaysNumber (first_of (codes "threads") rows) o.threads
   pub no_progress : SaysFlag (one_of (codes "no-progress") rows) o.no_progress
 

@@ -4,7 +4,10 @@ ghost use Rattle.std.specs.Prelude.{◌≡◌, IfOk, codes, false};
 ghost use Rattle.clap.specs.Words.{app_of, new_app, rule_of};
 ghost use Rattle.clap.specs.declared.builder.command.Command.TheViews.{out-Command as fields_of};
 ghost use Rattle.store_upload.specs.Uploads.{max_part_chunks};
-ghost use Rattle.store_command_line.specs.CommandLine.{max_sessions, max_output_len, max_threads, value_rule, flag_rule, short_flag_rule, word_rule, words_rule, program_line, with_list, with_cut, with_door, with_mode, with_names, with_shown, with_work, sum_line, run_line, serve_line, upload_line, check_line, audit_line, migrate_line, answering_line, storing_line, command_line, number_rule};
+ghost use Rattle.store_command_line.specs.CommandLine.{max_sessions, max_output_len, max_threads, value_rule, flag_rule, short_flag_rule};
+ghost use Rattle.store_command_line.specs.CommandLine.{words_rule, program_line, with_list, with_cut, with_door, with_mode, with_names};
+ghost use Rattle.store_command_line.specs.CommandLine.{with_shown, with_missing, with_work, sum_line, run_line, serve_line, upload_line, check_line};
+ghost use Rattle.store_command_line.specs.CommandLine.{audit_line, migrate_line, answering_line, storing_line, command_line, number_rule};
 
 use clap::{Arg, ArgAction, Command, value_parser};
 use std::alloc::{AllocError, Global};
@@ -25,16 +28,17 @@ fn threads_argument<'a>(alloc: Global) -> Arg<'a>
     ensures rule { rule_of result ≡ number_rule (codes "threads") max_threads }
     ensures local { result.global ≡ false }
 {
-    let help = "Hash by at most this many threads (1 to 16, by default one for each processor)";
+    let help = "Hash with at most this many threads (1 to 16, by default one for each processor)";
     value_argument(alloc, "threads", "T", help).value_parser(value_parser!(u32).range(1..17))
 }
 
-// A positional argument.
-fn word_argument<'a>(alloc: Global, id: &'a str, value_name: &'a str, help: &'a str) -> Arg<'a>
-    ensures rule { rule_of result ≡ word_rule id.entry.now }
+// Positional arguments.
+fn words_argument<'a>(alloc: Global, id: &'a str, value_name: &'a str, help: &'a str) -> Arg<'a>
+    ensures rule { rule_of result ≡ words_rule id.entry.now }
     ensures local { result.global ≡ false }
 {
-    Arg::new(alloc, id).value_name(value_name).help(help)
+    let words = Arg::new(alloc, id).value_name(value_name).help(help);
+    words.action(ArgAction::Append)
 }
 
 // The names of files, and the name of standard input. An argument is made where it is added, so that none has to be dropped if an
@@ -44,10 +48,10 @@ fn with_names<'a>(alloc: Global, command: Command<'a>) -> Result<Command<'a>, Al
     ensures shape { IfOk result (λ c. app_of c ≡ with_names (app_of command.entry)) }
     ensures local { IfOk result (λ c. (fields_of c).has_globals ≡ false) }
 {
-    let file = "Write the check line of each of these files in turn; - is standard input";
+    let file = "Hash these files, in this order; - is standard input";
     let name = "Write this name in the check line of standard input";
     command
-        .arg(word_argument(alloc, "file", "FILE", file).action(ArgAction::Append))?
+        .arg(words_argument(alloc, "file", "FILE", file))?
         .arg(value_argument(alloc, "name", "NAME", name))
 }
 
@@ -56,7 +60,7 @@ fn null_argument<'a>(alloc: Global) -> Arg<'a>
     ensures rule { rule_of result ≡ short_flag_rule (codes "null") 48 }
     ensures local { result.global ≡ false }
 {
-    let help = "The names in the list are ended by a byte 0, and not by line feeds";
+    let help = "Names in the list end with a byte 0 instead of a newline";
     flag_argument(alloc, "null", help).short('0')
 }
 
@@ -66,7 +70,7 @@ fn with_list<'a>(alloc: Global, command: Command<'a>) -> Result<Command<'a>, All
     ensures shape { IfOk result (λ c. app_of c ≡ with_list (app_of command.entry)) }
     ensures local { IfOk result (λ c. (fields_of c).has_globals ≡ false) }
 {
-    let list = "Take the files' names from this list, a line for each; - is standard input";
+    let list = "Read the files' names from this list, one on each line; - is standard input";
     command
         .arg(value_argument(alloc, "files-from", "LIST", list))?
         .arg(null_argument(alloc))
@@ -78,10 +82,9 @@ fn with_mode<'a>(alloc: Global, command: Command<'a>) -> Result<Command<'a>, All
     ensures shape { IfOk result (λ c. app_of c ≡ with_mode (app_of command.entry)) }
     ensures local { IfOk result (λ c. (fields_of c).has_globals ≡ false) }
 {
-    let key =
-        "Hash with this key of 32 bytes, in 64 hexadecimal digits, which every process can see";
+    let key = "Hash with this key: 32 bytes, as 64 hexadecimal digits; other processes can see it";
     let key_file = "Hash with the key in this file: 32 bytes, or 64 hexadecimal digits";
-    let context = "Derive a key in this context from the input; not with a key";
+    let context = "Derive a key from the input, with this context; excludes the keys";
     command
         .arg(value_argument(alloc, "key", "HEX64", key))?
         .arg(value_argument(alloc, "key-file", "FILE", key_file))?
@@ -93,7 +96,7 @@ fn progress_argument<'a>(alloc: Global) -> Arg<'a>
     ensures rule { rule_of result ≡ flag_rule (codes "no-progress") }
     ensures local { result.global ≡ false }
 {
-    let help = "Show no progress on standard error, where that is a terminal";
+    let help = "Show no progress, even if standard error is a terminal";
     flag_argument(alloc, "no-progress", help)
 }
 
@@ -113,7 +116,7 @@ fn length_argument<'a>(alloc: Global) -> Arg<'a>
     ensures rule { rule_of result ≡ number_rule (codes "length") max_output_len }
     ensures local { result.global ≡ false }
 {
-    let help = "Write this many bytes of the extended output as digits, and no name (1 to 65536)";
+    let help = "Write this many bytes of extended output as digits, and no name (1 to 65536)";
     value_argument(alloc, "length", "N", help).value_parser(value_parser!(u32).range(1..65537))
 }
 
@@ -149,15 +152,15 @@ macro_rules! listed_lines {
             "  open T ATMOST       a new upload of at most ATMOST bytes\n",
             "  fix U LEN           the length of such an upload\n",
             "  put U OFFSET DATA   a part of upload U: x: and digits, or p:LEN for a pattern\n",
-            "  seal U              its bytes are filed as an object\n",
+            "  seal U              file its bytes as an object\n",
             "  sealas U ADDRESS    the same, if that is its address\n",
-            "  abort U             it is given up\n",
-            "  forget T ADDRESS    the tenant holds the object no longer\n",
+            "  abort U             drop the upload\n",
+            "  forget T ADDRESS    stop holding the object\n",
             "  fetch T ADDRESS     the object's bytes, as digits\n",
             "  usage T             what the tenant uses\n",
             "  list T              the objects that it holds\n",
             "  stat                the store's totals\n",
-            "  journal             the entries of what was accepted",
+            "  journal             the journal's entries",
             $($more),*
         )
     };
@@ -186,7 +189,7 @@ fn run_command<'a>(alloc: Global) -> Command<'a>
 {
     Command::new(alloc, "run")
         .about(
-            "Read a script of commands for a store, and write each one's answer when it was read",
+            "Run a script of commands on an empty store, and answer each line as soon as it is read",
         )
         .after_help(script_lines())
 }
@@ -218,7 +221,7 @@ fn bare_serve<'a>(alloc: Global) -> Command<'a>
     ensures local { (fields_of result).has_globals ≡ false }
 {
     Command::new(alloc, "serve")
-        .about("Answer a program's commands for a store line by line, with raw bytes after them")
+        .about("Keep a store for a program, and answer its commands line by line")
         .after_help(session_lines())
 }
 
@@ -245,7 +248,7 @@ fn workers_argument<'a>(alloc: Global) -> Arg<'a>
     ensures rule { rule_of result ≡ number_rule (codes "workers") max_threads }
     ensures local { result.global ≡ false }
 {
-    let help = "Hash parts by this many threads (1 to 16, 4 by default)";
+    let help = "Hash parts with this many threads (1 to 16, 4 by default)";
     value_argument(alloc, "workers", "W", help).value_parser(value_parser!(u32).range(1..17))
 }
 
@@ -255,7 +258,7 @@ fn part_chunks_argument<'a>(alloc: Global) -> Arg<'a>
     ensures local { result.global ≡ false }
 {
     let help =
-        "Cut the input into parts of this many chunks of 1024 bytes (1 to 16384, 64 by default)";
+        "Split the input into parts of this many chunks of 1024 bytes (1 to 16384, 64 by default)";
     value_argument(alloc, "part-chunks", "P", help).value_parser(value_parser!(u32).range(1..16385))
 }
 
@@ -276,7 +279,7 @@ fn bare_upload<'a>(alloc: Global) -> Command<'a>
     ensures local { (fields_of result).has_globals ≡ false }
 {
     Command::new(alloc, "upload").about(
-        "Read standard input, upload it in parts into a store, and write its check line and what was accepted",
+        "Upload standard input in parts to a store that lasts as long as the command, and write its check line",
     )
 }
 
@@ -291,7 +294,7 @@ fn upload_command<'a>(alloc: Global) -> Result<Command<'a>, AllocError>
 
 // The end of the help of `check`.
 fn check_codes() -> &'static str {
-    "Faults of a line, of which the first is told:\n  C1  a tagged line\n  C2  too short\n  C3  no hexadecimal digit\n  C4  not two spaces\n  C5  no name\n  C6  a wrong escape\n  C7  a byte 0 in the name"
+    "Faults of a line, of which the first is reported:\n  C1  a tagged line\n  C2  too short\n  C3  not a hexadecimal digit\n  C4  not two spaces\n  C5  no name\n  C6  a wrong escape\n  C7  a byte 0 in the name"
 }
 
 // `check` without its options.
@@ -300,7 +303,7 @@ fn bare_check<'a>(alloc: Global) -> Command<'a>
     ensures local { (fields_of result).has_globals ≡ false }
 {
     Command::new(alloc, "check")
-        .about("Read check lines, and report of each whether the file of its name has its hash")
+        .about("Check files against their hashes")
         .after_help(check_codes())
 }
 
@@ -310,13 +313,23 @@ fn with_shown<'a>(alloc: Global, command: Command<'a>) -> Result<Command<'a>, Al
     ensures shape { IfOk result (λ c. app_of c ≡ with_shown (app_of command.entry)) }
     ensures local { IfOk result (λ c. (fields_of c).has_globals ≡ false) }
 {
-    let list = "Read the check lines from this file; standard input if none is named, or -";
-    let quiet = "Leave out the lines of files that have their hash";
-    let status = "Write nothing: the exit status tells whether all files have their hash";
+    let list = "Read the check lines from these files; standard input if none is named, or for -";
+    let quiet = "Write no lines for good files, and no counts if the report passes";
+    let status = "Write no report: only the exit status says whether the reports pass";
     command
-        .arg(word_argument(alloc, "list", "LIST", list))?
+        .arg(words_argument(alloc, "list", "LIST", list))?
         .arg(flag_argument(alloc, "quiet", quiet))?
         .arg(flag_argument(alloc, "status", status))
+}
+
+// Whether names without a file are ignored.
+fn with_missing<'a>(alloc: Global, command: Command<'a>) -> Result<Command<'a>, AllocError>
+    requires { (fields_of command).has_globals ≡ false }
+    ensures shape { IfOk result (λ c. app_of c ≡ with_missing (app_of command.entry)) }
+    ensures local { IfOk result (λ c. (fields_of c).has_globals ≡ false) }
+{
+    let help = "Write no lines for missing files; a report can pass without them";
+    command.arg(flag_argument(alloc, "ignore-missing", help))
 }
 
 fn check_command<'a>(alloc: Global) -> Result<Command<'a>, AllocError>
@@ -324,12 +337,13 @@ fn check_command<'a>(alloc: Global) -> Result<Command<'a>, AllocError>
     ensures local { IfOk result (λ c. (fields_of c).has_globals ≡ false) }
 {
     let command = with_shown(alloc, bare_check(alloc))?;
+    let command = with_missing(alloc, command)?;
     with_work(alloc, command)
 }
 
 // The end of the help of subcommands that read a journal.
 fn journal_codes() -> &'static str {
-    "Refusals of a journal:\n  J2 N  line N is outside the grammar\n  J1 N  else, entry N is not legal"
+    "Refusals of a journal:\n  J2 N  line N is outside the grammar\n  J1 N  otherwise: entry N is not legal"
 }
 
 fn audit_command<'a>(alloc: Global) -> Command<'a>
@@ -337,7 +351,7 @@ fn audit_command<'a>(alloc: Global) -> Command<'a>
     ensures local { (fields_of result).has_globals ≡ false }
 {
     Command::new(alloc, "audit")
-        .about("Read a journal, and write the totals that it leaves and what it accepted")
+        .about("Replay a journal, and write its totals and how many bytes and parts were accepted")
         .after_help(journal_codes())
 }
 
@@ -361,7 +375,9 @@ fn bare_program<'a>(alloc: Global) -> Command<'a>
     ensures local { (fields_of result).has_globals ≡ false }
 {
     Command::new(alloc, "b3store")
-        .about("A content-addressed store: objects under their BLAKE3 hash")
+        .about(
+            "Hash and check files, and serve a store that keeps each content once, in memory, until its process ends",
+        )
         .version(version())
 }
 

@@ -9,7 +9,7 @@
 //! | `run` | |
 //! | `serve` | `--at PATH`, and with it `--sessions N` with N from 1 to 64, by default 16 |
 //! | `upload` | `--workers W` from 1 to 16, by default 4; `--part-chunks P` from 1 to 16384, by default 64; `--journal`, `--no-progress` |
-//! | `check` | a list's name, `--quiet`, `--status`, `--threads T` with T from 1 to 16, `--no-progress` |
+//! | `check` | lists' names, `--quiet`, `--status`, `--ignore-missing`, `--threads T` with T from 1 to 16, `--no-progress` |
 //! | `audit` | |
 //! | `migrate` | |
 //!

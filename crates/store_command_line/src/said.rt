@@ -1,10 +1,10 @@
 //! The options of a command line.
 
 ghost use Rattle.std.specs.Prelude.{◌≡◌};
+ghost use Rattle.store_command_line.specs.Stated.{NamesInput};
 ghost use Rattle.store_command_line.specs.declared.said.Fault.TheVariants.{NoMemory};
 
-use b3_check::Shown;
-use edge::{SumMode, UploadOptions};
+use b3_check::ReportOptions;
 use std::alloc::AllocError;
 
 /// An input given by arguments.
@@ -16,13 +16,30 @@ pub enum Input<'a> {
     File(&'a str),
 }
 
+impl<'a> Input<'a> {
+    /// The input that this text names.
+    pub fn of(text: &'a str) -> Input<'a>
+        ensures { NamesInput result text.entry.now }
+    {
+        if text == "-" {
+            Input::Standard
+        } else {
+            Input::File(text)
+        }
+    }
+}
+
 /// The mode requested of `sum`.
 #[derive(Clone, Copy)]
 pub enum AskedMode<'a> {
-    /// A known mode.
-    Known(SumMode<'a>),
-    /// The keyed mode, with the key in the file of this path.
+    /// The default hash, without a key.
+    Hash,
+    /// The keyed hash with this key.
+    Keyed([u8; 32]),
+    /// The keyed hash with the key in the file of this path.
     KeyFile(&'a str),
+    /// A key derived in this context.
+    Derive(&'a str),
 }
 
 /// The names of files, from a list.
@@ -63,19 +80,23 @@ pub struct SumOptions<'a> {
 /// The options of `upload`.
 #[derive(Clone, Copy, Debug)]
 pub struct AskedUpload {
-    /// How the input is split, and what is written.
-    pub options: UploadOptions,
+    /// The number of workers that hash parts.
+    pub workers: u32,
+    /// The number of chunks, of 1024 bytes, in a part.
+    pub part_chunks: u32,
+    /// Whether the journal's text is written too.
+    pub journal: bool,
     /// Whether no progress is shown on standard error.
     pub no_progress: bool,
 }
 
 /// The options of `check`.
-#[derive(Clone, Copy, Debug)]
+#[derive(Drop)]
 pub struct CheckOptions<'a> {
-    /// The input with the check lines.
-    pub list: Input<'a>,
-    /// Which lines of the report are written.
-    pub shown: Shown,
+    /// The paths of the files with the check lines; `-` is standard input, and so is no path at all.
+    pub lists: Vec<&'a str>,
+    /// Which lines of a report are written, and when it passes.
+    pub report: ReportOptions,
     /// The maximum number of threads that hash a file; `None` for as many as the machine has processors.
     pub threads: Option<u32>,
     /// Whether no progress is shown on standard error.

@@ -4,12 +4,13 @@ ghost use Rattle.std.specs.Prelude.{◌≡◌, ◌↔◌, ◌^◌, ◌≤◌, �
 ghost use Rattle.clap.specs.Values.{kind_of};
 ghost use Rattle.clap.specs.Words.{all_of, found_of, first_of, one_of, rows_of, subcommand_of, subcommand_rows_of};
 ghost use Rattle.b3_check.specs.Names.{IsName};
-ghost use Rattle.edge.specs.declared.options.SumMode.{SumMode as SaidMode};
 ghost use Rattle.store_command_line.specs.CommandLine.{IsTaken, command_line, max_threads};
 ghost use Rattle.store_command_line.specs.Ranges.{AreNamed, AreWithin, InRange, IsDoorInRange, IsSumInRange, IsWithin};
-ghost use Rattle.store_command_line.specs.Stated.{IsFaultAt, IsNotUsage, IsNumber, NamesInput, Says, SaysAsked, SaysCheck, SaysDoor, SaysFlag, SaysInput, SaysInputs, SaysMode, SaysName, SaysShown, SaysSum, SaysUpload, SaysNumber, SpellsOr};
+ghost use Rattle.store_command_line.specs.Stated.{IsFaultAt, IsNotUsage, IsNumber, NamesInput, Says, SaysCheck, SaysDoor};
+ghost use Rattle.store_command_line.specs.Stated.{SaysFlag, SaysLists, SaysInputs, SaysMode, SaysName, SaysShown, SaysSum, SaysUpload};
+ghost use Rattle.store_command_line.specs.Stated.{SaysNumber, SpellsOr};
 ghost use Rattle.store_command_line.specs.inner.Faults.{IsNoUsage, IsNoVersion, ReportsKind};
-ghost use Rattle.store_command_line.specs.declared.said.AskedMode.{AskedMode as SaidAsked};
+ghost use Rattle.store_command_line.specs.declared.said.AskedMode.{AskedMode as SaidMode};
 ghost use Rattle.store_command_line.specs.declared.said.AskedUpload.{AskedUpload as SaidUpload};
 ghost use Rattle.store_command_line.specs.declared.said.CheckOptions.{CheckOptions as SaidCheck};
 ghost use Rattle.store_command_line.specs.declared.said.DoorOptions.{DoorOptions as SaidDoor};
@@ -23,10 +24,9 @@ use crate::said::{
     AskedMode, AskedUpload, CheckOptions, DoorOptions, Fault, Input, NameList, Options, SumInputs,
     SumOptions,
 };
-use b3_check::Shown;
+use b3_check::{ReportOptions, Shown};
 use clap::error::ErrorKind;
 use clap::{ArgMatches, Error};
-use edge::{SumMode, UploadOptions};
 use hex::FromHex;
 use std::alloc::{AllocError, Global};
 use std::convert::AsStr;
@@ -153,43 +153,28 @@ fn number_within(
     }
 }
 
-fn sum_mode<'a>(alloc: Global, found: &ArgMatches<'a>) -> Result<SumMode<'a>, Fault>
-    ensures says { IfOk result (λ m. let rows = rows_of (found_of found.now) in
-        SaysMode m (first_of (codes "key") rows) (first_of (codes "context") rows)) }
-    ensures only { (m : SaidMode) → (let rows = rows_of (found_of found.now) in
-        SaysMode m (first_of (codes "key") rows) (first_of (codes "context") rows)) → IsNotUsage result }
-    ensures no_version { IfErr result IsNoVersion }
-{
-    match (text_of(found, "key"), text_of(found, "context")) {
-        (None, None) => Ok(SumMode::Hash),
-        (None, Some(context)) => Ok(SumMode::Derive(context)),
-        (Some(digits), None) => match <[u8; 32] as FromHex>::from_hex(digits) {
-            Ok(key) => Ok(SumMode::Keyed(key)),
-            Err(_) => Err(usage(alloc, "sum", "--key takes 64 hexadecimal digits")),
-        },
-        (Some(_), Some(_)) => Err(usage(alloc, "sum", "--key and --context exclude each other")),
-    }
-}
-
 // The requested mode.
 fn asked_mode<'a>(alloc: Global, found: &ArgMatches<'a>) -> Result<AskedMode<'a>, Fault>
     ensures says { IfOk result (λ m. let rows = rows_of (found_of found.now) in
-        SaysAsked m (first_of (codes "key") rows) (first_of (codes "context") rows) (first_of (codes "key-file") rows)) }
-    ensures only { let rows = rows_of (found_of found.now) in (m : SaidAsked)
-        → SaysAsked m (first_of (codes "key") rows) (first_of (codes "context") rows) (first_of (codes "key-file") rows) → IsNotUsage result }
+        SaysMode m (first_of (codes "key") rows) (first_of (codes "key-file") rows) (first_of (codes "context") rows)) }
+    ensures only { let rows = rows_of (found_of found.now) in (m : SaidMode)
+        → SaysMode m (first_of (codes "key") rows) (first_of (codes "key-file") rows) (first_of (codes "context") rows) → IsNotUsage result }
     ensures no_version { IfErr result IsNoVersion }
 {
-    let Some(path) = text_of(found, "key-file") else {
-        return Ok(AskedMode::Known(sum_mode(alloc, found)?));
+    let key = text_of(found, "key");
+    let key_file = text_of(found, "key-file");
+    let wrong = match (key, key_file, text_of(found, "context")) {
+        (None, None, None) => return Ok(AskedMode::Hash),
+        (None, None, Some(context)) => return Ok(AskedMode::Derive(context)),
+        (None, Some(path), None) => return Ok(AskedMode::KeyFile(path)),
+        (Some(digits), None, None) => match <[u8; 32] as FromHex>::from_hex(digits) {
+            Ok(key) => return Ok(AskedMode::Keyed(key)),
+            Err(_) => "--key takes 64 hexadecimal digits",
+        },
+        (Some(_), None, Some(_)) => "--key and --context exclude each other",
+        _ => "--key, --key-file and --context exclude each other",
     };
-    match (text_of(found, "key"), text_of(found, "context")) {
-        (None, None) => Ok(AskedMode::KeyFile(path)),
-        _ => Err(usage(
-            alloc,
-            "sum",
-            "--key, --key-file and --context exclude each other",
-        )),
-    }
+    Err(usage(alloc, "sum", wrong))
 }
 
 // Whether the name can be in a check line.
@@ -228,16 +213,6 @@ fn are_names(texts: &[&str]) -> bool
 }
 
 // The input with this name.
-fn input_of(text: &str) -> Input<'_>
-    ensures { NamesInput result text.entry.now }
-{
-    if text == "-" {
-        Input::Standard
-    } else {
-        Input::File(text)
-    }
-}
-
 // The texts of the positional arguments.
 fn words_of<'a, 'b>(found: &'b ArgMatches<'a>, id: &str) -> Option<&'b [&'a str]>
     ensures { option_map (λ texts. map (λ text. text.now) texts.now) result ≡ all_of id.now (rows_of (found_of found.now)) }
@@ -276,7 +251,7 @@ fn sum_inputs<'a>(alloc: Global, found: &ArgMatches<'a>) -> Result<SumInputs<'a>
     match (files, list, text_of(found, "name")) {
         (Some(files), None, None) => named_inputs(alloc, files),
         (None, Some(list), None) => Ok(SumInputs::Listed(NameList {
-            list: input_of(list),
+            list: Input::of(list),
             has_nuls: flag(found, "null"),
         })),
         _ => Err(usage(
@@ -321,13 +296,13 @@ fn shown(found: &ArgMatches<'_>) -> Shown
     }
 }
 
-// The input named by an argument, or standard input if there is none.
-fn word_input<'a>(found: &ArgMatches<'a>, id: &str) -> Input<'a>
-    ensures { SaysInput result (first_of id.now (rows_of (found_of found.now))) }
+// The paths of lists.
+fn lists_of<'a>(alloc: Global, found: &ArgMatches<'a>) -> Result<Vec<&'a str>, AllocError>
+    ensures { IfOk result (λ lists. SaysLists lists.items (all_of (codes "list") (rows_of (found_of found.now)))) }
 {
-    match text_of(found, id) {
-        Some(text) => input_of(text),
-        None => Input::Standard,
+    match words_of(found, "list") {
+        Some(lists) => Vec::from_slice(alloc, lists),
+        None => Ok(Vec::new(alloc)),
     }
 }
 
@@ -337,34 +312,44 @@ fn check_options<'a>(alloc: Global, found: &ArgMatches<'a>) -> Result<CheckOptio
     ensures only { (o : SaidCheck) → SaysCheck o (rows_of (found_of found.now)) → IfSome o.threads (IsWithin max_threads) → IsNotUsage result }
     ensures no_version { IfErr result IsNoVersion }
 {
+    let lists = lists_of(alloc, found)?;
     let threads = number_within(alloc, found, "check", "threads", MAX_THREADS)?;
     Ok(CheckOptions {
-        list: word_input(found, "list"),
-        shown: shown(found),
+        lists,
+        report: ReportOptions {
+            shown: shown(found),
+            ignores_missing: flag(found, "ignore-missing"),
+        },
         threads,
         no_progress: flag(found, "no-progress"),
     })
 }
 
-// A number from 1 to `most` of an option of a subcommand, or its default.
+// The greatest number that an option takes, and its default.
+#[derive(Clone, Copy)]
+struct NumberOption {
+    most: u32,
+    default: u32,
+}
+
+// A number from 1 to `option.most` of an option of a subcommand, or its default.
 fn number_or(
     alloc: Global,
     found: &ArgMatches<'_>,
     subcommand: &str,
     id: &str,
-    most: u32,
-    other: u32,
+    option: NumberOption,
 ) -> Result<u32, Fault>
-    requires { IsWithin most other }
-    ensures spells { IfOk result (λ n. SpellsOr other (first_of id.now (rows_of (found_of found.now))) n) }
-    ensures range { IfOk result (IsWithin most) }
-    ensures only { (n : ℕ) → SpellsOr other (first_of id.now (rows_of (found_of found.now))) n → IsWithin most n
+    requires { IsWithin option.most option.default }
+    ensures spells { IfOk result (λ n. SpellsOr option.default (first_of id.now (rows_of (found_of found.now))) n) }
+    ensures range { IfOk result (IsWithin option.most) }
+    ensures only { (n : ℕ) → SpellsOr option.default (first_of id.now (rows_of (found_of found.now))) n → IsWithin option.most n
         → IsNotUsage result }
     ensures no_version { IfErr result IsNoVersion }
 {
-    match number_within(alloc, found, subcommand, id, most)? {
+    match number_within(alloc, found, subcommand, id, option.most)? {
         Some(n) => Ok(n),
-        None => Ok(other),
+        None => Ok(option.default),
     }
 }
 
@@ -376,34 +361,24 @@ fn flag(found: &ArgMatches<'_>, id: &str) -> bool
 
 fn upload_options(alloc: Global, found: &ArgMatches<'_>) -> Result<AskedUpload, Fault>
     ensures says { IfOk result (λ asked. SaysUpload asked (rows_of (found_of found.now))) }
-    ensures range { IfOk result (λ asked. AreWithin asked.options) }
-    ensures only { (asked : SaidUpload) → SaysUpload asked (rows_of (found_of found.now)) → AreWithin asked.options → IsNotUsage result }
+    ensures range { IfOk result AreWithin }
+    ensures only { (asked : SaidUpload) → SaysUpload asked (rows_of (found_of found.now)) → AreWithin asked → IsNotUsage result }
     ensures no_version { IfErr result IsNoVersion }
 {
-    let workers = number_or(
-        alloc,
-        found,
-        "upload",
-        "workers",
-        MAX_THREADS,
-        DEFAULT_WORKERS,
-    )?;
-    let most = MAX_PART_CHUNKS as u32;
-    let part_chunks = number_or(
-        alloc,
-        found,
-        "upload",
-        "part-chunks",
-        most,
-        DEFAULT_PART_CHUNKS,
-    )?;
-    let options = UploadOptions {
+    let workers = NumberOption {
+        most: MAX_THREADS,
+        default: DEFAULT_WORKERS,
+    };
+    let part_chunks = NumberOption {
+        most: MAX_PART_CHUNKS as u32,
+        default: DEFAULT_PART_CHUNKS,
+    };
+    let workers = number_or(alloc, found, "upload", "workers", workers)?;
+    let part_chunks = number_or(alloc, found, "upload", "part-chunks", part_chunks)?;
+    Ok(AskedUpload {
         workers,
         part_chunks,
         journal: flag(found, "journal"),
-    };
-    Ok(AskedUpload {
-        options,
         no_progress: flag(found, "no-progress"),
     })
 }
@@ -422,14 +397,11 @@ fn door<'a>(alloc: Global, found: &ArgMatches<'a>) -> Result<Option<DoorOptions<
             Some(_) => Err(usage(alloc, "serve", "--sessions takes --at beside it")),
         };
     };
-    let sessions = number_or(
-        alloc,
-        found,
-        "serve",
-        "sessions",
-        MAX_SESSIONS,
-        DEFAULT_SESSIONS,
-    )?;
+    let sessions = NumberOption {
+        most: MAX_SESSIONS,
+        default: DEFAULT_SESSIONS,
+    };
+    let sessions = number_or(alloc, found, "serve", "sessions", sessions)?;
     Ok(Some(DoorOptions { path, sessions }))
 }
 

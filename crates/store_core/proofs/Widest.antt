@@ -37,7 +37,7 @@ pub record IsWithin {P O : Type 0} (b : ModelBooks P O) : Type 0 where
 
 module _ (b : Bare) (within : IsWithin b) where
   wide_full : full_refusal b ≡ None → full_refusal (widest b) ≡ None
-  wide_full free = let few = room b free in let most = within.entries in rw (lt-leb max_entries b.accepted (omega (arith, few, most))) refl
+  wide_full free = let few = room b free in let most = within.entries in rw (lt-leb max_entries b.entry_count (omega (arith, few, most))) refl
 
   pub wide_tenant : (limit : ℕ) → tenant_refusal b limit ≡ None → tenant_refusal (widest b) limit ≡ None
   wide_tenant limit free =

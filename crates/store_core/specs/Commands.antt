@@ -13,7 +13,7 @@ use Rattle.store_books.specs.declared.refusal.Refusal.TheVariants.{NoMemory, NoT
 use Rattle.store_books.specs.Books.{is_absent, object_at, upload_at}
 use Rattle.store_books.specs.Commands.{abort_refusal, begin_refusal, fix_refusal, file_refusal, forget_refusal, holding_refusal, limit_refusal, put_refusal, ready_refusal, tenant_refusal, with_begun, with_filed, with_fixed, with_forgotten, with_joined, with_limit, with_put, with_tenant, without_upload}
 use Rattle.store_books.specs.Questions as books
-use Rattle.store_core.specs.declared.refusal.PutRefused.{PutRefused}
+use Rattle.store_upload.specs.declared.refused.Refused.{Refused}
 use Rattle.store_core.specs.declared.store.Held.{Held}
 use Rattle.store_core.specs.Model.{ModelObject, ModelStoreBooks, ModelStore}
 use Rattle.store_core.specs.inner.Model.{content}
@@ -52,9 +52,9 @@ reply_seen seen (Ok reply) = Ok (seen reply)
 reply_seen seen (Err refusal) = Err refusal
 
 -- a put's result, without the part that a refusal returns
-abbrev pub put_result : Result Held PutRefused → Result Held Refusal
+abbrev pub put_result : Result Held (Refused Refusal ModelPrepared) → Result Held Refusal
 put_result (Ok held) = Ok held
-put_result (Err refused) = Err refused.refusal
+put_result (Err refused) = Err refused.reason
 
 -- a reply viewed as it is
 abbrev pub as_is : {R : Type 0} → R → R

@@ -4,5 +4,4 @@ pub mod Commands
 pub mod Carried
 pub mod Runs
 pub mod Seen
-pub mod Texts
 pub mod inner

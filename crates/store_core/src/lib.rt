@@ -27,7 +27,6 @@ mod address_map;
 mod command;
 mod laws;
 mod object;
-mod refusal;
 mod reply;
 mod stepping;
 mod store;
@@ -35,7 +34,6 @@ mod store;
 pub use command::{Command, Question};
 pub use laws::run_laws;
 pub use object::{Object, SharedObject};
-pub use refusal::PutRefused;
 pub use reply::{Listing, Reply, SealReply};
 pub use store::{Held, Sealed, Store};
 pub use store_books::{
@@ -47,3 +45,4 @@ pub use store_journal::{
     Replayed, ReplayedUpload, Version, entry_laws, entry_lines, journal_laws, read_entry,
     read_journal, replay, write_entries, write_entry, write_journal,
 };
+pub use store_upload::Refused;

@@ -30,7 +30,8 @@ impl Model for Object {
 
     ghost view = { λ o. content_of (map part_of o.segments.items) };
 
-    ghost invariant = { λ o. (o.address ≡ hash_of (content_of (map part_of o.segments.items))) × (o.len ≡ length (content_of (map part_of o.segments.items))) × AreJoined 0 (map part_of o.segments.items) };
+    ghost invariant = { λ o. (o.address ≡ hash_of (content_of (map part_of o.segments.items)))
+        × (o.len ≡ length (content_of (map part_of o.segments.items))) × AreJoined 0 (map part_of o.segments.items) };
 }
 
 impl Object {

@@ -15,9 +15,10 @@ use Rattle.store_core.specs.Carried.{replayed_of}
 use Rattle.store_core.specs.Commands.{Acceptance, StepsAs, AnswersAs, fetch_in, unless}
 use Rattle.store_core.specs.Model.{ModelObject, ModelStoreBooks, ModelStore}
 use Rattle.store_upload.proofs.Places.{not_some}
-use Rattle.store_ledger.specs.declared.holding.Holding.{Holding}
+use Rattle.store_ledger.specs.declared.amounts.ShareAmounts.{ShareAmounts}
 use Rattle.store_shared.specs.Cuts.{IsBadCut, cut_of}
 use Rattle.store_shared.specs.Uploading.{ModelCut}
+use Rattle.store_shared.specs.Gates.{GateRule}
 use Rattle.store_shared.specs.Uploads.{IsAnswered}
 use Rattle.store_core.specs.declared.store.Sealed.{Sealed}
 use Rattle.store_shared.specs.declared.fault.UploadFault.{UploadFault}
@@ -33,7 +34,7 @@ use Rattle.edge.specs.declared.outcome.Cause.{Cause}
 use Rattle.edge.specs.declared.outcome.Cause.TheVariants.{CannotWrite, OutOfMemory}
 use Rattle.edge.specs.declared.outcome.Verdict.{Verdict}
 use Rattle.edge.specs.declared.outcome.Verdict.TheVariants.{Refused}
-use Rattle.edge.specs.declared.options.UploadOptions.{UploadOptions}
+use Rattle.store_engines.specs.declared.uploading.UploadOptions.{UploadOptions}
 
 -- ---- a failed upload
 
@@ -109,10 +110,10 @@ kind_in (Ok sealed) = BadCut
 kind_in (Err fault) = fault.kind
 
 -- the fault of an upload whose gate passes each part
-pub passed_may : (stop : ℕ → Type 0) (gate : ℕ → ℕ → Type 0) (passed : ℕ → Type 0) (bytes : List ℕ) (o : UploadOptions) (most : ℕ) (old new : Holding) (result : Result Sealed UploadFault) (fault : UploadFault)
-    → IsAnswered stop gate passed (record { bytes = bytes; part_chunks = o.part_chunks }) o.workers most old new result → result ≡ Err fault → most ≡ max_workers → ((part : ℕ) → stop part → ⊥) → ((part code : ℕ) → gate part code → ⊥)
+pub passed_may : (rule : GateRule) (bytes : List ℕ) (o : UploadOptions) (most : ℕ) (old new : ShareAmounts) (result : Result Sealed UploadFault) (fault : UploadFault)
+    → IsAnswered rule (record { bytes = bytes; part_chunks = o.part_chunks }) o.workers most old new result → result ≡ Err fault → most ≡ max_workers → ((part : ℕ) → rule.may_stop part → ⊥) → ((part code : ℕ) → rule.may_fault part code → ⊥)
     → MayFail o fault.kind
-passed_may stop gate passed bytes o most old new result fault h is same no_stop no_code = cut_may o fault.kind bad good stopped code
+passed_may rule bytes o most old new result fault h is same no_stop no_code = cut_may o fault.kind bad good stopped code
   where
     workers : (m n : ℕ) → m ≡ n → IsBadCut o.part_chunks o.workers m → IsBadCut o.part_chunks o.workers n
     workers m n e b = subst (λ (k : ℕ). IsBadCut o.part_chunks o.workers k) e b
@@ -132,24 +133,24 @@ passed_may stop gate passed bytes o most old new result fault h is same no_stop 
 -- ---- an upload that was filed
 
 -- what is sealed in a store that was empty
-pub record IsSealed (content : List ℕ) (part_chunks : ℕ) (share : Holding) (sealed : Sealed) : Type 0 where
+pub record IsSealed (content : List ℕ) (part_chunks : ℕ) (share : ShareAmounts) (sealed : Sealed) : Type 0 where
   pub address : sealed.address ≡ hash_of content
   pub bytes : share.bytes ≡ length content
   pub calls : share.calls ≡ length (cut_of content part_chunks)
 
-pub is_sealed : (stop : ℕ → Type 0) (gate : ℕ → ℕ → Type 0) (passed : ℕ → Type 0) (c : ModelCut) (workers most parts : ℕ) (old new : Holding) (result : Result Sealed UploadFault) (sealed : Sealed)
-    → IsAnswered stop gate passed c workers most old new result → result ≡ Ok sealed → old ≡ record { parts = parts; bytes = 0; calls = 0 } → IsSealed c.bytes c.part_chunks new sealed
-is_sealed stop gate passed c workers most parts old new result sealed h is start =
+pub is_sealed : (rule : GateRule) (c : ModelCut) (workers most parts : ℕ) (old new : ShareAmounts) (result : Result Sealed UploadFault) (sealed : Sealed)
+    → IsAnswered rule c workers most old new result → result ≡ Ok sealed → old ≡ record { parts = parts; bytes = 0; calls = 0 } → IsSealed c.bytes c.part_chunks new sealed
+is_sealed rule c workers most parts old new result sealed h is start =
     let ok = rw is at h.ok in
     let grew = rw is at h.share in
-    let no_bytes : old.bytes ≡ 0 = ap (λ (s : Holding). s.bytes) start in
-    let no_calls : old.calls ≡ 0 = ap (λ (s : Holding). s.calls) start in
-    let bytes : new.bytes ≡ old.bytes + length c.bytes = ap (λ (s : Holding). s.bytes) grew in
-    let calls : new.calls ≡ old.calls + length (cut_of c.bytes c.part_chunks) = ap (λ (s : Holding). s.calls) grew in
+    let no_bytes : old.bytes ≡ 0 = ap (λ (s : ShareAmounts). s.bytes) start in
+    let no_calls : old.calls ≡ 0 = ap (λ (s : ShareAmounts). s.calls) start in
+    let bytes : new.bytes ≡ old.bytes + length c.bytes = ap (λ (s : ShareAmounts). s.bytes) grew in
+    let calls : new.calls ≡ old.calls + length (cut_of c.bytes c.part_chunks) = ap (λ (s : ShareAmounts). s.calls) grew in
     record { address = ok.0; bytes = omega (arith, no_bytes, bytes); calls = omega (arith, no_calls, calls) }
 
 -- what is reported of a store whose upload was filed is a text of its input
-pub is_upload_text : (o : UploadOptions) (input text address : List ℕ) (share : Holding) (store : ModelStore) → address ≡ hash_of input → share.bytes ≡ length input → share.calls ≡ length (cut_of input o.part_chunks)
+pub is_upload_text : (o : UploadOptions) (input text address : List ℕ) (share : ShareAmounts) (store : ModelStore) → address ≡ hash_of input → share.bytes ≡ length input → share.calls ≡ length (cut_of input o.part_chunks)
     → IsUploadReport o.journal address share store text → IsUploadText o input text
 is_upload_text o input text address share store hash bytes calls reported = record {
   entries = store.journal;

@@ -18,7 +18,7 @@ use Rattle.store_shared.specs.declared.fault.UploadFaultKind.{UploadFaultKind}
 use Rattle.store_shared.specs.declared.fault.UploadFaultKind.TheVariants.{BadCut, NoMemory, Refused}
 use Rattle.store_engines.specs.Audits.{accepted_text}
 use Rattle.edge.specs.Output.{WroteSome}
-use Rattle.edge.specs.declared.options.UploadOptions.{UploadOptions}
+use Rattle.store_engines.specs.declared.uploading.UploadOptions.{UploadOptions}
 
 -- the journal's text, if it is requested
 abbrev pub journal_part : Bool → List Entry → List ℕ

@@ -23,4 +23,4 @@ pub use auditing::audit;
 pub use edge::{Cause, Verdict};
 pub use migrating::migrate;
 pub use store_ledger::ALL_PARTS;
-pub use uploading::upload;
+pub use uploading::{UploadOptions, upload};

@@ -15,8 +15,8 @@ use crate::journals::text_of;
 use crate::streams::read_stretches;
 use b3_check::Line;
 use b3_core::{CHUNK_LEN, Runtime};
-use b3_forest::{Lent, MAX_PART_BYTES};
-use edge::{Cause, UploadOptions, Verdict, write_all};
+use b3_forest::{BorrowedBytes, MAX_PART_BYTES};
+use edge::{Cause, Verdict, write_all};
 use std::alloc::{AllocError, Global};
 use std::io::{Read, Write};
 use std::sync::Wait;
@@ -26,6 +26,17 @@ use store_core::{Address, Entry, Limits, Refusal, TenantId};
 use store_history::UnnamedHistory;
 use store_ledger::{Ledgers, Share};
 use store_shared::{Locked, PassAll, Shared, UploadFaultKind, UploadRequest, lent_open_tenant};
+
+/// How `upload` splits its input, and what it writes.
+#[derive(Clone, Copy, Debug)]
+pub struct UploadOptions {
+    /// The number of workers that hash parts.
+    pub workers: u32,
+    /// The number of chunks, of 1024 bytes, in a part.
+    pub part_chunks: u32,
+    /// Whether the journal's text is written too.
+    pub journal: bool,
+}
 
 // The tenant's limit, in bytes.
 const LIMIT: u64 = 1 << 40;
@@ -175,7 +186,7 @@ pub fn upload<L: Ledgers, T: Threads + Wait + Sync + Runtime, R: Read, W: Write>
     };
     let request = UploadRequest {
         tenant,
-        bytes: Lent::Stretches(&input),
+        bytes: BorrowedBytes::Stretches(&input),
         part_chunks: options.part_chunks as u64,
         workers: options.workers as u64,
         gate: &PassAll,

@@ -1,4 +1,4 @@
-mod Holding
+mod SealedObjects
 mod Lookups
 mod Opening
 mod Replayed

@@ -13,7 +13,7 @@ use Rattle.store_core.specs.declared.reply.Reply.TheVariants as replies
 use Rattle.store_journal.specs.declared.entry.Entry.{Entry}
 use Rattle.store_journal.specs.declared.entry.Entry.TheVariants.{Seal}
 use Rattle.store_lease.specs.Laws.{ReportedIsHeld}
-use Rattle.store_lease.proofs.Holding.{sealed_is_held}
+use Rattle.store_lease.proofs.SealedObjects.{sealed_is_held}
 
 -- the entry says what the reply says
 abbrev IsSealEntry : ℕ → Result (Acceptance ModelSealed) Refusal → Type 0

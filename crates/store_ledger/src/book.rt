@@ -1,10 +1,10 @@
 //! Books: the totals of what was accepted.
 
 ghost use Rattle.std.specs.Prelude.{◌≡◌, ◌↔◌, IsSome, IfSome, ◌+◌, ◌≤◌, IfOk, IfErr, IsOk, OnOk, OnErr, Ok};
-ghost use Rattle.store_ledger.specs.Shares.{Agrees, BookHasRoom, IsMissing, IsWhole, accepted_after, all_parts, holding_after, sum_of};
+ghost use Rattle.store_ledger.specs.Shares.{Agrees, BookHasRoom, IsMissing, IsWhole, accepted_after, all_parts, share_after, sum_of};
 ghost use Rattle.store_ledger.specs.declared.book.Accepted.{Accepted};
 
-use crate::holding::Holding;
+use crate::amounts::ShareAmounts;
 use crate::ledgers::{Ledgers, OfBytes, OfCalls};
 use crate::refusal::{BookFull, NotWhole};
 use crate::share::{ALL_PARTS, Share};
@@ -51,7 +51,7 @@ impl<L: Ledgers> Book<L> {
             call_book,
         };
         let share = Share {
-            holding: Holding::new(ALL_PARTS),
+            amounts: ShareAmounts::new(ALL_PARTS),
             byte_share,
             call_share,
         };
@@ -76,15 +76,15 @@ impl<L: Ledgers> Book<L> {
     pub fn record(&mut self, share: &mut Share<L>, bytes: u64) -> Result<(), BookFull>
         ensures room { IsOk result ↔ BookHasRoom self.old bytes }
         ensures book { OnOk result (self.new ≡ accepted_after self.old bytes) }
-        ensures share { OnOk result (share.new ≡ holding_after share.old bytes) }
+        ensures share { OnOk result (share.new ≡ share_after share.old bytes) }
         ensures full { OnErr result ((self.new ≡ self.old) × (share.new ≡ share.old)) }
     {
         let accepted = self.accepted(share).after(bytes).ok_or(BookFull)?;
         self.byte_book.add(&mut share.byte_share, bytes);
         self.call_book.add(&mut share.call_share, 1);
         self.accepted = accepted;
-        share.holding.bytes += bytes;
-        share.holding.calls += 1;
+        share.amounts.bytes += bytes;
+        share.amounts.calls += 1;
         Ok(())
     }
 
@@ -96,13 +96,13 @@ impl<L: Ledgers> Book<L> {
         ensures whole { IsWhole share.old → result ≡ Ok self.old }
     {
         let accepted = self.accepted(share);
-        let holding = share.holding;
-        if holding.bytes == accepted.bytes && holding.calls == accepted.calls {
+        let amounts = share.amounts;
+        if amounts.bytes == accepted.bytes && amounts.calls == accepted.calls {
             return Ok(accepted);
         }
         Err(NotWhole {
-            bytes: accepted.bytes - holding.bytes,
-            calls: accepted.calls - holding.calls,
+            bytes: accepted.bytes - amounts.bytes,
+            calls: accepted.calls - amounts.calls,
         })
     }
 
@@ -124,7 +124,7 @@ impl<L: Ledgers> Book<L> {
         ensures share { share.new ≡ sum_of share.old other }
     {
         let Share {
-            holding,
+            amounts,
             byte_share,
             call_share,
         } = other;
@@ -132,7 +132,7 @@ impl<L: Ledgers> Book<L> {
         share.call_share.merge(call_share);
         self.byte_book.audit(&mut share.byte_share);
         self.call_book.audit(&mut share.call_share);
-        share.holding = share.holding.plus(holding);
+        share.amounts = share.amounts.plus(amounts);
     }
 }
 

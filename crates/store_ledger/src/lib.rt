@@ -10,14 +10,14 @@
 //! passes two `Blank`s of `ALL_PARTS` parts.
 #![tactic(auto)]
 
+mod amounts;
 mod book;
-mod holding;
 mod ledgers;
 mod refusal;
 mod share;
 
+pub use crate::amounts::ShareAmounts;
 pub use crate::book::{Accepted, Book};
-pub use crate::holding::Holding;
 pub use crate::ledgers::{Ledgers, OfBytes, OfCalls};
 pub use crate::refusal::{BookFull, NotWhole};
 pub use crate::share::{ALL_PARTS, Share};

@@ -2,9 +2,9 @@
 
 ghost use Rattle.std.specs.Prelude.{◌≡◌, ◌+◌, ◌-◌, ◌^◌, ◌<◌};
 ghost use Rattle.store_ledger.specs.Shares.{all_parts, sum_of};
-ghost use Rattle.store_ledger.specs.declared.holding.Holding.{Holding};
+ghost use Rattle.store_ledger.specs.declared.amounts.ShareAmounts.{ShareAmounts};
 
-use crate::holding::Holding;
+use crate::amounts::ShareAmounts;
 use crate::ledgers::{Ledgers, OfBytes, OfCalls};
 use std::marker::Model;
 use std::sync::ledger;
@@ -16,17 +16,18 @@ pub const ALL_PARTS: u64 = 1 << 32;
 /// share of its book can become whole again.
 #[derive(Drop)]
 pub struct Share<L: Ledgers> {
-    pub(crate) holding: Holding,
+    pub(crate) amounts: ShareAmounts,
     pub(crate) byte_share: ledger::Share<OfBytes<L>>,
     pub(crate) call_share: ledger::Share<OfCalls<L>>,
 }
 
 impl<L: Ledgers> Model for Share<L> {
-    ghost Value = { Holding };
+    ghost Value = { ShareAmounts };
 
-    ghost view = { λ s. s.holding };
+    ghost view = { λ s. s.amounts };
 
-    ghost invariant = { λ s. (s.byte_share.parts ≡ s.holding.parts) × (s.call_share.parts ≡ s.holding.parts) × (s.byte_share.amount ≡ s.holding.bytes) × (s.call_share.amount ≡ s.holding.calls) × (0 < s.holding.parts) × (L.bytes_parts ≡ all_parts) × (L.calls_parts ≡ all_parts) };
+    ghost invariant = { λ s. (s.byte_share.parts ≡ s.amounts.parts) × (s.call_share.parts ≡ s.amounts.parts) × (s.byte_share.amount ≡ s.amounts.bytes)
+        × (s.call_share.amount ≡ s.amounts.calls) × (0 < s.amounts.parts) × (L.bytes_parts ≡ all_parts) × (L.calls_parts ≡ all_parts) };
 }
 
 impl<L: Ledgers> Share<L> {
@@ -34,21 +35,21 @@ impl<L: Ledgers> Share<L> {
     pub fn parts(&self) -> u64
         ensures { result ≡ self.now.parts }
     {
-        self.holding.parts
+        self.amounts.parts
     }
 
     /// The number of bytes recorded with the share.
     pub fn bytes(&self) -> u64
         ensures { result ≡ self.now.bytes }
     {
-        self.holding.bytes
+        self.amounts.bytes
     }
 
     /// The number of calls recorded with the share.
     pub fn calls(&self) -> u64
         ensures { result ≡ self.now.calls }
     {
-        self.holding.calls
+        self.amounts.calls
     }
 
     /// Moves `parts` parts to a new share of the same book, with nothing recorded.
@@ -60,12 +61,12 @@ impl<L: Ledgers> Share<L> {
     {
         let byte_share = self.byte_share.split_off(parts, 0);
         let call_share = self.call_share.split_off(parts, 0);
-        self.holding = Holding {
-            parts: self.holding.parts - parts,
-            ..self.holding
+        self.amounts = ShareAmounts {
+            parts: self.amounts.parts - parts,
+            ..self.amounts
         };
         Share {
-            holding: Holding::new(parts),
+            amounts: ShareAmounts::new(parts),
             byte_share,
             call_share,
         }
@@ -79,12 +80,12 @@ impl<L: Ledgers> Share<L> {
         ensures { self.new ≡ sum_of self.old other }
     {
         let Share {
-            holding,
+            amounts,
             byte_share,
             call_share,
         } = other;
         self.byte_share.merge(byte_share);
         self.call_share.merge(call_share);
-        self.holding = self.holding.plus(holding);
+        self.amounts = self.amounts.plus(amounts);
     }
 }

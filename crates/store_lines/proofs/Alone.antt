@@ -8,7 +8,7 @@ use Rattle.edge.specs.declared.outcome.Verdict.TheVariants as verdicts
 use Rattle.store_books.specs.Books.{max_entries, max_tenants, max_workers}
 use Rattle.store_core.specs.Commands.{plan_in}
 use Rattle.store_core.specs.Model.{ModelStore}
-use Rattle.store_core.specs.Runs.{Run, ask}
+use Rattle.store_core.specs.Runs.{Run, ask, change}
 use Rattle.store_core.specs.declared.command.Question.TheVariants as questions
 use Rattle.store_core.proofs.Runs.{runs_carry}
 use Rattle.store_core.proofs.Carried.{empty_carried}
@@ -18,7 +18,7 @@ use Rattle.store_lines.proofs.ScriptSteps.{Came, came, came_put, came_takes}
 use Rattle.store_lines.specs.Requests.{request_in}
 use Rattle.store_lines.specs.Session.{AreServed, AreSessionTurns, Ends, IsReportedAs, IsTurnOfRequest, IsTurnOfScriptLine, Manner, ServedAll, ServedSome, SessionTurn, no_memory, session_calls, session_replies, session_turn_text, reported_as}
 use Rattle.store_lines.specs.declared.request.Request.{Request}
-use Rattle.store_lines.specs.declared.request.Request.TheVariants.{Asks, Entries, Fetch, Put}
+use Rattle.store_lines.specs.declared.request.Request.TheVariants.{Asks, Does, Entries, Fetch, Put, PutRaw}
 use Rattle.store_lines.specs.Access.{SessionState, alone_reach, alone_stands}
 use Rattle.store_lines.specs.Turns.{EndsOver, ServedAllOver, ServedSomeOver}
 use Rattle.store_lines.proofs.Turns.{of_turns}
@@ -39,7 +39,9 @@ came_script old new line (reported_as manner turn) h = came old new line turn h.
 
 came_request : (old new : ModelStore) (request : Option Request) (whole following : List ℕ) (turn : SessionTurn) (rest : List ℕ) → IsTurnOfRequest old request whole following turn new rest → CameTo old turn new
 came_request old new None whole following turn rest h = came_script old new (strip_last 10 whole) turn h.0
-came_request old new (Some (Put upload offset len)) whole following turn rest h = came_reported old new _ _ turn (λ t is. came_put old new upload offset (take len following) (plan_in old.state upload) t is) h.0
+came_request old new (Some (Does command)) whole following turn rest h = came_reported old new _ _ turn (λ t is. came_takes old new (change command) t is) h.0
+came_request old new (Some (Put part)) whole following turn rest h = came_reported old new _ _ turn (λ t is. came_put old new part.upload part.offset part.bytes (plan_in old.state part.upload) t is) h.0
+came_request old new (Some (PutRaw part)) whole following turn rest h = came_reported old new _ _ turn (λ t is. came_put old new part.upload part.offset (take part.len following) (plan_in old.state part.upload) t is) h.0
 came_request old new (Some (Fetch wanted)) whole following turn rest h = came_reported old new _ _ turn (λ t is. came_takes old new (ask (questions.Fetch wanted.tenant wanted.address)) t is) h.0
 came_request old new (Some (Asks question)) whole following turn rest h = came_reported old new _ _ turn (λ t is. came_takes old new (ask question) t is) h.0
 came_request old new (Some (Entries range)) whole following turn rest h = came_reported old new _ _ turn (λ t is. subst (λ (u : script.Turn). Came old u new) (sym is.0) is.1) h.0

@@ -9,7 +9,9 @@ use Rattle.store_core.specs.declared.command.Command.{Command}
 use Rattle.store_core.specs.declared.command.Command.TheVariants as commands
 use Rattle.store_core.specs.declared.command.Question.{Question}
 use Rattle.store_core.specs.declared.command.Question.TheVariants as questions
-use Rattle.store_lines.specs.Grammar.{ScriptCommand, asks, command_at, does, journal, puts}
+use Rattle.store_lines.specs.Grammar.{command_at}
+use Rattle.store_lines.specs.declared.request.Request.{Request}
+use Rattle.store_lines.specs.declared.request.Request.TheVariants.{Asks, Does, Entries, Put}
 use Rattle.store_lines.specs.Lines.{max_line}
 use Rattle.store_lines.specs.Spelling.{SpellsQuestion, SpellsCommand, IsNumberAndAddress, IsPart, IsSpelled, LongIsNone}
 use Rattle.store_lines.proofs.Read.{found}
@@ -61,16 +63,17 @@ field_few offset field bytes (inr h) = omega (arith, ap length h.1, length-appen
 three_few : (a b c : List ℕ) (n : ℕ) → length a ≤ 20 → length b ≤ 20 → length c ≤ n → length (three_fields a b c) ≤ 42 + n
 three_few a b c n few less least = omega (arith, length-append a (32 ∷ (b ++ 32 ∷ c)), length-append b (32 ∷ c), few, less, least)
 
-spelled : (line : List ℕ) (command : ScriptCommand) → IsSpelled line command → length line ≤ max_line
-spelled line (does command) h = done line command h
-spelled line (asks question) h = asked line question h
-spelled line (puts upload offset bytes) h =
-    omega (arith, ap length h.1, length-append (codes "put ") (three_fields (decimal upload) (decimal offset) h.0), three_few (decimal upload) (decimal offset) h.0 33554434 (digits_few upload h.2) (digits_few offset h.3) (field_few offset h.0 bytes h.4))
-spelled line journal h = omega (arith, ap length h)
+spelled : (line : List ℕ) (command : Request) → IsSpelled line command → length line ≤ max_line
+spelled line (Does command) h = done line command h
+spelled line (Asks question) h = asked line question h
+spelled line (Put part) h =
+    omega (arith, ap length h.1, length-append (codes "put ") (three_fields (decimal part.upload) (decimal part.offset) h.0), three_few (decimal part.upload) (decimal part.offset) h.0 33554434 (digits_few part.upload h.2) (digits_few part.offset h.3) (field_few part.offset h.0 part.bytes h.4))
+spelled line (Entries range) h = omega (arith, ap length h.0)
+spelled line _ h = absurd h
 
 pub long_is_none : LongIsNone
 long_is_none line long = go (command_at line) refl
   where
-    go : (o : Option ScriptCommand) → command_at line ≡ o → o ≡ None
+    go : (o : Option Request) → command_at line ≡ o → o ≡ None
     go None is = refl
     go (Some command) is = absurd (omega (arith, spelled line command (found line command is), long))

@@ -12,7 +12,11 @@ use Rattle.store_core.specs.declared.reply.Reply.{Reply}
 use Rattle.store_core.specs.declared.command.Command.{Command}
 use Rattle.store_core.specs.declared.command.Question.{Question}
 use Rattle.store_core.specs.Runs.{Answers, Step, ask, change}
-use Rattle.store_lines.specs.Grammar.{ScriptCommand, asks, command_at, does, journal, puts}
+use Rattle.store_lines.specs.Grammar.{command_at}
+use Rattle.store_lines.specs.declared.request.EntryRange.{EntryRange}
+use Rattle.store_lines.specs.declared.request.Part.{Part}
+use Rattle.store_lines.specs.declared.request.Request.{Request}
+use Rattle.store_lines.specs.declared.request.Request.TheVariants.{Asks, Does, Entries, Put}
 use Rattle.store_lines.specs.Access.{SessionState, alone_reach, alone_stands}
 use Rattle.store_lines.specs.Lines.{IsPutLine}
 use Rattle.store_lines.specs.inner.Answers.{Answered, AnswersRead, PutsRead, reported_ending, reported_text}
@@ -20,7 +24,7 @@ use Rattle.store_lines.specs.Turns.{IsLinkedPut}
 use Rattle.store_lines.specs.inner.Reporting.{AnsweredOver}
 use Rattle.store_lines.proofs.Turns.{of_put}
 use Rattle.store_lines.proofs.Lengths.{long_is_none}
-use Rattle.store_lines.specs.Script.{IsTurnOfCommand, IsTurnOf, IsTurnOfPut, Turn, bad, listed, reply_ending, skipped, took}
+use Rattle.store_lines.specs.Script.{IsTurnOfCommand, IsTurnOf, IsTurnOfPut, Turn, bad, listed, range_entries, reply_ending, skipped, took}
 use Rattle.store_lines.specs.Texts.{answer_text, entries_text}
 use Rattle.store_lines.specs.declared.answer.Answer.{Answer}
 use Rattle.store_lines.specs.declared.answer.Answer.TheVariants as answers
@@ -60,7 +64,7 @@ put_alone old new upload offset bytes answer h =
 abbrev pub LineTurn : ModelStore → List ℕ → ModelStore → Turn → Type 0
 LineTurn old line new turn = IsTurnOf old line turn new
 
-plays : (old new : ModelStore) (line : List ℕ) (turn : Turn) (command : Option ScriptCommand) → 0 < length line → command ≡ command_at line → IsTurnOfCommand old command turn new → IsTurnOf old line turn new
+plays : (old new : ModelStore) (line : List ℕ) (turn : Turn) (command : Option Request) → 0 < length line → command ≡ command_at line → IsTurnOfCommand old command turn new → IsTurnOf old line turn new
 plays old new [] turn command some is h = absurd (omega (arith, some))
 plays old new (b ∷ line) turn command some is h = subst (λ o. IsTurnOfCommand old o turn new) is h
 
@@ -71,34 +75,38 @@ nothing old (b ∷ line) text ending none text_is ending_is = absurd (omega (ari
 pub no_command : (old : ModelStore) (line text : List ℕ) (ending : Ending) → 0 < length line → None ≡ command_at line → SaysBad text ending → Answered (LineTurn old line old) text ending
 no_command old line text ending some is says = record { turn = bad; is = plays old old line bad None some is (refl, refl); text_is = says.0; ending_is = says.1 }
 
-pub done : (old new : ModelStore) (line text : List ℕ) (ending : Ending) (command : Command) (reply : Result Reply Refusal) → 0 < length line → Some (does command) ≡ command_at line → Step old (change command) reply new → Says reply text ending → Answered (LineTurn old line new) text ending
+pub done : (old new : ModelStore) (line text : List ℕ) (ending : Ending) (command : Command) (reply : Result Reply Refusal) → 0 < length line → Some (Does command) ≡ command_at line → Step old (change command) reply new → Says reply text ending → Answered (LineTurn old line new) text ending
 done old new line text ending command reply some is step says = record {
   turn = took (change command) reply;
-  is = plays old new line (took (change command) reply) (Some (does command)) some is (refl, step);
+  is = plays old new line (took (change command) reply) (Some (Does command)) some is (refl, step);
   text_is = says.0;
   ending_is = says.1;
 }
 
-pub asked : (old : ModelStore) (line text : List ℕ) (ending : Ending) (question : Question) (reply : Result Reply Refusal) → 0 < length line → Some (asks question) ≡ command_at line → Answers old question reply → Says reply text ending → Answered (LineTurn old line old) text ending
+pub asked : (old : ModelStore) (line text : List ℕ) (ending : Ending) (question : Question) (reply : Result Reply Refusal) → 0 < length line → Some (Asks question) ≡ command_at line → Answers old question reply → Says reply text ending → Answered (LineTurn old line old) text ending
 asked old line text ending question reply some is answers says = record {
   turn = took (ask question) reply;
-  is = plays old old line (took (ask question) reply) (Some (asks question)) some is (refl, (answers, refl));
+  is = plays old old line (took (ask question) reply) (Some (Asks question)) some is (refl, (answers, refl));
   text_is = says.0;
   ending_is = says.1;
 }
 
-pub listed_all : (old : ModelStore) (line : List ℕ) → 0 < length line → Some journal ≡ command_at line → Answered (LineTurn old line old) (entries_text old.journal) endings.Good
-listed_all old line some is = record {
-  turn = listed old.journal;
-  is = plays old old line (listed old.journal) (Some journal) some is (refl, refl);
+pub listed_these : (old : ModelStore) (line : List ℕ) (range : EntryRange) → 0 < length line → Some (Entries range) ≡ command_at line → Answered (LineTurn old line old) (entries_text (range_entries range old.journal)) endings.Good
+listed_these old line range some is = record {
+  turn = listed (range_entries range old.journal);
+  is = plays old old line (listed (range_entries range old.journal)) (Some (Entries range)) some is (refl, refl);
   text_is = refl;
   ending_is = refl;
 }
 
-pub put_asked : (old new : ModelStore) (line text : List ℕ) (ending : Ending) (upload offset : ℕ) (bytes : List ℕ) → 0 < length line → Some (puts upload offset bytes) ≡ command_at line → Answered (PutTurn old upload offset bytes new) text ending → Answered (LineTurn old line new) text ending
-put_asked old new line text ending upload offset bytes some is h = record {
+-- a request that a script does not have
+pub no_script : (old : ModelStore) (line : List ℕ) (request : Request) → 0 < length line → Some request ≡ command_at line → IsTurnOfCommand old (Some request) bad old → Answered (LineTurn old line old) (codes "bad\n") endings.Refused
+no_script old line request some is h = record { turn = bad; is = plays old old line bad (Some request) some is h; text_is = refl; ending_is = refl }
+
+pub put_asked : (old new : ModelStore) (line text : List ℕ) (ending : Ending) (part : Part) → 0 < length line → Some (Put part) ≡ command_at line → Answered (PutTurn old part.upload part.offset part.bytes new) text ending → Answered (LineTurn old line new) text ending
+put_asked old new line text ending part some is h = record {
   turn = h.turn;
-  is = plays old new line h.turn (Some (puts upload offset bytes)) some is h.is;
+  is = plays old new line h.turn (Some (Put part)) some is h.is;
   text_is = h.text_is;
   ending_is = h.ending_is;
 }

@@ -1,5 +1,5 @@
 -- The request of a line that was read.
-use Rattle.std.proofs.Common.{◌≡◌, ◌∙◌, ◌<◌, ◌≤◌, ℕ, Err, List, None, Ok, Option, Result, Some, ap, arith, false, length, refl, sym, take_all, true}
+use Rattle.std.proofs.Common.{◌≡◌, ◌∙◌, ◌<◌, ◌≤◌, ℕ, Err, List, None, Ok, Option, Result, Some, ap, arith, false, inl, inr, length, refl, subst, sym, take_all, true}
 use Rattle.std.specs.Prelude.{IfOk, IfSome, nat_lt}
 use Rattle.std.specs.Io.BufRead.{strip_last, take_through}
 use Rattle.std.proofs.lemmas.Bool.{le-ltb, lt-ltb}
@@ -8,7 +8,11 @@ use Rattle.edge.specs.declared.lines.LineRead.{LineRead}
 use Rattle.store_lines.specs.Lines.{max_request}
 use Rattle.store_lines.specs.Requests.{request_at, request_in}
 use Rattle.store_lines.specs.declared.request.Request.{Request}
-use Rattle.store_lines.specs.inner.Requests.{AsksFor, IsSessionLine}
+use Rattle.store_lines.specs.inner.Requests.{AsksFor, IsFound, IsLineOf, IsOwnOrScript, IsScriptFound, IsScriptLine, IsSessionLine}
+use Rattle.store_lines.specs.declared.session_line.Line.{Line}
+use Rattle.store_lines.specs.declared.session_line.Line.TheVariants as lines
+use Rattle.store_lines.proofs.Lengths.{long_is_none}
+use Rattle.store_lines.proofs.LineOutcomes.{strip_shorter}
 
 session_line : (room : ℕ) (whole : List ℕ) (read : LineRead) (kept : List ℕ) → max_request ≤ room → IsLineRead 33554481 room whole read kept → IsSessionLine whole read kept
 session_line room whole read kept le h = record {
@@ -39,3 +43,33 @@ asks_this read kept line request is_kept short is asks = record {
       let there : request_in whole ≡ request_at (strip_last 10 whole) = rw test refl in
       asks ∙ ap request_at (is ∙ ap (strip_last 10) all) ∙ sym there;
 }
+
+-- ---- a line of a script
+
+pub lost_line : (read : LineRead) (kept : List ℕ) → read.is_kept ≡ false → IsScriptFound read kept lines.Lost
+lost_line read kept lost = record { is = λ whole h. inl (omega (arith, h.long lost, strip_shorter whole)) }
+
+pub long_line : (read : LineRead) (kept : List ℕ) → 33554481 < read.count → IsScriptFound read kept lines.Bad
+long_line read kept long = record {
+  is = λ whole h.
+      let most : 33554480 < length (strip_last 10 whole) = omega (arith, long, h.count_is, strip_shorter whole) in
+      (omega (arith, most), sym (long_is_none (strip_last 10 whole) most));
+}
+
+pub kept_line : (read : LineRead) (kept line : List ℕ) (found : Line) → read.is_kept ≡ true → read.count ≤ 33554481 → line ≡ strip_last 10 kept → IsScriptLine line found → IsScriptFound read kept found
+kept_line read kept line found is_kept few is h = record {
+  is = λ whole r.
+      let all : kept ≡ whole = r.kept_is is_kept ∙ take_all 33554481 whole (omega (arith, few, r.count_is)) in
+      subst (λ (l : List ℕ). IsLineOf l found) (is ∙ ap (strip_last 10) all) h.is;
+}
+
+-- ---- a line of a session
+
+script_or_own : (whole : List ℕ) (found : Line) → None ≡ request_in whole → IsLineOf (strip_last 10 whole) found → IsOwnOrScript whole found
+script_or_own whole lines.Empty none h = (none, h)
+script_or_own whole lines.Bad none h = (none, h)
+script_or_own whole lines.Lost none h = (none, h)
+script_or_own whole (lines.Has request) none h = inr (none, h)
+
+pub script_found : (read : LineRead) (kept : List ℕ) (got : Option Request) (found : Line) → got ≡ None → AsksFor read kept got → IsScriptFound read kept found → IsFound read kept found
+script_found read kept got found none asks h = record { is = λ whole r. script_or_own whole found (sym none ∙ asks.asks whole r) (h.is whole r) }

@@ -15,7 +15,10 @@ use Rattle.store_core.specs.declared.command.Question.TheVariants as questions
 use Rattle.edge.proofs.FieldTexts.{split_again, split_found, decimal_spaceless, number_again, two_again, two_found}
 use Rattle.edge.proofs.Steps.{bind_is, bind_some, chosen, none_some, some_is}
 use Rattle.edge.proofs.Numbers.{read_back}
-use Rattle.store_lines.specs.Grammar.{ScriptCommand, abort_command, address_of_digits, asks, asks_of_kind, begin_command, begin_open_command, bytes_of_kind, colon, command_at, decoded, digits_at, does, fetch_command, fix_command, forget_command, held_at, journal, list_command, max_digits, max_pattern, open_tenant_command, part_bytes_at, pattern_at, pattern_of, puts, puts_at, seal_as_command, seal_command, set_limit_command, split_line_at, usage_command, word_command}
+use Rattle.store_lines.specs.Grammar.{abort_command, address_of_digits, asks_of_kind, begin_command, begin_open_command, bytes_of_kind, colon, command_at, decoded, digits_at, fetch_command, fix_command, forget_command, held_at, list_command, max_digits, max_pattern, open_tenant_command, part_bytes_at, pattern_at, pattern_of, puts_at, seal_as_command, seal_command, set_limit_command, split_line_at, usage_command, whole_journal, word_command}
+use Rattle.store_lines.specs.declared.request.EntryRange.{EntryRange}
+use Rattle.store_lines.specs.declared.request.Request.{Request}
+use Rattle.store_lines.specs.declared.request.Request.TheVariants.{Asks, Does, Entries, Put}
 use Rattle.store_lines.specs.Spelling.{SpellsQuestion, SpellsCommand, IsPart, IsSpelled}
 
 -- ---- fields
@@ -53,19 +56,19 @@ held_again number digits address lt read =
 
 -- ---- commands of one number, of two, and of a number and an address
 
-one_found : (word fields : List ℕ) (ask : ℕ → ScriptCommand) (command : ScriptCommand) → ((n : ℕ) → (word ++ fields ≡ word ++ decimal n) × (n < 2 ^ 64) → IsSpelled (word ++ fields) (ask n))
+one_found : (word fields : List ℕ) (ask : ℕ → Request) (command : Request) → ((n : ℕ) → (word ++ fields ≡ word ++ decimal n) × (n < 2 ^ 64) → IsSpelled (word ++ fields) (ask n))
     → (n : ℕ) × (number_at fields ≡ Some n) × (Some (ask n) ≡ Some command) → IsSpelled (word ++ fields) command
 one_found word fields ask command f n =
     let read = read_back fields n.0 n.1 in
     subst (IsSpelled (word ++ fields)) (some_is _ _ n.2) (f n.0 (ap (λ (w : List ℕ). word ++ w) (sym read.0), read.1))
 
-two_numbers_found : (word fields : List ℕ) (ask : ℕ → ℕ → ScriptCommand) (command : ScriptCommand) → ((a b : ℕ) → (word ++ fields ≡ word ++ two_fields (decimal a) (decimal b)) × (a < 2 ^ 64) × (b < 2 ^ 64) → IsSpelled (word ++ fields) (ask a b))
+two_numbers_found : (word fields : List ℕ) (ask : ℕ → ℕ → Request) (command : Request) → ((a b : ℕ) → (word ++ fields ≡ word ++ two_fields (decimal a) (decimal b)) × (a < 2 ^ 64) × (b < 2 ^ 64) → IsSpelled (word ++ fields) (ask a b))
     → (x : ℕ × ℕ) × (two_numbers_at fields ≡ Some x) × (Some (ask x.0 x.1) ≡ Some command) → IsSpelled (word ++ fields) command
 two_numbers_found word fields ask command f x =
     let read = two_found fields x.0 x.1 in
     subst (IsSpelled (word ++ fields)) (some_is _ _ x.2) (f x.0.0 x.0.1 (ap (λ (w : List ℕ). word ++ w) (sym read.0), read.1, read.2))
 
-held_command_found : (word fields : List ℕ) (ask : ℕ → List ℕ → ScriptCommand) (command : ScriptCommand)
+held_command_found : (word fields : List ℕ) (ask : ℕ → List ℕ → Request) (command : Request)
     → ((n : ℕ) (address : List ℕ) → (digits : List ℕ) × (word ++ fields ≡ word ++ two_fields (decimal n) digits) × (n < 2 ^ 64) × (decode_sized digits 32 ≡ Ok address) → IsSpelled (word ++ fields) (ask n address))
     → (x : ℕ × List ℕ) × (held_at fields ≡ Some x) × (Some (ask x.0 x.1) ≡ Some command) → IsSpelled (word ++ fields) command
 held_command_found word fields ask command f x =
@@ -75,10 +78,10 @@ held_command_found word fields ask command f x =
 -- ---- one word after another
 
 -- the command is spelled by the word and the fields
-abbrev IsBy : List ℕ → List ℕ → ScriptCommand → Type 0
+abbrev IsBy : List ℕ → List ℕ → Request → Type 0
 IsBy kind fields command = IsSpelled (kind ++ space ∷ fields) command
 
-by_kind : (kind word fields : List ℕ) (this other : Option ScriptCommand) (command : ScriptCommand) → (this ≡ Some command → IsBy word fields command) → (other ≡ Some command → IsBy kind fields command)
+by_kind : (kind word fields : List ℕ) (this other : Option Request) (command : Request) → (this ≡ Some command → IsBy word fields command) → (other ≡ Some command → IsBy kind fields command)
     → cond (bytes_eq kind word) this other ≡ Some command → IsBy kind fields command
 by_kind kind word fields this other command f g h =
     elim (chosen (bytes_eq kind word) this other (Some command) h) [
@@ -86,43 +89,43 @@ by_kind kind word fields this other command f g h =
       | inr p ↦ g p.1
     ]
 
-tenant_found : (fields : List ℕ) (command : ScriptCommand) → open_tenant_command fields ≡ Some command → IsBy (codes "tenant") fields command
-tenant_found fields command h = one_found (codes "tenant ") fields (λ n. does (commands.OpenTenant n)) command (λ n k. k) (bind_some (number_at fields) _ command h)
+tenant_found : (fields : List ℕ) (command : Request) → open_tenant_command fields ≡ Some command → IsBy (codes "tenant") fields command
+tenant_found fields command h = one_found (codes "tenant ") fields (λ n. Does (commands.OpenTenant n)) command (λ n k. k) (bind_some (number_at fields) _ command h)
 
-seal_found : (fields : List ℕ) (command : ScriptCommand) → seal_command fields ≡ Some command → IsBy (codes "seal") fields command
-seal_found fields command h = one_found (codes "seal ") fields (λ n. does (commands.Seal n)) command (λ n k. k) (bind_some (number_at fields) _ command h)
+seal_found : (fields : List ℕ) (command : Request) → seal_command fields ≡ Some command → IsBy (codes "seal") fields command
+seal_found fields command h = one_found (codes "seal ") fields (λ n. Does (commands.Seal n)) command (λ n k. k) (bind_some (number_at fields) _ command h)
 
-abort_found : (fields : List ℕ) (command : ScriptCommand) → abort_command fields ≡ Some command → IsBy (codes "abort") fields command
-abort_found fields command h = one_found (codes "abort ") fields (λ n. does (commands.Abort n)) command (λ n k. k) (bind_some (number_at fields) _ command h)
+abort_found : (fields : List ℕ) (command : Request) → abort_command fields ≡ Some command → IsBy (codes "abort") fields command
+abort_found fields command h = one_found (codes "abort ") fields (λ n. Does (commands.Abort n)) command (λ n k. k) (bind_some (number_at fields) _ command h)
 
-usage_found : (fields : List ℕ) (command : ScriptCommand) → usage_command fields ≡ Some command → IsBy (codes "usage") fields command
-usage_found fields command h = one_found (codes "usage ") fields (λ n. asks (questions.Usage n)) command (λ n k. k) (bind_some (number_at fields) _ command h)
+usage_found : (fields : List ℕ) (command : Request) → usage_command fields ≡ Some command → IsBy (codes "usage") fields command
+usage_found fields command h = one_found (codes "usage ") fields (λ n. Asks (questions.Usage n)) command (λ n k. k) (bind_some (number_at fields) _ command h)
 
-list_found : (fields : List ℕ) (command : ScriptCommand) → list_command fields ≡ Some command → IsBy (codes "list") fields command
-list_found fields command h = one_found (codes "list ") fields (λ n. asks (questions.List n)) command (λ n k. k) (bind_some (number_at fields) _ command h)
+list_found : (fields : List ℕ) (command : Request) → list_command fields ≡ Some command → IsBy (codes "list") fields command
+list_found fields command h = one_found (codes "list ") fields (λ n. Asks (questions.List n)) command (λ n k. k) (bind_some (number_at fields) _ command h)
 
-limit_found : (fields : List ℕ) (command : ScriptCommand) → set_limit_command fields ≡ Some command → IsBy (codes "limit") fields command
-limit_found fields command h = two_numbers_found (codes "limit ") fields (λ a b. does (commands.SetLimit a b)) command (λ a b k. k) (bind_some (two_numbers_at fields) _ command h)
+limit_found : (fields : List ℕ) (command : Request) → set_limit_command fields ≡ Some command → IsBy (codes "limit") fields command
+limit_found fields command h = two_numbers_found (codes "limit ") fields (λ a b. Does (commands.SetLimit a b)) command (λ a b k. k) (bind_some (two_numbers_at fields) _ command h)
 
-begin_found : (fields : List ℕ) (command : ScriptCommand) → begin_command fields ≡ Some command → IsBy (codes "begin") fields command
-begin_found fields command h = two_numbers_found (codes "begin ") fields (λ a b. does (commands.Begin a b)) command (λ a b k. k) (bind_some (two_numbers_at fields) _ command h)
+begin_found : (fields : List ℕ) (command : Request) → begin_command fields ≡ Some command → IsBy (codes "begin") fields command
+begin_found fields command h = two_numbers_found (codes "begin ") fields (λ a b. Does (commands.Begin a b)) command (λ a b k. k) (bind_some (two_numbers_at fields) _ command h)
 
-open_found : (fields : List ℕ) (command : ScriptCommand) → begin_open_command fields ≡ Some command → IsBy (codes "open") fields command
-open_found fields command h = two_numbers_found (codes "open ") fields (λ a b. does (commands.BeginOpen a b)) command (λ a b k. k) (bind_some (two_numbers_at fields) _ command h)
+open_found : (fields : List ℕ) (command : Request) → begin_open_command fields ≡ Some command → IsBy (codes "open") fields command
+open_found fields command h = two_numbers_found (codes "open ") fields (λ a b. Does (commands.BeginOpen a b)) command (λ a b k. k) (bind_some (two_numbers_at fields) _ command h)
 
-fix_found : (fields : List ℕ) (command : ScriptCommand) → fix_command fields ≡ Some command → IsBy (codes "fix") fields command
-fix_found fields command h = two_numbers_found (codes "fix ") fields (λ a b. does (commands.Fix a b)) command (λ a b k. k) (bind_some (two_numbers_at fields) _ command h)
+fix_found : (fields : List ℕ) (command : Request) → fix_command fields ≡ Some command → IsBy (codes "fix") fields command
+fix_found fields command h = two_numbers_found (codes "fix ") fields (λ a b. Does (commands.Fix a b)) command (λ a b k. k) (bind_some (two_numbers_at fields) _ command h)
 
-sealas_found : (fields : List ℕ) (command : ScriptCommand) → seal_as_command fields ≡ Some command → IsBy (codes "sealas") fields command
-sealas_found fields command h = held_command_found (codes "sealas ") fields (λ n a. does (commands.SealAs n a)) command (λ n a k. k) (bind_some (held_at fields) _ command h)
+sealas_found : (fields : List ℕ) (command : Request) → seal_as_command fields ≡ Some command → IsBy (codes "sealas") fields command
+sealas_found fields command h = held_command_found (codes "sealas ") fields (λ n a. Does (commands.SealAs n a)) command (λ n a k. k) (bind_some (held_at fields) _ command h)
 
-forget_found : (fields : List ℕ) (command : ScriptCommand) → forget_command fields ≡ Some command → IsBy (codes "forget") fields command
-forget_found fields command h = held_command_found (codes "forget ") fields (λ n a. does (commands.Forget n a)) command (λ n a k. k) (bind_some (held_at fields) _ command h)
+forget_found : (fields : List ℕ) (command : Request) → forget_command fields ≡ Some command → IsBy (codes "forget") fields command
+forget_found fields command h = held_command_found (codes "forget ") fields (λ n a. Does (commands.Forget n a)) command (λ n a k. k) (bind_some (held_at fields) _ command h)
 
-fetch_found : (fields : List ℕ) (command : ScriptCommand) → fetch_command fields ≡ Some command → IsBy (codes "fetch") fields command
-fetch_found fields command h = held_command_found (codes "fetch ") fields (λ n a. asks (questions.Fetch n a)) command (λ n a k. k) (bind_some (held_at fields) _ command h)
+fetch_found : (fields : List ℕ) (command : Request) → fetch_command fields ≡ Some command → IsBy (codes "fetch") fields command
+fetch_found fields command h = held_command_found (codes "fetch ") fields (λ n a. Asks (questions.Fetch n a)) command (λ n a k. k) (bind_some (held_at fields) _ command h)
 
-asks_found : (kind fields : List ℕ) (command : ScriptCommand) → asks_of_kind kind fields ≡ Some command → IsBy kind fields command
+asks_found : (kind fields : List ℕ) (command : Request) → asks_of_kind kind fields ≡ Some command → IsBy kind fields command
 unfolding asks_of_kind
 asks_found kind fields command =
     by_kind kind (codes "tenant") fields _ _ command (tenant_found fields command)
@@ -139,13 +142,13 @@ asks_found kind fields command =
     (by_kind kind (codes "list") fields _ _ command (list_found fields command)
     (λ h. absurd (none_some command h)))))))))))))
 
-word_found : (word : List ℕ) (command : ScriptCommand) → word_command word ≡ Some command → IsSpelled word command
+word_found : (word : List ℕ) (command : Request) → word_command word ≡ Some command → IsSpelled word command
 word_found word command h =
-    elim (chosen (bytes_eq word (codes "stat")) (Some (asks questions.Totals)) _ (Some command) h) [
+    elim (chosen (bytes_eq word (codes "stat")) (Some (Asks questions.Totals)) _ (Some command) h) [
       | inl p ↦ subst (IsSpelled word) (some_is _ _ p.1) ((bytes_eq-Decides word (codes "stat")).0 p.0)
       | inr q ↦
-          elim (chosen (bytes_eq word (codes "journal")) (Some journal) None (Some command) q.1) [
-            | inl p ↦ subst (IsSpelled word) (some_is _ _ p.1) ((bytes_eq-Decides word (codes "journal")).0 p.0)
+          elim (chosen (bytes_eq word (codes "journal")) (Some (Entries whole_journal)) None (Some command) q.1) [
+            | inl p ↦ subst (IsSpelled word) (some_is _ _ p.1) ((bytes_eq-Decides word (codes "journal")).0 p.0, refl)
             | inr p ↦ absurd (none_some command p.1)
           ]
     ]
@@ -197,7 +200,7 @@ bytes_found offset field bytes h =
 puts_text : (a b u o field others fields : List ℕ) → a ++ space ∷ others ≡ fields → b ++ space ∷ field ≡ others → u ≡ a → o ≡ b → codes "put " ++ fields ≡ codes "put " ++ three_fields u o field
 puts_text a b u o field others fields first second eu eo = rw (eu, eo, second, first) refl
 
-puts_found : (fields : List ℕ) (command : ScriptCommand) → puts_at fields ≡ Some command → IsSpelled (codes "put " ++ fields) command
+puts_found : (fields : List ℕ) (command : Request) → puts_at fields ≡ Some command → IsSpelled (codes "put " ++ fields) command
 puts_found fields command h =
     let cut = bind_some (split_at space fields) _ command h in
     let upload = bind_some (number_at cut.0.0) _ command cut.2 in
@@ -211,7 +214,7 @@ puts_found fields command h =
 
 -- ---- a line
 
-line_found : (line : List ℕ) (cut : Option (List ℕ × List ℕ)) (command : ScriptCommand) → split_at space line ≡ cut → split_line_at line cut ≡ Some command → IsSpelled line command
+line_found : (line : List ℕ) (cut : Option (List ℕ × List ℕ)) (command : Request) → split_at space line ≡ cut → split_line_at line cut ≡ Some command → IsSpelled line command
 unfolding split_line_at
 line_found line None command is h = word_found line command h
 line_found line (Some cut) command is h =
@@ -221,7 +224,7 @@ line_found line (Some cut) command is h =
       | inr p ↦ asks_found cut.0 cut.1 command p.1
     ])
 
-pub found : (line : List ℕ) (command : ScriptCommand) → command_at line ≡ Some command → IsSpelled line command
+pub found : (line : List ℕ) (command : Request) → command_at line ≡ Some command → IsSpelled line command
 found line command h = line_found line (split_at space line) command refl h
 
 -- ---- what is spelled so is read
@@ -236,14 +239,14 @@ bytes_again offset field bytes (inr h) =
     let test : nat_le h.0 max_pattern ≡ true = le-leb h.0 max_pattern h.2 in
     ap (part_bytes_at offset) h.1 ∙ ap (pattern_at offset) (number_again h.0 small) ∙ ap (λ (t : Bool). cond t (Some (pattern_of offset h.0)) None) test ∙ ap (λ (b : List ℕ). Some b) (sym h.3)
 
-puts_again : (upload offset : ℕ) (field bytes : List ℕ) → upload < 2 ^ 64 → offset < 2 ^ 64 → IsPart offset field bytes → puts_at (three_fields (decimal upload) (decimal offset) field) ≡ Some (puts upload offset bytes)
+puts_again : (upload offset : ℕ) (field bytes : List ℕ) → upload < 2 ^ 64 → offset < 2 ^ 64 → IsPart offset field bytes → puts_at (three_fields (decimal upload) (decimal offset) field) ≡ Some (Put (record { upload = upload; offset = offset; bytes = bytes }))
 puts_again upload offset field bytes u o part =
     bind_is (split_at space (three_fields (decimal upload) (decimal offset) field)) _ (decimal upload, two_fields (decimal offset) field) (split_again space (decimal upload) (two_fields (decimal offset) field) (decimal_spaceless upload u))
     ∙ bind_is (number_at (decimal upload)) _ upload (number_again upload u)
     ∙ bind_is (split_at space (two_fields (decimal offset) field)) _ (decimal offset, field) (split_again space (decimal offset) field (decimal_spaceless offset o))
     ∙ bind_is (number_at (decimal offset)) _ offset (number_again offset o) ∙ bind_is (part_bytes_at offset field) _ bytes (bytes_again offset field bytes part)
 
-done_again : (line : List ℕ) (command : Command) → SpellsCommand line command → command_at line ≡ Some (does command)
+done_again : (line : List ℕ) (command : Command) → SpellsCommand line command → command_at line ≡ Some (Does command)
 unfolding split_line_at asks_of_kind
 done_again line (commands.OpenTenant n) h = ap command_at h.0 ∙ bind_is (number_at (decimal n)) _ n (number_again n h.1)
 done_again line (commands.SetLimit a b) h = ap command_at h.0 ∙ bind_is (two_numbers_at (two_fields (decimal a) (decimal b))) _ (a, b) (two_again a b h.1 h.2)
@@ -255,7 +258,7 @@ done_again line (commands.SealAs n a) h = ap command_at h.1 ∙ bind_is (held_at
 done_again line (commands.Abort n) h = ap command_at h.0 ∙ bind_is (number_at (decimal n)) _ n (number_again n h.1)
 done_again line (commands.Forget n a) h = ap command_at h.1 ∙ bind_is (held_at (two_fields (decimal n) h.0)) _ (n, a) (held_again n h.0 a h.2 h.3)
 
-asked_again : (line : List ℕ) (question : Question) → SpellsQuestion line question → command_at line ≡ Some (asks question)
+asked_again : (line : List ℕ) (question : Question) → SpellsQuestion line question → command_at line ≡ Some (Asks question)
 unfolding split_line_at asks_of_kind
 asked_again line (questions.Fetch n a) h = ap command_at h.1 ∙ bind_is (held_at (two_fields (decimal n) h.0)) _ (n, a) (held_again n h.0 a h.2 h.3)
 asked_again line (questions.Usage n) h = ap command_at h.0 ∙ bind_is (number_at (decimal n)) _ n (number_again n h.1)
@@ -263,9 +266,10 @@ asked_again line (questions.List n) h = ap command_at h.0 ∙ bind_is (number_at
 asked_again line questions.Totals h = ap command_at h
 asked_again line _ h = absurd h
 
-pub again : (line : List ℕ) (command : ScriptCommand) → IsSpelled line command → command_at line ≡ Some command
+pub again : (line : List ℕ) (command : Request) → IsSpelled line command → command_at line ≡ Some command
 unfolding split_line_at
-again line (does command) h = done_again line command h
-again line (asks question) h = asked_again line question h
-again line (puts upload offset bytes) h = ap command_at h.1 ∙ puts_again upload offset h.0 bytes h.2 h.3 h.4
-again line journal h = ap command_at h
+again line (Does command) h = done_again line command h
+again line (Asks question) h = asked_again line question h
+again line (Put part) h = ap command_at h.1 ∙ puts_again part.upload part.offset h.0 part.bytes h.2 h.3 h.4
+again line (Entries range) h = ap command_at h.0 ∙ ap (λ (r : EntryRange). Some (Entries r)) (sym h.1)
+again line _ h = absurd h

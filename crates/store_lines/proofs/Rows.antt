@@ -11,7 +11,9 @@ use Rattle.store_core.specs.declared.command.Command.TheVariants as commands
 use Rattle.store_core.specs.declared.command.Question.TheVariants as questions
 use Rattle.store_core.specs.Runs.{ask}
 use Rattle.store_core.specs.declared.reply.Reply.TheVariants as replies
-use Rattle.store_lines.specs.Grammar.{ScriptCommand, address_of_digits, asks, asks_of_kind, bytes_of_kind, command_at, split_line_at, does, pattern_of, puts}
+use Rattle.store_lines.specs.Grammar.{address_of_digits, asks_of_kind, bytes_of_kind, command_at, pattern_of, split_line_at}
+use Rattle.store_lines.specs.declared.request.Request.{Request}
+use Rattle.store_lines.specs.declared.request.Request.TheVariants.{Asks, Does, Put}
 use Rattle.store_lines.specs.Script.{bad, ending_of, skipped, took, turn_text, unmade}
 use Rattle.store_lines.specs.Texts.{answer_text}
 use Rattle.store_lines.specs.declared.ending.Ending.TheVariants as endings
@@ -22,7 +24,7 @@ on_literals = tt
 
 -- ---- lines
 
-abbrev none : Option ScriptCommand
+abbrev none : Option Request
 none = None
 
 -- the bytes 0 to 31, by digits of both cases
@@ -32,44 +34,44 @@ address_digits = codes "000102030405060708090A0b0C0d0E0f101112131415161718191a1B
 abbrev address_bytes : List ℕ
 address_bytes = 0 ∷ 1 ∷ 2 ∷ 3 ∷ 4 ∷ 5 ∷ 6 ∷ 7 ∷ 8 ∷ 9 ∷ 10 ∷ 11 ∷ 12 ∷ 13 ∷ 14 ∷ 15 ∷ 16 ∷ 17 ∷ 18 ∷ 19 ∷ 20 ∷ 21 ∷ 22 ∷ 23 ∷ 24 ∷ 25 ∷ 26 ∷ 27 ∷ 28 ∷ 29 ∷ 30 ∷ 31 ∷ []
 
-opens : command_at (codes "tenant 4096") ≡ Some (does (commands.OpenTenant 4096))
+opens : command_at (codes "tenant 4096") ≡ Some (Does (commands.OpenTenant 4096))
 unfolding on_literals
 opens = refl
 
-begins : command_at (codes "begin 0 18446744073709551615") ≡ Some (does (commands.Begin 0 18446744073709551615))
+begins : command_at (codes "begin 0 18446744073709551615") ≡ Some (Does (commands.Begin 0 18446744073709551615))
 unfolding on_literals
 begins = refl
 
-begins_open : command_at (codes "open 0 4096") ≡ Some (does (commands.BeginOpen 0 4096))
+begins_open : command_at (codes "open 0 4096") ≡ Some (Does (commands.BeginOpen 0 4096))
 unfolding on_literals
 begins_open = refl
 
-fixes : command_at (codes "fix 3 2048") ≡ Some (does (commands.Fix 3 2048))
+fixes : command_at (codes "fix 3 2048") ≡ Some (Does (commands.Fix 3 2048))
 unfolding on_literals
 fixes = refl
 
-limits : command_at (codes "limit 3 0") ≡ Some (does (commands.SetLimit 3 0))
+limits : command_at (codes "limit 3 0") ≡ Some (Does (commands.SetLimit 3 0))
 unfolding on_literals
 limits = refl
 
-asks_totals : command_at (codes "stat") ≡ Some (asks questions.Totals)
+asks_totals : command_at (codes "stat") ≡ Some (Asks questions.Totals)
 unfolding on_literals
 asks_totals = refl
 
-seals_as : command_at (codes "sealas 7 " ++ address_digits) ≡ Some (does (commands.SealAs 7 address_bytes))
+seals_as : command_at (codes "sealas 7 " ++ address_digits) ≡ Some (Does (commands.SealAs 7 address_bytes))
 unfolding on_literals
 seals_as = refl
 
-puts_digits : command_at (codes "put 1 2 x:0aFF") ≡ Some (puts 1 2 (10 ∷ 255 ∷ []))
+puts_digits : command_at (codes "put 1 2 x:0aFF") ≡ Some (Put (record { upload = 1; offset = 2; bytes = 10 ∷ 255 ∷ [] }))
 unfolding on_literals
 puts_digits = refl
 
-puts_nothing : command_at (codes "put 1 2 x:") ≡ Some (puts 1 2 [])
+puts_nothing : command_at (codes "put 1 2 x:") ≡ Some (Put (record { upload = 1; offset = 2; bytes = [] }))
 unfolding on_literals
 puts_nothing = refl
 
 -- the pattern goes on from the offset
-puts_pattern : command_at (codes "put 0 249 p:4") ≡ Some (puts 0 249 (249 ∷ 250 ∷ 0 ∷ 1 ∷ []))
+puts_pattern : command_at (codes "put 0 249 p:4") ≡ Some (Put (record { upload = 0; offset = 249; bytes = 249 ∷ 250 ∷ 0 ∷ 1 ∷ [] }))
 unfolding on_literals
 puts_pattern = refl
 

@@ -18,7 +18,9 @@ use Rattle.edge.proofs.FirstLines.{lines_next, none_left, nothing_is}
 use Rattle.edge.proofs.Joining.{appends_more, appends_none}
 use Rattle.store_core.specs.Model.{ModelStore, start}
 use Rattle.store_core.specs.Runs.{Call, Run, Step, ask, change}
-use Rattle.store_lines.specs.Grammar.{ScriptCommand, asks, command_at, does, journal, puts}
+use Rattle.store_lines.specs.Grammar.{command_at}
+use Rattle.store_lines.specs.declared.request.Request.{Request}
+use Rattle.store_lines.specs.declared.request.Request.TheVariants.{Asks, Does, Put}
 use Rattle.store_lines.specs.inner.Answers.{AnswersRead, IsReadLine}
 use Rattle.store_lines.specs.Script.{AreTurnsOf, AreAnswered, IsTurnOfCommand, IsScriptBegun, IsTurnOfMade, IsTurnOf, IsTurnOfPart, IsTurnOfPut, Ran, RanOut, RanSome, IsTurnOfStep, Turn, bad, calls_of, ending_of, failed_write, listed, ran_all, ran_some, replies_of, skipped, took, turn_ending, turn_text, unmade, unplanned, verdict_ending, widest_start, worse}
 use Rattle.store_lines.specs.inner.Script.{ended_as, first_cause}
@@ -93,12 +95,12 @@ pub came_put : (old new : ModelStore) (upload offset : ℕ) (bytes : List ℕ) (
 came_put old new upload offset bytes (Err refusal) turn h = subst (λ (t : Turn). Came old t new) (sym h.0) h.1
 came_put old new upload offset bytes (Ok made_for) turn h = came_makes old new upload (planned made_for offset bytes) (part_fault made_for offset (length bytes)) turn h
 
-came_does : (old new : ModelStore) (command : Option ScriptCommand) (turn : Turn) → IsTurnOfCommand old command turn new → Came old turn new
+came_does : (old new : ModelStore) (command : Option Request) (turn : Turn) → IsTurnOfCommand old command turn new → Came old turn new
 came_does old new None turn h = subst (λ (t : Turn). Came old t new) (sym h.0) h.1
-came_does old new (Some (does command)) turn h = came_takes old new (change command) turn h
-came_does old new (Some (asks question)) turn h = came_takes old new (ask question) turn h
-came_does old new (Some (puts upload offset bytes)) turn h = came_put old new upload offset bytes (plan_in old.state upload) turn h
-came_does old new (Some journal) turn h = subst (λ (t : Turn). Came old t new) (sym h.0) h.1
+came_does old new (Some (Does command)) turn h = came_takes old new (change command) turn h
+came_does old new (Some (Asks question)) turn h = came_takes old new (ask question) turn h
+came_does old new (Some (Put part)) turn h = came_put old new part.upload part.offset part.bytes (plan_in old.state part.upload) turn h
+came_does old new (Some _) turn h = subst (λ (t : Turn). Came old t new) (sym h.0) h.1
 
 pub came : (old new : ModelStore) (line : List ℕ) (turn : Turn) → IsTurnOf old line turn new → Came old turn new
 came old new [] turn h = subst (λ (t : Turn). Came old t new) (sym h.0) h.1

@@ -1,66 +1,29 @@
 -- What one line results in, and what it leaves.
-use Rattle.std.proofs.Common.{◌≡◌, ◌∙◌, [], ℕ, Bool, true, false, List, Ok, Err, Some, None, Option, Result, drop, refl, subst, sym}
-use Rattle.std.specs.Prelude.{IfOk, IfSome}
+use Rattle.std.proofs.Common.{◌≡◌, ◌<◌, [], ℕ, Bool, true, false, List, ◌∷◌, Ok, Err, Some, None, Option, Result, arith, drop, inl, inr, length, refl, subst, sym}
+use Rattle.std.specs.Prelude.{IfOk, IfSome, codes}
+use Rattle.std.specs.Io.BufRead.{strip_last}
 use Rattle.std.specs.Io.KnownBytes.{Appends}
+use Rattle.std.proofs.KnownBytes.{Appends-nil}
+use Rattle.store_lines.specs.Grammar.{command_at}
 use Rattle.store_lines.specs.inner.Answers.{reported_text}
+use Rattle.store_lines.specs.Script.{bad, skipped}
 use Rattle.store_lines.specs.declared.answer.Answer.{Answer}
-use Rattle.store_lines.specs.inner.Requests.{AsksFor}
+use Rattle.store_lines.specs.inner.Requests.{IsFound, IsLineOf, IsOwnOrScript}
 use Rattle.store_lines.specs.Requests.{request_in}
-use Rattle.store_lines.specs.Session.{SessionTurn, as_script, reported_as}
+use Rattle.store_lines.specs.Session.{IsShort, MayTakeMemory, SessionTurn, as_script, no_memory, reported_as, session_turn_text}
 use Rattle.edge.specs.declared.lines.LineRead.{LineRead}
 use Rattle.store_lines.specs.declared.request.Request.{Request}
-use Rattle.store_lines.specs.declared.request.Request.TheVariants.{Put}
+use Rattle.store_lines.specs.declared.request.RawPart.{RawPart}
+use Rattle.store_lines.specs.declared.request.Request.TheVariants.{PutRaw}
+use Rattle.store_lines.specs.declared.session_line.Line.{Line}
+use Rattle.store_lines.specs.declared.session_line.Line.TheVariants as lines
 use Rattle.store_lines.specs.Access.{SessionState, Reach}
-use Rattle.store_lines.specs.inner.Reporting.{AnswersOver, ReceivesOver, ServesOver, ServesPutOver, ServesReadOver, ServesRequestOver, ReportedOver}
-use Rattle.store_lines.specs.Turns.{IsLinkedRequest}
+use Rattle.store_lines.specs.inner.Reporting.{ReceivesOver, ReportedOver, ServesLineOver, ServesOver, ServesReadOver, ServesRequestOver}
+use Rattle.store_lines.specs.Turns.{IsLinkedRequest, IsLinkedScriptLine, MayLack}
+use Rattle.store_lines.proofs.Read.{found}
+use Rattle.store_lines.proofs.Reports.{plays, put_reported, script_turn}
 
-pub served_put : (now left w1 w2 : Option (List ℕ)) (reach : Reach) (was is : SessionState → Type 0) (upload offset len : ℕ) (got : Option Answer) (answer : Answer) → got ≡ Some answer → IfSome now (λ following. ReceivesOver reach was is got upload offset len following left)
-    → Appends w1 w2 (reported_text [] answer) → IfSome now (λ following. ServesPutOver reach was is true upload offset len following left w1 w2)
-served_put None left w1 w2 reach was is upload offset len got answer same h wrote = tt
-served_put (Some following) left w1 w2 reach was is upload offset len got answer same h wrote =
-    let h2 = subst (λ (o : Option Answer). ReceivesOver reach was is o upload offset len following left) same h in
-    let a = h2.2 in (
-      h2.0,
-      h2.1,
-      record {
-        turn = reported_as as_script a.turn;
-        goes = λ before session. let g = a.goes before session in (g.0, (g.1.0, (refl, g.1.1)));
-        wrote = subst (λ (t : List ℕ). Appends w1 w2 t) (a.text_is []) wrote;
-      },
-    )
-
-pub served_script : (now w1 w2 : Option (List ℕ)) (reach : Reach) (was is : SessionState → Type 0) (read : LineRead) (kept : List ℕ) (request : Option Request) → request ≡ None → AsksFor read kept request → AnswersOver reach was is read kept w1 w2
-    → IfSome now (λ following. ServesReadOver reach was is true read kept following now w1 w2)
-served_script None w1 w2 reach was is read kept request same asks h = tt
-served_script (Some following) w1 w2 reach was is read kept request same asks h = record {
-  serves = λ whole r.
-      let t = h.answers whole r in
-      let none : None ≡ request_in whole = sym same ∙ asks.asks whole r in (
-        following,
-        (
-          refl,
-          record {
-            turn = t.turn;
-            goes = λ before session.
-                let g = t.goes before session in
-                (g.0, (g.1.0, subst (λ (q : Option Request). IsLinkedRequest reach before q whole following t.turn g.0 following) none (g.1.1, refl)));
-            wrote = t.wrote;
-          },
-        ),
-      );
-}
-
-served_known : (is_whole : Bool) (now left w1 w2 : Option (List ℕ)) (reach : Reach) (was is : SessionState → Type 0) (read : LineRead) (kept : List ℕ) (got : Option Request) (request : Request) → got ≡ Some request → AsksFor read kept got
-    → IfSome now (λ following. ServesRequestOver reach was is is_whole request following left w1 w2) → IfSome now (λ following. ServesReadOver reach was is is_whole read kept following left w1 w2)
-served_known is_whole None left w1 w2 reach was is read kept got request same asks h = tt
-served_known is_whole (Some following) left w1 w2 reach was is read kept got request same asks h = record {
-  serves = λ whole r. subst (λ (q : Option Request). ServesOver reach was is is_whole q whole following left w1 w2) (sym same ∙ asks.asks whole r) (h.serves whole);
-}
-
-pub served_request : {E : Type 0} (r : Result Bool E) (now left w1 w2 : Option (List ℕ)) (reach : Reach) (was is : SessionState → Type 0) (read : LineRead) (kept : List ℕ) (got : Option Request) (request : Request) → got ≡ Some request → AsksFor read kept got
-    → IfOk r (λ is_whole. IfSome now (λ following. ServesRequestOver reach was is is_whole request following left w1 w2)) → IfOk r (λ is_whole. IfSome now (λ following. ServesReadOver reach was is is_whole read kept following left w1 w2))
-served_request (Err e) now left w1 w2 reach was is read kept got request same asks h = tt
-served_request (Ok is_whole) now left w1 w2 reach was is read kept got request same asks h = served_known is_whole now left w1 w2 reach was is read kept got request same asks h
+-- ---- a request
 
 pub served_by : (now w1 w2 : Option (List ℕ)) (reach : Reach) (was is : SessionState → Type 0) (request : Request) (Is : SessionState → SessionTurn → SessionState → Type 0)
     → ((whole following : List ℕ) (before : SessionState) (turn : SessionTurn) (after : SessionState) → Is before turn after → IsLinkedRequest reach before (Some request) whole following turn after following) → ReportedOver was is Is w1 w2
@@ -80,28 +43,113 @@ served_by (Some following) w1 w2 reach was is request Is does t = record {
   );
 }
 
-served_whole : (is_whole : Bool) (following : List ℕ) (left w1 w2 : Option (List ℕ)) (reach : Reach) (was is : SessionState → Type 0) (upload offset len : ℕ) → ServesPutOver reach was is is_whole upload offset len following left w1 w2 → (whole : List ℕ)
-    → ServesOver reach was is is_whole (Some (Put upload offset len)) whole following left w1 w2
-served_whole true following left w1 w2 reach was is upload offset len h whole = (
-  drop len following,
-  (
-    h.1,
+pub served_raw : (now left w1 w2 : Option (List ℕ)) (reach : Reach) (was is : SessionState → Type 0) (part : RawPart) (got : Option Answer) (answer : Answer) → got ≡ Some answer → IfSome now (λ following. ReceivesOver reach was is got part.upload part.offset part.len following left)
+    → Appends w1 w2 (reported_text [] answer) → IfSome now (λ following. ServesRequestOver reach was is true (PutRaw part) following left w1 w2)
+served_raw None left w1 w2 reach was is part got answer same h wrote = tt
+served_raw (Some following) left w1 w2 reach was is part got answer same h wrote =
+    let h2 = subst (λ (o : Option Answer). ReceivesOver reach was is o part.upload part.offset part.len following left) same h in
+    let t = put_reported reach was is part.upload part.offset _ answer w1 w2 h2.2 wrote in
     record {
-      turn = h.2.turn;
-      goes = λ before session. let g = h.2.goes before session in (g.0, (g.1.0, (g.1.1, h.0, refl)));
-      wrote = h.2.wrote;
-    },
-  ),
-)
-served_whole false following left w1 w2 reach was is upload offset len h whole = h
+      serves = λ whole. (
+        drop part.len following,
+        (
+          h2.1,
+          record {
+            turn = t.turn;
+            goes = λ before session. let g = t.goes before session in (g.0, (g.1.0, (g.1.1, h2.0, refl)));
+            wrote = t.wrote;
+          },
+        ),
+      );
+    }
 
-served_given : {E : Type 0} (r : Result Bool E) (now left w1 w2 : Option (List ℕ)) (reach : Reach) (was is : SessionState → Type 0) (upload offset len : ℕ) → IfOk r (λ is_whole. IfSome now (λ following. ServesPutOver reach was is is_whole upload offset len following left w1 w2))
-    → IfOk r (λ is_whole. IfSome now (λ following. ServesRequestOver reach was is is_whole (Put upload offset len) following left w1 w2))
-served_given (Err e) now left w1 w2 reach was is upload offset len h = tt
-served_given (Ok is_whole) None left w1 w2 reach was is upload offset len h = tt
-served_given (Ok is_whole) (Some following) left w1 w2 reach was is upload offset len h = record { serves = served_whole is_whole following left w1 w2 reach was is upload offset len h }
+pub served_none : (now left w : Option (List ℕ)) (reach : Reach) (was is : SessionState → Type 0) (part : RawPart) (got : Option Answer) → got ≡ None → IfSome now (λ following. ReceivesOver reach was is got part.upload part.offset part.len following left)
+    → IfSome now (λ following. ServesRequestOver reach was is false (PutRaw part) following left w w)
+served_none None left w reach was is part got same h = tt
+served_none (Some following) left w reach was is part got same h =
+    let h2 = subst (λ (o : Option Answer). ReceivesOver reach was is o part.upload part.offset part.len following left) same h in
+    record { serves = λ whole. (h2.0, Appends-nil w, h2.1) }
 
-pub served_bytes : {E : Type 0} (r : Result Bool E) (now left w1 w2 : Option (List ℕ)) (reach : Reach) (was is : SessionState → Type 0) (upload offset len : ℕ) (request : Request) → request ≡ Put upload offset len
-    → IfOk r (λ is_whole. IfSome now (λ following. ServesPutOver reach was is is_whole upload offset len following left w1 w2)) → IfOk r (λ is_whole. IfSome now (λ following. ServesRequestOver reach was is is_whole request following left w1 w2))
-served_bytes r now left w1 w2 reach was is upload offset len request same h =
-    subst (λ (q : Request). IfOk r (λ is_whole. IfSome now (λ following. ServesRequestOver reach was is is_whole q following left w1 w2))) (sym same) (served_given r now left w1 w2 reach was is upload offset len h)
+-- ---- a line
+
+not_short : (line following : List ℕ) (request : Request) → Some request ≡ command_at line → IsShort (Some request) following → ⊥
+not_short line following (PutRaw part) is h = found line (PutRaw part) (sym is)
+not_short line following _ is h = h
+
+has_served : (is_whole : Bool) (whole following : List ℕ) (left w1 w2 : Option (List ℕ)) (reach : Reach) (was is : SessionState → Type 0) (request : Request) → IsOwnOrScript whole (lines.Has request) → ServesOver reach was is is_whole (Some request) whole following left w1 w2
+    → ServesOver reach was is is_whole (request_in whole) whole following left w1 w2
+has_served is_whole whole following left w1 w2 reach was is request (inl own) h = subst (λ (q : Option Request). ServesOver reach was is is_whole q whole following left w1 w2) own h
+has_served true whole following left w1 w2 reach was is request (inr of) h =
+    let t = h.1.1 in
+    let read : (0 < length (strip_last 10 whole)) × (Some request ≡ command_at (strip_last 10 whole)) = of.1 in (
+      h.0,
+      (
+        h.1.0,
+        record {
+          turn = t.turn;
+          goes = λ before session.
+              let g = t.goes before session in
+              (g.0, (g.1.0, subst (λ (q : Option Request). IsLinkedRequest reach before q whole following t.turn g.0 h.0) of.0 (script_turn reach before g.0 (strip_last 10 whole) whole following h.0 request t.turn read.0 read.1 g.1.1)));
+          wrote = t.wrote;
+        },
+      ),
+    )
+has_served false whole following left w1 w2 reach was is request (inr of) h =
+    let read : (0 < length (strip_last 10 whole)) × (Some request ≡ command_at (strip_last 10 whole)) = of.1 in
+    absurd (not_short (strip_last 10 whole) following request read.1 h.0)
+
+pub served_has : {E : Type 0} (r : Result Bool E) (now left w1 w2 : Option (List ℕ)) (reach : Reach) (was is : SessionState → Type 0) (line : Line) (request : Request) → line ≡ lines.Has request
+    → IfOk r (λ is_whole. IfSome now (λ following. ServesRequestOver reach was is is_whole request following left w1 w2)) → IfOk r (λ is_whole. IfSome now (λ following. ServesLineOver reach was is is_whole line following left w1 w2))
+served_has (Err e) now left w1 w2 reach was is line request same h = tt
+served_has (Ok is_whole) None left w1 w2 reach was is line request same h = tt
+served_has (Ok is_whole) (Some following) left w1 w2 reach was is line request same h = record {
+  serves = λ whole own. has_served is_whole whole following left w1 w2 reach was is request (subst (IsOwnOrScript whole) same own) (h.serves whole);
+}
+
+-- the turn of a line without a request
+line_served : (now w1 w2 : Option (List ℕ)) (reach : Reach) (was : SessionState → Type 0) (line : Line) (turn : SessionTurn) → ((whole : List ℕ) → IsOwnOrScript whole line → (None ≡ request_in whole) × IsLineOf (strip_last 10 whole) line)
+    → ((text : List ℕ) (before : SessionState) → IsLineOf text line → IsLinkedScriptLine reach before text turn before) → Appends w1 w2 (session_turn_text turn) → IfSome now (λ following. ServesLineOver reach was was true line following now w1 w2)
+line_served None w1 w2 reach was line turn script goes wrote = tt
+line_served (Some following) w1 w2 reach was line turn script goes wrote = record {
+  serves = λ whole own.
+      let of = script whole own in (
+        following,
+        (
+          refl,
+          record {
+            turn = turn;
+            goes = λ before session. (before, (session, subst (λ (q : Option Request). IsLinkedRequest reach before q whole following turn before following) of.0 (goes (strip_last 10 whole) before of.1, refl)));
+            wrote = wrote;
+          },
+        ),
+      );
+}
+
+empty_turn : (reach : Reach) (text : List ℕ) (before : SessionState) → length text ≡ 0 → IsLinkedScriptLine reach before text (reported_as as_script skipped) before
+empty_turn reach [] before none = (refl, (refl, refl))
+empty_turn reach (b ∷ text) before none = absurd (omega (arith, none))
+
+may_lack : (reach : Reach) (text : List ℕ) → MayTakeMemory text → MayLack reach text
+may_lack reach text (inl long) = inl long
+may_lack reach text (inr puts_it) = inr (inl puts_it)
+
+pub served_empty : (now w1 w2 : Option (List ℕ)) (reach : Reach) (was : SessionState → Type 0) (line : Line) → line ≡ lines.Empty → Appends w1 w2 [] → IfSome now (λ following. ServesLineOver reach was was true line following now w1 w2)
+served_empty now w1 w2 reach was line same wrote =
+    subst (λ (l : Line). IfSome now (λ following. ServesLineOver reach was was true l following now w1 w2)) (sym same)
+    (line_served now w1 w2 reach was lines.Empty (reported_as as_script skipped) (λ whole h. h) (λ text before none. empty_turn reach text before none) wrote)
+
+pub served_bad : (now w1 w2 : Option (List ℕ)) (reach : Reach) (was : SessionState → Type 0) (line : Line) → line ≡ lines.Bad → Appends w1 w2 (codes "bad\n") → IfSome now (λ following. ServesLineOver reach was was true line following now w1 w2)
+served_bad now w1 w2 reach was line same wrote =
+    subst (λ (l : Line). IfSome now (λ following. ServesLineOver reach was was true l following now w1 w2)) (sym same)
+    (line_served now w1 w2 reach was lines.Bad (reported_as as_script bad) (λ whole h. h) (λ text before is. (refl, plays reach before before text bad None is.0 is.1 (refl, refl))) wrote)
+
+pub served_lost : (now w1 w2 : Option (List ℕ)) (reach : Reach) (was : SessionState → Type 0) (line : Line) → line ≡ lines.Lost → Appends w1 w2 (session_turn_text no_memory) → IfSome now (λ following. ServesLineOver reach was was true line following now w1 w2)
+served_lost now w1 w2 reach was line same wrote =
+    subst (λ (l : Line). IfSome now (λ following. ServesLineOver reach was was true l following now w1 w2)) (sym same)
+    (line_served now w1 w2 reach was lines.Lost no_memory (λ whole h. h) (λ text before may. (may_lack reach text may, refl)) wrote)
+
+-- a line that was read
+pub served_read : (is_whole : Bool) (now left w1 w2 : Option (List ℕ)) (reach : Reach) (was is : SessionState → Type 0) (read : LineRead) (kept : List ℕ) (line : Line) → IsFound read kept line → IfSome now (λ following. ServesLineOver reach was is is_whole line following left w1 w2)
+    → IfSome now (λ following. ServesReadOver reach was is is_whole read kept following left w1 w2)
+served_read is_whole None left w1 w2 reach was is read kept line f h = tt
+served_read is_whole (Some following) left w1 w2 reach was is read kept line f h = record { serves = λ whole r. h.serves whole (f.is whole r) }

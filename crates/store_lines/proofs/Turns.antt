@@ -6,20 +6,19 @@ use Rattle.store_books.specs.declared.refusal.Refusal.{Refusal}
 use Rattle.store_core.specs.Commands.{plan_in}
 use Rattle.store_core.specs.Model.{ModelStore}
 use Rattle.store_core.specs.Runs.{Call, ask, change, put}
-use Rattle.store_core.specs.declared.command.Question.{Question}
 use Rattle.store_core.specs.declared.command.Question.TheVariants as questions
-use Rattle.store_lines.specs.Grammar.{ScriptCommand, asks, command_at, does, journal, puts}
-use Rattle.store_lines.specs.Script.{widest_start}
+use Rattle.store_lines.specs.Grammar.{command_at}
+use Rattle.store_lines.specs.declared.request.Request.{Request}
+use Rattle.store_lines.specs.declared.request.Request.TheVariants.{Asks, Does, Entries, Fetch, Put, PutRaw}
+use Rattle.store_lines.specs.Script.{range_entries}
 use Rattle.store_lines.specs.Script as script
 use Rattle.store_lines.specs.Requests.{request_in}
-use Rattle.store_lines.specs.Session.{AreSessionTurns, IsTurnOfBytes, IsTurnOfEntries, IsTurnOfFirstLine, IsTurnOfQuestion, IsTurnOfRequest, IsTurnOfScriptLine, Manner, MayTakeMemory, SessionTurn, no_memory, range_entries, reported_as}
+use Rattle.store_lines.specs.Session.{AreSessionTurns, IsTurnOfBytes, IsTurnOfEntries, IsTurnOfFirstLine, IsTurnOfCall, IsTurnOfRequest, IsTurnOfScriptLine, Manner, MayTakeMemory, SessionTurn, no_memory, reported_as}
 use Rattle.store_lines.specs.declared.request.EntryRange.{EntryRange}
-use Rattle.store_lines.specs.declared.request.Request.{Request}
-use Rattle.store_lines.specs.declared.request.Request.TheVariants.{Asks, Entries, Fetch, Put}
 use Rattle.store_upload.specs.Uploads.{UploadPlan, part_fault}
 use Rattle.store_upload.specs.declared.refusal.PartFault.{PartFault}
 use Rattle.store_lines.specs.Access.{SessionState, alone_reach, at}
-use Rattle.store_lines.specs.Turns.{AreLinkedTurns, IsLinkedBytes, IsLinkedCommand, IsLinkedEntries, IsLinkedFirstLine, IsLinkedLine, IsLinkedListing, IsLinkedMade, IsLinkedPart, IsLinkedPlan, IsLinkedPut, IsLinkedQuestion, IsLinkedRequest, IsLinkedScriptLine, IsLinkedStep, MayLack, whole_journal}
+use Rattle.store_lines.specs.Turns.{AreLinkedTurns, IsLinkedBytes, IsLinkedCommand, IsLinkedEntries, IsLinkedFirstLine, IsLinkedLine, IsLinkedListing, IsLinkedMade, IsLinkedPart, IsLinkedPlan, IsLinkedPut, IsLinkedCall, IsLinkedRequest, IsLinkedScriptLine, IsLinkedStep, MayLack}
 
 same : {old new : SessionState} → new ≡ old → new.store ≡ old.store
 same h = ap (λ (s : SessionState). s.store) h
@@ -50,12 +49,14 @@ of_put old new upload offset bytes turn h =
 of_listing : (old new : SessionState) (range : EntryRange) (turn : script.Turn) → IsLinkedListing alone_reach old range turn new → (turn ≡ script.listed (range_entries range old.store.journal)) × (new.store ≡ old.store)
 of_listing old new range turn h = (h.1.1.0 ∙ ap (λ (s : ModelStore). script.listed (range_entries range s.journal)) h.1.0, same h.1.1.1 ∙ h.1.0)
 
-of_command : (old new : SessionState) (command : Option ScriptCommand) (turn : script.Turn) → IsLinkedCommand alone_reach old command turn new → script.IsTurnOfCommand old.store command turn new.store
+of_command : (old new : SessionState) (command : Option Request) (turn : script.Turn) → IsLinkedCommand alone_reach old command turn new → script.IsTurnOfCommand old.store command turn new.store
 of_command old new None turn h = (h.0, same h.1)
-of_command old new (Some (does command)) turn h = of_step old new (change command) turn h
-of_command old new (Some (asks question)) turn h = of_step old new (ask question) turn h
-of_command old new (Some (puts upload offset bytes)) turn h = of_put old new upload offset bytes turn h
-of_command old new (Some journal) turn h = of_listing old new whole_journal turn h
+of_command old new (Some (Does command)) turn h = of_step old new (change command) turn h
+of_command old new (Some (Asks question)) turn h = of_step old new (ask question) turn h
+of_command old new (Some (Put part)) turn h = of_put old new part.upload part.offset part.bytes turn h
+of_command old new (Some (PutRaw part)) turn h = (h.0, same h.1)
+of_command old new (Some (Fetch wanted)) turn h = (h.0, same h.1)
+of_command old new (Some (Entries range)) turn h = of_listing old new range turn h
 
 of_line : (old new : SessionState) (line : List ℕ) (turn : script.Turn) → IsLinkedLine alone_reach old line turn new → script.IsTurnOf old.store line turn new.store
 of_line old new [] turn h = (h.0, same h.1)
@@ -70,9 +71,9 @@ of_script : (old new : SessionState) (line : List ℕ) (turn : SessionTurn) → 
 of_script old new line no_memory h = (of_lack line h.0, same h.1)
 of_script old new line (reported_as manner turn) h = (h.0, of_line old new line turn h.1)
 
-of_question : (manner : Manner) (old new : SessionState) (question : Question) (turn : SessionTurn) → IsLinkedQuestion alone_reach manner old question turn new → IsTurnOfQuestion manner old.store question turn new.store
-of_question manner old new question no_memory h = h
-of_question manner old new question (reported_as reported turn) h = (h.0, of_step old new (ask question) turn h.1)
+of_call : (manner : Manner) (old new : SessionState) (call : Call) (turn : SessionTurn) → IsLinkedCall alone_reach manner old call turn new → IsTurnOfCall manner old.store call turn new.store
+of_call manner old new call no_memory h = h
+of_call manner old new call (reported_as reported turn) h = (h.0, of_step old new call turn h.1)
 
 of_entries : (range : EntryRange) (old new : SessionState) (turn : SessionTurn) → IsLinkedEntries alone_reach range old turn new → IsTurnOfEntries old.store range turn new.store
 of_entries range old new no_memory h = absurd h.0
@@ -84,9 +85,11 @@ of_bytes old new upload offset bytes (reported_as reported turn) h = (h.0, of_pu
 
 of_request : (old new : SessionState) (request : Option Request) (whole following : List ℕ) (turn : SessionTurn) (rest : List ℕ) → IsLinkedRequest alone_reach old request whole following turn new rest → IsTurnOfRequest old.store request whole following turn new.store rest
 of_request old new None whole following turn rest h = (of_script old new (strip_last 10 whole) turn h.0, h.1)
-of_request old new (Some (Put upload offset len)) whole following turn rest h = (of_bytes old new upload offset (take len following) turn h.0, h.1, h.2)
-of_request old new (Some (Fetch wanted)) whole following turn rest h = (of_question _ old new (questions.Fetch wanted.tenant wanted.address) turn h.0, h.1)
-of_request old new (Some (Asks question)) whole following turn rest h = (of_question _ old new question turn h.0, h.1)
+of_request old new (Some (Does command)) whole following turn rest h = (of_call _ old new (change command) turn h.0, h.1)
+of_request old new (Some (Asks question)) whole following turn rest h = (of_call _ old new (ask question) turn h.0, h.1)
+of_request old new (Some (Put part)) whole following turn rest h = (of_bytes old new part.upload part.offset part.bytes turn h.0, h.1)
+of_request old new (Some (PutRaw part)) whole following turn rest h = (of_bytes old new part.upload part.offset (take part.len following) turn h.0, h.1, h.2)
+of_request old new (Some (Fetch wanted)) whole following turn rest h = (of_call _ old new (ask (questions.Fetch wanted.tenant wanted.address)) turn h.0, h.1)
 of_request old new (Some (Entries range)) whole following turn rest h = (of_entries range old new turn h.0, h.1)
 
 of_first : (old new : SessionState) (input : List ℕ) (turn : SessionTurn) (rest : List ℕ) → IsLinkedFirstLine alone_reach old input turn new rest → IsTurnOfFirstLine old.store input turn new.store rest

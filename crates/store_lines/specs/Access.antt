@@ -8,7 +8,7 @@ use Rattle.store_core.specs.Runs.{Call, Step, ask, change, put}
 use Rattle.store_core.specs.declared.reply.Reply.{Reply}
 use Rattle.store_journal.specs.declared.entry.Entry.{Entry}
 use Rattle.store_lines.specs.Texts.{entries_text}
-use Rattle.store_lines.specs.Session.{range_entries}
+use Rattle.store_lines.specs.Script.{range_entries}
 use Rattle.store_lines.specs.declared.request.EntryRange.{EntryRange}
 use Rattle.store_upload.specs.Uploads.{UploadPlan}
 

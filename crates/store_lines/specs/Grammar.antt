@@ -4,18 +4,15 @@ use Rattle.std.specs.Str.{bytes_eq}
 use Rattle.hex.specs.Hex.{decode_of, decode_sized}
 use Rattle.hex.specs.declared.error.FromHexError.{FromHexError}
 use Rattle.edge.specs.Fields.{◌>>=◌, split_at, number_at, space, two_numbers_at}
-use Rattle.store_core.specs.declared.command.Command.{Command}
 use Rattle.store_core.specs.declared.command.Command.TheVariants as commands
-use Rattle.store_core.specs.declared.command.Question.{Question}
 use Rattle.store_core.specs.declared.command.Question.TheVariants as questions
+use Rattle.store_lines.specs.declared.request.EntryRange.{EntryRange}
+use Rattle.store_lines.specs.declared.request.Request.{Request}
+use Rattle.store_lines.specs.declared.request.Request.TheVariants.{Asks, Does, Entries, Put}
 
--- a command or a question of the store; a part's upload, offset and bytes: before the part is put, the upload's plan is asked for; or the
--- journal
-pub data ScriptCommand : Type 0 where
-  does : Command → ScriptCommand
-  asks : Question → ScriptCommand
-  puts : ℕ → ℕ → List ℕ → ScriptCommand
-  journal : ScriptCommand
+-- all entries of the journal
+abbrev pub whole_journal : EntryRange
+whole_journal = record { from = 0; count = None }
 
 -- ---- the fields of a command
 
@@ -75,80 +72,80 @@ part_bytes_at offset field = do
   cut ← split_at colon field
   bytes_of_kind offset cut.0 cut.1
 
-abbrev pub puts_at : List ℕ → Option ScriptCommand
+abbrev pub puts_at : List ℕ → Option Request
 puts_at fields = do
   cut ← split_at space fields
   upload ← number_at cut.0
   others ← split_at space cut.1
   offset ← number_at others.0
   bytes ← part_bytes_at offset others.1
-  Some (puts upload offset bytes)
+  Some (Put (record { upload = upload; offset = offset; bytes = bytes }))
 
 -- ---- a line
 
 -- the command for the fields after each word
-abbrev pub open_tenant_command : List ℕ → Option ScriptCommand
+abbrev pub open_tenant_command : List ℕ → Option Request
 open_tenant_command fields = do
   limit ← number_at fields
-  Some (does (commands.OpenTenant limit))
+  Some (Does (commands.OpenTenant limit))
 
-abbrev pub set_limit_command : List ℕ → Option ScriptCommand
+abbrev pub set_limit_command : List ℕ → Option Request
 set_limit_command fields = do
   numbers ← two_numbers_at fields
-  Some (does (commands.SetLimit numbers.0 numbers.1))
+  Some (Does (commands.SetLimit numbers.0 numbers.1))
 
-abbrev pub begin_command : List ℕ → Option ScriptCommand
+abbrev pub begin_command : List ℕ → Option Request
 begin_command fields = do
   numbers ← two_numbers_at fields
-  Some (does (commands.Begin numbers.0 numbers.1))
+  Some (Does (commands.Begin numbers.0 numbers.1))
 
-abbrev pub begin_open_command : List ℕ → Option ScriptCommand
+abbrev pub begin_open_command : List ℕ → Option Request
 begin_open_command fields = do
   numbers ← two_numbers_at fields
-  Some (does (commands.BeginOpen numbers.0 numbers.1))
+  Some (Does (commands.BeginOpen numbers.0 numbers.1))
 
-abbrev pub fix_command : List ℕ → Option ScriptCommand
+abbrev pub fix_command : List ℕ → Option Request
 fix_command fields = do
   numbers ← two_numbers_at fields
-  Some (does (commands.Fix numbers.0 numbers.1))
+  Some (Does (commands.Fix numbers.0 numbers.1))
 
-abbrev pub seal_command : List ℕ → Option ScriptCommand
+abbrev pub seal_command : List ℕ → Option Request
 seal_command fields = do
   upload ← number_at fields
-  Some (does (commands.Seal upload))
+  Some (Does (commands.Seal upload))
 
-abbrev pub seal_as_command : List ℕ → Option ScriptCommand
+abbrev pub seal_as_command : List ℕ → Option Request
 seal_as_command fields = do
   held ← held_at fields
-  Some (does (commands.SealAs held.0 held.1))
+  Some (Does (commands.SealAs held.0 held.1))
 
-abbrev pub abort_command : List ℕ → Option ScriptCommand
+abbrev pub abort_command : List ℕ → Option Request
 abort_command fields = do
   upload ← number_at fields
-  Some (does (commands.Abort upload))
+  Some (Does (commands.Abort upload))
 
-abbrev pub forget_command : List ℕ → Option ScriptCommand
+abbrev pub forget_command : List ℕ → Option Request
 forget_command fields = do
   held ← held_at fields
-  Some (does (commands.Forget held.0 held.1))
+  Some (Does (commands.Forget held.0 held.1))
 
-abbrev pub fetch_command : List ℕ → Option ScriptCommand
+abbrev pub fetch_command : List ℕ → Option Request
 fetch_command fields = do
   held ← held_at fields
-  Some (asks (questions.Fetch held.0 held.1))
+  Some (Asks (questions.Fetch held.0 held.1))
 
-abbrev pub usage_command : List ℕ → Option ScriptCommand
+abbrev pub usage_command : List ℕ → Option Request
 usage_command fields = do
   tenant ← number_at fields
-  Some (asks (questions.Usage tenant))
+  Some (Asks (questions.Usage tenant))
 
-abbrev pub list_command : List ℕ → Option ScriptCommand
+abbrev pub list_command : List ℕ → Option Request
 list_command fields = do
   tenant ← number_at fields
-  Some (asks (questions.List tenant))
+  Some (Asks (questions.List tenant))
 
 -- the command of a word and the fields after it
-unfoldable pub asks_of_kind : List ℕ → List ℕ → Option ScriptCommand
+unfoldable pub asks_of_kind : List ℕ → List ℕ → Option Request
 asks_of_kind kind fields =
     if bytes_eq kind (codes "tenant") then open_tenant_command fields
     else if bytes_eq kind (codes "limit") then set_limit_command fields
@@ -165,14 +162,14 @@ asks_of_kind kind fields =
     else None
 
 -- the command of a line that consists of one word
-abbrev pub word_command : List ℕ → Option ScriptCommand
-word_command word = if bytes_eq word (codes "stat") then Some (asks questions.Totals) else if bytes_eq word (codes "journal") then Some journal else None
+abbrev pub word_command : List ℕ → Option Request
+word_command word = if bytes_eq word (codes "stat") then Some (Asks questions.Totals) else if bytes_eq word (codes "journal") then Some (Entries whole_journal) else None
 
 -- the command of a line that is split after its first word
-unfoldable pub split_line_at : List ℕ → Option (List ℕ × List ℕ) → Option ScriptCommand
+unfoldable pub split_line_at : List ℕ → Option (List ℕ × List ℕ) → Option Request
 split_line_at line None = word_command line
 split_line_at line (Some cut) = if bytes_eq cut.0 (codes "put") then puts_at cut.1 else asks_of_kind cut.0 cut.1
 
 -- the command of a line without its newline, unless the line is outside the grammar
-abbrev pub command_at : List ℕ → Option ScriptCommand
+abbrev pub command_at : List ℕ → Option Request
 command_at line = split_line_at line (split_at space line)

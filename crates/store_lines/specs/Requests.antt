@@ -7,12 +7,12 @@ use Rattle.store_lines.specs.Grammar.{address_of_digits, held_at}
 use Rattle.store_core.specs.declared.command.Question.TheVariants.{Holds, Tenants, Uploads}
 use Rattle.store_lines.specs.Lines.{max_request}
 use Rattle.store_lines.specs.declared.request.Request.{Request}
-use Rattle.store_lines.specs.declared.request.Request.TheVariants.{Asks, Entries, Fetch, Put}
+use Rattle.store_lines.specs.declared.request.Request.TheVariants.{Asks, Entries, Fetch, PutRaw}
 
 abbrev pub raw_put_at : List ℕ → Option Request
 raw_put_at fields = do
   numbers ← three_numbers_at fields
-  Some (Put numbers.0 numbers.1 numbers.2)
+  Some (PutRaw (record { upload = numbers.0; offset = numbers.1; len = numbers.2 }))
 
 -- an address, or an address and a range of its object's bytes
 abbrev pub fetch_of : ℕ → List ℕ → Option (List ℕ × List ℕ) → Option Request

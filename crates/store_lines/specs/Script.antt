@@ -1,5 +1,5 @@
 -- A script and its output.
-use Rattle.std.specs.Prelude.{◌≡◌, ◌≢◌, ◌⊎◌, ℕ, List, [], ◌∷◌, ◌++◌, Option, Some, None, Result, Ok, Err, length, codes}
+use Rattle.std.specs.Prelude.{◌≡◌, ◌≢◌, ◌⊎◌, ℕ, List, [], ◌∷◌, ◌++◌, Option, Some, None, Result, Ok, Err, codes, drop, length, take}
 use Rattle.std.specs.Io.KnownBytes.{Appends, IsAtEnd}
 use Rattle.std.specs.List.{flat_map}
 use Rattle.b3_forest.specs.Parts.{ModelPrepared, planned}
@@ -15,7 +15,10 @@ use Rattle.store_books.specs.Books.{empty_books, max_entries, max_tenants, max_w
 use Rattle.store_core.specs.Model.{ModelStore}
 use Rattle.store_core.specs.declared.reply.Reply.{Reply}
 use Rattle.store_core.specs.Runs.{Call, Run, Step, ask, change, put}
-use Rattle.store_lines.specs.Grammar.{ScriptCommand, asks, command_at, does, journal, puts}
+use Rattle.store_lines.specs.Grammar.{command_at}
+use Rattle.store_lines.specs.declared.request.EntryRange.{EntryRange}
+use Rattle.store_lines.specs.declared.request.Request.{Request}
+use Rattle.store_lines.specs.declared.request.Request.TheVariants.{Asks, Does, Entries, Put}
 use Rattle.store_books.specs.Refusals.{refusal_text}
 use Rattle.store_journal.specs.declared.entry.Entry.{Entry}
 use Rattle.store_lines.specs.Texts.{answer_text, entries_text, refused_text, unmade_text}
@@ -66,6 +69,14 @@ turn_ending (unmade fault) = fault_ending fault
 turn_ending (took call reply) = reply_ending reply
 turn_ending (listed entries) = endings.Good
 
+-- the requested entries of the journal
+abbrev pub at_most : Option ℕ → List Entry → List Entry
+at_most None entries = entries
+at_most (Some count) entries = take count entries
+
+abbrev pub range_entries : EntryRange → List Entry → List Entry
+range_entries range entries = at_most range.count (drop range.from entries)
+
 -- exactly this step
 abbrev pub IsTurnOfStep : ModelStore → Call → Turn → ModelStore → Type 0
 IsTurnOfStep old call (took asked reply) new = (asked ≡ call) × Step old call reply new
@@ -87,12 +98,14 @@ abbrev pub IsTurnOfPut : ModelStore → ℕ → ℕ → List ℕ → Result Uplo
 IsTurnOfPut old upload offset bytes (Err refusal) turn new = (turn ≡ unplanned refusal) × (new ≡ old)
 IsTurnOfPut old upload offset bytes (Ok made_for) turn new = IsTurnOfMade old upload (planned made_for offset bytes) (part_fault made_for offset (length bytes)) turn new
 
-abbrev pub IsTurnOfCommand : ModelStore → Option ScriptCommand → Turn → ModelStore → Type 0
+-- a script has no other requests
+abbrev pub IsTurnOfCommand : ModelStore → Option Request → Turn → ModelStore → Type 0
 IsTurnOfCommand old None turn new = (turn ≡ bad) × (new ≡ old)
-IsTurnOfCommand old (Some (does command)) turn new = IsTurnOfStep old (change command) turn new
-IsTurnOfCommand old (Some (asks question)) turn new = IsTurnOfStep old (ask question) turn new
-IsTurnOfCommand old (Some (puts upload offset bytes)) turn new = IsTurnOfPut old upload offset bytes (plan_in old.state upload) turn new
-IsTurnOfCommand old (Some journal) turn new = (turn ≡ listed old.journal) × (new ≡ old)
+IsTurnOfCommand old (Some (Does command)) turn new = IsTurnOfStep old (change command) turn new
+IsTurnOfCommand old (Some (Asks question)) turn new = IsTurnOfStep old (ask question) turn new
+IsTurnOfCommand old (Some (Put part)) turn new = IsTurnOfPut old part.upload part.offset part.bytes (plan_in old.state part.upload) turn new
+IsTurnOfCommand old (Some (Entries range)) turn new = (turn ≡ listed (range_entries range old.journal)) × (new ≡ old)
+IsTurnOfCommand old (Some _) turn new = (turn ≡ bad) × (new ≡ old)
 
 -- the turn of a line in a store, and the resulting store
 abbrev pub IsTurnOf : ModelStore → List ℕ → Turn → ModelStore → Type 0

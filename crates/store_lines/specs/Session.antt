@@ -12,22 +12,20 @@ use Rattle.store_books.specs.declared.refusal.Refusal.TheVariants as refusals
 use Rattle.store_core.specs.Carried.{IsCarried}
 use Rattle.store_core.specs.Commands.{plan_in}
 use Rattle.store_core.specs.Model.{ModelStore}
-use Rattle.store_core.specs.Runs.{Call, Run, ask}
+use Rattle.store_core.specs.Runs.{Call, Run, ask, change}
 use Rattle.store_core.specs.declared.reply.Reply.{Reply}
 use Rattle.store_core.specs.declared.reply.Reply.TheVariants as replies
-use Rattle.store_core.specs.declared.command.Question.{Question}
 use Rattle.store_core.specs.declared.command.Question.TheVariants as questions
 use Rattle.store_lines.specs.Lines.{IsPutLine}
-use Rattle.store_lines.specs.Script.{IsTurnOfPut, widest_start}
+use Rattle.store_lines.specs.Script.{IsTurnOfPut, range_entries, widest_start}
 use Rattle.store_lines.specs.Script as script
 use Rattle.store_lines.specs.Texts.{refused_text, reply_text}
 use Rattle.store_lines.specs.Lines.{max_request}
 use Rattle.store_lines.specs.Requests.{request_in}
-use Rattle.store_journal.specs.declared.entry.Entry.{Entry}
 use Rattle.store_lines.specs.declared.request.EntryRange.{EntryRange}
 use Rattle.store_lines.specs.declared.request.Range.{Range}
 use Rattle.store_lines.specs.declared.request.Request.{Request}
-use Rattle.store_lines.specs.declared.request.Request.TheVariants.{Asks, Entries, Fetch, Put}
+use Rattle.store_lines.specs.declared.request.Request.TheVariants.{Asks, Does, Entries, Fetch, Put, PutRaw}
 
 -- ---- answers
 
@@ -53,14 +51,6 @@ raw_text bytes = codes "bytes " ++ (decimal (length bytes) ++ (codes "\n" ++ byt
 abbrev pub range_text : Option Range → Reply → List ℕ
 range_text range (replies.Object bytes) = raw_text (ranged range bytes)
 range_text range reply = reply_text reply
-
--- the requested entries of the journal
-abbrev pub at_most : Option ℕ → List Entry → List Entry
-at_most None entries = entries
-at_most (Some count) entries = take count entries
-
-abbrev pub range_entries : EntryRange → List Entry → List Entry
-range_entries range entries = at_most range.count (drop range.from entries)
 
 -- a turn with its reply written like this
 abbrev pub reported_by : (Reply → List ℕ) → script.Turn → List ℕ
@@ -88,9 +78,9 @@ abbrev pub IsReportedAs : Manner → (script.Turn → Type 0) → SessionTurn �
 IsReportedAs manner Is no_memory = ⊥
 IsReportedAs manner Is (reported_as reported turn) = (reported ≡ manner) × Is turn
 
--- a question, with its answer written in this manner
-abbrev pub IsTurnOfQuestion : Manner → ModelStore → Question → SessionTurn → ModelStore → Type 0
-IsTurnOfQuestion manner old question turn new = IsReportedAs manner (λ t. script.IsTurnOfStep old (ask question) t new) turn
+-- one step, with its answer written in this manner
+abbrev pub IsTurnOfCall : Manner → ModelStore → Call → SessionTurn → ModelStore → Type 0
+IsTurnOfCall manner old call turn new = IsReportedAs manner (λ t. script.IsTurnOfStep old call t new) turn
 
 -- the requested entries of the journal
 abbrev pub IsTurnOfEntries : ModelStore → EntryRange → SessionTurn → ModelStore → Type 0
@@ -100,17 +90,19 @@ IsTurnOfEntries old range turn new = IsReportedAs as_script (λ t. (t ≡ script
 abbrev pub IsTurnOfBytes : ModelStore → ℕ → ℕ → List ℕ → SessionTurn → ModelStore → Type 0
 IsTurnOfBytes old upload offset bytes turn new = IsReportedAs as_script (λ t. IsTurnOfPut old upload offset bytes (plan_in old.state upload) t new) turn
 
--- The turn of a line with this request, its effect, and the bytes that remain after it. A part takes its bytes, whatever its turn.
+-- The turn of a line with this request, its effect, and the bytes that remain after it. A raw part takes its bytes, whatever its turn.
 abbrev pub IsTurnOfRequest : ModelStore → Option Request → List ℕ → List ℕ → SessionTurn → ModelStore → List ℕ → Type 0
 IsTurnOfRequest old None whole following turn new rest = IsTurnOfScriptLine old (strip_last 10 whole) turn new × (rest ≡ following)
-IsTurnOfRequest old (Some (Put upload offset len)) whole following turn new rest = IsTurnOfBytes old upload offset (take len following) turn new × (len ≤ length following) × (rest ≡ drop len following)
-IsTurnOfRequest old (Some (Fetch wanted)) whole following turn new rest = IsTurnOfQuestion (as_range wanted.range) old (questions.Fetch wanted.tenant wanted.address) turn new × (rest ≡ following)
-IsTurnOfRequest old (Some (Asks question)) whole following turn new rest = IsTurnOfQuestion as_script old question turn new × (rest ≡ following)
+IsTurnOfRequest old (Some (Does command)) whole following turn new rest = IsTurnOfCall as_script old (change command) turn new × (rest ≡ following)
+IsTurnOfRequest old (Some (Asks question)) whole following turn new rest = IsTurnOfCall as_script old (ask question) turn new × (rest ≡ following)
+IsTurnOfRequest old (Some (Put part)) whole following turn new rest = IsTurnOfBytes old part.upload part.offset part.bytes turn new × (rest ≡ following)
+IsTurnOfRequest old (Some (PutRaw part)) whole following turn new rest = IsTurnOfBytes old part.upload part.offset (take part.len following) turn new × (part.len ≤ length following) × (rest ≡ drop part.len following)
+IsTurnOfRequest old (Some (Fetch wanted)) whole following turn new rest = IsTurnOfCall (as_range wanted.range) old (ask (questions.Fetch wanted.tenant wanted.address)) turn new × (rest ≡ following)
 IsTurnOfRequest old (Some (Entries range)) whole following turn new rest = IsTurnOfEntries old range turn new × (rest ≡ following)
 
 -- the request's bytes are truncated
 abbrev pub IsShort : Option Request → List ℕ → Type 0
-IsShort (Some (Put upload offset len)) following = length following < len
+IsShort (Some (PutRaw part)) following = length following < part.len
 IsShort _ following = ⊥
 
 -- the turn of the first line of the input

@@ -8,7 +8,9 @@ use Rattle.store_core.specs.declared.command.Command.TheVariants as commands
 use Rattle.store_core.specs.declared.command.Question.{Question}
 use Rattle.store_core.specs.declared.command.Question.TheVariants as questions
 use Rattle.store_lines.specs.Lines.{max_line}
-use Rattle.store_lines.specs.Grammar.{ScriptCommand, asks, command_at, does, journal, max_digits, max_pattern, pattern_of, puts}
+use Rattle.store_lines.specs.Grammar.{command_at, max_digits, max_pattern, pattern_of, whole_journal}
+use Rattle.store_lines.specs.declared.request.Request.{Request}
+use Rattle.store_lines.specs.declared.request.Request.TheVariants.{Asks, Does, Entries, Put}
 
 -- a word, a number, and an address in 64 digits of either case
 abbrev pub IsNumberAndAddress : List ℕ → List ℕ → ℕ → List ℕ → Type 0
@@ -44,20 +46,21 @@ IsPattern offset field bytes = (len : ℕ) × (field ≡ codes "p:" ++ decimal l
 abbrev pub IsPart : ℕ → List ℕ → List ℕ → Type 0
 IsPart offset field bytes = IsDigits field bytes ⊎ IsPattern offset field bytes
 
--- the line spells the request
-abbrev pub IsSpelled : List ℕ → ScriptCommand → Type 0
-IsSpelled line (does command) = SpellsCommand line command
-IsSpelled line (asks question) = SpellsQuestion line question
-IsSpelled line (puts upload offset bytes) = (field : List ℕ) × (line ≡ codes "put " ++ three_fields (decimal upload) (decimal offset) field) × (upload < 2 ^ 64) × (offset < 2 ^ 64) × IsPart offset field bytes
-IsSpelled line journal = line ≡ codes "journal"
+-- the line spells the request; a script has no others
+abbrev pub IsSpelled : List ℕ → Request → Type 0
+IsSpelled line (Does command) = SpellsCommand line command
+IsSpelled line (Asks question) = SpellsQuestion line question
+IsSpelled line (Put part) = (field : List ℕ) × (line ≡ codes "put " ++ three_fields (decimal part.upload) (decimal part.offset) field) × (part.upload < 2 ^ 64) × (part.offset < 2 ^ 64) × IsPart part.offset field part.bytes
+IsSpelled line (Entries range) = (line ≡ codes "journal") × (range ≡ whole_journal)
+IsSpelled line _ = ⊥
 
 -- what is read is spelled like that
 abbrev pub ReadCommandIsSpelled : Type 0
-ReadCommandIsSpelled = (line : List ℕ) (command : ScriptCommand) → command_at line ≡ Some command → IsSpelled line command
+ReadCommandIsSpelled = (line : List ℕ) (command : Request) → command_at line ≡ Some command → IsSpelled line command
 
 -- what is spelled like that is read
 abbrev pub SpelledCommandIsRead : Type 0
-SpelledCommandIsRead = (line : List ℕ) (command : ScriptCommand) → IsSpelled line command → command_at line ≡ Some command
+SpelledCommandIsRead = (line : List ℕ) (command : Request) → IsSpelled line command → command_at line ≡ Some command
 
 -- the pattern has the requested length, and each byte is its position in the upload mod 251
 abbrev pub PatternIs : Type 0

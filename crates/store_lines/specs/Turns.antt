@@ -10,18 +10,17 @@ use Rattle.store_books.specs.declared.refusal.Refusal.{Refusal}
 use Rattle.store_core.specs.Commands.{plan_in}
 use Rattle.store_core.specs.Model.{ModelStore}
 use Rattle.store_core.specs.Runs.{Call, ask, change, put}
-use Rattle.store_core.specs.declared.command.Question.{Question}
 use Rattle.store_core.specs.declared.command.Question.TheVariants as questions
-use Rattle.store_lines.specs.Grammar.{ScriptCommand, asks, command_at, does, journal, puts}
+use Rattle.store_lines.specs.Grammar.{command_at, whole_journal}
+use Rattle.store_lines.specs.declared.request.Request.{Request}
+use Rattle.store_lines.specs.declared.request.Request.TheVariants.{Asks, Does, Entries, Fetch, Put, PutRaw}
 use Rattle.store_lines.specs.Lines.{IsPutLine}
-use Rattle.store_lines.specs.Script.{IsTurnOfStep, Turn, bad, listed, skipped, took, unmade, unplanned}
+use Rattle.store_lines.specs.Script.{IsTurnOfStep, Turn, bad, listed, range_entries, skipped, took, unmade, unplanned}
 use Rattle.edge.specs.Lines.{HasNewline}
 use Rattle.store_lines.specs.Lines.{max_request}
 use Rattle.store_lines.specs.Requests.{request_in}
-use Rattle.store_lines.specs.Session.{Ends, Manner, SessionTurn, as_range, as_script, no_memory, range_entries, session_turn_text, reported_as}
+use Rattle.store_lines.specs.Session.{Ends, Manner, SessionTurn, as_range, as_script, no_memory, session_turn_text, reported_as}
 use Rattle.store_lines.specs.declared.request.EntryRange.{EntryRange}
-use Rattle.store_lines.specs.declared.request.Request.{Request}
-use Rattle.store_lines.specs.declared.request.Request.TheVariants.{Asks, Entries, Fetch, Put}
 use Rattle.store_upload.specs.Uploads.{UploadPlan, part_fault}
 use Rattle.store_upload.specs.declared.refusal.PartFault.{PartFault}
 use Rattle.store_upload.specs.declared.refusal.PartFault.TheVariants as faults
@@ -71,15 +70,13 @@ IsLinkedPut reach old upload offset bytes turn new = (first : ModelStore) × (re
 abbrev pub IsLinkedListing : Reach → SessionState → EntryRange → Turn → SessionState → Type 0
 IsLinkedListing reach old range turn new = (found : ModelStore) × (reach.links old.store found × ((turn ≡ listed (range_entries range found.journal)) × (new ≡ at old found)))
 
-abbrev pub whole_journal : EntryRange
-whole_journal = record { from = 0; count = None }
-
-abbrev pub IsLinkedCommand : Reach → SessionState → Option ScriptCommand → Turn → SessionState → Type 0
+abbrev pub IsLinkedCommand : Reach → SessionState → Option Request → Turn → SessionState → Type 0
 IsLinkedCommand reach old None turn new = (turn ≡ bad) × (new ≡ old)
-IsLinkedCommand reach old (Some (does command)) turn new = IsLinkedStep reach old (change command) turn new
-IsLinkedCommand reach old (Some (asks question)) turn new = IsLinkedStep reach old (ask question) turn new
-IsLinkedCommand reach old (Some (puts upload offset bytes)) turn new = IsLinkedPut reach old upload offset bytes turn new
-IsLinkedCommand reach old (Some journal) turn new = IsLinkedListing reach old whole_journal turn new
+IsLinkedCommand reach old (Some (Does command)) turn new = IsLinkedStep reach old (change command) turn new
+IsLinkedCommand reach old (Some (Asks question)) turn new = IsLinkedStep reach old (ask question) turn new
+IsLinkedCommand reach old (Some (Put part)) turn new = IsLinkedPut reach old part.upload part.offset part.bytes turn new
+IsLinkedCommand reach old (Some (Entries range)) turn new = IsLinkedListing reach old range turn new
+IsLinkedCommand reach old (Some _) turn new = (turn ≡ bad) × (new ≡ old)
 
 abbrev pub IsLinkedLine : Reach → SessionState → List ℕ → Turn → SessionState → Type 0
 IsLinkedLine reach old [] turn new = (turn ≡ skipped) × (new ≡ old)
@@ -87,16 +84,16 @@ IsLinkedLine reach old (b ∷ line) turn new = IsLinkedCommand reach old (comman
 
 -- a line may allocate: if it is long, or puts a part, or asks for the journal and that is copied
 abbrev pub MayLack : Reach → List ℕ → Type 0
-MayLack reach line = (max_request ≤ length line) ⊎ (IsPutLine line ⊎ (reach.lacks × (command_at line ≡ Some journal)))
+MayLack reach line = (max_request ≤ length line) ⊎ (IsPutLine line ⊎ (reach.lacks × (command_at line ≡ Some (Entries whole_journal))))
 
 abbrev pub IsLinkedScriptLine : Reach → SessionState → List ℕ → SessionTurn → SessionState → Type 0
 IsLinkedScriptLine reach old line no_memory new = MayLack reach line × (new ≡ old)
 IsLinkedScriptLine reach old line (reported_as manner turn) new = (manner ≡ as_script) × IsLinkedLine reach old line turn new
 
--- a question, with its answer written in a manner
-abbrev pub IsLinkedQuestion : Reach → Manner → SessionState → Question → SessionTurn → SessionState → Type 0
-IsLinkedQuestion reach manner old question no_memory new = ⊥
-IsLinkedQuestion reach manner old question (reported_as reported turn) new = (reported ≡ manner) × IsLinkedStep reach old (ask question) turn new
+-- one step, with its answer written in a manner
+abbrev pub IsLinkedCall : Reach → Manner → SessionState → Call → SessionTurn → SessionState → Type 0
+IsLinkedCall reach manner old call no_memory new = ⊥
+IsLinkedCall reach manner old call (reported_as reported turn) new = (reported ≡ manner) × IsLinkedStep reach old call turn new
 
 -- the journal's entries, for which an allocation may fail
 abbrev pub IsLinkedEntries : Reach → EntryRange → SessionState → SessionTurn → SessionState → Type 0
@@ -110,9 +107,11 @@ IsLinkedBytes reach old upload offset bytes (reported_as reported turn) new = (r
 -- the turn of a line with this request, its effect, and the bytes that remain after it
 abbrev pub IsLinkedRequest : Reach → SessionState → Option Request → List ℕ → List ℕ → SessionTurn → SessionState → List ℕ → Type 0
 IsLinkedRequest reach old None whole following turn new rest = IsLinkedScriptLine reach old (strip_last 10 whole) turn new × (rest ≡ following)
-IsLinkedRequest reach old (Some (Put upload offset len)) whole following turn new rest = IsLinkedBytes reach old upload offset (take len following) turn new × (len ≤ length following) × (rest ≡ drop len following)
-IsLinkedRequest reach old (Some (Fetch wanted)) whole following turn new rest = IsLinkedQuestion reach (as_range wanted.range) old (questions.Fetch wanted.tenant wanted.address) turn new × (rest ≡ following)
-IsLinkedRequest reach old (Some (Asks question)) whole following turn new rest = IsLinkedQuestion reach as_script old question turn new × (rest ≡ following)
+IsLinkedRequest reach old (Some (Does command)) whole following turn new rest = IsLinkedCall reach as_script old (change command) turn new × (rest ≡ following)
+IsLinkedRequest reach old (Some (Asks question)) whole following turn new rest = IsLinkedCall reach as_script old (ask question) turn new × (rest ≡ following)
+IsLinkedRequest reach old (Some (Put part)) whole following turn new rest = IsLinkedBytes reach old part.upload part.offset part.bytes turn new × (rest ≡ following)
+IsLinkedRequest reach old (Some (PutRaw part)) whole following turn new rest = IsLinkedBytes reach old part.upload part.offset (take part.len following) turn new × (part.len ≤ length following) × (rest ≡ drop part.len following)
+IsLinkedRequest reach old (Some (Fetch wanted)) whole following turn new rest = IsLinkedCall reach (as_range wanted.range) old (ask (questions.Fetch wanted.tenant wanted.address)) turn new × (rest ≡ following)
 IsLinkedRequest reach old (Some (Entries range)) whole following turn new rest = IsLinkedEntries reach range old turn new × (rest ≡ following)
 
 abbrev pub IsLinkedFirstLine : Reach → SessionState → List ℕ → SessionTurn → SessionState → List ℕ → Type 0

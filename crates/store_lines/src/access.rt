@@ -16,7 +16,7 @@ use std::alloc::Global;
 use std::io::Write;
 use std::sync::Arc;
 use store_core::{
-    Address, Command, Held, Object, PutRefused, Question, Refusal, Reply, TenantId, UploadId,
+    Address, Command, Held, Object, Question, Refusal, Refused, Reply, TenantId, UploadId,
 };
 
 /// A session's access to its store: each call is one step of the model. It finds the store in a state that is linked to the one that the
@@ -35,7 +35,12 @@ pub trait Access {
         ensures { Took reach (stands self.old) (stands self.new) (change command) result };
 
     /// Puts a prepared part.
-    fn put(&mut self, upload: UploadId, part: Prepared, work: &mut Work) -> Result<Held, PutRefused>
+    fn put(
+        &mut self,
+        upload: UploadId,
+        part: Prepared,
+        work: &mut Work,
+    ) -> Result<Held, Refused<Refusal, Prepared>>
         ensures { Took reach (stands self.old) (stands self.new) (put upload part) (reply_seen replies.Held (put_result result)) };
 
     /// Answers a question.

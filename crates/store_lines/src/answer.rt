@@ -7,29 +7,30 @@ ghost use Rattle.store_lines.specs.Lines.{IsPutLine};
 ghost use Rattle.store_lines.specs.Script.{IsTurnOf, fault_ending, reply_ending};
 ghost use Rattle.std.specs.Io.BufRead.{strip_last};
 
-use crate::command::ScriptCommand;
 use crate::ending::Ending;
+use crate::own::chosen;
 use crate::parsing::read_command;
 use crate::receiving::put_bytes;
+use crate::request::{EntryRange, Request};
 use crate::texts::{write_answer, write_bad, write_journal, write_unmade};
 use b3_core::Work;
 use b3_forest::PartFault;
 use edge::Cause;
 use std::alloc::{AllocError, Global};
 use std::io::Write;
-use store_core::{Entry, Refusal, Reply, Store, UploadId};
+use store_core::{Entry, Refusal, Reply, Store};
 
 /// The maximum length of a command's line in bytes, with its newline.
 pub(crate) const MAX_LINE: usize = 33_554_481;
 
-/// The answer to a line: nothing for an empty line, `bad`, why a part cannot be made, the store's reply or refusal, or its journal.
+/// The answer to a line: nothing for an empty line, `bad`, why a part cannot be made, the store's reply or refusal, or entries of its journal.
 #[derive(Drop)]
 pub(crate) enum Answer {
     Nothing,
     Bad,
     Unmade(PartFault),
     Replied(Result<Reply, Refusal>),
-    Journal,
+    Entries(EntryRange),
 }
 
 impl Answer {
@@ -38,14 +39,14 @@ impl Answer {
         ensures { result ≡ reported_ending self.now }
     {
         match self {
-            Answer::Nothing | Answer::Journal => Ending::Good,
+            Answer::Nothing | Answer::Entries(_) => Ending::Good,
             Answer::Bad => Ending::Refused,
             Answer::Unmade(fault) => fault_ending(*fault),
             Answer::Replied(reply) => reply_ending(reply),
         }
     }
 
-    /// Writes the answer of a store whose journal has these entries. Allocates nothing.
+    /// Writes the answer of a store whose journal is `entries`. Allocates nothing.
     pub(crate) fn write<W: Write>(self, entries: &[Entry], writer: &mut W) -> Result<(), Cause>
         ensures wrote { OnOk result (Appends (W.contents writer.old) (W.contents writer.new) (reported_text entries.now self)) }
         ensures cause { IfErr result (λ cause. cause ≡ Cause.CannotWrite) }
@@ -55,7 +56,7 @@ impl Answer {
             Answer::Bad => write_bad(writer),
             Answer::Unmade(fault) => write_unmade(writer, fault),
             Answer::Replied(reply) => write_answer(writer, reply),
-            Answer::Journal => write_journal(writer, entries),
+            Answer::Entries(range) => write_journal(writer, chosen(entries, range)),
         }
     }
 }
@@ -125,16 +126,10 @@ fn answer_line(
         return Ok(Answer::Nothing);
     }
     match read_command(alloc, line)? {
-        None => Ok(Answer::Bad),
-        Some(ScriptCommand::Does(command)) => Ok(Answer::Replied(store.step(command, work))),
-        Some(ScriptCommand::Asks(question)) => Ok(Answer::Replied(store.ask(question))),
-        Some(ScriptCommand::Journal) => Ok(Answer::Journal),
-        Some(
-            ScriptCommand::Puts {
-                upload,
-                offset,
-                bytes,
-            },
-        ) => Ok(put_bytes(alloc, store, UploadId::new(upload), offset, bytes, work)),
+        Some(Request::Does(command)) => Ok(Answer::Replied(store.step(command, work))),
+        Some(Request::Asks(question)) => Ok(Answer::Replied(store.ask(question))),
+        Some(Request::Entries(range)) => Ok(Answer::Entries(range)),
+        Some(Request::Put(part)) => Ok(put_bytes(alloc, store, part, work)),
+        None | Some(Request::PutRaw(_)) | Some(Request::Fetch(_)) => Ok(Answer::Bad),
     }
 }

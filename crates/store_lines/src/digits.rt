@@ -18,11 +18,11 @@ pub(crate) fn write_digits<W: Write>(writer: &mut W, segments: &[Segment]) -> Re
     ensures cause { IfErr result (λ cause. cause ≡ Cause.CannotWrite) }
 {
     let mut room = [0; ROOM];
-    write_segments(writer, segments, &mut room)?;
+    write_segment_digits(writer, segments, &mut room)?;
     write_bytes(writer, b"\n")
 }
 
-fn write_segments<W: Write>(
+fn write_segment_digits<W: Write>(
     writer: &mut W,
     segments: &[Segment],
     room: &mut [u8],

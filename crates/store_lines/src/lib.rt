@@ -61,7 +61,6 @@
 mod access;
 mod answer;
 mod answering;
-mod command;
 mod digits;
 mod ending;
 mod giving;
@@ -73,6 +72,7 @@ mod receiving;
 mod request;
 mod running;
 mod serving;
+mod session_line;
 mod texts;
 
 pub use access::Access;

@@ -10,26 +10,25 @@ ghost use Rattle.store_lines.specs.Turns.{IsLinkedMade, IsLinkedPut};
 use crate::access::Access;
 use crate::answer::Answer;
 use crate::reading::{copy, skip};
+use crate::request::{Part, PartBytes, RawPart};
 use b3_core::Work;
 use b3_forest::{PartFault, Plan, Prepared};
 use edge::Cause;
 use std::alloc::Global;
 use std::io::BufRead;
-use store_core::{Reply, UploadId};
+use store_core::Reply;
 
 /// Asks for the upload's plan, makes the part, and puts it.
 pub(crate) fn put_bytes<A: Access>(
     alloc: Global,
     access: &mut A,
-    upload: UploadId,
-    offset: u64,
-    bytes: Vec<u8>,
+    part: Part,
     work: &mut Work,
 ) -> Answer
-    ensures { AnsweredOver (A.stands access.old) (A.stands access.new) (λ before turn after. IsLinkedPut A.reach before upload offset bytes.items turn after) result }
+    ensures { AnsweredOver (A.stands access.old) (A.stands access.new) (λ before turn after. IsLinkedPut A.reach before part.upload part.offset part.bytes turn after) result }
 {
-    match access.plan(upload) {
-        Ok(plan) => put_made(alloc, access, upload, &plan, offset, bytes, work),
+    match access.plan(part.upload) {
+        Ok(plan) => put_made(alloc, access, &plan, part, work),
         Err(refusal) => Answer::Replied(Err(refusal)),
     }
 }
@@ -38,21 +37,26 @@ pub(crate) fn put_bytes<A: Access>(
 fn put_made<A: Access>(
     alloc: Global,
     access: &mut A,
-    upload: UploadId,
     plan: &Plan,
-    offset: u64,
-    bytes: Vec<u8>,
+    part: Part,
     work: &mut Work,
 ) -> Answer
-    ensures { AnsweredOver (A.stands access.old) (A.stands access.new) (λ first turn after. IsLinkedMade A.reach first upload (planned plan.now offset bytes.items) (part_fault plan.now offset (length bytes.items)) turn after) result }
+    ensures { AnsweredOver (A.stands access.old) (A.stands access.new)
+        (λ first turn after. IsLinkedMade A.reach first part.upload (planned plan.now part.offset part.bytes) (part_fault plan.now part.offset
+        (length part.bytes)) turn after) result }
 {
-    let part = match Prepared::make(alloc, plan, offset, bytes, work) {
+    let Part {
+        upload,
+        offset,
+        bytes,
+    } = part;
+    let part = match Prepared::make(alloc, plan, offset, bytes.into_vec(), work) {
         Ok(part) => part,
-        Err(refused) => return Answer::Unmade(refused.fault),
+        Err(refused) => return Answer::Unmade(refused.reason),
     };
     match access.put(upload, part, work) {
         Ok(held) => Answer::Replied(Ok(Reply::Held(held))),
-        Err(refused) => Answer::Replied(Err(refused.refusal)),
+        Err(refused) => Answer::Replied(Err(refused.reason)),
     }
 }
 
@@ -62,14 +66,19 @@ pub(crate) fn receive<A: Access, R: BufRead>(
     alloc: Global,
     access: &mut A,
     reader: &mut R,
-    upload: UploadId,
-    offset: u64,
-    len: u64,
+    part: RawPart,
     work: &mut Work,
 ) -> Result<Option<Answer>, Cause>
-    ensures received { IfOk result (λ answer. IfSome (R.Read.remaining reader.old) (λ following. ReceivesOver A.reach (A.stands access.old) (A.stands access.new) answer upload offset len following (R.Read.remaining reader.new))) }
+    ensures received { IfOk result (λ answer. IfSome (R.Read.remaining reader.old)
+        (λ following. ReceivesOver A.reach (A.stands access.old) (A.stands access.new) answer part.upload part.offset part.len following
+        (R.Read.remaining reader.new))) }
     ensures cause { IfErr result (λ cause. cause ≡ Cause.CannotRead) }
 {
+    let RawPart {
+        upload,
+        offset,
+        len,
+    } = part;
     let plan = match access.plan(upload) {
         Ok(plan) => plan,
         Err(refusal) => return dropped(reader, len, Answer::Replied(Err(refusal))),
@@ -83,7 +92,12 @@ pub(crate) fn receive<A: Access, R: BufRead>(
     if !copy(reader, &mut bytes, len as usize)? {
         return Ok(None);
     }
-    Ok(Some(put_made(alloc, access, upload, &plan, offset, bytes, work)))
+    let part = Part {
+        upload,
+        offset,
+        bytes: PartBytes::new(bytes),
+    };
+    Ok(Some(put_made(alloc, access, &plan, part, work)))
 }
 
 // Drops `len` bytes, and answers.

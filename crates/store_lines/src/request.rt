@@ -9,7 +9,8 @@ ghost use Rattle.store_lines.specs.inner.Requests.{AsksFor};
 use crate::answer::without_end;
 use crate::parsing::{address, number_and_address};
 use edge::{LineRead, number, split_at, three_numbers, two_numbers};
-use store_core::{Address, Question, TenantId};
+use std::marker::Model;
+use store_core::{Address, Command, Question, TenantId, UploadId};
 
 /// The maximum length in bytes, with its newline, of a line with a request that a script does not have.
 pub(crate) const MAX_REQUEST: usize = 200;
@@ -36,20 +37,68 @@ pub(crate) struct Wanted {
     pub range: Option<Range>,
 }
 
-/// The request of a line, if it is not one of a script.
+/// A part whose bytes the line of its request states.
+#[derive(Drop)]
+pub(crate) struct Part {
+    pub upload: UploadId,
+    pub offset: u64,
+    pub bytes: PartBytes,
+}
+
+/// A part whose bytes follow the line of its request: its upload, its offset and its length.
 #[derive(Clone, Copy, Debug, PartialEq, Eq)]
+pub(crate) struct RawPart {
+    pub upload: UploadId,
+    pub offset: u64,
+    pub len: u64,
+}
+
+/// The bytes of a part that a line states. In contracts they are their list.
+#[derive(Drop)]
+pub(crate) struct PartBytes {
+    bytes: Vec<u8>,
+}
+
+impl Model for PartBytes {
+    ghost use Rattle.std.specs.Prelude.{List, ℕ};
+
+    ghost Value = { List ℕ };
+
+    ghost view = { λ p. p.bytes.items };
+}
+
+impl PartBytes {
+    pub(crate) fn new(bytes: Vec<u8>) -> PartBytes
+        ensures { result ≡ bytes.items }
+    {
+        PartBytes { bytes }
+    }
+
+    pub(crate) fn into_vec(self) -> Vec<u8>
+        ensures { result.items ≡ self }
+    {
+        self.bytes
+    }
+}
+
+/// The request of a line.
+#[derive(Drop)]
 pub(crate) enum Request {
-    /// Put the `len` bytes that follow the line.
-    Put { upload: u64, offset: u64, len: u64 },
-    /// Fetch bytes of an object.
-    Fetch(Wanted),
+    /// Execute a command.
+    Does(Command),
     /// Answer a question of the store.
     Asks(Question),
+    /// Put the bytes of a part.
+    Put(Part),
+    /// Put the bytes that follow the line.
+    PutRaw(RawPart),
+    /// Fetch bytes of an object, and write them as they are.
+    Fetch(Wanted),
     /// Write entries of the journal.
     Entries(EntryRange),
 }
 
-/// The request of a line that was read like this; `None` for a line of a script.
+/// The request of a session's line that was read like this; `None` if a script has it too, or may have it.
 pub(crate) fn request_of(line: &[u8], read: LineRead) -> Option<Request>
     ensures { AsksFor read line.now result }
 {
@@ -98,11 +147,11 @@ fn put(fields: &[u8]) -> Option<Request>
     ensures { result ≡ raw_put_at fields.now }
 {
     let (upload, offset, len) = three_numbers(fields)?;
-    Some(Request::Put {
-        upload,
+    Some(Request::PutRaw(RawPart {
+        upload: UploadId::new(upload),
         offset,
         len,
-    })
+    }))
 }
 
 fn fetch(fields: &[u8]) -> Option<Request>

@@ -6,18 +6,20 @@ ghost use Rattle.store_lines.specs.Lines.{max_request};
 ghost use Rattle.store_lines.specs.inner.Requests.{IsSessionLine};
 ghost use Rattle.store_lines.specs.Session.{ServedAll, ServedSome};
 ghost use Rattle.store_lines.specs.Turns.{ServedAllOver, ServedSomeOver};
-ghost use Rattle.store_lines.specs.inner.Reporting.{ServesPutOver, ServesReadOver, ServesRequestOver};
+ghost use Rattle.store_lines.specs.inner.Reporting.{ServesLineOver, ServesRequestOver};
 
 use crate::access::Access;
-use crate::answer::MAX_LINE;
-use crate::answering::{answer_line, ask_line, give, give_entries, report};
-use crate::receiving::receive;
-use crate::request::{MAX_REQUEST, Request, request_of};
+use crate::answer::{Answer, MAX_LINE};
+use crate::answering::{give, give_entries, report};
+use crate::giving::refuse;
+use crate::receiving::{put_bytes, receive};
+use crate::request::{MAX_REQUEST, Request};
+use crate::session_line::{Line, line_of};
 use b3_core::Work;
 use edge::{Cause, LineRead, Verdict, read_line};
 use std::alloc::Global;
 use std::io::{BufRead, Write};
-use store_core::{Limits, Store, UploadId};
+use store_core::{Limits, Refusal, Store};
 
 /// Runs a session on an empty store with the widest limits: reads it line by line, with the bytes after a `putb`, and writes the answer
 /// when these were read. The writer is flushed after each answer. Returns `Good` at the end of the input, or `Refused` if the input ends
@@ -57,7 +59,8 @@ pub fn serve_over<A: Access, R: BufRead, W: Write>(
 ) -> Result<Verdict, Cause>
     // The writer grew by the answers to all lines, except for one that is truncated by the end of the input. Each answer is the model's, in
     // a state that is linked to what the answer before left.
-    ensures written { IfOk result (λ verdict. IfSome (R.Read.remaining reader.old) (λ input. ServedAllOver A.reach (A.stands access.old) (A.stands access.new) input (W.contents writer.old) (W.contents writer.new) verdict)) }
+    ensures written { IfOk result (λ verdict. IfSome (R.Read.remaining reader.old)
+        (λ input. ServedAllOver A.reach (A.stands access.old) (A.stands access.new) input (W.contents writer.old) (W.contents writer.new) verdict)) }
     // After a failed read it grew by the answers to a prefix of the lines.
     ensures read { result ≡ Err Cause.CannotRead → IfSome (R.Read.remaining reader.old) (λ input. ServedSomeOver A.reach (A.stands access.old) input (W.contents writer.old) (W.contents writer.new)) }
     // Running out of memory stops no session that has begun.
@@ -72,7 +75,8 @@ pub fn serve_over<A: Access, R: BufRead, W: Write>(
         if is_cut(access, read) {
             return Ok(Verdict::Refused);
         }
-        if !serve_line(alloc, access, reader, writer, line.as_slice(), read, work)? {
+        let found = line_of(alloc, line.as_slice(), read);
+        if !serve_line(alloc, access, reader, writer, found, work)? {
             return Ok(Verdict::Refused);
         }
     }
@@ -98,28 +102,28 @@ fn is_cut<A: Access>(access: &A, read: LineRead) -> bool
     access.needs_newline() && !read.is_ended
 }
 
-// Serves a line that was read like this. Returns false if its bytes are truncated.
+// Serves a line. Returns false if its bytes are truncated.
 fn serve_line<A: Access, R: BufRead, W: Write>(
     alloc: Global,
     access: &mut A,
     reader: &mut R,
     writer: &mut W,
-    line: &[u8],
-    read: LineRead,
+    line: Line,
     work: &mut Work,
 ) -> Result<bool, Cause>
-    requires { 0 < read.count }
-    ensures served { IfOk result (λ is_whole. IfSome (R.Read.remaining reader.old) (λ following. ServesReadOver A.reach (A.stands access.old) (A.stands access.new) is_whole read line.now following (R.Read.remaining reader.new) (W.contents writer.old) (W.contents writer.new))) }
+    ensures served { IfOk result (λ is_whole. IfSome (R.Read.remaining reader.old)
+        (λ following. ServesLineOver A.reach (A.stands access.old) (A.stands access.new) is_whole line following
+        (R.Read.remaining reader.new) (W.contents writer.old) (W.contents writer.new))) }
     ensures unwritten { result ≡ Err Cause.CannotRead → writer.new ≡ writer.old }
     ensures cause { IfErr result (λ cause. cause ≢ Cause.OutOfMemory) }
 {
-    match request_of(line, read) {
-        None => {
-            answer_line(alloc, access, writer, line, read, work)?;
-            Ok(true)
-        }
-        Some(request) => serve_request(alloc, access, reader, writer, request, work),
+    match line {
+        Line::Has(request) => return serve_request(alloc, access, reader, writer, request, work),
+        Line::Empty => report(writer, Answer::Nothing)?,
+        Line::Bad => report(writer, Answer::Bad)?,
+        Line::Lost => refuse(writer, Refusal::NoMemory)?,
     }
+    Ok(true)
 }
 
 // Serves a request. Returns false if its bytes are truncated.
@@ -131,50 +135,31 @@ fn serve_request<A: Access, R: BufRead, W: Write>(
     request: Request,
     work: &mut Work,
 ) -> Result<bool, Cause>
-    ensures served { IfOk result (λ is_whole. IfSome (R.Read.remaining reader.old) (λ following. ServesRequestOver A.reach (A.stands access.old) (A.stands access.new) is_whole request following (R.Read.remaining reader.new) (W.contents writer.old) (W.contents writer.new))) }
+    ensures served { IfOk result (λ is_whole. IfSome (R.Read.remaining reader.old)
+        (λ following. ServesRequestOver A.reach (A.stands access.old) (A.stands access.new) is_whole request following
+        (R.Read.remaining reader.new) (W.contents writer.old) (W.contents writer.new))) }
     ensures unwritten { result ≡ Err Cause.CannotRead → writer.new ≡ writer.old }
     ensures cause { IfErr result (λ cause. cause ≢ Cause.OutOfMemory) }
 {
     match request {
-        Request::Put {
-            upload,
-            offset,
-            len,
-        } => put(alloc, access, reader, writer, upload, offset, len, work),
-        Request::Fetch(wanted) => {
-            give(access, writer, wanted)?;
-            Ok(true)
+        Request::Does(command) => {
+            let reply = access.step(command, work);
+            report(writer, Answer::Replied(reply))?;
         }
         Request::Asks(question) => {
-            ask_line(access, writer, question)?;
-            Ok(true)
+            let reply = access.ask(question);
+            report(writer, Answer::Replied(reply))?;
         }
-        Request::Entries(range) => {
-            give_entries(alloc, access, writer, range)?;
-            Ok(true)
+        Request::Put(part) => {
+            let answer = put_bytes(alloc, access, part, work);
+            report(writer, answer)?;
         }
+        Request::PutRaw(part) => match receive(alloc, access, reader, part, work)? {
+            Some(answer) => report(writer, answer)?,
+            None => return Ok(false),
+        },
+        Request::Fetch(wanted) => give(access, writer, wanted)?,
+        Request::Entries(range) => give_entries(alloc, access, writer, range)?,
     }
-}
-
-// Takes the bytes of a part, puts it, and answers. Returns false if the bytes are truncated.
-fn put<A: Access, R: BufRead, W: Write>(
-    alloc: Global,
-    access: &mut A,
-    reader: &mut R,
-    writer: &mut W,
-    upload: u64,
-    offset: u64,
-    len: u64,
-    work: &mut Work,
-) -> Result<bool, Cause>
-    ensures served { IfOk result (λ is_whole. IfSome (R.Read.remaining reader.old) (λ following. ServesPutOver A.reach (A.stands access.old) (A.stands access.new) is_whole upload offset len following (R.Read.remaining reader.new) (W.contents writer.old) (W.contents writer.new))) }
-    ensures unwritten { result ≡ Err Cause.CannotRead → writer.new ≡ writer.old }
-    ensures cause { IfErr result (λ cause. cause ≢ Cause.OutOfMemory) }
-{
-    let upload = UploadId::new(upload);
-    let Some(answer) = receive(alloc, access, reader, upload, offset, len, work)? else {
-        return Ok(false);
-    };
-    report(writer, answer)?;
     Ok(true)
 }

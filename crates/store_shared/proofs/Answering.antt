@@ -2,9 +2,9 @@
 use Rattle.std.proofs.Common.{◌∙◌, ℕ, ◌<◌, ◌≤◌, Result, Ok, Err, ap, subst, sym, inl, inr, arith}
 use Rattle.std.specs.Prelude.{OnOk}
 use Rattle.store_core.specs.declared.store.Sealed.{Sealed}
-use Rattle.store_ledger.specs.declared.holding.Holding.{Holding}
+use Rattle.store_ledger.specs.declared.amounts.ShareAmounts.{ShareAmounts}
 use Rattle.store_shared.specs.Cuts.{IsBadCut}
-use Rattle.store_shared.specs.Gates.{MayStop}
+use Rattle.store_shared.specs.Gates.{GateRule, MayStop}
 use Rattle.store_shared.specs.inner.Gates.{IsFaultOf}
 use Rattle.store_shared.specs.Uploading.{ModelCut, cut_count}
 use Rattle.store_shared.specs.inner.Uploading.{IsUploaded}
@@ -31,10 +31,10 @@ good_cut part_chunks workers most good bad =
     ]
 
 -- an upload of a good cut
-pub answered : (may_stop : ℕ → Type 0) (may_fault : ℕ → ℕ → Type 0) (has_passed : ℕ → Type 0) (c : ModelCut) (workers most : ℕ) (old new : Holding) (result : Result Sealed UploadFault)
-    → (0 < c.part_chunks) × (c.part_chunks ≤ max_part_chunks) × (0 < workers) × (workers ≤ most) → OnOk result ((k : ℕ) → k < cut_count c → has_passed k) → IsUploaded may_stop may_fault c old new result
-    → IsAnswered may_stop may_fault has_passed c workers most old new result
-answered may_stop may_fault has_passed c workers most old new (Ok sealed) good passed is = record {
+pub answered : (rule : GateRule) (c : ModelCut) (workers most : ℕ) (old new : ShareAmounts) (result : Result Sealed UploadFault)
+    → (0 < c.part_chunks) × (c.part_chunks ≤ max_part_chunks) × (0 < workers) × (workers ≤ most) → OnOk result ((k : ℕ) → k < cut_count c → rule.has_passed k) → IsUploaded rule c old new result
+    → IsAnswered rule c workers most old new result
+answered rule c workers most old new (Ok sealed) good passed is = record {
   parts = ap (λ h. h.parts) is.2;
   ok = (is.0, is.1);
   passed = λ k below. passed k (omega (arith, below, count_is c));
@@ -45,14 +45,14 @@ answered may_stop may_fault has_passed c workers most old new (Ok sealed) good p
   stopped = tt;
   gate_fault = tt;
 }
-answered may_stop may_fault has_passed c workers most old new (Err f) good passed is = record {
+answered rule c workers most old new (Err f) good passed is = record {
   parts = ap (λ h. h.parts) is.1.2;
   ok = tt;
   passed = tt;
   share = tt;
   fault = is.1;
   bad_cut = λ bad. absurd (good_cut c.part_chunks workers most good bad);
-  good_cut = λ e. absurd (subst (λ kind. IsFaultOf may_stop may_fault (cut_count c) kind) e is.0);
-  stopped = λ e. subst (λ n. MayStop may_stop n) (sym (count_is c)) (subst (λ kind. IsFaultOf may_stop may_fault (cut_count c) kind) e is.0);
-  gate_fault = λ part code e. subst (λ n. (part < n) × may_fault part code) (sym (count_is c)) (subst (λ kind. IsFaultOf may_stop may_fault (cut_count c) kind) e is.0);
+  good_cut = λ e. absurd (subst (λ kind. IsFaultOf rule (cut_count c) kind) e is.0);
+  stopped = λ e. subst (λ n. MayStop rule n) (sym (count_is c)) (subst (λ kind. IsFaultOf rule (cut_count c) kind) e is.0);
+  gate_fault = λ part code e. subst (λ n. (part < n) × rule.may_fault part code) (sym (count_is c)) (subst (λ kind. IsFaultOf rule (cut_count c) kind) e is.0);
 }

@@ -12,8 +12,9 @@ use Rattle.store_board.specs.HandOverRule.{of_giver}
 use Rattle.store_board.specs.Passes.{all_given, given_of}
 use Rattle.store_board.specs.declared.hand_over.give_pass.GivePass.{GivePass}
 use Rattle.store_board.specs.declared.hand_over.taken.Taken.{Taken}
-use Rattle.store_ledger.specs.declared.holding.Holding.{Holding}
+use Rattle.store_ledger.specs.declared.amounts.ShareAmounts.{ShareAmounts}
 use Rattle.store_shared.specs.Cuts.{part_at, parts_at}
+use Rattle.store_shared.specs.Gates.{GateRule}
 use Rattle.store_shared.specs.inner.Gates.{IsFaultOf}
 use Rattle.store_shared.specs.Uploading.{ModelCut, cut_count}
 use Rattle.store_shared.specs.inner.Uploading.{HasCollected, IsCollecting, parts_in}
@@ -58,15 +59,15 @@ rest_is : {X : Type 0} (x y : X) (xs ys : List X) → x ∷ xs ≡ y ∷ ys → 
 rest_is x y xs ys same = ap (λ (l : List _). elim l [ [] ↦ xs | z ∷ zs ↦ zs ]) same
 
 -- a number whose part was taken has passed
-passed_at : (P : ℕ → Type 0) (c : ModelCut) (k : ℕ) (ks : List ℕ) (taken : List Taken) → 0 < c.part_chunks → parts_in taken ≡ parts_at c.bytes c.part_chunks ks → All (IsPassedPart P c) taken → 0 < times k ks → P k
-passed_at P c k [] taken some same all there = absurd (omega (arith, there))
-passed_at P c k (x ∷ xs) [] some same all there = absurd (let no : ⊥ = cc in no)
-passed_at P c k (x ∷ xs) (t ∷ ts) some same all there = elim (cases_eq x k) [
+passed_at : (rule : GateRule) (c : ModelCut) (k : ℕ) (ks : List ℕ) (taken : List Taken) → 0 < c.part_chunks → parts_in taken ≡ parts_at c.bytes c.part_chunks ks → All (IsPassedPart rule c) taken → 0 < times k ks → rule.has_passed k
+passed_at rule c k [] taken some same all there = absurd (omega (arith, there))
+passed_at rule c k (x ∷ xs) [] some same all there = absurd (let no : ⊥ = cc in no)
+passed_at rule c k (x ∷ xs) (t ∷ ts) some same all there = elim (cases_eq x k) [
   | inl is ↦
-      let one = All-head (IsPassedPart P c) t ts all in
+      let one = All-head (IsPassedPart rule c) t ts all in
       let alike : part_at c.bytes c.part_chunks one.number ≡ part_at c.bytes c.part_chunks x = sym one.part ∙ first_is t.part.part (part_at c.bytes c.part_chunks x) (parts_in ts) (parts_at c.bytes c.part_chunks xs) same in
-      subst P (begins_alike (1024 * c.part_chunks) one.number x (omega (arith, some)) (ap (λ (p : Part). p.offset) alike) ∙ is) one.passed
-  | inr apart ↦ passed_at P c k xs ts some (rest_is t.part.part (part_at c.bytes c.part_chunks x) (parts_in ts) (parts_at c.bytes c.part_chunks xs) same) (All-tail (IsPassedPart P c) t ts all)
+      subst rule.has_passed (begins_alike (1024 * c.part_chunks) one.number x (omega (arith, some)) (ap (λ (p : Part). p.offset) alike) ∙ is) one.passed
+  | inr apart ↦ passed_at rule c k xs ts some (rest_is t.part.part (part_at c.bytes c.part_chunks x) (parts_in ts) (parts_at c.bytes c.part_chunks xs) same) (All-tail (IsPassedPart rule c) t ts all)
       (omega (arith, times_cons k x xs, hit_other k x apart, there))
 ]
 
@@ -77,14 +78,14 @@ given_passed P (p ∷ ps) all =
     All-append P (given_of p) (all_given ps) (All-head (λ q. All P (given_of q)) p ps all) (given_passed P ps (All-tail (λ q. All P (given_of q)) p ps all))
 
 -- where nothing failed and all was noted, all parts have passed
-pub collected_passed : (P : ℕ → Type 0) (c : ModelCut) (start share : Holding) (f : ModelFollow) (fault : Option UploadFaultKind) (passes : List GivePass) (result : Result (List ℕ) UploadFaultKind) → 0 < c.part_chunks
-    → HasCollected c start f share fault (all_given passes) → All (AllPassed P c) passes → IfOk result (λ a. (fault ≡ None) × (a ≡ hash_of f.bytes) × AllNoted f) → OnOk result ((k : ℕ) → k < cut_count c → P k)
-collected_passed P c start share f fault passes (Err kind) some has all ok = tt
-collected_passed P c start share f fault passes (Ok a) some has all ok = λ k below.
+pub collected_passed : (rule : GateRule) (c : ModelCut) (start share : ShareAmounts) (f : ModelFollow) (fault : Option UploadFaultKind) (passes : List GivePass) (result : Result (List ℕ) UploadFaultKind) → 0 < c.part_chunks
+    → HasCollected c start f share fault (all_given passes) → All (AllPassed rule c) passes → IfOk result (λ a. (fault ≡ None) × (a ≡ hash_of f.bytes) × AllNoted f) → OnOk result ((k : ℕ) → k < cut_count c → rule.has_passed k)
+collected_passed rule c start share f fault passes (Err kind) some has all ok = tt
+collected_passed rule c start share f fault passes (Ok a) some has all ok = λ k below.
     let same = subst (λ o. IfNone o ((g : ℕ) → of_giver g has.taken ≡ of_giver g (all_given passes))) ok.0 has.all in
     let is = subst (λ o. IsCollecting c start f share (parts_in has.taken) o) ok.0 has.collecting in
     let once = each_once c f is.0 some is.1 ok.2 k in
-    passed_at P c k is.0 has.taken some is.3 (taken_as_given (IsPassedPart P c) has.taken (all_given passes) same (given_passed (IsPassedPart P c) passes all)) (omega (arith, once, once_in k (cut_count c) below))
+    passed_at rule c k is.0 has.taken some is.3 (taken_as_given (IsPassedPart rule c) has.taken (all_given passes) same (given_passed (IsPassedPart rule c) passes all)) (omega (arith, once, once_in k (cut_count c) below))
 
 -- ---- reports
 
@@ -113,13 +114,13 @@ fault_is F [] all = tt
 fault_is F (r ∷ rs) all = or_is F r.fault (fault_of_first rs) (All-head (λ r. IfSome r.fault F) r rs all) (fault_is F rs (All-tail (λ r. IfSome r.fault F) r rs all))
 
 -- the first fault is one of the upload
-pub reports_fault : (e : Exchange) (may_stop : ℕ → Type 0) (may_fault : ℕ → ℕ → Type 0) (P : ℕ → Type 0) (c : ModelCut) (rs : List Report) → All (λ r. IsReportOf e may_stop may_fault P c r) rs
-    → IfSome (fault_of_first rs) (IsFaultOf may_stop may_fault (cut_count c))
-reports_fault e may_stop may_fault P c rs all =
-    fault_is (IsFaultOf may_stop may_fault (cut_count c)) rs (All-weaker (λ r. IsReportOf e may_stop may_fault P c r) (λ r. IfSome r.fault (IsFaultOf may_stop may_fault (cut_count c))) (λ r x. x.0) rs all)
+pub reports_fault : (e : Exchange) (rule : GateRule) (c : ModelCut) (rs : List Report) → All (λ r. IsReportOf e rule c r) rs
+    → IfSome (fault_of_first rs) (IsFaultOf rule (cut_count c))
+reports_fault e rule c rs all =
+    fault_is (IsFaultOf rule (cut_count c)) rs (All-weaker (λ r. IsReportOf e rule c r) (λ r. IfSome r.fault (IsFaultOf rule (cut_count c))) (λ r x. x.0) rs all)
 
 -- all that the workers gave has passed
-pub reports_passed : (e : Exchange) (may_stop : ℕ → Type 0) (may_fault : ℕ → ℕ → Type 0) (P : ℕ → Type 0) (c : ModelCut) (rs : List Report) → All (λ r. IsReportOf e may_stop may_fault P c r) rs
-    → All (AllPassed P c) (map (λ (r : Report). r.worker.pass) rs)
-reports_passed e may_stop may_fault P c rs all =
-    All-map (AllPassed P c) (λ (r : Report). r.worker.pass) rs (All-weaker (λ r. IsReportOf e may_stop may_fault P c r) (λ r. AllPassed P c r.worker.pass) (λ r x. x.2) rs all)
+pub reports_passed : (e : Exchange) (rule : GateRule) (c : ModelCut) (rs : List Report) → All (λ r. IsReportOf e rule c r) rs
+    → All (AllPassed rule c) (map (λ (r : Report). r.worker.pass) rs)
+reports_passed e rule c rs all =
+    All-map (AllPassed rule c) (λ (r : Report). r.worker.pass) rs (All-weaker (λ r. IsReportOf e rule c r) (λ r. AllPassed rule c r.worker.pass) (λ r x. x.2) rs all)

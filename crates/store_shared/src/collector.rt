@@ -5,8 +5,8 @@ ghost use Rattle.b3_core.specs.Modes.{hash_of};
 ghost use Rattle.b3_forest.specs.Followed.{AllNoted};
 ghost use Rattle.b3_forest.specs.Parts.{Part};
 ghost use Rattle.store_board.specs.Passes.{IsAllTaken, IsGiverOf, IsTakerOf, IsWholeOf, all_given, given_by_all, givers_of, taken_by_all, taken_of};
-ghost use Rattle.store_ledger.specs.declared.holding.Holding.{Holding};
-ghost use Rattle.store_shared.specs.Cuts.{RoseBySome, holding_with};
+ghost use Rattle.store_ledger.specs.declared.amounts.ShareAmounts.{ShareAmounts};
+ghost use Rattle.store_shared.specs.Cuts.{RoseBySome, share_with};
 ghost use Rattle.store_shared.specs.Gates.{IsOwnFault};
 ghost use Rattle.store_shared.specs.inner.Uploading.{HasCollected, IsCollecting, NotesMore, RoseByPrefix, parts_in};
 ghost use Rattle.store_shared.specs.declared.fault.UploadFaultKind.TheVariants.{StrangePart};
@@ -16,16 +16,15 @@ use crate::crew::passes_from;
 use crate::cut::Cut;
 use crate::fault::UploadFaultKind;
 use crate::gate::Gate;
-use crate::job::Job;
+use crate::job::{Exchange, Job};
 use crate::lent::lent_put;
 use crate::shared::Shared;
 use crate::worker::Report;
 use b3_core::Work;
 use b3_forest::{Follow, NoteFault, Prepared};
-use std::alloc::Global;
 use std::sync::Wait;
-use store_board::{HandOver, TakePass, Taken, Unasked, WholePass};
-use store_core::{Address, PutRefused, UploadId};
+use store_board::{TakePass, Taken, WholePass};
+use store_core::{Address, Refusal, Refused, UploadId};
 use store_ledger::{Ledgers, Share};
 
 // The maximum number of parts that are put while the lock is taken once, while workers run.
@@ -94,8 +93,8 @@ fn put_all<L: Ledgers, R: Wait>(
     parts: Vec<Prepared>,
     share: &mut Share<L>,
     work: &mut Work,
-) -> Result<(), PutRefused>
-    ensures ok { OnOk result (share.new ≡ holding_with share.old (map (λ p. p.part) parts.items)) }
+) -> Result<(), Refused<Refusal, Prepared>>
+    ensures ok { OnOk result (share.new ≡ share_with share.old (map (λ p. p.part) parts.items)) }
     ensures err { OnErr result (RoseByPrefix (map (λ p. p.part) parts.items) share.old share.new) }
 {
     let mut rest = parts.into_iter();
@@ -111,18 +110,17 @@ fn put_all<L: Ledgers, R: Wait>(
 // Takes parts until there are no more, or as many as are put at once.
 fn take_some<R: Wait>(
     rt: &R,
-    alloc: Global,
-    hand_over: &HandOver<Unasked>,
+    exchange: &Exchange,
     pass: &mut TakePass,
 ) -> Result<Vec<Prepared>, UploadFaultKind>
-    requires { IsTakerOf hand_over.now pass.old }
-    ensures same { IsTakerOf hand_over.now pass.new }
+    requires { IsTakerOf exchange.now.hand_over pass.old }
+    ensures same { IsTakerOf exchange.now.hand_over pass.new }
     ensures taken { IfOk result (λ parts. parts_in (taken_of pass.new) ≡ parts_in (taken_of pass.old) ++ map (λ p. p.part) parts.items) }
     ensures fault { IfErr result IsOwnFault }
 {
-    let mut parts = Vec::new(alloc);
+    let mut parts = Vec::new(exchange.alloc);
     for _ in 0..MAX_IN_HAND {
-        let Some(Taken { giver: _, part }) = hand_over.take(rt, pass) else {
+        let Some(Taken { giver: _, part }) = exchange.hand_over.take(rt, pass) else {
             break;
         };
         if parts.push(part).is_err() {
@@ -135,19 +133,18 @@ fn take_some<R: Wait>(
 // Takes all remaining parts.
 fn take_all<R: Wait>(
     rt: &R,
-    alloc: Global,
-    hand_over: &HandOver<Unasked>,
+    exchange: &Exchange,
     pass: &mut WholePass,
 ) -> Result<Vec<Prepared>, UploadFaultKind>
-    requires { IsWholeOf hand_over.now pass.old }
+    requires { IsWholeOf exchange.now.hand_over pass.old }
     ensures same { given_by_all pass.new ≡ given_by_all pass.old }
     ensures taken { IfOk result (λ parts. parts_in (taken_by_all pass.new) ≡ parts_in (taken_by_all pass.old) ++ map (λ p. p.part) parts.items) }
     ensures all { OnOk result (IsAllTaken pass.new) }
     ensures fault { IfErr result IsOwnFault }
 {
-    let mut parts = Vec::new(alloc);
+    let mut parts = Vec::new(exchange.alloc);
     for _ in rt.forever() {
-        let Some(Taken { giver: _, part }) = hand_over.take_rest(rt, pass) else {
+        let Some(Taken { giver: _, part }) = exchange.hand_over.take_rest(rt, pass) else {
             return Ok(parts);
         };
         if parts.push(part).is_err() {
@@ -168,8 +165,10 @@ impl<'a, L: Ledgers> Collector<'a, L> {
         requires { self.old.follow.bytes ≡ cut.now.bytes }
         ensures bytes { self.new.follow.bytes ≡ cut.now.bytes }
         ensures same { self.new.fault ≡ self.old.fault }
-        ensures ok { OnOk result ((start : Holding) (taken : List Part) → IsCollecting cut.now start self.old.follow self.old.share taken None → IsCollecting cut.now start self.new.follow self.new.share (taken ++ map (λ p. p.part) parts.items) None) }
-        ensures err { OnErr result ((start : Holding) (taken : List Part) → IsCollecting cut.now start self.old.follow self.old.share taken None → RoseBySome cut.now.bytes cut.now.part_chunks start self.new.share) }
+        ensures ok { OnOk result ((start : ShareAmounts) (taken : List Part) → IsCollecting cut.now start self.old.follow self.old.share taken None
+            → IsCollecting cut.now start self.new.follow self.new.share (taken ++ map (λ p. p.part) parts.items) None) }
+        ensures err { OnErr result ((start : ShareAmounts) (taken : List Part) → IsCollecting cut.now start self.old.follow self.old.share taken None
+            → RoseBySome cut.now.bytes cut.now.part_chunks start self.new.share) }
         ensures fault { IfErr result IsOwnFault }
     {
         if let Err(kind) = note_all(cut, &mut self.follow, parts.as_slice(), &mut self.work) {
@@ -177,7 +176,7 @@ impl<'a, L: Ledgers> Collector<'a, L> {
         }
         let (share, work) = (&mut self.share, &mut self.work);
         if let Err(refused) = put_all(rt, self.shared, self.upload, parts, share, work) {
-            return Err(UploadFaultKind::Refused(refused.refusal));
+            return Err(UploadFaultKind::Refused(refused.reason));
         }
         Ok(())
     }
@@ -186,7 +185,6 @@ impl<'a, L: Ledgers> Collector<'a, L> {
     fn collect_some<G: Gate, R: Wait>(
         &mut self,
         rt: &R,
-        alloc: Global,
         job: &Job<'_, G>,
         pass: &mut TakePass,
     ) -> bool
@@ -196,13 +194,15 @@ impl<'a, L: Ledgers> Collector<'a, L> {
         ensures taker { IsTakerOf job.now.exchange.hand_over pass.new }
         ensures bytes { self.new.follow.bytes ≡ job.now.cut.bytes }
         ensures own { IfSome self.new.fault IsOwnFault }
-        ensures kept { (start : Holding) → IsCollecting job.now.cut start self.old.follow self.old.share (parts_in (taken_of pass.old)) self.old.fault → IsCollecting job.now.cut start self.new.follow self.new.share (parts_in (taken_of pass.new)) self.new.fault }
+        ensures kept { (start : ShareAmounts)
+            → IsCollecting job.now.cut start self.old.follow self.old.share (parts_in (taken_of pass.old)) self.old.fault
+            → IsCollecting job.now.cut start self.new.follow self.new.share (parts_in (taken_of pass.new)) self.new.fault }
         ensures failed { self.new.fault ≡ None → self.old.fault ≡ None }
     {
         if self.fault.is_some() {
             return job.exchange.hand_over.take(rt, pass).is_some();
         }
-        let parts = match take_some(rt, alloc, &job.exchange.hand_over, pass) {
+        let parts = match take_some(rt, &job.exchange, pass) {
             Ok(parts) => parts,
             Err(kind) => {
                 self.fault = Some(kind);
@@ -222,7 +222,6 @@ impl<'a, L: Ledgers> Collector<'a, L> {
     pub(crate) fn collect<G: Gate, R: Wait>(
         &mut self,
         rt: &R,
-        alloc: Global,
         job: &Job<'_, G>,
         started: u64,
         pass: &mut TakePass,
@@ -233,7 +232,9 @@ impl<'a, L: Ledgers> Collector<'a, L> {
         ensures taker { IsTakerOf job.now.exchange.hand_over pass.new }
         ensures bytes { self.new.follow.bytes ≡ job.now.cut.bytes }
         ensures own { IfSome self.new.fault IsOwnFault }
-        ensures kept { (start : Holding) → IsCollecting job.now.cut start self.old.follow self.old.share (parts_in (taken_of pass.old)) self.old.fault → IsCollecting job.now.cut start self.new.follow self.new.share (parts_in (taken_of pass.new)) self.new.fault }
+        ensures kept { (start : ShareAmounts)
+            → IsCollecting job.now.cut start self.old.follow self.old.share (parts_in (taken_of pass.old)) self.old.fault
+            → IsCollecting job.now.cut start self.new.follow self.new.share (parts_in (taken_of pass.new)) self.new.fault }
         ensures failed { self.new.fault ≡ None → self.old.fault ≡ None }
     {
         let mut backoff = Backoff::new();
@@ -244,7 +245,7 @@ impl<'a, L: Ledgers> Collector<'a, L> {
             if job.exchange.progress.ended() >= started {
                 break;
             }
-            if self.collect_some(rt, alloc, job, pass) {
+            if self.collect_some(rt, job, pass) {
                 backoff = Backoff::new();
             } else {
                 backoff.wait(rt);
@@ -256,7 +257,6 @@ impl<'a, L: Ledgers> Collector<'a, L> {
     pub(crate) fn collect_rest<G: Gate, R: Wait>(
         &mut self,
         rt: &R,
-        alloc: Global,
         job: &Job<'_, G>,
         reports: Vec<Report>,
         pass: TakePass,
@@ -267,35 +267,33 @@ impl<'a, L: Ledgers> Collector<'a, L> {
         requires bytes { self.old.follow.bytes ≡ job.now.cut.bytes }
         requires own { IfSome self.old.fault IsOwnFault }
         ensures own { IfSome self.new.fault IsOwnFault }
-        ensures collected { (start : Holding) → IsCollecting job.now.cut start self.old.follow self.old.share (parts_in (taken_of pass)) self.old.fault → HasCollected job.now.cut start self.new.follow self.new.share self.new.fault (all_given (map (λ r. r.worker.pass) reports.items)) }
+        ensures collected { (start : ShareAmounts)
+            → IsCollecting job.now.cut start self.old.follow self.old.share (parts_in (taken_of pass)) self.old.fault
+            → HasCollected job.now.cut start self.new.follow self.new.share self.new.fault (all_given (map (λ r. r.worker.pass) reports.items)) }
     {
         if self.fault.is_some() {
             return;
         }
-        match passes_from(alloc, reports) {
+        match passes_from(job.exchange.alloc, reports) {
             Ok(passes) => {
                 let mut whole = job.exchange.hand_over.gather(passes, pass);
-                self.collect_all(rt, alloc, job, &mut whole);
+                self.collect_all(rt, job, &mut whole);
             }
             Err(_) => self.fault = Some(UploadFaultKind::NoMemory),
         }
     }
 
     // Takes all remaining parts, notes and puts them.
-    fn collect_all<G: Gate, R: Wait>(
-        &mut self,
-        rt: &R,
-        alloc: Global,
-        job: &Job<'_, G>,
-        whole: &mut WholePass,
-    )
+    fn collect_all<G: Gate, R: Wait>(&mut self, rt: &R, job: &Job<'_, G>, whole: &mut WholePass)
         requires whole { IsWholeOf job.now.exchange.hand_over whole.old }
         requires bytes { self.old.follow.bytes ≡ job.now.cut.bytes }
         requires none { self.old.fault ≡ None }
         ensures own { IfSome self.new.fault IsOwnFault }
-        ensures collected { (start : Holding) → IsCollecting job.now.cut start self.old.follow self.old.share (parts_in (taken_by_all whole.old)) None → HasCollected job.now.cut start self.new.follow self.new.share self.new.fault (given_by_all whole.old) }
+        ensures collected { (start : ShareAmounts)
+            → IsCollecting job.now.cut start self.old.follow self.old.share (parts_in (taken_by_all whole.old)) None
+            → HasCollected job.now.cut start self.new.follow self.new.share self.new.fault (given_by_all whole.old) }
     {
-        let parts = match take_all(rt, alloc, &job.exchange.hand_over, whole) {
+        let parts = match take_all(rt, &job.exchange, whole) {
             Ok(parts) => parts,
             Err(kind) => {
                 self.fault = Some(kind);

@@ -1,7 +1,7 @@
 //! The threads of an upload.
 
 ghost use Rattle.std.specs.Prelude.{◌≡◌, ◌+◌, ◌<◌, ◌≤◌, ◌^◌, [], All, IfNone, IfOk, IfSome, Some, length, map, vec_capacity, vec_len};
-ghost use Rattle.b3_forest.specs.Lent.{lent_bytes};
+ghost use Rattle.b3_forest.specs.Borrowed.{borrowed_bytes};
 ghost use Rattle.store_upload.specs.Uploads.{max_bytes, max_part_chunks};
 ghost use Rattle.store_board.specs.Passes.{IsGiverOf, given_of};
 ghost use Rattle.store_board.specs.Seats.{IsSeatOf, parts_of};
@@ -15,7 +15,7 @@ use crate::gate::Gate;
 use crate::job::Job;
 use crate::worker::{Report, ReportOf, Worker, run};
 use b3_core::{Runtime, Work};
-use b3_forest::{Lent, Stretches};
+use b3_forest::{BorrowedBytes, Stretches};
 use std::alloc::{AllocError, Global};
 use std::sync::Wait;
 use std::thread::{PromisedHandle, Scope, Threads};
@@ -31,7 +31,6 @@ pub(crate) struct Crew<'s, G: Gate> {
 /// A worker for each seat and pass, in reverse order.
 pub(crate) fn workers_of<G: Gate, R: Runtime>(
     rt: &R,
-    alloc: Global,
     job: &Job<'_, G>,
     seats: Vec<BoardSeat>,
     passes: Vec<GivePass>,
@@ -43,7 +42,7 @@ pub(crate) fn workers_of<G: Gate, R: Runtime>(
 {
     let mut seats = seats;
     let mut passes = passes;
-    let mut workers = Vec::new(alloc);
+    let mut workers = Vec::new(job.exchange.alloc);
     while let Some(seat) = seats.pop() {
         let Some(pass) = passes.pop() else {
             unreachable!()
@@ -62,7 +61,6 @@ pub(crate) fn workers_of<G: Gate, R: Runtime>(
 pub(crate) fn start_all<'s, E, G: Gate + Sync, R: Wait + Sync>(
     scope: &Scope<'s, E>,
     rt: &'s R,
-    alloc: Global,
     job: &'s Job<'s, G>,
     workers: Vec<Worker>,
 ) -> Crew<'s, G>
@@ -72,8 +70,8 @@ pub(crate) fn start_all<'s, E, G: Gate + Sync, R: Wait + Sync>(
     ensures room { (result.reports.items ≡ []) × (vec_len result.reports + vec_len result.handles ≤ vec_capacity result.reports) }
     ensures fault { IfSome result.unstarted IsOwnFault }
 {
-    let mut handles = Vec::new(alloc);
-    let mut reports = Vec::new(alloc);
+    let mut handles = Vec::new(job.exchange.alloc);
+    let mut reports = Vec::new(job.exchange.alloc);
     if reports.reserve(workers.len()).is_err() {
         return broken_off(handles, reports);
     }
@@ -82,7 +80,7 @@ pub(crate) fn start_all<'s, E, G: Gate + Sync, R: Wait + Sync>(
         if handles.reserve(1).is_err() {
             return broken_off(handles, reports);
         }
-        match start_one(scope, rt, alloc, job, worker) {
+        match start_one(scope, rt, job, worker) {
             Ok(handle) => handles.push_reserved(handle),
             Err(_) => return broken_off(handles, reports),
         }
@@ -98,23 +96,22 @@ pub(crate) fn start_all<'s, E, G: Gate + Sync, R: Wait + Sync>(
 fn start_one<'s, E, G: Gate + Sync, R: Wait + Sync>(
     scope: &Scope<'s, E>,
     rt: &'s R,
-    alloc: Global,
     job: &'s Job<'s, G>,
     worker: Worker,
 ) -> Result<PromisedHandle<Report, ReportOf<'s, G>>, UploadFaultKind>
     requires { IsWorkerOf job.now.exchange worker × (given_of worker.pass ≡ []) }
     ensures { IfOk result (IsThreadOf job.now.cut job.now.gate.now job.now.exchange) }
 {
-    let lent = job.cut.lent();
+    let borrowed = job.cut.borrowed();
     let promise = ReportOf {
-        lent,
+        borrowed,
         part_chunks: job.cut.part_chunks(),
         gate: job.gate,
         exchange: &job.exchange,
     };
-    match lent {
-        Lent::Slice(bytes) => start_on_slice(scope, rt, alloc, promise, bytes, worker),
-        Lent::Stretches(bytes) => start_on_stretches(scope, rt, alloc, promise, bytes, worker),
+    match borrowed {
+        BorrowedBytes::Slice(bytes) => start_on_slice(scope, rt, promise, bytes, worker),
+        BorrowedBytes::Stretches(bytes) => start_on_stretches(scope, rt, promise, bytes, worker),
     }
 }
 
@@ -122,12 +119,11 @@ fn start_one<'s, E, G: Gate + Sync, R: Wait + Sync>(
 fn start_on_slice<'s, E, G: Gate + Sync, R: Wait + Sync>(
     scope: &Scope<'s, E>,
     rt: &'s R,
-    alloc: Global,
     promise: ReportOf<'s, G>,
     bytes: &'s [u8],
     worker: Worker,
 ) -> Result<PromisedHandle<Report, ReportOf<'s, G>>, UploadFaultKind>
-    requires bytes { (lent_bytes promise.lent ≡ bytes.now) × (length bytes.now ≤ max_bytes) }
+    requires bytes { (borrowed_bytes promise.borrowed ≡ bytes.now) × (length bytes.now ≤ max_bytes) }
     requires parts { parts_of promise.exchange.now.board ≡ part_count (length bytes.now) promise.part_chunks }
     requires part_chunks { (0 < promise.part_chunks) × (promise.part_chunks ≤ max_part_chunks) }
     requires worker { IsWorkerOf promise.exchange.now worker × (given_of worker.pass ≡ []) }
@@ -135,11 +131,18 @@ fn start_on_slice<'s, E, G: Gate + Sync, R: Wait + Sync>(
 {
     let (part_chunks, gate, exchange) = (promise.part_chunks, promise.gate, promise.exchange);
     let runs = move || -> Report
-        requires { IsWorkerOf exchange.now worker × (given_of worker.pass ≡ []) × (parts_of exchange.now.board ≡ part_count (length bytes.now) part_chunks) × (length bytes.now ≤ max_bytes) × (0 < part_chunks) × (part_chunks ≤ max_part_chunks) }
-        ensures { IsReportOf exchange.entry.now (G.may_stop gate.entry.now) (G.may_fault gate.entry.now) (G.has_passed gate.entry.now) (record { bytes = bytes.entry.now; part_chunks = part_chunks }) result }
+        requires { IsWorkerOf exchange.now worker × (given_of worker.pass ≡ [])
+            × (parts_of exchange.now.board ≡ part_count (length bytes.now) part_chunks) × (length bytes.now ≤ max_bytes) × (0 < part_chunks)
+            × (part_chunks ≤ max_part_chunks) }
+        ensures { IsReportOf exchange.entry.now (G.rule gate.entry.now) (record { bytes = bytes.entry.now; part_chunks = part_chunks }) result }
     {
-        let lent = Lent::Slice(bytes);
-        run(rt, alloc, lent, part_chunks, gate, exchange, worker)
+        let parts = ReportOf {
+            borrowed: BorrowedBytes::Slice(bytes),
+            part_chunks,
+            gate,
+            exchange,
+        };
+        run(rt, &parts, worker)
     };
     match scope.spawn_with(promise, runs) {
         Ok(handle) => Ok(handle),
@@ -151,12 +154,11 @@ fn start_on_slice<'s, E, G: Gate + Sync, R: Wait + Sync>(
 fn start_on_stretches<'s, E, G: Gate + Sync, R: Wait + Sync>(
     scope: &Scope<'s, E>,
     rt: &'s R,
-    alloc: Global,
     promise: ReportOf<'s, G>,
     bytes: &'s Stretches,
     worker: Worker,
 ) -> Result<PromisedHandle<Report, ReportOf<'s, G>>, UploadFaultKind>
-    requires bytes { (lent_bytes promise.lent ≡ bytes.now.bytes) × (length bytes.now.bytes ≤ max_bytes) }
+    requires bytes { (borrowed_bytes promise.borrowed ≡ bytes.now.bytes) × (length bytes.now.bytes ≤ max_bytes) }
     requires parts { parts_of promise.exchange.now.board ≡ part_count (length bytes.now.bytes) promise.part_chunks }
     requires part_chunks { (0 < promise.part_chunks) × (promise.part_chunks ≤ max_part_chunks) }
     requires worker { IsWorkerOf promise.exchange.now worker × (given_of worker.pass ≡ []) }
@@ -164,11 +166,18 @@ fn start_on_stretches<'s, E, G: Gate + Sync, R: Wait + Sync>(
 {
     let (part_chunks, gate, exchange) = (promise.part_chunks, promise.gate, promise.exchange);
     let runs = move || -> Report
-        requires { IsWorkerOf exchange.now worker × (given_of worker.pass ≡ []) × (parts_of exchange.now.board ≡ part_count (length bytes.now.bytes) part_chunks) × (length bytes.now.bytes ≤ max_bytes) × (0 < part_chunks) × (part_chunks ≤ max_part_chunks) }
-        ensures { IsReportOf exchange.entry.now (G.may_stop gate.entry.now) (G.may_fault gate.entry.now) (G.has_passed gate.entry.now) (record { bytes = bytes.entry.now.bytes; part_chunks = part_chunks }) result }
+        requires { IsWorkerOf exchange.now worker × (given_of worker.pass ≡ [])
+            × (parts_of exchange.now.board ≡ part_count (length bytes.now.bytes) part_chunks) × (length bytes.now.bytes ≤ max_bytes)
+            × (0 < part_chunks) × (part_chunks ≤ max_part_chunks) }
+        ensures { IsReportOf exchange.entry.now (G.rule gate.entry.now) (record { bytes = bytes.entry.now.bytes; part_chunks = part_chunks }) result }
     {
-        let lent = Lent::Stretches(bytes);
-        run(rt, alloc, lent, part_chunks, gate, exchange, worker)
+        let parts = ReportOf {
+            borrowed: BorrowedBytes::Stretches(bytes),
+            part_chunks,
+            gate,
+            exchange,
+        };
+        run(rt, &parts, worker)
     };
     match scope.spawn_with(promise, runs) {
         Ok(handle) => Ok(handle),
@@ -197,7 +206,7 @@ fn join_one<'s, G: Gate, R: Threads>(
     handle: PromisedHandle<Report, ReportOf<'s, G>>,
 ) -> Report
     requires { IsThreadOf job.now.cut job.now.gate.now job.now.exchange handle }
-    ensures { IsReportOf job.now.exchange (G.may_stop job.now.gate.now) (G.may_fault job.now.gate.now) (G.has_passed job.now.gate.now) job.now.cut result }
+    ensures { IsReportOf job.now.exchange (G.rule job.now.gate.now) job.now.cut result }
 {
     handle.join(rt)
 }
@@ -212,7 +221,7 @@ pub(crate) fn join_all<'s, G: Gate, R: Threads>(
     requires handles { All (IsThreadOf job.now.cut job.now.gate.now job.now.exchange) handles.items }
     requires room { (reports.items ≡ []) × (vec_len reports + vec_len handles ≤ vec_capacity reports) }
     ensures count { vec_len result ≡ vec_len handles.entry }
-    ensures reports { All (λ r. IsReportOf job.now.exchange (G.may_stop job.now.gate.now) (G.may_fault job.now.gate.now) (G.has_passed job.now.gate.now) job.now.cut r) result.items }
+    ensures reports { All (λ r. IsReportOf job.now.exchange (G.rule job.now.gate.now) job.now.cut r) result.items }
 {
     let mut rest = handles.into_iter();
     let mut reports = reports;

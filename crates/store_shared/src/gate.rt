@@ -1,7 +1,7 @@
 //! Gates, which a worker asks after each part.
 
 ghost use Rattle.std.specs.Prelude.{IfErr, OnOk, ℕ, ⊤};
-ghost use Rattle.store_shared.specs.Gates.{IsGateAnswer};
+ghost use Rattle.store_shared.specs.Gates.{GateRule, IsGateAnswer};
 
 use store_board::Draw;
 
@@ -14,19 +14,15 @@ pub enum GateStop {
     Fault(u64),
 }
 
-/// What a worker asks after it has hashed a part, before it hands the part over. Three ghost members of an implementation state for which
-/// parts it may return Stop, for which parts each code, and what it means that a part has passed.
+/// What a worker asks after it has hashed a part, before it hands the part over. An implementation states its rule: for which parts it may
+/// return Stop, for which parts each code, and what it means that a part has passed.
 pub trait Gate {
-    ghost may_stop: { Self → ℕ → Type 0 };
-
-    ghost may_fault: { Self → ℕ → ℕ → Type 0 };
-
-    ghost has_passed: { Self → ℕ → Type 0 };
+    ghost rule: { Self → GateRule };
 
     /// Whether the part with this number may pass.
     fn passed(&self, part: Draw) -> Result<(), GateStop>
-        ensures err { IfErr result (IsGateAnswer (may_stop self.now) (may_fault self.now) part.number) }
-        ensures ok { OnOk result (has_passed self.now part.number) };
+        ensures err { IfErr result (IsGateAnswer (rule self.now) part.number) }
+        ensures ok { OnOk result ((rule self.now).has_passed part.number) };
 }
 
 /// A gate that passes all parts.
@@ -34,11 +30,7 @@ pub trait Gate {
 pub struct PassAll;
 
 impl Gate for PassAll {
-    ghost may_stop = { λ gate part. ⊥ };
-
-    ghost may_fault = { λ gate part code. ⊥ };
-
-    ghost has_passed = { λ gate part. ⊤ };
+    ghost rule = { λ gate. record { may_stop = λ part. ⊥; may_fault = λ part code. ⊥; has_passed = λ part. ⊤ } };
 
     fn passed(&self, _part: Draw) -> Result<(), GateStop> {
         Ok(())

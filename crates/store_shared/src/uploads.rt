@@ -3,7 +3,7 @@
 ghost use Rattle.std.specs.Prelude.{◌≡◌, ◌+◌, ◌<◌, ◌≤◌, ℕ, [], All, IfErr, IfNone, IfOk, IfSome, OnOk, false, length, max, min, true, vec_capacity, vec_len};
 ghost use Rattle.std.specs.Arc.{arc_value};
 ghost use Rattle.b3_core.specs.Modes.{hash_of};
-ghost use Rattle.b3_forest.specs.Lent.{lent_bytes};
+ghost use Rattle.b3_forest.specs.Borrowed.{borrowed_bytes};
 ghost use Rattle.store_upload.specs.Uploads.{max_bytes, max_part_chunks};
 ghost use Rattle.store_board.specs.Passes.{IsTakerOf, givers_of, taken_of};
 ghost use Rattle.store_shared.specs.Cuts.{IsBadCut};
@@ -25,7 +25,7 @@ use crate::progress::Progress;
 use crate::shared::Shared;
 use crate::worker::Worker;
 use b3_core::{Runtime, Work};
-use b3_forest::{Follow, Lent};
+use b3_forest::{BorrowedBytes, Follow};
 use std::alloc::Global;
 use std::sync::Wait;
 use std::thread;
@@ -40,7 +40,7 @@ use store_upload::MAX_PART_CHUNKS;
 #[derive(Drop)]
 pub struct UploadRequest<'a, G: Gate> {
     pub tenant: TenantId,
-    pub bytes: Lent<'a>,
+    pub bytes: BorrowedBytes<'a>,
     pub part_chunks: u64,
     pub workers: u64,
     pub gate: &'a G,
@@ -66,7 +66,7 @@ impl<'a, G: Gate + Sync> UploadRequest<'a, G> {
         shared: &Shared<L>,
         share: Share<L>,
     ) -> (Share<L>, Result<Sealed, UploadFault>)
-        ensures { IsAnswered (G.may_stop self.now.gate.now) (G.may_fault self.now.gate.now) (G.has_passed self.now.gate.now) (record { bytes = lent_bytes self.now.bytes; part_chunks = self.now.part_chunks }) self.now.workers shared.now share result.0 result.1 }
+        ensures { IsAnswered (G.rule self.now.gate.now) (record { bytes = borrowed_bytes self.now.bytes; part_chunks = self.now.part_chunks }) self.now.workers shared.now share result.0 result.1 }
     {
         if self.has_bad_cut(shared.workers()) {
             let fault = UploadFault::unbegun(UploadFaultKind::BadCut);
@@ -99,11 +99,11 @@ pub fn upload<L: Ledgers, G: Gate + Sync, R: Threads + Wait + Sync + Runtime>(
     part_chunks: u64,
     workers: u64,
 ) -> (Share<L>, Result<Sealed, UploadFault>)
-    ensures { IsAnswered (G.may_stop gate.now) (G.may_fault gate.now) (G.has_passed gate.now) (record { bytes = bytes.now; part_chunks = part_chunks }) workers shared.now share result.0 result.1 }
+    ensures { IsAnswered (G.rule gate.now) (record { bytes = bytes.now; part_chunks = part_chunks }) workers shared.now share result.0 result.1 }
 {
     let request = UploadRequest {
         tenant,
-        bytes: Lent::Slice(bytes),
+        bytes: BorrowedBytes::Slice(bytes),
         part_chunks,
         workers,
         gate,
@@ -121,8 +121,8 @@ fn upload_parts<L: Ledgers, G: Gate + Sync, R: Threads + Wait + Sync + Runtime>(
 ) -> (Share<L>, Result<Sealed, UploadFault>)
     requires part_chunks { (0 < request.now.part_chunks) × (request.now.part_chunks ≤ max_part_chunks) }
     requires workers { request.now.workers ≤ max_workers }
-    ensures passed { OnOk result.1 ((k : ℕ) → k < cut_count (record { bytes = lent_bytes request.now.bytes; part_chunks = request.now.part_chunks }) → G.has_passed request.now.gate.now k) }
-    ensures uploaded { IsUploaded (G.may_stop request.now.gate.now) (G.may_fault request.now.gate.now) (record { bytes = lent_bytes request.now.bytes; part_chunks = request.now.part_chunks }) share result.0 result.1 }
+    ensures passed { OnOk result.1 ((k : ℕ) → k < cut_count (record { bytes = borrowed_bytes request.now.bytes; part_chunks = request.now.part_chunks }) → (G.rule request.now.gate.now).has_passed k) }
+    ensures uploaded { IsUploaded (G.rule request.now.gate.now) (record { bytes = borrowed_bytes request.now.bytes; part_chunks = request.now.part_chunks }) share result.0 result.1 }
 {
     let upload = match begin(rt, shared, request.tenant, request.bytes.len()) {
         Ok(upload) => upload,
@@ -203,11 +203,11 @@ fn put_parts<L: Ledgers, G: Gate + Sync, R: Threads + Wait + Sync + Runtime>(
     request: &UploadRequest<'_, G>,
     upload: UploadId,
 ) -> (Share<L>, Result<Address, UploadFaultKind>)
-    requires bytes { length (lent_bytes request.now.bytes) ≤ max_bytes }
+    requires bytes { length (borrowed_bytes request.now.bytes) ≤ max_bytes }
     requires part_chunks { (0 < request.now.part_chunks) × (request.now.part_chunks ≤ max_part_chunks) }
     requires workers { request.now.workers ≤ max_workers }
-    ensures passed { OnOk result.1 ((k : ℕ) → k < cut_count (record { bytes = lent_bytes request.now.bytes; part_chunks = request.now.part_chunks }) → G.has_passed request.now.gate.now k) }
-    ensures collected { IsCollected (G.may_stop request.now.gate.now) (G.may_fault request.now.gate.now) (record { bytes = lent_bytes request.now.bytes; part_chunks = request.now.part_chunks }) share result.0 result.1 }
+    ensures passed { OnOk result.1 ((k : ℕ) → k < cut_count (record { bytes = borrowed_bytes request.now.bytes; part_chunks = request.now.part_chunks }) → (G.rule request.now.gate.now).has_passed k) }
+    ensures collected { IsCollected (G.rule request.now.gate.now) (record { bytes = borrowed_bytes request.now.bytes; part_chunks = request.now.part_chunks }) share result.0 result.1 }
 {
     let cut = Cut::new(request.bytes, request.part_chunks);
     let worker_count = workers_for(cut.parts(), request.workers);
@@ -222,10 +222,11 @@ fn put_parts<L: Ledgers, G: Gate + Sync, R: Threads + Wait + Sync + Runtime>(
     ) else {
         return (share, no_memory);
     };
-    let Ok(follow) = Follow::of(alloc, cut.lent()) else {
+    let Ok(follow) = Follow::of(alloc, cut.borrowed()) else {
         return (share, no_memory);
     };
     let exchange = Exchange {
+        alloc,
         board,
         hand_over,
         progress: Progress::new(),
@@ -235,7 +236,7 @@ fn put_parts<L: Ledgers, G: Gate + Sync, R: Threads + Wait + Sync + Runtime>(
         gate: request.gate,
         exchange,
     };
-    let Ok(workers) = workers_of(rt, alloc, &job, seats, passes) else {
+    let Ok(workers) = workers_of(rt, &job, seats, passes) else {
         return (share, no_memory);
     };
     let collector = Collector {
@@ -246,13 +247,12 @@ fn put_parts<L: Ledgers, G: Gate + Sync, R: Threads + Wait + Sync + Runtime>(
         fault: None,
         work: Work::new(rt),
     };
-    work_together(rt, alloc, &job, workers, take_pass, collector)
+    work_together(rt, &job, workers, take_pass, collector)
 }
 
 // Runs all workers, and the collector alongside.
 fn work_together<L: Ledgers, G: Gate + Sync, R: Threads + Wait + Sync>(
     rt: &R,
-    alloc: Global,
     job: &Job<'_, G>,
     workers: Vec<Worker>,
     take_pass: TakePass,
@@ -263,18 +263,21 @@ fn work_together<L: Ledgers, G: Gate + Sync, R: Threads + Wait + Sync>(
     requires all { vec_len workers ≡ givers_of job.now.exchange.hand_over }
     requires taker { IsTakerOf job.now.exchange.hand_over take_pass × (taken_of take_pass ≡ []) }
     requires fresh { AreNoted job.now.cut collector.follow [] }
-    ensures collected { IsCollected (G.may_stop job.now.gate.now) (G.may_fault job.now.gate.now) job.now.cut collector.entry.share result.0 result.1 }
-    ensures passed { OnOk result.1 ((k : ℕ) → k < cut_count job.now.cut → G.has_passed job.now.gate.now k) }
+    ensures collected { IsCollected (G.rule job.now.gate.now) job.now.cut collector.entry.share result.0 result.1 }
+    ensures passed { OnOk result.1 ((k : ℕ) → k < cut_count job.now.cut → (G.rule job.now.gate.now).has_passed k) }
 {
     thread::scope(
         thread::scope_env(),
         rt,
         move |scope| -> (Share<L>, Result<Address, UploadFaultKind>)
-            requires { (0 < job.now.cut.part_chunks) × AreWorkersOf job.now.exchange workers.items × (vec_len workers ≡ givers_of job.now.exchange.hand_over) × (IsTakerOf job.now.exchange.hand_over take_pass × (taken_of take_pass ≡ [])) × AreNoted job.now.cut collector.follow [] }
-            ensures { IsCollected (G.may_stop job.entry.now.gate.now) (G.may_fault job.entry.now.gate.now) job.entry.now.cut collector.entry.share result.0 result.1 × OnOk result.1 ((k : ℕ) → k < cut_count job.entry.now.cut → G.has_passed job.entry.now.gate.now k) }
+            requires { (0 < job.now.cut.part_chunks) × AreWorkersOf job.now.exchange workers.items
+                × (vec_len workers ≡ givers_of job.now.exchange.hand_over) × (IsTakerOf job.now.exchange.hand_over take_pass
+                × (taken_of take_pass ≡ [])) × AreNoted job.now.cut collector.follow [] }
+            ensures { IsCollected (G.rule job.entry.now.gate.now) job.entry.now.cut collector.entry.share result.0 result.1 × OnOk result.1 ((k : ℕ)
+                → k < cut_count job.entry.now.cut → (G.rule job.entry.now.gate.now).has_passed k) }
         {
-            let crew = start_all(scope, rt, alloc, job, workers);
-            gather(rt, alloc, job, crew, take_pass, collector)
+            let crew = start_all(scope, rt, job, workers);
+            gather(rt, job, crew, take_pass, collector)
         },
     )
 }
@@ -282,7 +285,6 @@ fn work_together<L: Ledgers, G: Gate + Sync, R: Threads + Wait + Sync>(
 // Collects while the workers run, joins them all and collects the remaining parts. Returns the address of all bytes, or what failed.
 fn gather<'s, L: Ledgers, G: Gate, R: Threads + Wait>(
     rt: &R,
-    alloc: Global,
     job: &'s Job<'s, G>,
     crew: Crew<'s, G>,
     take_pass: TakePass,
@@ -295,8 +297,8 @@ fn gather<'s, L: Ledgers, G: Gate, R: Threads + Wait>(
     requires own { IfSome crew.unstarted IsOwnFault }
     requires taker { IsTakerOf job.now.exchange.hand_over take_pass × (taken_of take_pass ≡ []) }
     requires fresh { AreNoted job.now.cut collector.follow [] }
-    ensures collected { IsCollected (G.may_stop job.now.gate.now) (G.may_fault job.now.gate.now) job.now.cut collector.entry.share result.0 result.1 }
-    ensures passed { OnOk result.1 ((k : ℕ) → k < cut_count job.now.cut → G.has_passed job.now.gate.now k) }
+    ensures collected { IsCollected (G.rule job.now.gate.now) job.now.cut collector.entry.share result.0 result.1 }
+    ensures passed { OnOk result.1 ((k : ℕ) → k < cut_count job.now.cut → (G.rule job.now.gate.now).has_passed k) }
 {
     let Crew {
         handles,
@@ -307,9 +309,9 @@ fn gather<'s, L: Ledgers, G: Gate, R: Threads + Wait>(
     let mut collector = collector;
     let mut take_pass = take_pass;
     collector.fault = unstarted;
-    collector.collect(rt, alloc, job, started, &mut take_pass);
+    collector.collect(rt, job, started, &mut take_pass);
     let reports = join_all(rt, job, handles, reports);
     let workers_fault = first_fault(reports.as_slice());
-    collector.collect_rest(rt, alloc, job, reports, take_pass);
+    collector.collect_rest(rt, job, reports, take_pass);
     collector.address(workers_fault)
 }

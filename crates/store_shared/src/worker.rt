@@ -1,7 +1,7 @@
 //! The workers of an upload.
 
 ghost use Rattle.std.specs.Prelude.{◌≡◌, ◌∷◌, ◌++◌, ◌<◌, ◌≤◌, ◌^◌, [], IfErr, IfSome, false, length, true};
-ghost use Rattle.b3_forest.specs.Lent.{lent_bytes};
+ghost use Rattle.b3_forest.specs.Borrowed.{borrowed_bytes};
 ghost use Rattle.store_upload.specs.Uploads.{max_bytes, max_part_chunks};
 ghost use Rattle.store_board.specs.Passes.{given_of, giver_of};
 ghost use Rattle.store_board.specs.Seats.{IsSeatOf, parts_of};
@@ -16,8 +16,7 @@ use crate::fault::UploadFaultKind;
 use crate::gate::{Gate, GateStop};
 use crate::job::Exchange;
 use b3_core::Work;
-use b3_forest::{Lent, Prepared};
-use std::alloc::Global;
+use b3_forest::{BorrowedBytes, Prepared};
 use std::sync::Wait;
 use std::thread::Promise;
 use store_board::{BoardSeat, GivePass};
@@ -41,14 +40,14 @@ pub(crate) struct Report {
 // parts of the upload that have passed the gate.
 #[derive(Drop)]
 pub(crate) struct ReportOf<'a, G: Gate> {
-    pub(crate) lent: Lent<'a>,
+    pub(crate) borrowed: BorrowedBytes<'a>,
     pub(crate) part_chunks: u64,
     pub(crate) gate: &'a G,
     pub(crate) exchange: &'a Exchange,
 }
 
 impl<'a, G: Gate> Promise<Report> for ReportOf<'a, G> {
-    ghost kept_by = { λ p report. IsReportOf p.exchange.now (G.may_stop p.gate.now) (G.may_fault p.gate.now) (G.has_passed p.gate.now) (record { bytes = lent_bytes p.lent; part_chunks = p.part_chunks }) report };
+    ghost kept_by = { λ p report. IsReportOf p.exchange.now (G.rule p.gate.now) (record { bytes = borrowed_bytes p.borrowed; part_chunks = p.part_chunks }) report };
 }
 
 // The fault for a gate's result for a part.
@@ -94,7 +93,6 @@ fn hand_part<R: Wait>(rt: &R, exchange: &Exchange, worker: &mut Worker, part: Pr
 // Makes parts and hands them over, until there are no more, no more are wanted, or something fails.
 fn make_parts<G: Gate, R: Wait>(
     rt: &R,
-    alloc: Global,
     cut: &Cut<'_>,
     gate: &G,
     exchange: &Exchange,
@@ -102,10 +100,10 @@ fn make_parts<G: Gate, R: Wait>(
 ) -> Result<(), UploadFaultKind>
     requires own { IsWorkerOf exchange.now worker.old }
     requires parts { parts_of exchange.now.board ≡ cut_count cut.now }
-    requires passed { AllPassed (G.has_passed gate.now) cut.now worker.old.pass }
+    requires passed { AllPassed (G.rule gate.now) cut.now worker.old.pass }
     ensures own { IsWorkerOf exchange.now worker.new }
-    ensures passed { AllPassed (G.has_passed gate.now) cut.now worker.new.pass }
-    ensures fault { IfErr result (IsFaultOf (G.may_stop gate.now) (G.may_fault gate.now) (cut_count cut.now)) }
+    ensures passed { AllPassed (G.rule gate.now) cut.now worker.new.pass }
+    ensures fault { IfErr result (IsFaultOf (G.rule gate.now) (cut_count cut.now)) }
 {
     for _ in rt.forever() {
         if is_over(exchange, &mut worker.seat) {
@@ -115,7 +113,7 @@ fn make_parts<G: Gate, R: Wait>(
             return Ok(());
         };
         let number = draw.number();
-        let part = cut.prepare(alloc, number, &mut worker.work)?;
+        let part = cut.prepare(exchange.alloc, number, &mut worker.work)?;
         if let Err(answer) = gate.passed(draw) {
             return Err(fault_at(number, answer));
         }
@@ -127,29 +125,22 @@ fn make_parts<G: Gate, R: Wait>(
 }
 
 /// Runs on a worker's thread. A worker that fails stops the board. Every worker that ends is counted.
-pub(crate) fn run<G: Gate, R: Wait>(
-    rt: &R,
-    alloc: Global,
-    lent: Lent<'_>,
-    part_chunks: u64,
-    gate: &G,
-    exchange: &Exchange,
-    worker: Worker,
-) -> Report
-    requires own { IsWorkerOf exchange.now worker }
+pub(crate) fn run<G: Gate, R: Wait>(rt: &R, parts: &ReportOf<'_, G>, worker: Worker) -> Report
+    requires own { IsWorkerOf parts.now.exchange.now worker }
     requires fresh { given_of worker.pass ≡ [] }
-    requires parts { parts_of exchange.now.board ≡ part_count (length (lent_bytes lent)) part_chunks }
-    requires bytes { length (lent_bytes lent) ≤ max_bytes }
-    requires positive { 0 < part_chunks }
-    requires bounded { part_chunks ≤ max_part_chunks }
-    ensures fault { IfSome result.fault (IsFaultOf (G.may_stop gate.now) (G.may_fault gate.now) (part_count (length (lent_bytes lent.entry)) part_chunks)) }
-    ensures own { IsWorkerOf exchange.now result.worker }
-    ensures passed { AllPassed (G.has_passed gate.now) (record { bytes = lent_bytes lent.entry; part_chunks = part_chunks }) result.worker.pass }
+    requires parts { parts_of parts.now.exchange.now.board ≡ part_count (length (borrowed_bytes parts.now.borrowed)) parts.now.part_chunks }
+    requires bytes { length (borrowed_bytes parts.now.borrowed) ≤ max_bytes }
+    requires positive { 0 < parts.now.part_chunks }
+    requires bounded { parts.now.part_chunks ≤ max_part_chunks }
+    ensures fault { IfSome result.fault (IsFaultOf (G.rule parts.now.gate.now) (part_count (length (borrowed_bytes parts.now.borrowed)) parts.now.part_chunks)) }
+    ensures own { IsWorkerOf parts.now.exchange.now result.worker }
+    ensures passed { AllPassed (G.rule parts.now.gate.now) (record { bytes = borrowed_bytes parts.now.borrowed; part_chunks = parts.now.part_chunks }) result.worker.pass }
 {
     // A thread is passed the bytes and the number of chunks, and makes its own `Cut` of them.
-    let cut = Cut::new(lent, part_chunks);
+    let exchange = parts.exchange;
+    let cut = Cut::new(parts.borrowed, parts.part_chunks);
     let mut worker = worker;
-    match make_parts(rt, alloc, &cut, gate, exchange, &mut worker) {
+    match make_parts(rt, &cut, parts.gate, exchange, &mut worker) {
         Ok(()) => {
             exchange.progress.end();
             Report {

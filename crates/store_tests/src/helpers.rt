@@ -10,7 +10,7 @@ use std::process::Abort;
 use std::sync::Arc;
 use std::test::Fail;
 use store_core::{
-    Address, Held, Limits, Object, PutRefused, ReadError, Refusal, ReplayError, Sealed, Store,
+    Address, Held, Limits, Object, ReadError, Refusal, Refused, ReplayError, Sealed, Store,
     TenantId, UploadId, UploadStatus, Usage, read_journal, replay, write_journal,
 };
 
@@ -139,7 +139,7 @@ impl Scripted {
         let bytes = pattern(self.alloc, offset, len)?;
         match Prepared::make(self.alloc, &plan, offset, bytes, &mut self.making) {
             Ok(part) => Ok(Some(part)),
-            Err(refused) if refused.fault == PartFault::NoMemory => Err(AllocError),
+            Err(refused) if refused.reason == PartFault::NoMemory => Err(AllocError),
             Err(_) => Ok(None),
         }
     }
@@ -164,8 +164,11 @@ impl Scripted {
     }
 
     // A refusal, and which part was returned with it; the part is kept if out of memory.
-    fn back(&mut self, refused: PutRefused) -> Result<String, AllocError> {
-        let PutRefused { refusal, part } = refused;
+    fn back(&mut self, refused: Refused<Refusal, Prepared>) -> Result<String, AllocError> {
+        let Refused {
+            reason: refusal,
+            value: part,
+        } = refused;
         let (offset, len) = (part.offset(), part.bytes().len());
         if refusal == Refusal::NoMemory {
             self.part = Some(part);

@@ -4,6 +4,7 @@
 //! - `Upload` is an upload that is not closed yet: its plan, its end once that is fixed, and its parts. It knows only the offsets and the
 //!   lengths of parts. So the rules are the same for a store, whose parts have bytes, and for the replay of a journal, whose parts have
 //!   none.
+//! - `Refused` is a refusal that returns what was passed, such as a part.
 //! - `HeldParts` stores the parts of an `Upload`, and `Length` is implemented by a part. An ordered map of lengths implements `HeldParts`.
 //!
 //! In contracts an upload is a list of parts by offset (`specs/Uploads.antt`).
@@ -15,6 +16,7 @@ mod length;
 mod parts;
 mod plan;
 mod refusal;
+mod refused;
 mod upload;
 
 pub use held_parts::HeldParts;
@@ -22,4 +24,5 @@ pub use laws::upload_laws;
 pub use length::Length;
 pub use plan::{CHUNK_LEN, MAX_BYTES, MAX_PART_BYTES, MAX_PART_CHUNKS, Plan, TooLong};
 pub use refusal::{AddFault, FinishFault, FixFault, PartFault};
+pub use refused::Refused;
 pub use upload::Upload;

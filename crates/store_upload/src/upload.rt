@@ -4,7 +4,9 @@ ghost use Rattle.std.specs.Prelude.{◌≡◌, ◌+◌, ◌^◌, ◌<◌, ◌≤
 ghost use Rattle.std.specs.BTreeMap.{is_at};
 ghost use Rattle.std.specs.Map.{lookup};
 ghost use Rattle.std.specs.Ordering.{nat_cmp};
-ghost use Rattle.store_upload.specs.Uploads.{ArePlaced, Fits, IsUpload, end_with, finish_fault, first_gap as first_gap_of, first_missing as first_missing_of, fix_fault, fixed_at, held_bytes, length_of, max_bytes, new_upload, past_last, place_fault, reached, with_more};
+ghost use Rattle.store_upload.specs.Uploads.{ArePlaced, Fits, IsUpload, end_with, finish_fault, first_gap as first_gap_of};
+ghost use Rattle.store_upload.specs.Uploads.{first_missing as first_missing_of, fix_fault, fixed_at, held_bytes, length_of, max_bytes};
+ghost use Rattle.store_upload.specs.Uploads.{new_upload, past_last, place_fault, reached, with_more};
 
 use crate::held_parts::HeldParts;
 use crate::length::Length;

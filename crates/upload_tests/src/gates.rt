@@ -205,11 +205,7 @@ fn take_time() {
 }
 
 impl Gate for Checkpoint<'_> {
-    ghost may_stop = { λ gate part. Unit {0} };
-
-    ghost may_fault = { λ gate part code. Unit {0} };
-
-    ghost has_passed = { λ gate part. Unit {0} };
+    ghost rule = { λ gate. record { may_stop = λ part. Unit {0}; may_fault = λ part code. Unit {0}; has_passed = λ part. Unit {0} } };
 
     fn passed(&self, part: Draw) -> Result<(), GateStop> {
         let part = part.number();

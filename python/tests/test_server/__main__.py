@@ -7,12 +7,12 @@ sys.dont_write_bytecode = True
 TOP = os.path.abspath(os.path.join(os.path.dirname(os.path.abspath(__file__)), "..", "..", ".."))
 sys.path.insert(1, os.path.join(TOP, "tests", "common"))
 from judging import judged
-from python_needed import end_where_older
+from python_needed import OF_PACKAGE, end_where_older
 from server_cases import cases
 
 
 def main() -> int:
-    end_where_older()
+    end_where_older(OF_PACKAGE)
     if len(sys.argv) < 2:
         sys.exit(__doc__)
     program, words = os.path.abspath(sys.argv[1]), sys.argv[2:]

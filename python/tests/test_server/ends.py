@@ -1,4 +1,5 @@
 """How a server begins and ends, what it is refused, and what it refuses."""
+import contextlib
 import os
 import signal
 import socket
@@ -11,7 +12,7 @@ import time
 from typing import Any, List, Tuple
 
 from lines import SHORTLY, SOON, soon
-from running import AS_MODULE, CLEAN, SECONDS, WITH_FEW_FILES, Client, Running, differences, environment, fails
+from running import AS_MODULE, CLEAN, SECONDS, WITH_FEW_FILES, Client, Running, differences, environment, fails, is_running
 
 TOKEN = "0123456789abcdef" * 2
 
@@ -40,6 +41,9 @@ def busy(program: str) -> List[str]:
         with server.client() as late:
             late.send(b"limit 0 4000\n")
             found = differences((late.remaining(), b"busy\n"), (0.9 < time.monotonic() - start < SOON, True))
+        found += differences((first.ask("usage 0"), b"used 0 reserved 0 limit 5000\n"), (first.ends(), b""), (server.end(), CLEAN))
+    with Running(program, "--sessions", "1", "--wait", "60") as server, server.client() as first:
+        first.ask("tenant 5000")
         with server.client() as following:
             following.send(b"usage 0\n")
             threading.Timer(SHORTLY, first.close).start()
@@ -97,7 +101,7 @@ def hundreds_at_once(program: str) -> List[str]:
 
 def too_few_files(program: str) -> List[str]:
     """Connections for which there are no open files left are closed or wait, the server says so, and serves again once others have ended."""
-    with Running(program, "--sessions", "16", "--wait", "1", python=WITH_FEW_FILES) as server:
+    with Running(program, "--sessions", "16", "--wait", "60", python=WITH_FEW_FILES) as server:
         with server.client() as first:
             first.ask("tenant 5000")
             first.ask("begin 0 5")
@@ -105,10 +109,22 @@ def too_few_files(program: str) -> List[str]:
             found = differences((soon(lambda: "Too many open files" in server.reported()), True))
             for client in clients:
                 client.close()
-        with server.client() as last:
-            found += differences((soon(lambda: last.uploads() == []), True), (last.ask("usage 0"), b"used 0 reserved 0 limit 5000\n"), (last.ends(), b""))
+
+        def serves_again() -> bool:
+            """Whether a connection is served. While the others end, there may be no open files for it either."""
+            with contextlib.suppress(OSError, EOFError), server.client() as last:
+                return (last.ask("uploads 0"), last.ask("usage 0"), last.ends()) == (b"uploads 0\n", b"used 0 reserved 0 limit 5000\n", b"")
+            return False
+
+        found += differences((soon(serves_again), True))
         status, told, left = server.end()
         return found + differences((status, 0), ("Traceback" in told, False), (left, []))
+
+
+def _is_listening(path: str) -> bool:
+    """Whether a socket is listened on. The connection that shows it is closed at once."""
+    with socket.socket(socket.AF_UNIX) as probe:
+        return probe.connect_ex(path) == 0
 
 
 def closed_streams(program: str) -> List[str]:
@@ -120,8 +136,7 @@ def closed_streams(program: str) -> List[str]:
             words = [sys.executable, *AS_MODULE, "--socket", path, "--program", program]
             shell = ["/bin/sh", "-c", f'exec "$@" {redirections}', "sh", *words]
             with subprocess.Popen(shell, env=environment(folder, {}), start_new_session=True) as server:
-                found += differences((soon(lambda: os.path.exists(path)), True))
-                time.sleep(SHORTLY)
+                found += differences((soon(lambda: _is_listening(path)), True))
                 with Client(path) as client:
                     found += differences((client.ask("tenants"), b"tenants 0\n"), (client.ends(), b""))
                 server.terminate()
@@ -181,7 +196,7 @@ def token_files(program: str) -> List[str]:
         found += differences((told, (1, f"b3store.server: cannot read {folder}/none: No such file or directory\n")))
         path = _token_file(folder)
         for address in "127.0.0.1", "127.0.0.1:", ":5", "127.0.0.1:99999", "a b:1", "::1:5", "127.0.0.1:x", "host.invalid:80", "256.1.1.1:5":
-            status, told = fails("--tcp", address, "--token-file", path)
+            status, told = fails("--tcp", address, "--token-file", path, variables={"RES_OPTIONS": "timeout:1 attempts:1"})
             found += differences((status, 1), (told.startswith("b3store.server: ") and address in told and told.count("\n") == 1, True))
         with socket.socket() as taken:
             taken.bind(("127.0.0.1", 0))
@@ -237,7 +252,7 @@ def stale_sockets(program: str) -> List[str]:
         store = server.store()
         server.signal(signal.SIGKILL)
         server.status()
-        found = differences((os.path.exists(server.path), True), (soon(lambda: not os.path.exists(f"/proc/{store}")), True))
+        found = differences((os.path.exists(server.path), True), (soon(lambda: not is_running(store)), True))
         words = [sys.executable, *AS_MODULE, "--program", program, "--socket", server.path]
         with subprocess.Popen(words, stdout=subprocess.PIPE, env=environment(server.temporary, {})) as second:
             assert second.stdout
@@ -281,6 +296,7 @@ def a_store_that_is_killed(program: str) -> List[str]:
         address = client.file(bytes(1 << 20))
         silent.send(f"fetchb 0 {address}\n".encode() * 100)
         client.ask("begin 0 5")
+        found += differences((soon(lambda: len(server.relays()) == 2), True))
         time.sleep(SHORTLY)
         os.kill(server.store(), signal.SIGKILL)
         wanted = "b3store.server: the store ended with status -9, killed by SIGKILL; everything in it is lost\n"
@@ -291,9 +307,10 @@ def processes_that_are_killed(program: str) -> List[str]:
     """When the process of one connection is killed, the server says so and serves the others, and its turn is free."""
     with Running(program, "--sessions", "2") as server, server.client() as other:
         other.ask("tenant 5000")
+        others = server.relays()
         with server.client() as one:
-            found = differences((one.ask("begin 0 5"), b"upload 0\n"), (len(server.children()), 3))
-            os.kill(server.children()[-1], signal.SIGKILL)
+            found = differences((one.ask("begin 0 5"), b"upload 0\n"), (len(server.relays() - others), 1))
+            os.kill((server.relays() - others).pop(), signal.SIGKILL)
             found += differences((one.remaining(), b""))
         with server.client() as one:
             found += differences((one.ask("stat"), b"objects 0 bytes 0 uploads 1 held 0 parts 0\n"), (other.ask("abort 0"), b"ok\n"), (one.ends(), b""))
@@ -307,12 +324,12 @@ def a_server_that_is_killed(program: str) -> List[str]:
     with Running(program) as server, server.client() as client, server.client() as silent:
         client.ask("tenant 1000000000")
         silent.send(f"fetchb 0 {client.file(bytes(1 << 20))}\n".encode() * 100)
+        found = differences((soon(lambda: len(server.children()) == 3), True))
         time.sleep(SHORTLY)
         processes = server.children()
-        found = differences((len(processes), 3))
         server.signal(signal.SIGKILL)
         server.status()
-        found += differences((client.remaining(), b""), (soon(lambda: not any(os.path.exists(f"/proc/{process}") for process in processes)), True))
+        found += differences((client.remaining(), b""), (soon(lambda: not any(map(is_running, processes))), True))
         return found
 
 
@@ -321,7 +338,7 @@ def ends_in_time(program: str) -> List[str]:
     with Running(program, "--sessions", "1", "--grace", "60") as server, server.client() as client, server.client() as waiting:
         client.ask("tenant 5000")
         client.send(b"begin 0 3\nputb 0 0 3\na")
-        found = differences((client.line(), b"upload 0\n"))
+        found = differences((client.line(), b"upload 0\n"), (soon(lambda: server.threads() == 3), True))
         server.signal()
         found += differences((waiting.remaining(), b"busy\n"), (soon(lambda: not os.path.exists(server.path)), True))
         client.send(b"bc")
@@ -340,11 +357,13 @@ def ends_by_force(program: str) -> List[str]:
             client.ask("tenant 1000000000")
             address = client.file(bytes(1 << 20))
             silent.send(f"fetchb 0 {address}\n".encode() * 100)
+            found += differences((soon(lambda: len(server.relays()) == 2), True))
             time.sleep(SHORTLY)
             start = time.monotonic()
             for number in numbers:
                 os.killpg(server.process.pid, number)
-                time.sleep(SHORTLY)
+                # a signal that comes before the one before it was seen is not counted
+                found += differences((soon(lambda: not os.path.exists(server.path)), True))
             told = (server.status(), server.reported())
             found += differences((told, (0, "b3store.server: the server ends while 2 connections are open\n")), (server.left(), []), (client.remaining(), b""))
             found += differences((wanted <= time.monotonic() - start < wanted + SOON, True))

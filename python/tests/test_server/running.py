@@ -6,7 +6,7 @@ import socket
 import subprocess
 import sys
 import tempfile
-from typing import Any, Dict, List, Optional, Sequence, Tuple
+from typing import Any, Dict, List, Optional, Sequence, Set, Tuple
 
 PACKAGE = os.path.dirname(os.path.dirname(os.path.dirname(os.path.abspath(__file__))))
 SECONDS = 30.0
@@ -155,16 +155,24 @@ class Running:
         return int(self.lines[-1].rsplit(":", 1)[1])
 
     def children(self) -> List[int]:
-        """The process ids of the store and of the connections, in the order of their start."""
-        found: List[int] = []
+        """The process ids of the store and of the connections."""
+        found: Set[int] = set()
         for task in os.listdir(f"/proc/{self.process.pid}/task"):
             with contextlib.suppress(OSError), open(f"/proc/{self.process.pid}/task/{task}/children", encoding="ascii") as file:
-                found += map(int, file.read().split())
+                found.update(map(int, file.read().split()))
         return sorted(found)
 
     def store(self) -> int:
         """The process id of the store."""
-        return self.children()[0]
+        return next(process for process in self.children() if b"\0serve\0" in words_of(process))
+
+    def relays(self) -> Set[int]:
+        """The process ids of the connections."""
+        return {process for process in self.children() if b"\0serve\0" not in words_of(process)}
+
+    def threads(self) -> int:
+        """How many threads the server has: one of its own, and one for each connection that it has accepted."""
+        return len(os.listdir(f"/proc/{self.process.pid}/task"))
 
     def reported(self) -> str:
         """What the server has written to standard error."""
@@ -185,6 +193,20 @@ class Running:
 
     def left(self) -> List[str]:
         return sorted(set(os.listdir(self.folder)) - {"temporary", "errors"}) + os.listdir(self.temporary)
+
+
+def words_of(process: int) -> bytes:
+    """The words of a process, each with a byte 0 after it; none if it has ended."""
+    with contextlib.suppress(OSError), open(f"/proc/{process}/cmdline", "rb") as file:
+        return file.read()
+    return b""
+
+
+def is_running(process: int) -> bool:
+    """Whether a process runs. One that has ended may wait for its parent, which need not be this process."""
+    with contextlib.suppress(OSError), open(f"/proc/{process}/stat", encoding="ascii", errors="replace") as file:
+        return file.read().rpartition(") ")[2][0] not in "ZX"
+    return False
 
 
 def environment(temporary: str, variables: Dict[str, str]) -> Dict[str, str]:

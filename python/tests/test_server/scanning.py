@@ -1,12 +1,20 @@
-"""What a server finds in the answers of a session, however they are cut into pieces."""
+"""What a server finds in the answers of a session, however they are cut into pieces; and parts of the server alone."""
 import random
+import socket
+import subprocess
 import sys
-from typing import Callable, List, Set, Tuple
+import threading
+import types
+from typing import Any, Callable, List, Set, Tuple
+from unittest import mock
 
-from running import PACKAGE, differences
+from lines import soon
+from running import PACKAGE, SECONDS, differences, is_running
 
 sys.path.insert(1, PACKAGE)
+from b3store import server
 from b3store.answers import Answers
+from b3store.server_store import Store
 from b3store.turns import Turns
 
 STREAMS = 300
@@ -90,8 +98,60 @@ def turns(program: str) -> List[str]:
     given.give_back()
     found += differences((given.take(0), True), (given.take(0), True), (given.take(0), False))
     given.give_back()
+    places = [given.line_up() for _ in range(3)]
+    found += differences((given.wait(places[0], 0), True), (given.wait(places[1], 0), False))
+    given.give_back()
+    found += differences((given.take(0), False), (given.wait(places[2], 0), True))
+    given.give_back()
     given.close()
     return found + differences((given.take(0), False))
 
 
-SCANNING = (("pieces of answers", pieces_of_answers), ("pieces that are whole answers", whole_answers), ("answers cut at every byte", every_cut), ("turns", turns))
+def turns_by_arrival(program: str) -> List[str]:
+    """Connections have their turns in the order in which they came, whichever of their threads runs first."""
+    del program
+    waiting: List[threading.Thread] = []
+    served: List[Any] = []
+
+    class Late(threading.Thread):
+        """A thread that starts later."""
+
+        def start(self) -> None:
+            waiting.append(self)
+
+    with mock.patch.multiple(
+        server, threading=types.SimpleNamespace(Thread=Late, Lock=threading.Lock), serve_connection=lambda store, connection, *_: served.append(connection)
+    ):
+        connections = server.Connections(None, server.Options(1, SECONDS, 0.0, False, None))  # type: ignore
+        pairs = [socket.socketpair() for _ in range(5)]
+        for one, _ in pairs:
+            connections.add(one, False)
+        for thread in reversed(waiting):
+            threading.Thread.start(thread)
+        for thread in waiting:
+            thread.join(SECONDS)
+    for _, other in pairs:
+        other.close()
+    return differences((served == [one for one, _ in pairs], True), (connections.count(), 0))
+
+
+def ends_that_nobody_saw(program: str) -> List[str]:
+    """A store whose process has ended is not usable, also before the main thread has asked for the status."""
+    del program
+    store = Store.__new__(Store)
+    store._is_closing = False
+    with subprocess.Popen(["cat"], stdin=subprocess.PIPE) as process:
+        store._process = process
+        found = differences((store.is_usable(), True))
+        process.kill()
+        return found + differences((soon(lambda: not is_running(process.pid)), True), (store.is_usable(), False))
+
+
+SCANNING = (
+    ("pieces of answers", pieces_of_answers),
+    ("pieces that are whole answers", whole_answers),
+    ("answers cut at every byte", every_cut),
+    ("turns", turns),
+    ("turns by arrival", turns_by_arrival),
+    ("ends that nobody saw", ends_that_nobody_saw),
+)

@@ -3,7 +3,7 @@ use Rattle.std.specs.Prelude.{◌≡◌, ◌≤◌, ℕ, List, Option, Result}
 use Rattle.b3_check.specs.declared.fault.Fault.{Fault}
 use Rattle.b3_check.specs.declared.line.Line.{Line}
 use Rattle.b3_check.specs.declared.report.Counts.{Counts}
-use Rattle.b3_check.specs.declared.report.Shown.{Shown}
+use Rattle.b3_check.specs.declared.report.ReportOptions.{ReportOptions}
 use Rattle.edge.specs.declared.outcome.Cause.{Cause}
 use Rattle.edge.specs.declared.outcome.Cause.TheVariants.{CannotRead, CannotWrite, OutOfMemory}
 use Rattle.std.specs.Io.KnownBytes.{Appends}
@@ -23,14 +23,14 @@ pub record AreAtMost (n : ℕ) (counts : Counts) : Type 0 where
 -- ---- one line
 
 -- a line was handled: its verdict is with_verdict, and what is shown of it was written
-pub record IsLineAsked {S : Type 0} (gives : S → List ℕ → Answer → S → Type 0) (shown : Shown) (old : S) (number : ℕ) (line : Result Line Fault) (new : S) (before after : Counts) (written grown : Option (List ℕ)) : Type 0 where
+pub record IsLineAsked {S : Type 0} (gives : S → List ℕ → Answer → S → Type 0) (options : ReportOptions) (old : S) (number : ℕ) (line : Result Line Fault) (new : S) (before after : Counts) (written grown : Option (List ℕ)) : Type 0 where
   pub verdict : Verdict
   pub asked : IsVerdictBy gives old number line verdict new
   pub counts : after ≡ with_verdict verdict before
-  pub went : Appends written grown (shown_line shown verdict)
+  pub went : Appends written grown (shown_line options verdict)
 
 -- what ended a report at a line
-abbrev pub IsLineEnded : {S : Type 0} → (S → List ℕ → Answer → S → Type 0) → Shown → S → ℕ → Result Line Fault → Cause → S → Option (List ℕ) → Option (List ℕ) → Type 0
-IsLineEnded gives shown old number line CannotRead new written grown = ⊥
-IsLineEnded gives shown old number line CannotWrite new written grown = (verdict : Verdict) × IsVerdictBy gives old number line verdict new × IsTruncated written grown (shown_line shown verdict)
-IsLineEnded gives shown old number line OutOfMemory new written grown = IsRefusedFor gives old line new × (grown ≡ written)
+abbrev pub IsLineEnded : {S : Type 0} → (S → List ℕ → Answer → S → Type 0) → ReportOptions → S → ℕ → Result Line Fault → Cause → S → Option (List ℕ) → Option (List ℕ) → Type 0
+IsLineEnded gives options old number line CannotRead new written grown = ⊥
+IsLineEnded gives options old number line CannotWrite new written grown = (verdict : Verdict) × IsVerdictBy gives old number line verdict new × IsTruncated written grown (shown_line options verdict)
+IsLineEnded gives options old number line OutOfMemory new written grown = IsRefusedFor gives old line new × (grown ≡ written)

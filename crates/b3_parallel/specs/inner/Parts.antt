@@ -1,6 +1,6 @@
 -- Bytes in parts of whole chunks, each hashed separately.
 use Rattle.std.specs.Prelude.{◌≡◌, ℕ, ◌+◌, ◌*◌, ◌/◌, ◌^◌, ◌<◌, List, length, take, drop, slice_index_or}
-use Rattle.b3_core.specs.Hashers.{ModelHasher, Holds, HasRoomFor}
+use Rattle.b3_core.specs.Hashers.{ModelHasher, HasInput, HasRoomFor}
 use Rattle.b3_core.specs.Tree.{ModelMode, chunk_len}
 use Rattle.b3_parallel.specs.inner.Blocks.{IsHashed}
 use Rattle.b3_parallel.specs.declared.parts.Part.{Part}
@@ -18,4 +18,4 @@ AreHashedParts p x k c parts =
 -- they can be appended to the bytes x that a hasher has been given
 abbrev pub AreAfter : ModelHasher → ℕ → List Part → List ℕ → List ℕ → Type 0
 AreAfter h k parts x bytes =
-    Holds h x × HasRoomFor k h × (length x + length bytes < 2 ^ 64) × AreHashedParts h.mode bytes k (h.whole / chunk_len) parts
+    HasInput h x × HasRoomFor k h × (length x + length bytes < 2 ^ 64) × AreHashedParts h.mode bytes k (h.whole / chunk_len) parts

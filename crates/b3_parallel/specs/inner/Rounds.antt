@@ -1,10 +1,9 @@
 -- Definitions for private functions, in addition to specs/Rounds.
 use Rattle.std.specs.Prelude.{◌≡◌, ℕ, ◌*◌, ◌^◌, List, [], ◌∷◌, Option, Some, None, IfSome, length, take, drop}
 use Rattle.std.specs.Global.{Vec}
-use Rattle.b3_core.specs.Hashers.{ModelHasher}
 use Rattle.b3_core.specs.Tree.{ModelMode, chunk_len}
-use Rattle.b3_parallel.specs.inner.Blocks.{IsHashed}
-use Rattle.b3_parallel.specs.inner.Lines.{Carries}
+use Rattle.b3_parallel.specs.inner.Blocks.{IsHashed, IsReady}
+use Rattle.b3_parallel.specs.declared.counted_hasher.CountedHasher.{CountedHasher}
 use Rattle.b3_parallel.specs.declared.taking.Placed.{Placed}
 
 -- the bytes x are at `start`
@@ -32,7 +31,6 @@ abbrev pub AreSlots : ModelMode → Option (List ℕ) → ℕ → List (Option P
 AreSlots p known k [] = Unit {0}
 AreSlots p known k (s ∷ rest) = IfSome s (IsPlaced p known k) × AreSlots p known k rest
 
--- a hasher has been given the first `count` blocks of 2^k chunks; the compressions were n before them and are m
-abbrev pub HasFront : ModelMode → Option (List ℕ) → ℕ → ModelHasher → ℕ → ℕ → ℕ → Type 0
-HasFront p known k h count n m =
-    (x : List ℕ) × Carries p k h [] x n m × (length x ≡ chunk_len * (count * 2 ^ k)) × StandsAt known 0 x
+-- a hasher in the mode p has been given the first `count` blocks of 2^k chunks
+abbrev pub HasFront : ModelMode → Option (List ℕ) → ℕ → CountedHasher → ℕ → Type 0
+HasFront p known k front count = (x : List ℕ) × IsReady p k front x × (length x ≡ chunk_len * (count * 2 ^ k)) × StandsAt known 0 x

@@ -10,11 +10,6 @@ use Rattle.std.specs.declared.cmp.Ordering.{Ordering}
 use Rattle.store_books.specs.declared.known.Known.{Known}
 use Rattle.store_books.specs.Books.{Filed, is_held_by, object_among}
 
--- objects in filing order, and the number of filings
-pub record ModelCatalog (O : Type 0) : Type 0 where
-  pub objects : List (Filed O)
-  pub filings : ℕ
-
 -- objects by number, below the number of filings, with an index from their addresses
 pub record AreNumbered {Y : Type 0} (filings : ℕ) (objects : BTreeMap ℕ (List ℕ × Y)) (number_of : List ℕ → Option ℕ) : Type 0 where
   pub ordered : IsOrderedMap nat_cmp objects

@@ -5,12 +5,13 @@ ghost use Rattle.store_books.specs.Books.{Filed, object_at, upload_at};
 ghost use Rattle.store_books.specs.Commands.{file_refusal, finish_refused as finish_refused_of, forget_refusal, holding_refusal, ready_refusal, with_filed, with_forgotten, with_joined};
 ghost use Rattle.store_upload.specs.Uploads.{length_of};
 
+use crate::accounts::{Amounts, NONE};
 use crate::address::Address;
 use crate::books::Books;
 use crate::content::Content;
 use crate::index::AddressIndex;
 use crate::refusal::Refusal;
-use crate::tenant::{Change, change_sums, tenant_of};
+use crate::tenant::tenant_of;
 use std::alloc::AllocError;
 use store_upload::{FinishFault, HeldParts, Upload};
 
@@ -22,10 +23,7 @@ impl<H: HeldParts, O: Content, I: AddressIndex> Books<H, O, I> {
         let Some(begun) = self.uploads.get(&number) else {
             return Some(Refusal::NoUpload);
         };
-        match begun.upload().finish_fault() {
-            Some(fault) => Some(finish_refused(fault)),
-            None => None,
-        }
+        begun.upload().finish_fault().map(finish_refused)
     }
 
     /// Why a complete upload, whose content has this address, would not be filed: S7, S6, S13.
@@ -40,7 +38,7 @@ impl<H: HeldParts, O: Content, I: AddressIndex> Books<H, O, I> {
         let Some(known) = self.catalog.known(address, tenant) else {
             return self.full_refusal();
         };
-        let found = tenant_of(&self.tenants, tenant);
+        let found = tenant_of(&self.accounts.tenants, tenant);
         let free = found.limit - found.used - found.reserved;
         if known.is_over(len + free) {
             return Some(Refusal::OverQuota { free });
@@ -72,18 +70,12 @@ impl<H: HeldParts, O: Content, I: AddressIndex> Books<H, O, I> {
         let tenant = begun.tenant();
         let len = begun.upload().length();
         self.catalog.file_last(self.alloc, content, tenant)?;
-        let Some(begun) = self.uploads.remove(&number) else {
-            unreachable!();
+        let more = Amounts {
+            used: len,
+            object_bytes: len,
+            ..NONE
         };
-        let upload = begun.into_upload();
-        let used = Change { less: 0, more: len };
-        let reserved = Change { less: len, more: 0 };
-        change_sums(&mut self.tenants, tenant, used, reserved);
-        self.object_bytes += len;
-        self.held -= upload.held();
-        self.parts -= upload.count();
-        self.accepted += 1;
-        Ok(upload)
+        Ok(self.accounts.take_out(&mut self.uploads, number, more))
     }
 
     /// Adds the tenant of a complete upload to the holders of the object at its content's address. Returns the upload.
@@ -103,30 +95,16 @@ impl<H: HeldParts, O: Content, I: AddressIndex> Books<H, O, I> {
             unreachable!();
         };
         self.catalog.add_holder(address, tenant)?;
-        let Some(begun) = self.uploads.remove(&number) else {
-            unreachable!();
-        };
-        let upload = begun.into_upload();
-        let used = Change {
-            less: 0,
-            more: known.more_used(),
-        };
-        let reserved = Change {
-            less: upload.length(),
-            more: 0,
-        };
-        change_sums(&mut self.tenants, tenant, used, reserved);
-        self.held -= upload.held();
-        self.parts -= upload.count();
-        self.accepted += 1;
-        Ok(upload)
+        let used = known.more_used();
+        let more = Amounts { used, ..NONE };
+        Ok(self.accounts.take_out(&mut self.uploads, number, more))
     }
 
     /// Why a question of the tenant about the object would be refused: S1, S12.
     pub fn holding_refusal(&self, tenant: u64, address: Address) -> Option<Refusal>
         ensures { result ≡ holding_refusal O.address self.now tenant address }
     {
-        if tenant >= self.tenants.len() as u64 {
+        if tenant >= self.accounts.tenants.len() as u64 {
             return Some(Refusal::NoTenant);
         }
         match self.catalog.known(address, tenant) {
@@ -155,14 +133,12 @@ impl<H: HeldParts, O: Content, I: AddressIndex> Books<H, O, I> {
             unreachable!();
         };
         let freed = self.catalog.drop_holder(address, tenant, known.is_alone);
-        let used = Change {
-            less: known.size,
-            more: 0,
+        let less = Amounts {
+            used: known.size,
+            object_bytes: known.freed(),
+            ..NONE
         };
-        let reserved = Change { less: 0, more: 0 };
-        change_sums(&mut self.tenants, tenant, used, reserved);
-        self.object_bytes -= known.freed();
-        self.accepted += 1;
+        self.accounts.change(tenant, less, NONE);
         freed
     }
 }

@@ -22,10 +22,10 @@ impl<H: HeldParts, O: Content, I: AddressIndex> Books<H, O, I> {
     pub fn usage(&self, tenant: u64) -> Result<Usage, Refusal>
         ensures { result ≡ usage_in O.size self.now tenant }
     {
-        if tenant >= self.tenants.len() as u64 {
+        if tenant >= self.accounts.tenants.len() as u64 {
             return Err(Refusal::NoTenant);
         }
-        let found = self.tenants[tenant as usize];
+        let found = self.accounts.tenants[tenant as usize];
         Ok(Usage {
             used: found.used,
             reserved: found.reserved,
@@ -37,7 +37,10 @@ impl<H: HeldParts, O: Content, I: AddressIndex> Books<H, O, I> {
     pub fn limit(&self, tenant: u64) -> Option<u64>
         ensures { result ≡ slice_get self.now.tenant_limits tenant }
     {
-        self.tenants.get(tenant as usize).map(|found| found.limit)
+        self.accounts
+            .tenants
+            .get(tenant as usize)
+            .map(|found| found.limit)
     }
 
     /// The objects, in filing order.

@@ -17,7 +17,7 @@ impl<H: HeldParts, O: Content, I: AddressIndex> Books<H, O, I> {
     pub fn tenant_refusal(&self, limit: u64) -> Option<Refusal>
         ensures { result ≡ tenant_refusal self.now limit }
     {
-        if self.tenants.len() as u64 >= self.limits.tenants {
+        if self.accounts.tenants.len() as u64 >= self.limits.tenants {
             return Some(Refusal::TenantsFull);
         }
         if limit > MAX_LIMIT {
@@ -32,12 +32,12 @@ impl<H: HeldParts, O: Content, I: AddressIndex> Books<H, O, I> {
         ensures opened { OnOk result (self.new ≡ with_tenant self.old limit) }
         ensures unchanged { OnErr result (self.new ≡ self.old) }
     {
-        self.tenants.push(Tenant {
+        self.accounts.tenants.push(Tenant {
             limit,
             used: 0,
             reserved: 0,
         })?;
-        self.accepted += 1;
+        self.accounts.entry_count += 1;
         Ok(())
     }
 
@@ -45,13 +45,13 @@ impl<H: HeldParts, O: Content, I: AddressIndex> Books<H, O, I> {
     pub fn limit_refusal(&self, tenant: u64, limit: u64) -> Option<Refusal>
         ensures { result ≡ limit_refusal O.size self.now tenant limit }
     {
-        if tenant >= self.tenants.len() as u64 {
+        if tenant >= self.accounts.tenants.len() as u64 {
             return Some(Refusal::NoTenant);
         }
         if limit > MAX_LIMIT {
             return Some(Refusal::LimitTooLarge);
         }
-        let found = self.tenants[tenant as usize];
+        let found = self.accounts.tenants[tenant as usize];
         let in_use = found.used + found.reserved;
         if limit < in_use {
             return Some(Refusal::BelowUse { in_use });
@@ -64,7 +64,7 @@ impl<H: HeldParts, O: Content, I: AddressIndex> Books<H, O, I> {
         requires { limit_refusal O.size self.old tenant limit ≡ None }
         ensures { self.new ≡ with_limit self.old tenant limit }
     {
-        change_limit(&mut self.tenants, tenant, limit);
-        self.accepted += 1;
+        change_limit(&mut self.accounts.tenants, tenant, limit);
+        self.accounts.entry_count += 1;
     }
 }

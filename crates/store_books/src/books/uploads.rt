@@ -2,15 +2,16 @@
 
 ghost use Rattle.std.specs.Prelude.{◌≡◌, IfErr, IfNone, IfSome, None, OnErr, OnOk, Some};
 ghost use Rattle.store_books.specs.Books.{ModelOwnedUpload, upload_at};
-ghost use Rattle.store_books.specs.Commands.{abort_refusal, add_refused as add_refused_of, begin_refusal, fix_refusal, fix_refused as fix_refused_of, put_refusal, with_begun, with_fixed, with_put, without_upload};
+ghost use Rattle.store_books.specs.Commands.{abort_refusal, add_refused as add_refused_of, begin_refusal, fix_refusal, fix_refused as fix_refused_of};
+ghost use Rattle.store_books.specs.Commands.{put_refusal, with_begun, with_fixed, with_put, without_upload};
 ghost use Rattle.store_upload.specs.Uploads.{Fits};
 
+use crate::accounts::{Amounts, NONE};
 use crate::begun::{self, OwnedUpload};
 use crate::books::Books;
 use crate::content::Content;
 use crate::index::AddressIndex;
 use crate::refusal::Refusal;
-use crate::tenant::{Change, change_sums};
 use std::alloc::AllocError;
 use store_upload::{AddFault, FixFault, HeldParts, Length, MAX_BYTES, Plan, Upload};
 
@@ -19,13 +20,13 @@ impl<H: HeldParts, O: Content, I: AddressIndex> Books<H, O, I> {
     pub fn begin_refusal(&self, tenant: u64, bound: u64) -> Option<Refusal>
         ensures { result ≡ begin_refusal O.size self.now tenant bound }
     {
-        if tenant >= self.tenants.len() as u64 {
+        if tenant >= self.accounts.tenants.len() as u64 {
             return Some(Refusal::NoTenant);
         }
         if bound > MAX_BYTES {
             return Some(Refusal::TooLong);
         }
-        let found = self.tenants[tenant as usize];
+        let found = self.accounts.tenants[tenant as usize];
         let free = found.limit - found.used - found.reserved;
         if bound > free {
             return Some(Refusal::OverQuota { free });
@@ -39,17 +40,14 @@ impl<H: HeldParts, O: Content, I: AddressIndex> Books<H, O, I> {
         ensures begun { OnOk result (self.new ≡ with_begun self.old tenant plan) }
         ensures unchanged { OnErr result (self.new ≡ self.old) }
     {
-        let bound = plan.bound();
+        let reserved = plan.bound();
         let begun = OwnedUpload::new(tenant, Upload::new(self.alloc, plan));
-        begun::begin(&mut self.uploads, self.begun, begun)?;
-        let used = Change { less: 0, more: 0 };
-        let reserved = Change {
-            less: 0,
-            more: bound,
+        let Ok(_none) = self.uploads.insert(self.begun, begun) else {
+            return Err(AllocError);
         };
-        change_sums(&mut self.tenants, tenant, used, reserved);
+        let more = Amounts { reserved, ..NONE };
+        self.accounts.change(tenant, NONE, more);
         self.begun += 1;
-        self.accepted += 1;
         Ok(())
     }
 
@@ -82,17 +80,16 @@ impl<H: HeldParts, O: Content, I: AddressIndex> Books<H, O, I> {
             unreachable!();
         };
         let tenant = begun.tenant();
-        let before = begun.upload().length();
+        let reserved = begun.upload().length();
         let after = begun::put(&mut self.uploads, number, part, work)?;
-        let used = Change { less: 0, more: 0 };
-        let reserved = Change {
-            less: before,
-            more: after,
+        let less = Amounts { reserved, ..NONE };
+        let more = Amounts {
+            reserved: after,
+            held: len,
+            parts: 1,
+            ..NONE
         };
-        change_sums(&mut self.tenants, tenant, used, reserved);
-        self.held += len;
-        self.parts += 1;
-        self.accepted += 1;
+        self.accounts.change(tenant, less, more);
         Ok(())
     }
 
@@ -118,15 +115,14 @@ impl<H: HeldParts, O: Content, I: AddressIndex> Books<H, O, I> {
             unreachable!();
         };
         let tenant = begun.tenant();
-        let before = begun.upload().length();
+        let reserved = begun.upload().length();
         begun::fix(&mut self.uploads, number, len);
-        let used = Change { less: 0, more: 0 };
-        let reserved = Change {
-            less: before,
-            more: len,
+        let less = Amounts { reserved, ..NONE };
+        let more = Amounts {
+            reserved: len,
+            ..NONE
         };
-        change_sums(&mut self.tenants, tenant, used, reserved);
-        self.accepted += 1;
+        self.accounts.change(tenant, less, more);
     }
 
     /// Why the upload would not be aborted: S7, S13.
@@ -145,21 +141,7 @@ impl<H: HeldParts, O: Content, I: AddressIndex> Books<H, O, I> {
         ensures freed { self.new ≡ without_upload self.old number }
         ensures given { IfSome (upload_at self.old number) (λ u. result ≡ u.upload) }
     {
-        let Some(begun) = self.uploads.remove(&number) else {
-            unreachable!();
-        };
-        let tenant = begun.tenant();
-        let upload = begun.into_upload();
-        let used = Change { less: 0, more: 0 };
-        let reserved = Change {
-            less: upload.length(),
-            more: 0,
-        };
-        change_sums(&mut self.tenants, tenant, used, reserved);
-        self.held -= upload.held();
-        self.parts -= upload.count();
-        self.accepted += 1;
-        upload
+        self.accounts.take_out(&mut self.uploads, number, NONE)
     }
 }
 

@@ -5,7 +5,7 @@ use Rattle.store_books.specs.Bare.{Bare}
 use Rattle.store_books.specs.Books.{object_at}
 use Rattle.store_core.specs.Model.{ModelObject, ModelStoreBooks, ModelStore}
 use Rattle.store_journal.specs.Replay.{accepted_of, replay_of}
-use Rattle.store_ledger.specs.declared.holding.Holding.{Holding}
+use Rattle.store_ledger.specs.declared.amounts.ShareAmounts.{ShareAmounts}
 use Rattle.store_engines.specs.Uploads.{uploaded_text, HasObject}
 
 -- an object of n bytes is filed at the address
@@ -14,7 +14,7 @@ IsFiled s address n = (o : ModelObject) × (object_at hash_of s address ≡ Some
 
 -- What is written for a store with a filed upload: its journal is legal and results in an object at the address, and what it accepted is
 -- what the share says.
-pub record IsUploadReport (journal : Bool) (address : List ℕ) (share : Holding) (store : ModelStore) (text : List ℕ) : Type 0 where
+pub record IsUploadReport (journal : Bool) (address : List ℕ) (share : ShareAmounts) (store : ModelStore) (text : List ℕ) : Type 0 where
   pub left : Bare
   pub legal : replay_of store.journal ≡ Ok left
   pub filed : HasObject left address share.bytes

@@ -4,31 +4,21 @@ use Rattle.std.specs.Io.BufRead.{strip_last}
 use Rattle.std.specs.Io.Iter.{u64_saturate}
 use Rattle.store_core.specs.Model.{ModelStore}
 use Rattle.store_journal.specs.declared.entry.Entry.{Entry}
-use Rattle.store_lines.specs.Grammar.{ScriptCommand, asks, does, journal, puts}
 use Rattle.store_lines.specs.Lines.{IsPutLine}
-use Rattle.store_lines.specs.Script.{IsTurnOf, Turn, fault_ending, reply_ending, turn_ending, turn_text}
+use Rattle.store_lines.specs.Script.{IsTurnOf, Turn, fault_ending, range_entries, reply_ending, turn_ending, turn_text}
 use Rattle.store_lines.specs.Texts.{answer_text, entries_text, refused_text, unmade_text}
 use Rattle.store_lines.specs.declared.answer.Answer.{Answer}
 use Rattle.store_lines.specs.declared.answer.Answer.TheVariants as answers
-use Rattle.store_lines.specs.declared.command.ScriptCommand.{ScriptCommand as CodeScriptCommand}
-use Rattle.store_lines.specs.declared.command.ScriptCommand.TheVariants as script
 use Rattle.store_lines.specs.declared.ending.Ending.{Ending}
 use Rattle.store_lines.specs.declared.ending.Ending.TheVariants as endings
 
--- the request of a line
-abbrev pub script_seen : CodeScriptCommand → ScriptCommand
-script_seen (script.Does command) = does command
-script_seen (script.Asks question) = asks question
-script_seen (script.Puts upload offset bytes) = puts upload offset bytes.items
-script_seen script.Journal = journal
-
--- the text of an answer of a store whose journal has these entries
+-- the text of an answer of a store whose journal is `entries`
 abbrev pub reported_text : List Entry → Answer → List ℕ
 reported_text entries answers.Nothing = []
 reported_text entries answers.Bad = codes "bad\n"
 reported_text entries (answers.Unmade fault) = refused_text (unmade_text fault)
 reported_text entries (answers.Replied reply) = answer_text reply
-reported_text entries answers.Journal = entries_text entries
+reported_text entries (answers.Entries range) = entries_text (range_entries range entries)
 
 -- how a run with this answer ends at best
 abbrev pub reported_ending : Answer → Ending
@@ -36,7 +26,7 @@ reported_ending answers.Nothing = endings.Good
 reported_ending answers.Bad = endings.Refused
 reported_ending (answers.Unmade fault) = fault_ending fault
 reported_ending (answers.Replied reply) = reply_ending reply
-reported_ending answers.Journal = endings.Good
+reported_ending (answers.Entries range) = endings.Good
 
 -- a turn with this property, with its answer and its ending
 pub record Answered (Is : Turn → Type 0) (text : List ℕ) (ending : Ending) : Type 0 where

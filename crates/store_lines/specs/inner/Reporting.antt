@@ -1,19 +1,19 @@
 -- Definitions for private functions.
 use Rattle.std.specs.Prelude.{◌≡◌, ◌<◌, ◌≤◌, ℕ, Bool, true, false, List, [], Option, Some, None, drop, length, take}
-use Rattle.std.specs.Io.BufRead.{strip_last}
 use Rattle.std.specs.Io.KnownBytes.{Appends}
 use Rattle.store_core.specs.Model.{ModelStore}
 use Rattle.store_journal.specs.declared.entry.Entry.{Entry}
 use Rattle.store_lines.specs.inner.Answers.{reported_ending, reported_text}
 use Rattle.store_lines.specs.Script.{Turn, turn_ending, turn_text}
 use Rattle.store_lines.specs.declared.answer.Answer.{Answer}
-use Rattle.store_lines.specs.inner.Requests.{IsSessionLine}
+use Rattle.store_lines.specs.inner.Requests.{IsOwnOrScript, IsSessionLine}
+use Rattle.store_lines.specs.declared.session_line.Line.{Line}
 use Rattle.store_lines.specs.Requests.{request_in}
 use Rattle.store_lines.specs.Session.{IsShort, SessionTurn, session_turn_text}
 use Rattle.edge.specs.declared.lines.LineRead.{LineRead}
 use Rattle.store_lines.specs.declared.request.Request.{Request}
 use Rattle.store_lines.specs.Access.{Reach, SessionState, at}
-use Rattle.store_lines.specs.Turns.{IsLinkedBytes, IsLinkedPut, IsLinkedRequest, IsLinkedScriptLine}
+use Rattle.store_lines.specs.Turns.{IsLinkedPut, IsLinkedRequest}
 
 -- nothing was added to the account
 pub record Leaves (was is : SessionState → Type 0) : Type 0 where
@@ -25,16 +25,12 @@ pub record ReportedOver (was is : SessionState → Type 0) (Is : SessionState �
   pub goes : (before : SessionState) → was before → (after : SessionState) × (is after × Is before turn after)
   pub wrote : Appends old new (session_turn_text turn)
 
--- a turn of a script with this answer, which is not the journal
+-- a turn of a script with this answer, which has no entries of the journal
 pub record AnsweredOver (was is : SessionState → Type 0) (Is : SessionState → Turn → SessionState → Type 0) (answer : Answer) : Type 0 where
   pub turn : Turn
   pub goes : (before : SessionState) → was before → (after : SessionState) × (is after × Is before turn after)
   pub text_is : (entries : List Entry) → reported_text entries answer ≡ turn_text turn
   pub ending_is : reported_ending answer ≡ turn_ending turn
-
--- a line of a script was answered that was read like this
-pub record AnswersOver (reach : Reach) (was is : SessionState → Type 0) (read : LineRead) (kept : List ℕ) (old new : Option (List ℕ)) : Type 0 where
-  pub answers : (whole : List ℕ) → IsSessionLine whole read kept → ReportedOver was is (λ before turn after. IsLinkedScriptLine reach before (strip_last 10 whole) turn after) old new
 
 -- one line was served, or its bytes are truncated
 abbrev pub ServesOver : Reach → (SessionState → Type 0) → (SessionState → Type 0) → Bool → Option Request → List ℕ → List ℕ → Option (List ℕ) → Option (List ℕ) → Option (List ℕ) → Type 0
@@ -45,14 +41,13 @@ ServesOver reach was is false request whole following left old new = IsShort req
 pub record ServesRequestOver (reach : Reach) (was is : SessionState → Type 0) (is_whole : Bool) (request : Request) (following : List ℕ) (left old new : Option (List ℕ)) : Type 0 where
   pub serves : (whole : List ℕ) → ServesOver reach was is is_whole (Some request) whole following left old new
 
+-- the same for a line, whatever its bytes are
+pub record ServesLineOver (reach : Reach) (was is : SessionState → Type 0) (is_whole : Bool) (line : Line) (following : List ℕ) (left old new : Option (List ℕ)) : Type 0 where
+  pub serves : (whole : List ℕ) → IsOwnOrScript whole line → ServesOver reach was is is_whole (request_in whole) whole following left old new
+
 -- the same for a line that was read like this
 pub record ServesReadOver (reach : Reach) (was is : SessionState → Type 0) (is_whole : Bool) (read : LineRead) (kept following : List ℕ) (left old new : Option (List ℕ)) : Type 0 where
   pub serves : (whole : List ℕ) → IsSessionLine whole read kept → ServesOver reach was is is_whole (request_in whole) whole following left old new
-
--- a part was served, or its bytes are truncated
-abbrev pub ServesPutOver : Reach → (SessionState → Type 0) → (SessionState → Type 0) → Bool → ℕ → ℕ → ℕ → List ℕ → Option (List ℕ) → Option (List ℕ) → Option (List ℕ) → Type 0
-ServesPutOver reach was is true upload offset len following left old new = (len ≤ length following) × (left ≡ Some (drop len following)) × ReportedOver was is (λ before turn after. IsLinkedBytes reach before upload offset (take len following) turn after) old new
-ServesPutOver reach was is false upload offset len following left old new = (length following < len) × Appends old new [] × Leaves was is
 
 -- the bytes after a put were taken, and its result
 abbrev pub ReceivesOver : Reach → (SessionState → Type 0) → (SessionState → Type 0) → Option Answer → ℕ → ℕ → ℕ → List ℕ → Option (List ℕ) → Type 0

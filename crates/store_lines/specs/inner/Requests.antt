@@ -1,10 +1,15 @@
 -- Definitions for private functions, in addition to specs/Requests.
-use Rattle.std.specs.Prelude.{◌≡◌, ℕ, List, Option}
+use Rattle.std.specs.Prelude.{◌≡◌, ◌<◌, ◌⊎◌, ℕ, List, Some, None, Option, length}
+use Rattle.std.specs.Io.BufRead.{strip_last}
 use Rattle.edge.specs.Lines.{IsLineRead}
 use Rattle.edge.specs.declared.lines.LineRead.{LineRead}
 use Rattle.store_lines.specs.declared.request.Request.{Request}
 use Rattle.store_lines.specs.Lines.{max_request}
+use Rattle.store_lines.specs.Grammar.{command_at}
 use Rattle.store_lines.specs.Requests.{request_in}
+use Rattle.store_lines.specs.Session.{MayTakeMemory}
+use Rattle.store_lines.specs.declared.session_line.Line.{Line}
+use Rattle.store_lines.specs.declared.session_line.Line.TheVariants as lines
 
 -- a session's line: as many of its bytes are kept as a command's line can have, and those of a short one are not lost
 abbrev pub IsSessionLine : List ℕ → LineRead → List ℕ → Type 0
@@ -13,3 +18,25 @@ IsSessionLine whole read kept = IsLineRead 33554481 max_request whole read kept
 -- it is the request of the line that was read
 pub record AsksFor (read : LineRead) (kept : List ℕ) (request : Option Request) : Type 0 where
   pub asks : (whole : List ℕ) → IsSessionLine whole read kept → request ≡ request_in whole
+
+-- a line of a script, without its newline, is that
+abbrev pub IsLineOf : List ℕ → Line → Type 0
+IsLineOf line lines.Empty = length line ≡ 0
+IsLineOf line lines.Bad = (0 < length line) × (None ≡ command_at line)
+IsLineOf line lines.Lost = MayTakeMemory line
+IsLineOf line (lines.Has request) = (0 < length line) × (Some request ≡ command_at line)
+
+pub record IsScriptLine (line : List ℕ) (found : Line) : Type 0 where
+  pub is : IsLineOf line found
+
+-- the same for a line that was read
+pub record IsScriptFound (read : LineRead) (kept : List ℕ) (found : Line) : Type 0 where
+  pub is : (whole : List ℕ) → IsSessionLine whole read kept → IsLineOf (strip_last 10 whole) found
+
+-- a session's line is that: it has a request of its own, or is one of a script
+abbrev pub IsOwnOrScript : List ℕ → Line → Type 0
+IsOwnOrScript whole (lines.Has request) = (Some request ≡ request_in whole) ⊎ ((None ≡ request_in whole) × IsLineOf (strip_last 10 whole) (lines.Has request))
+IsOwnOrScript whole line = (None ≡ request_in whole) × IsLineOf (strip_last 10 whole) line
+
+pub record IsFound (read : LineRead) (kept : List ℕ) (found : Line) : Type 0 where
+  pub is : (whole : List ℕ) → IsSessionLine whole read kept → IsOwnOrScript whole found

@@ -6,8 +6,9 @@ use Rattle.b3_forest.specs.Parts.{Part}
 use Rattle.store_board.specs.Drawn.{times}
 use Rattle.store_board.specs.HandOverRule.{of_giver}
 use Rattle.store_board.specs.declared.hand_over.taken.Taken.{Taken}
-use Rattle.store_ledger.specs.declared.holding.Holding.{Holding}
-use Rattle.store_shared.specs.Cuts.{AreSomeBelow, RoseBySome, cut_of, holding_with, part_at, parts_at}
+use Rattle.store_ledger.specs.declared.amounts.ShareAmounts.{ShareAmounts}
+use Rattle.store_shared.specs.Cuts.{AreSomeBelow, RoseBySome, cut_of, share_with, part_at, parts_at}
+use Rattle.store_shared.specs.Gates.{GateRule}
 use Rattle.store_shared.specs.inner.Gates.{IsFaultOf}
 use Rattle.std.specs.Arc.{arc_value}
 use Rattle.store_core.specs.declared.store.Sealed.{Sealed}
@@ -33,31 +34,31 @@ abbrev pub NotesMore : ModelCut → ModelFollow → ModelFollow → List Part �
 NotesMore c f g ps = (ks : List ℕ) × (ps ≡ parts_at c.bytes c.part_chunks ks) × ((js : List ℕ) → AreNoted c f js → AreNoted c g (js ++ ks))
 
 -- a share grew by a prefix of the parts
-abbrev pub RoseByPrefix : List Part → Holding → Holding → Type 0
-RoseByPrefix ps old new = (n : ℕ) × (new ≡ holding_with old (take n ps))
+abbrev pub RoseByPrefix : List Part → ShareAmounts → ShareAmounts → Type 0
+RoseByPrefix ps old new = (n : ℕ) × (new ≡ share_with old (take n ps))
 
 -- the parts that were taken
 abbrev pub parts_in : List Taken → List Part
 parts_in taken = map (λ t. t.part.part) taken
 
 -- if nothing failed, what was taken was noted, and the share grew by it; otherwise the share grew by some parts
-abbrev pub IsCollecting : ModelCut → Holding → ModelFollow → Holding → List Part → Option UploadFaultKind → Type 0
-IsCollecting c start f share taken None = (ks : List ℕ) × AreNoted c f ks × (share ≡ holding_with start (parts_at c.bytes c.part_chunks ks)) × (taken ≡ parts_at c.bytes c.part_chunks ks)
+abbrev pub IsCollecting : ModelCut → ShareAmounts → ModelFollow → ShareAmounts → List Part → Option UploadFaultKind → Type 0
+IsCollecting c start f share taken None = (ks : List ℕ) × AreNoted c f ks × (share ≡ share_with start (parts_at c.bytes c.part_chunks ks)) × (taken ≡ parts_at c.bytes c.part_chunks ks)
 IsCollecting c start f share taken (Some kind) = RoseBySome c.bytes c.part_chunks start share
 
 -- the end of collecting: as before, with more parts taken, which are all that were given if nothing failed
-pub record HasCollected (c : ModelCut) (start : Holding) (f : ModelFollow) (share : Holding) (fault : Option UploadFaultKind) (given : List Taken) : Type 0 where
+pub record HasCollected (c : ModelCut) (start : ShareAmounts) (f : ModelFollow) (share : ShareAmounts) (fault : Option UploadFaultKind) (given : List Taken) : Type 0 where
   pub taken : List Taken
   pub collecting : IsCollecting c start f share (parts_in taken) fault
   pub all : IfNone fault ((g : ℕ) → of_giver g taken ≡ of_giver g given)
 
 -- what is known when all workers have ended: the hash of all bytes, if all parts were put, or a fault
-abbrev pub IsCollected : (ℕ → Type 0) → (ℕ → ℕ → Type 0) → ModelCut → Holding → Holding → Result (List ℕ) UploadFaultKind → Type 0
-IsCollected may_stop may_fault c start share (Ok address) = (address ≡ hash_of c.bytes) × (share ≡ holding_with start (cut_of c.bytes c.part_chunks))
-IsCollected may_stop may_fault c start share (Err kind) = IsFaultOf may_stop may_fault (cut_count c) kind × RoseBySome c.bytes c.part_chunks start share
+abbrev pub IsCollected : GateRule → ModelCut → ShareAmounts → ShareAmounts → Result (List ℕ) UploadFaultKind → Type 0
+IsCollected rule c start share (Ok address) = (address ≡ hash_of c.bytes) × (share ≡ share_with start (cut_of c.bytes c.part_chunks))
+IsCollected rule c start share (Err kind) = IsFaultOf rule (cut_count c) kind × RoseBySome c.bytes c.part_chunks start share
 
 -- the result of an upload with valid numbers of chunks and workers
-abbrev pub IsUploaded : (ℕ → Type 0) → (ℕ → ℕ → Type 0) → ModelCut → Holding → Holding → Result Sealed UploadFault → Type 0
-IsUploaded may_stop may_fault c start share (Ok sealed) =
-    (sealed.address ≡ hash_of c.bytes) × (hash_of (arc_value sealed.object) ≡ hash_of c.bytes) × (share ≡ holding_with start (cut_of c.bytes c.part_chunks))
-IsUploaded may_stop may_fault c start share (Err fault) = IsFaultOf may_stop may_fault (cut_count c) fault.kind × RoseBySome c.bytes c.part_chunks start share
+abbrev pub IsUploaded : GateRule → ModelCut → ShareAmounts → ShareAmounts → Result Sealed UploadFault → Type 0
+IsUploaded rule c start share (Ok sealed) =
+    (sealed.address ≡ hash_of c.bytes) × (hash_of (arc_value sealed.object) ≡ hash_of c.bytes) × (share ≡ share_with start (cut_of c.bytes c.part_chunks))
+IsUploaded rule c start share (Err fault) = IsFaultOf rule (cut_count c) fault.kind × RoseBySome c.bytes c.part_chunks start share

@@ -4,7 +4,7 @@ use Rattle.b3_forest.specs.inner.Subtrees.{firsts}
 use Rattle.b3_forest.specs.Parts.{chunk_in}
 use Rattle.b3_forest.specs.Uploads.{with_part}
 use Rattle.b3_forest.specs.declared.piece.Piece.{Piece}
-use Rattle.b3_forest.proofs.Holding.{is_put, on_err, put_fresh, put_keeps, put_merges}
+use Rattle.b3_forest.proofs.KeptPieces.{is_put, on_err, put_fresh, put_keeps, put_merges}
 use Rattle.b3_forest.proofs.held.add.Goals as goal
 
 pub returns-in_err-put_in-clause-unchanged : goal.returns-in_err-put_in-clause-unchanged

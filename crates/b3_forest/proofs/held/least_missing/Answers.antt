@@ -1,7 +1,7 @@
 use Rattle.std.proofs.Common.{◌≡◌, ◌*◌, arith, refl, inl}
 use Rattle.b3_forest.specs.Parts.{chunk_in}
 use Rattle.b3_forest.proofs.Contents.{missing_at}
-use Rattle.b3_forest.proofs.Holding.{nothing_past}
+use Rattle.b3_forest.proofs.KeptPieces.{nothing_past}
 use Rattle.b3_forest.proofs.held.least_missing.Goals as goal
 
 pub returns-clause-least : goal.returns-clause-least

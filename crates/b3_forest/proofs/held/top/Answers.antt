@@ -3,7 +3,7 @@ use Rattle.b3_core.specs.Tree.{ModelMode, tree_top}
 use Rattle.b3_core.specs.Work.{counted}
 use Rattle.b3_forest.specs.Parts.{chunk_in}
 use Rattle.b3_forest.proofs.Canonical.{forest_count}
-use Rattle.b3_forest.proofs.Holding.{finish_empty, finish_length, finish_top}
+use Rattle.b3_forest.proofs.KeptPieces.{finish_empty, finish_length, finish_top}
 use Rattle.b3_forest.proofs.held.top.Goals as goal
 
 pub returns-in-Some-clause-top : goal.returns-in-Some-clause-top

@@ -14,8 +14,9 @@ chunks_before start size whole =
 
 pub of_subtree-top-requires-clause-subtree : goal.of_subtree-top-requires-clause-subtree
 of_subtree-top-requires-clause-subtree g c =
-    let size = 2 ^ c.args.level in
-    let before = chunks_before c.args.start size c.requires.start in
+    let (level, len) = c.requires.len in
+    let size = 2 ^ level in
+    let before = chunks_before c.args.start size (rw len at c.requires.start) in
     let place : c.args.number + c.args.start / 1024 ≡ c.args.number + size * before.0 = ap (λ n. c.args.number + n) before.1 in
     subst (λ n. IsSubtree (length c.args.bytes.now) n) (sym place)
-    (subst (λ n. IsSubtree n (c.args.number + size * before.0)) (sym c.requires.len) (subtree_after c.args.level c.args.number before.0 c.requires.subtree))
+    (subst (λ n. IsSubtree n (c.args.number + size * before.0)) (sym len) (subtree_after level c.args.number before.0 (rw len at c.requires.subtree)))

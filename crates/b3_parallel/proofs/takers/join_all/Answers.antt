@@ -1,6 +1,5 @@
-use Rattle.std.proofs.Common.{◌≡◌, ◌+◌, ◌∷◌, ℕ, List, Option, arith, ap, length, rules, subst}
+use Rattle.std.proofs.Common.{◌≡◌, ◌+◌, ◌∷◌, arith, ap, length, rules, subst}
 use Rattle.std.specs.Vec.Iter.{into_iter_items, into_iter_len}
-use Rattle.b3_core.specs.Tree.{ModelMode}
 use Rattle.b3_parallel.specs.inner.Rounds.{ArePlaced}
 use Rattle.b3_parallel.specs.inner.Takers.{AreTaking}
 use Rattle.b3_parallel.proofs.takers.join_all.Goals as goal
@@ -19,8 +18,6 @@ loop-handle-preserved g c =
       taken = λ p known k are so.
           let is = (subst (AreTaking bytes p known k) items (c.loop-handle.invariant.taking p known k are)).0 in
           let kept : ArePlaced h.promise.mode (bytes h.promise.source.value) h.promise.level made = c.join.ensures in
-          let in_mode : ArePlaced p (bytes h.promise.source.value) h.promise.level made = subst (λ (q : ModelMode). ArePlaced q (bytes h.promise.source.value) h.promise.level made) is.0 kept in
-          let of_source : ArePlaced p known h.promise.level made = subst (λ (x : Option (List ℕ)). ArePlaced p x h.promise.level made) is.1 in_mode in
-          let placed : ArePlaced p known k made = subst (λ (n : ℕ). ArePlaced p known n made) is.2 of_source in
+          let placed : ArePlaced p known k made = rw (is.0, is.1, is.2) at kept in
           c.add-added.ensures p known k placed (c.loop-handle.invariant.taken p known k are so);
     }

@@ -7,7 +7,8 @@ pub loop-preserved : goal.loop-preserved
 loop-preserved g c =
     let bytes = g.S.Source.bytes in
     let known = bytes c.args.source.now in
+    let p = c.args.round.now.mode in
+    let k = c.args.round.now.level in
     let h = c.in-Some.handle in
     let items : c.push.new.self.items ≡ c.loop.handles.items ++ h ∷ [] = search rules in
-    subst (AreTaking bytes c.args.mode known c.args.round.level) (sym items)
-    (taking_more bytes c.args.mode known c.args.round.level c.loop.handles.items h c.loop.invariant c.in-Some.ensures)
+    subst (AreTaking bytes p known k) (sym items) (taking_more bytes p known k c.loop.handles.items h c.loop.invariant c.in-Some.ensures)

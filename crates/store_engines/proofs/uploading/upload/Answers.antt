@@ -38,7 +38,7 @@ returns-in_err-write_all-in-Ok-uploaded-clause-failed g c = λ _.
     let text = c.in_ok-text-in-Ok-uploaded.text.items in
     let before = g.W.Write.contents c.args.writer.now in
     let last = g.W.Write.contents c.write_all.new.writer in
-    let sealed = is_sealed _ _ _ (record { bytes = input; part_chunks = o.part_chunks }) _ _ _ _ _ _ _ c.upload-share.ensures c.in-Ok-uploaded.is c.new-shared.ensures.share in
+    let sealed = is_sealed _ (record { bytes = input; part_chunks = o.part_chunks }) _ _ _ _ _ _ _ c.upload-share.ensures c.in-Ok-uploaded.is c.new-shared.ensures.share in
     known (g.R.Read.remaining c.args.reader.now) input (λ left. WrotePrefix o left before last) c.in_ok-input.ensures.bytes
     (text, inl (is_upload_text o input text c.in-Ok-uploaded.sealed.address share c.close-locked.result.store sealed.address sealed.bytes sealed.calls c.in_ok-text-in-Ok-uploaded.ensures), subst (WroteSome before last) c.as_slice.ensures.value c.in_err-write_all-in-Ok-uploaded.ensures.failed)
 
@@ -48,7 +48,7 @@ returns-in-Ok-uploaded-clause-written g c = λ _.
     let o = c.args.options in
     let share = c.upload-share.result.0 in
     let text = c.in_ok-text-in-Ok-uploaded.text.items in
-    let sealed = is_sealed _ _ _ (record { bytes = input; part_chunks = o.part_chunks }) _ _ _ _ _ _ _ c.upload-share.ensures c.in-Ok-uploaded.is c.new-shared.ensures.share in
+    let sealed = is_sealed _ (record { bytes = input; part_chunks = o.part_chunks }) _ _ _ _ _ _ _ c.upload-share.ensures c.in-Ok-uploaded.is c.new-shared.ensures.share in
     known (g.R.Read.remaining c.args.reader.now) input (λ left. WroteUpload o left (g.W.Write.contents c.args.writer.now) (g.W.Write.contents c.write_all.new.writer)) c.in_ok-input.ensures.bytes
     (text, is_upload_text o input text c.in-Ok-uploaded.sealed.address share c.close-locked.result.store sealed.address sealed.bytes sealed.calls c.in_ok-text-in-Ok-uploaded.ensures, subst (Appends (g.W.Write.contents c.args.writer.now) (g.W.Write.contents c.write_all.new.writer)) c.as_slice.ensures.value c.in_ok-write_all-in-Ok-uploaded.ensures.written)
 
@@ -76,12 +76,12 @@ pub returns-clause-refused : goal.returns-clause-refused
 returns-clause-refused g c =
     let o = c.args.options in
     let kind = c.in-Err-uploaded.fault.kind in
-    let may = passed_may _ _ _ _ o _ _ _ _ _ c.upload-share.ensures c.in-Err-uploaded.is (c.new-shared.ensures.workers ∙ c.full.ensures.2) (λ part s. s) (λ part code f. f) in
+    let may = passed_may _ _ o _ _ _ _ _ c.upload-share.ensures c.in-Err-uploaded.is (c.new-shared.ensures.workers ∙ c.full.ensures.2) (λ part s. s) (λ part code f. f) in
     reported o c.refuse-in-Err-uploaded.result kind _ _ may c.refuse-in-Err-uploaded.ensures.reported c.refuse-in-Err-uploaded.ensures.memory
 
 pub returns-clause-failed : goal.returns-clause-failed
 returns-clause-failed g c =
     let o = c.args.options in
     let kind = c.in-Err-uploaded.fault.kind in
-    let may = passed_may _ _ _ _ o _ _ _ _ _ c.upload-share.ensures c.in-Err-uploaded.is (c.new-shared.ensures.workers ∙ c.full.ensures.2) (λ part s. s) (λ part code f. f) in
+    let may = passed_may _ _ o _ _ _ _ _ c.upload-share.ensures c.in-Err-uploaded.is (c.new-shared.ensures.workers ∙ c.full.ensures.2) (λ part s. s) (λ part code f. f) in
     reported_some o c.refuse-in-Err-uploaded.result kind _ _ (g.R.Read.remaining c.args.reader.now) may c.refuse-in-Err-uploaded.ensures.failed c.refuse-in-Err-uploaded.ensures.memory

@@ -1,4 +1,4 @@
-use Rattle.store_lease.proofs.Holding.{sealed_is_held}
+use Rattle.store_lease.proofs.SealedObjects.{sealed_is_held}
 use Rattle.store_lease.proofs.Opening.{stays_open}
 use Rattle.store_lease.proofs.Sealing.{reported_is_held}
 use Rattle.store_lease.proofs.laws.client_laws.Goals as goal

@@ -2,8 +2,9 @@ use Rattle.std.proofs.Common.{rules, ◌≡◌, ◌≤◌, ◌<◌, arith, false
 use Rattle.std.specs.Prelude.{IfSome}
 use Rattle.edge.specs.declared.outcome.Cause.TheVariants as causes
 use Rattle.store_lines.specs.Lines.{max_request}
-use Rattle.store_lines.specs.inner.Reporting.{ServesReadOver}
+use Rattle.store_lines.specs.inner.Requests.{IsFound}
 use Rattle.store_lines.specs.Turns.{ServedSomeOver}
+use Rattle.store_lines.proofs.Serves.{served_read}
 use Rattle.store_lines.proofs.Under.{at_end, begun, truncated, stopped, turned, unended}
 use Rattle.store_lines.proofs.serving.serve_over.Goals as goal
 
@@ -35,7 +36,8 @@ returns-then-not-branch-clause-written g c =
     let now = g.A.Access.stands c.serve_line.new.access in
     let none : c.in_ok-serve_line.field-0 ≡ false = search rules in
     let kept : c.as_slice.result.now ≡ c.next_line.new.line.items = search rules in
-    let served = subst (λ (k : List ℕ). IfSome (g.R.Read.remaining c.next_line.new.reader) (λ following. ServesReadOver reach mid now c.in_ok-serve_line.field-0 c.in_ok-read.read k following (g.R.Read.remaining c.serve_line.new.reader) (g.W.Write.contents c.loop.writer) (g.W.Write.contents c.serve_line.new.writer))) kept c.in_ok-serve_line.ensures.served in
+    let found = subst (λ (k : List ℕ). IsFound c.in_ok-read.read k c.line_of-found.result) kept c.line_of-found.ensures in
+    let served = served_read c.in_ok-serve_line.field-0 (g.R.Read.remaining c.next_line.new.reader) (g.R.Read.remaining c.serve_line.new.reader) (g.W.Write.contents c.loop.writer) (g.W.Write.contents c.serve_line.new.writer) reach mid now c.in_ok-read.read c.next_line.new.line.items c.line_of-found.result found c.in_ok-serve_line.ensures.served in
     truncated reach (g.A.Access.stands c.args.access.now) mid now (g.R.Read.remaining c.args.reader.now) (g.R.Read.remaining c.loop.reader) (g.R.Read.remaining c.next_line.new.reader) (g.R.Read.remaining c.serve_line.new.reader) (g.W.Write.contents c.args.writer.now) (g.W.Write.contents c.loop.writer) (g.W.Write.contents c.serve_line.new.writer)
     c.in_ok-read.read c.next_line.new.line.items c.in_ok-serve_line.field-0 none c.loop.invariant.0 c.in_ok-read.ensures.read c.in_ok-read.ensures.rest served
 
@@ -52,7 +54,8 @@ loop-preserved g c =
     let now = g.A.Access.stands c.serve_line.new.access in
     let whole : c.in_ok-serve_line.field-0 ≡ true = search rules in
     let kept : c.as_slice.result.now ≡ c.next_line.new.line.items = search rules in
-    let served = subst (λ (k : List ℕ). IfSome (g.R.Read.remaining c.next_line.new.reader) (λ following. ServesReadOver reach mid now c.in_ok-serve_line.field-0 c.in_ok-read.read k following (g.R.Read.remaining c.serve_line.new.reader) (g.W.Write.contents c.loop.writer) (g.W.Write.contents c.serve_line.new.writer))) kept c.in_ok-serve_line.ensures.served in
+    let found = subst (λ (k : List ℕ). IsFound c.in_ok-read.read k c.line_of-found.result) kept c.line_of-found.ensures in
+    let served = served_read c.in_ok-serve_line.field-0 (g.R.Read.remaining c.next_line.new.reader) (g.R.Read.remaining c.serve_line.new.reader) (g.W.Write.contents c.loop.writer) (g.W.Write.contents c.serve_line.new.writer) reach mid now c.in_ok-read.read c.next_line.new.line.items c.line_of-found.result found c.in_ok-serve_line.ensures.served in
     let some : 0 < c.in_ok-read.read.count = omega arith in
     let room : max_request ≤ vec_capacity c.next_line.new.line = search rules in (
       turned reach (g.A.Access.stands c.args.access.now) mid now (g.R.Read.remaining c.args.reader.now) (g.R.Read.remaining c.loop.reader) (g.R.Read.remaining c.next_line.new.reader) (g.R.Read.remaining c.serve_line.new.reader) (g.W.Write.contents c.args.writer.now) (g.W.Write.contents c.loop.writer) (g.W.Write.contents c.serve_line.new.writer)

@@ -6,7 +6,7 @@ use Rattle.store_shared.proofs.crew.join_all.Given as goal
 abbrev pub invariant-loop-handle : goal.invariant-loop-handle
 invariant-loop-handle g l = All (IsThreadOf l.job.cut l.job.gate.now l.job.exchange) (into_iter_items l.rest)
     × (vec_len l.reports + length (into_iter_items l.rest) ≤ vec_capacity l.reports)
-    × All (λ r. IsReportOf l.job.exchange (g.G.Gate.may_stop l.job.gate.now) (g.G.Gate.may_fault l.job.gate.now) (g.G.Gate.has_passed l.job.gate.now) l.job.cut r) l.reports.items
+    × All (λ r. IsReportOf l.job.exchange (g.G.Gate.rule l.job.gate.now) l.job.cut r) l.reports.items
     × (vec_len l.reports + length (into_iter_items l.rest) ≡ vec_len l.fn.handles)
 
 abbrev pub decreases-loop-handle : goal.decreases-loop-handle

@@ -6,9 +6,9 @@ use Rattle.store_shared.proofs.uploads.put_parts.Goals as goal
 pub returns-clause-collected : goal.returns-clause-collected
 returns-clause-collected g c =
     let gate = c.args.request.now.gate.now in
-    subst (λ cut. IsCollected (g.G.Gate.may_stop gate) (g.G.Gate.may_fault gate) cut c.args.share c.work_together.result.0 c.work_together.result.1) c.new-cut.ensures c.work_together.ensures.collected
+    subst (λ cut. IsCollected (g.G.Gate.rule gate) cut c.args.share c.work_together.result.0 c.work_together.result.1) c.new-cut.ensures c.work_together.ensures.collected
 
 pub returns-clause-passed : goal.returns-clause-passed
 returns-clause-passed g c =
     let gate = c.args.request.now.gate.now in
-    subst (λ cut. OnOk c.work_together.result.1 ((k : ℕ) → k < cut_count cut → g.G.Gate.has_passed gate k)) c.new-cut.ensures c.work_together.ensures.passed
+    subst (λ cut. OnOk c.work_together.result.1 ((k : ℕ) → k < cut_count cut → (g.G.Gate.rule gate).has_passed k)) c.new-cut.ensures c.work_together.ensures.passed

@@ -1,6 +1,6 @@
 use Rattle.std.proofs.Common.{◌≡◌, ◌*◌, ◌-◌, ◌+◌, ◌/◌, ◌^◌, ◌<◌, ℕ, ◌∷◌, ◌++◌, List, [], length, arith, refl, ap, sym, ◌∙◌, rules, subst, append_assoc, length-append, reverse, inl, inr}
 use Rattle.std.proofs.lemmas.Bool.{cases_lt}
-use Rattle.b3_core.specs.Hashers.{ModelHasher, Holds, kept_work}
+use Rattle.b3_core.specs.Hashers.{ModelHasher, HasInput, kept_work}
 use Rattle.b3_core.specs.inner.Hashers.{IsLeft}
 use Rattle.b3_core.specs.Kept.{kept_of, nodes_of, tail_of}
 use Rattle.b3_core.specs.Tree.{ModelTop, tree_top}
@@ -55,7 +55,7 @@ after c x less (front, cut, held, empty, makes) =
     let tail = ap tail_of c.put.ensures.tail in (
       front ++ mine c,
       bytes,
-      subst (Holds (new c)) given (holds_next h (new c) next (x ++ front) (mine c) none held len refl tail (c.put.ensures.whole size) are),
+      subst (HasInput (new c)) given (holds_next h (new c) next (x ++ front) (mine c) none held len refl tail (c.put.ensures.whole size) are),
       (λ _. tail ∙ none),
       makes_then _ _ _ _ _ _ work made,
     )
@@ -79,7 +79,7 @@ pub returns-clause-bytes : goal.returns-clause-bytes
 returns-clause-bytes c x is few = kept (c.loop-rest.invariant.left x is few)
   where
     kept : IsLeft (kept_of c.args.mode.now c.args.self.now) x c.args.bytes.now c.args.work.now (kept_of c.args.mode.now c.loop-rest.self) c.loop-rest.rest.now c.loop-rest.work
-        → Holds (record { mode = c.args.mode.now; subtrees = reverse (nodes_of c.loop-rest.self.subtrees); whole = c.loop-rest.self.whole; tail = tail_of c.extend.new.self }) (x ++ c.args.bytes.now)
+        → HasInput (record { mode = c.args.mode.now; subtrees = reverse (nodes_of c.loop-rest.self.subtrees); whole = c.loop-rest.self.whole; tail = tail_of c.extend.new.self }) (x ++ c.args.bytes.now)
     kept (front, cut, (before, given, are, size, short), empty, makes) =
         let rest = c.loop-rest.rest.now in
         let tail = tail_of c.loop-rest.self.tail in

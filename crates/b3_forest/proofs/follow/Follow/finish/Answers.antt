@@ -2,7 +2,7 @@ use Rattle.std.proofs.Common.{◌≡◌, ◌*◌, ◌-◌, ℕ, List, arith, ap,
 use Rattle.b3_core.specs.Modes.{hash_mode}
 use Rattle.b3_core.specs.Tree.{tree_top}
 use Rattle.b3_core.specs.Work.{counted}
-use Rattle.b3_forest.specs.Lent.{lent_bytes}
+use Rattle.b3_forest.specs.Borrowed.{borrowed_bytes}
 use Rattle.b3_forest.specs.Subtrees.{Keeps}
 use Rattle.b3_forest.specs.Followed.{AllNoted, ModelFollow, IsFirstUnnoted, pieces_noted}
 use Rattle.b3_forest.specs.inner.Subtrees.{AreWhole}
@@ -14,26 +14,26 @@ returns-then-missing-len-clause-missing c =
     let w = c.self.invariant in
     let gap = c.least_missing-missing.ensures.least w.parts (subst (λ n. Keeps n w.parts c.self.inside.subtrees.entries) (sym c.len-len.ensures) w.keeps) in
     subst (λ (f : ModelFollow). IsFirstUnnoted f c.least_missing-missing.result) c.self.view_is
-    (reported_missing (lent_bytes c.self.inside.lent) w.parts c.self.inside.subtrees.entries c.least_missing-missing.result c.upload_laws.ensures.missing w.keeps gap (omega (arith, c.if-missing-len.true, c.len-len.ensures)))
+    (reported_missing (borrowed_bytes c.self.inside.borrowed) w.parts c.self.inside.subtrees.entries c.least_missing-missing.result c.upload_laws.ensures.missing w.keeps gap (omega (arith, c.if-missing-len.true, c.len-len.ensures)))
 
 pub returns-clause-complete : goal.returns-clause-complete
 returns-clause-complete c =
     let w = c.self.invariant in
     let gap = c.least_missing-missing.ensures.least w.parts (subst (λ n. Keeps n w.parts c.self.inside.subtrees.entries) (sym c.len-len.ensures) w.keeps) in
     subst (λ (f : ModelFollow). AllNoted f) c.self.view_is
-    (reported_all (lent_bytes c.self.inside.lent) w.parts c.self.inside.subtrees.entries c.upload_laws.ensures.missing w.keeps (omega (arith, gap, c.if-missing-len.false, c.len-len.ensures)))
+    (reported_all (borrowed_bytes c.self.inside.borrowed) w.parts c.self.inside.subtrees.entries c.upload_laws.ensures.missing w.keeps (omega (arith, gap, c.if-missing-len.false, c.len-len.ensures)))
 
 pub top-requires : goal.top-requires
 top-requires c =
     let w = c.self.invariant in
     let gap = c.least_missing-missing.ensures.least w.parts (subst (λ n. Keeps n w.parts c.self.inside.subtrees.entries) (sym c.len-len.ensures) w.keeps) in
     let within = c.least_missing-missing.ensures.within in
-    (length (lent_bytes c.self.inside.lent), w.parts, record { keeps = w.keeps; all = omega (arith, gap, within, c.if-missing-len.false, c.len-len.ensures) })
+    (length (borrowed_bytes c.self.inside.borrowed), w.parts, record { keeps = w.keeps; all = omega (arith, gap, within, c.if-missing-len.false, c.len-len.ensures) })
 
 pub returns-clause-top : goal.returns-clause-top
 returns-clause-top c =
     let w = c.self.invariant in
-    let b = lent_bytes c.self.inside.lent in
+    let b = borrowed_bytes c.self.inside.borrowed in
     let es = c.self.inside.subtrees.entries in
     let gap = c.least_missing-missing.ensures.least w.parts (subst (λ n. Keeps n w.parts c.self.inside.subtrees.entries) (sym c.len-len.ensures) w.keeps) in
     let within = c.least_missing-missing.ensures.within in
@@ -44,7 +44,7 @@ returns-clause-top c =
 pub returns-clause-count : goal.returns-clause-count
 returns-clause-count c =
     let w = c.self.invariant in
-    let b = lent_bytes c.self.inside.lent in
+    let b = borrowed_bytes c.self.inside.borrowed in
     let es = c.self.inside.subtrees.entries in
     let gap = c.least_missing-missing.ensures.least w.parts (subst (λ n. Keeps n w.parts c.self.inside.subtrees.entries) (sym c.len-len.ensures) w.keeps) in
     let within = c.least_missing-missing.ensures.within in

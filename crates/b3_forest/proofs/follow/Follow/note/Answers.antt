@@ -2,7 +2,7 @@ use Rattle.std.proofs.Common.{◌≡◌, length, refl, sym, subst, ap, ap₂, �
 use Rattle.std.specs.Prelude.{◌≢◌}
 use Rattle.store_upload.specs.Uploads.{closed_plan}
 use Rattle.store_upload.specs.Uploads as upload
-use Rattle.b3_forest.specs.Lent.{lent_bytes}
+use Rattle.b3_forest.specs.Borrowed.{borrowed_bytes}
 use Rattle.b3_forest.specs.Followed.{ModelFollow, IsFirstNoted, IsNotedWith, MayNote, NothingNoted, bytes_at, followed, noting_merges}
 use Rattle.b3_forest.specs.Uploads.{with_part}
 use Rattle.b3_forest.proofs.Following.{merges_noted, noted_with, parts_with, room_of, reported_apart, reported_overlap}
@@ -11,7 +11,7 @@ use Rattle.b3_forest.proofs.follow.Follow.note.Goals as goal
 pub returns-in-Some-clause-fault : goal.returns-in-Some-clause-fault
 returns-in-Some-clause-fault c =
     let w = c.self.invariant in
-    let b = lent_bytes c.self.inside.lent in
+    let b = borrowed_bytes c.self.inside.borrowed in
     let es = c.self.inside.subtrees.entries in
     let p = c.args.part.now in
     let plan = sym c.plan.ensures ∙ c.if-not-is_of.ensures.yes refl ∙ ap closed_plan c.len.ensures in
@@ -22,7 +22,7 @@ returns-in-Some-clause-fault c =
 pub returns-then-not-has_bytes-clause-fault : goal.returns-then-not-has_bytes-clause-fault
 returns-then-not-has_bytes-clause-fault c =
     let w = c.self.invariant in
-    let b = lent_bytes c.self.inside.lent in
+    let b = borrowed_bytes c.self.inside.borrowed in
     let es = c.self.inside.subtrees.entries in
     let p = c.args.part.now in
     let plan = sym c.plan.ensures ∙ c.if-not-is_of.ensures.yes refl ∙ ap closed_plan c.len.ensures in
@@ -33,7 +33,7 @@ returns-then-not-has_bytes-clause-fault c =
 pub returns-in_default-add-clause-fault : goal.returns-in_default-add-clause-fault
 returns-in_default-add-clause-fault c =
     let w = c.self.invariant in
-    let b = lent_bytes c.self.inside.lent in
+    let b = borrowed_bytes c.self.inside.borrowed in
     let es = c.self.inside.subtrees.entries in
     let p = c.args.part.now in
     let plan = sym c.plan.ensures ∙ c.if-not-is_of.ensures.yes refl ∙ ap closed_plan c.len.ensures in
@@ -44,7 +44,7 @@ returns-in_default-add-clause-fault c =
 pub add-requires : goal.add-requires
 add-requires c =
     let w = c.self.invariant in
-    let b = lent_bytes c.self.inside.lent in
+    let b = borrowed_bytes c.self.inside.borrowed in
     let plan = sym c.plan.ensures ∙ c.if-not-is_of.ensures.yes refl ∙ ap closed_plan c.len.ensures in
     let reported = c.in_default.ensures (length b) w.parts w.keeps ∙ ap₂ (λ (i n : ℕ). upload.overlap_at length i n w.parts) c.offset.ensures (ap length c.fitting.ensures.bytes) in
     (length b, w.parts, room_of b c.self.inside.subtrees.entries w c.args.part.now plan c.fitting.ensures.fits reported)
@@ -52,7 +52,7 @@ add-requires c =
 pub invariant_of-self-2 : goal.invariant_of-self-2
 invariant_of-self-2 c =
     let w = c.self.invariant in
-    let b = lent_bytes c.self.inside.lent in
+    let b = borrowed_bytes c.self.inside.borrowed in
     let es = c.self.inside.subtrees.entries in
     let p = c.args.part.now in
     let plan = sym c.plan.ensures ∙ c.if-not-is_of.ensures.yes refl ∙ ap closed_plan c.len.ensures in
@@ -63,7 +63,7 @@ invariant_of-self-2 c =
 pub returns-clause-noted : goal.returns-clause-noted
 returns-clause-noted c =
     let w = c.self.invariant in
-    let b = lent_bytes c.self.inside.lent in
+    let b = borrowed_bytes c.self.inside.borrowed in
     let es = c.self.inside.subtrees.entries in
     let p = c.args.part.now in
     let plan = sym c.plan.ensures ∙ c.if-not-is_of.ensures.yes refl ∙ ap closed_plan c.len.ensures in
@@ -75,7 +75,7 @@ returns-clause-noted c =
 pub returns-clause-allowed : goal.returns-clause-allowed
 returns-clause-allowed c =
     let w = c.self.invariant in
-    let b = lent_bytes c.self.inside.lent in
+    let b = borrowed_bytes c.self.inside.borrowed in
     let es = c.self.inside.subtrees.entries in
     let p = c.args.part.now in
     let plan = sym c.plan.ensures ∙ c.if-not-is_of.ensures.yes refl ∙ ap closed_plan c.len.ensures in
@@ -86,7 +86,7 @@ returns-clause-allowed c =
 pub returns-clause-merges : goal.returns-clause-merges
 returns-clause-merges c =
     let w = c.self.invariant in
-    let b = lent_bytes c.self.inside.lent in
+    let b = borrowed_bytes c.self.inside.borrowed in
     let es = c.self.inside.subtrees.entries in
     let p = c.args.part.now in
     let plan = sym c.plan.ensures ∙ c.if-not-is_of.ensures.yes refl ∙ ap closed_plan c.len.ensures in

@@ -1,7 +1,7 @@
 use Rattle.std.proofs.Common.{arith, ap, length, sym, ◌∙◌}
 use Rattle.store_upload.specs.Uploads.{last_end}
 use Rattle.b3_forest.proofs.Ends.{last_of_none}
-use Rattle.b3_forest.proofs.Holding.{keeps_nothing}
+use Rattle.b3_forest.proofs.KeptPieces.{keeps_nothing}
 use Rattle.b3_forest.proofs.hashed_parts.HashedPartsHeldParts.new.Goals as goal
 
 pub invariant_of-result : goal.invariant_of-result

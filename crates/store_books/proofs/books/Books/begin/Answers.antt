@@ -1,30 +1,37 @@
-use Rattle.std.proofs.Common.{◌∙◌, ◌+◌, ◌<◌, ◌++◌, ◌∷◌, [], ℕ, arith, ap, refl, sym}
+use Rattle.std.proofs.Common.{rules, ◌≡◌, ◌∙◌, ◌<◌, ◌++◌, ◌∷◌, [], ℕ, List, None, arith, ap, refl}
+use Rattle.std.specs.BTreeMap.{insert_entry}
+use Rattle.std.specs.List.{AllByRecursion}
+use Rattle.std.specs.Ordering.{nat_cmp}
 use Rattle.store_books.specs.Books.{ModelOwnedUpload, ModelBooks, IsOwnedUpload}
 use Rattle.store_books.specs.Commands.{begin_refusal, with_begun}
-use Rattle.store_books.specs.Kept.{books_of}
-use Rattle.store_books.specs.inner.Kept.{changed_sums}
-use Rattle.store_upload.specs.Uploads.{ModelUpload}
-use Rattle.store_books.proofs.Commands.{begins, none, rises}
+use Rattle.store_books.specs.Kept.{IsKept, KeptBooks, view_of}
+use Rattle.store_upload.specs.Uploads.{UploadPlan}
+use Rattle.store_books.proofs.Commands.{begins, none, reserving}
 use Rattle.store_books.proofs.Lists.{all_weaker}
-use Rattle.store_books.proofs.Sums.{kept_after, kept_as}
+use Rattle.store_books.proofs.Numbers.{inserted_last}
+use Rattle.store_books.proofs.Sums.{Takes, takes}
 use Rattle.store_books.proofs.books.Books.begin.Goals as goal
 
-pub begin-requires : goal.begin-requires
-begin-requires g c = let old = c.self.inside in all_weaker (IsOwnedUpload g.H.Part.Length.len _ old.begun) (λ e. e.0 < old.begun) old.uploads.entries (λ e is. is.number) c.self.invariant.sound.uploads
+last : {P O : Type 0} {len : P → ℕ} {size : O → ℕ} {address : O → List ℕ} {k : KeptBooks P O} {us : List (ℕ × ModelOwnedUpload P)} (u v : ModelOwnedUpload P) → IsKept len size address k → us ≡ insert_entry nat_cmp k.uploads k.begun u → u ≡ v → us ≡ k.uploads ++ (k.begun, v) ∷ []
+last {P = P} {O = O} {len = len} {k = k} u v kept inserted is =
+    let numbers : AllByRecursion (λ (e : ℕ × ModelOwnedUpload P). e.0 < k.begun) k.uploads = all_weaker (IsOwnedUpload len _ k.begun) (λ e. e.0 < k.begun) k.uploads (λ e is. is.number) kept.all.sound.uploads in
+    inserted ∙ inserted_last k.begun u k.uploads numbers ∙ ap (λ (w : ModelOwnedUpload P). k.uploads ++ (k.begun, w) ∷ []) is
+
+starts : {P O : Type 0} {len : P → ℕ} {size : O → ℕ} {address : O → List ℕ} {k : KeptBooks P O} {b : ModelBooks P O} (t : ℕ) (plan : UploadPlan) (n : ℕ) → IsKept len size address k → view_of k ≡ b → n ≡ plan.bound → begin_refusal size b t plan.bound ≡ None
+    → Takes len size address k t none (reserving n) (with_begun (view_of k) t plan)
+starts {len = len} {size} {address} {k} t plan n kept is bound free = takes len size address k kept (begins len size address (view_of k) t plan n bound (ap (λ b. begin_refusal size b t plan.bound) is ∙ free) kept.all.sound)
+
+pub change-requires : goal.change-requires
+change-requires g c = (starts c.args.tenant c.args.plan _ c.self.invariant c.self.view_is c.bound-reserved.ensures.value c.requires).room
 
 pub invariant_of-self-2 : goal.invariant_of-self-2
 invariant_of-self-2 g c =
-    let old = c.self.inside in
-    let len = g.H.Part.Length.len in
-    let size = g.O.Content.size in
-    let address = g.O.Content.address in
-    let t = c.args.tenant in
-    let plan = c.args.plan in
-    let b : ModelBooks g.row.H-Part.Denot g.row.O.Denot = books_of old.limits old.tenants.items old.begun old.uploads.entries old.catalog.objects old.accepted in
-    let begun = begins len size address b t plan (ap (λ x. begin_refusal size x t plan.bound) c.self.view_is ∙ c.requires) c.self.invariant.sound in
-    let kept = kept_after len size address t none (rises plan.bound) b (with_begun b t plan) old.tenants.items old.catalog.filings old.object_bytes old.held old.parts old.catalog.filings old.object_bytes old.held old.parts
-    begun.moves refl c.self.invariant (omega arith) c.self.invariant.object_bytes_is (c.self.invariant.held_is ∙ sym begun.held) (c.self.invariant.parts_is ∙ sym begun.parts) in
-    let now = c.change_sums.ensures.sums ∙ ap (λ (n : ℕ). changed_sums old.tenants.items t none (rises n)) c.bound-bound.ensures.value in
-    let with : ModelUpload g.row.H-Part.Denot → ModelOwnedUpload g.row.H-Part.Denot = λ x. record { tenant = t; upload = x } in
-    let uploads = c.in_ok-begin.ensures.begun ∙ ap (λ (u : ModelOwnedUpload g.row.H-Part.Denot). old.uploads.entries ++ (old.begun, u) ∷ []) (c.new-begun.ensures ∙ ap with c.new.ensures) in
-    kept_as len size address old.limits t none (rises plan.bound) (old.begun + 1) (old.accepted + 1) old.catalog.filings old.object_bytes old.held old.parts old.tenants.items _ _ _ old.catalog.objects old.catalog.objects now uploads refl kept
+    let new = c.new-begun.ensures ∙ ap (λ u. record { tenant = c.args.tenant; upload = u }) c.new.ensures in
+    let uploads = last c.new-begun.result _ c.self.invariant c.in-Ok.ensures.entries new in
+    (starts c.args.tenant c.args.plan _ c.self.invariant c.self.view_is c.bound-reserved.ensures.value c.requires).kept c.change.ensures.accounts uploads refl (omega arith)
+
+pub returns-clause-begun : goal.returns-clause-begun
+returns-clause-begun g c =
+    let new = c.new-begun.ensures ∙ ap (λ u. record { tenant = c.args.tenant; upload = u }) c.new.ensures in
+    let uploads = last c.new-begun.result _ c.self.invariant c.in-Ok.ensures.entries new in
+    search rules

@@ -1,50 +1,26 @@
-use Rattle.std.proofs.Common.{◌≡◌, ◌∙◌, ◌-◌, ◌≤◌, arith, ap, refl, subst, sym}
-use Rattle.store_books.specs.declared.tenant.Tenant.{Tenant}
-use Rattle.store_books.specs.Books.{ModelBooks}
-use Rattle.store_books.specs.Kept.{books_of, tenant_at}
+use Rattle.std.proofs.Common.{◌≡◌, ◌<◌, ℕ, List, Some, arith, length, sym}
+use Rattle.store_books.specs.Books.{ModelOwnedUpload, upload_at}
+use Rattle.store_books.specs.Kept.{IsKept, KeptBooks, tenant_at, view_of}
 use Rattle.store_books.proofs.Commands.{found_among}
-use Rattle.store_books.proofs.Sums.{count_is, tenant_is}
+use Rattle.store_books.proofs.Sums.{IsAt, count_is, tenant_is}
 use Rattle.store_books.proofs.books.Books.file_refusal.Goals as goal
 
+owner : {P O : Type 0} {len : P → ℕ} {size : O → ℕ} {address : O → List ℕ} {k : KeptBooks P O} (number : ℕ) (u : ModelOwnedUpload P) → IsKept len size address k → upload_at (view_of k) number ≡ Some u
+    → (u.tenant < length k.accounts.tenants) × IsAt len size address (view_of k) u.tenant (tenant_at k.accounts.tenants u.tenant)
+owner {len = len} {size} {address} {k} number u kept found =
+    let low = (found_among len size address (view_of k) number u found kept.all.sound).0 in
+    let there : u.tenant < length k.accounts.tenants = omega (arith, low, count_is k.accounts.tenants) in
+    (there, tenant_is len size address k u.tenant there kept)
+
 pub tenant_of-found-requires : goal.tenant_of-found-requires
-tenant_of-found-requires g c =
-    let old = c.self.inside in
-    let len = g.H.Part.Length.len in
-    let size = g.O.Content.size in
-    let address = g.O.Content.address in
-    let b : ModelBooks g.row.H-Part.Denot g.row.O.Denot = books_of old.limits old.tenants.items old.begun old.uploads.entries old.catalog.objects old.accepted in
-    let u = c.in-Some.begun.now in
-    let found = sym c.in-Some.ensures.value in
-    let was = found_among len size address b c.args.number u found c.self.invariant.sound in
-    let at = tenant_is len size address b old.tenants.items u.tenant old.catalog.filings old.object_bytes old.held old.parts refl was.0 c.self.invariant in
-    let count = count_is old.tenants.items in
-    let there = was.0 in
-    omega (arith, there, count, c.tenant-tenant.ensures)
+tenant_of-found-requires g c = rw c.tenant-tenant.ensures (owner c.args.number c.in-Some.begun.now c.self.invariant (sym c.in-Some.ensures.value)).0
 
 pub overflow_sub-free : goal.overflow_sub-free
 overflow_sub-free g c =
-    let old = c.self.inside in
-    let len = g.H.Part.Length.len in
-    let size = g.O.Content.size in
-    let address = g.O.Content.address in
-    let b : ModelBooks g.row.H-Part.Denot g.row.O.Denot = books_of old.limits old.tenants.items old.begun old.uploads.entries old.catalog.objects old.accepted in
-    let u = c.in-Some.begun.now in
-    let found = sym c.in-Some.ensures.value in
-    let was = found_among len size address b c.args.number u found c.self.invariant.sound in
-    let at = tenant_is len size address b old.tenants.items u.tenant old.catalog.filings old.object_bytes old.held old.parts refl was.0 c.self.invariant in
-    let t : c.tenant_of-found.result ≡ tenant_at old.tenants.items u.tenant = c.tenant_of-found.ensures ∙ ap (tenant_at old.tenants.items) c.tenant-tenant.ensures in
-    subst (λ (x : Tenant). x.used ≤ x.limit) (sym t) (omega (arith, at.within))
+    let at = (owner c.args.number c.in-Some.begun.now c.self.invariant (sym c.in-Some.ensures.value)).1 in
+    rw (c.tenant_of-found.ensures, c.tenant-tenant.ensures) (omega (arith, at.within))
 
 pub overflow_sub-free-2 : goal.overflow_sub-free-2
 overflow_sub-free-2 g c =
-    let old = c.self.inside in
-    let len = g.H.Part.Length.len in
-    let size = g.O.Content.size in
-    let address = g.O.Content.address in
-    let b : ModelBooks g.row.H-Part.Denot g.row.O.Denot = books_of old.limits old.tenants.items old.begun old.uploads.entries old.catalog.objects old.accepted in
-    let u = c.in-Some.begun.now in
-    let found = sym c.in-Some.ensures.value in
-    let was = found_among len size address b c.args.number u found c.self.invariant.sound in
-    let at = tenant_is len size address b old.tenants.items u.tenant old.catalog.filings old.object_bytes old.held old.parts refl was.0 c.self.invariant in
-    let t : c.tenant_of-found.result ≡ tenant_at old.tenants.items u.tenant = c.tenant_of-found.ensures ∙ ap (tenant_at old.tenants.items) c.tenant-tenant.ensures in
-    subst (λ (x : Tenant). x.reserved ≤ x.limit - x.used) (sym t) (omega (arith, at.within))
+    let at = (owner c.args.number c.in-Some.begun.now c.self.invariant (sym c.in-Some.ensures.value)).1 in
+    rw (c.tenant_of-found.ensures, c.tenant-tenant.ensures) (omega (arith, at.within))

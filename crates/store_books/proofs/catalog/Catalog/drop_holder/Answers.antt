@@ -1,7 +1,7 @@
 use Rattle.std.proofs.Common.{◌≡◌, ◌∙◌, List, ℕ, Some, ap, sym}
 use Rattle.std.specs.Option.{option_map}
 use Rattle.store_books.specs.Books.{Filed, object_among}
-use Rattle.store_books.specs.inner.Catalog.{ModelCatalog}
+use Rattle.store_books.specs.Kept.{ModelCatalog}
 use Rattle.store_books.specs.Commands.{with_holders, without_holder}
 use Rattle.store_upload.proofs.Places.{some_is}
 use Rattle.store_books.proofs.Catalogs.{catalog_after, catalog_less, catalogued_after, catalogued_less, is_numbered, numbered, placed_at}

@@ -3,7 +3,8 @@ use Rattle.std.specs.BTreeMap.{get as object_in, insert_entry, is_at}
 use Rattle.std.specs.Ordering.{nat_cmp}
 use Rattle.std.specs.Str.{bytes_eq}
 use Rattle.store_books.specs.Books.{Filed, object_among}
-use Rattle.store_books.specs.inner.Catalog.{ModelCatalog, is_holding}
+use Rattle.store_books.specs.Kept.{ModelCatalog}
+use Rattle.store_books.specs.inner.Catalog.{is_holding}
 use Rattle.store_books.proofs.Catalogs.{catalog_more, catalogued_more, catalogued_still, is_unnumbered, undone_number}
 use Rattle.store_books.proofs.Holdings.{holdings_more, holdings_still, is_fresh, same_pairs, undone}
 use Rattle.store_books.proofs.catalog.Catalog.file_last.Given.{Over}

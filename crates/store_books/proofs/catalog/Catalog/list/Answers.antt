@@ -1,5 +1,5 @@
 use Rattle.std.proofs.Common.{◌∙◌, ◌++◌, ℕ, List, ap}
-use Rattle.store_books.specs.inner.Catalog.{ModelCatalog}
+use Rattle.store_books.specs.Kept.{ModelCatalog}
 use Rattle.store_books.specs.Questions.{listed}
 use Rattle.store_books.proofs.HoldingRows.{row_reported, reported_of}
 use Rattle.store_books.proofs.catalog.Catalog.list.Goals as goal

@@ -1,0 +1,59 @@
+//! The lines of a session.
+
+ghost use Rattle.store_lines.specs.inner.Requests.{IsFound, IsScriptFound, IsScriptLine};
+
+use crate::answer::{MAX_LINE, without_end};
+use crate::parsing::read_command;
+use crate::request::{Request, request_of};
+use edge::LineRead;
+use std::alloc::Global;
+
+/// What a line of a session is.
+#[derive(Drop)]
+pub(crate) enum Line {
+    /// It has no bytes before its newline.
+    Empty,
+    /// It is outside the grammar.
+    Bad,
+    /// An allocation failed for it.
+    Lost,
+    /// It has this request.
+    Has(Request),
+}
+
+/// What the line is that was read like this: a session's own, or one that a script has too.
+pub(crate) fn line_of(alloc: Global, line: &[u8], read: LineRead) -> Line
+    ensures { IsFound read line.now result }
+{
+    match request_of(line, read) {
+        Some(request) => Line::Has(request),
+        None => script_line(alloc, line, read),
+    }
+}
+
+// The same for a line that is not a session's own.
+fn script_line(alloc: Global, line: &[u8], read: LineRead) -> Line
+    ensures { IsScriptFound read line.now result }
+{
+    if !read.is_kept {
+        return Line::Lost;
+    }
+    if read.count > MAX_LINE {
+        return Line::Bad;
+    }
+    kept_line(alloc, without_end(line))
+}
+
+// The same for a line without its newline.
+fn kept_line(alloc: Global, line: &[u8]) -> Line
+    ensures { IsScriptLine line.now result }
+{
+    if line.is_empty() {
+        return Line::Empty;
+    }
+    match read_command(alloc, line) {
+        Ok(Some(request)) => Line::Has(request),
+        Ok(None) => Line::Bad,
+        Err(_) => Line::Lost,
+    }
+}

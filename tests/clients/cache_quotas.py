@@ -1,0 +1,216 @@
+"""The quotas of a cache's users: what is evicted, and what the stores grant while several threads use a cache whose content moves all the time."""
+import random
+import threading
+import time
+from unittest import mock
+
+from shared import PROGRAM, SECONDS, differences, refusal
+from b3store import Refused, Store
+import cache_stores
+from cache_stores import Cache, User
+from servers import wait_until
+
+UNIT = 4096
+SMALL = {"PART": UNIT, "FIRST_BOUND": 2 * UNIT, "MAX_BATCH": 4, "MAX_BATCH_BYTES": 6 * UNIT, "SECONDS_BETWEEN_PASSES": 0.001}
+"""Constants of cache_stores for small contents."""
+QUOTA = 12 * UNIT
+LENGTHS = (0, 1, 700, UNIT, UNIT + 1, 2 * UNIT, 3 * UNIT + 5, 5 * UNIT)
+FILLS, KEYS = 3, 6
+"""How many contents there are of a length, and how many keys a user has."""
+STEPS, MOVES = 100, 4
+"""How many steps a thread makes at least, and how often the content moves meanwhile."""
+
+
+def cache_of(user, **words):
+    return Cache(lambda: Store(PROGRAM, sessions=2), [user], 1 << 30, **words)
+
+
+def put(cache, user, key, content):
+    return refusal(cache.put, user, key, len(content), [content])
+
+
+def evicts_what_is_needed():
+    """What another request has freed meanwhile need not be evicted. An object that both stores hold is freed once; if that is not enough, no key is dropped."""
+    user = User("all", None, 100000)
+    cache, found = cache_of(user), []
+    evict = cache.evict
+
+    def evict_later(*words):
+        cache.drop(user, "/a")
+        return evict(*words)
+
+    cache.evict = evict_later
+    found += differences((put(cache, user, "/kept", b"k" * 40000), None), (put(cache, user, "/a", b"a" * 60000), None))
+    found += differences((put(cache, user, "/b", b"b" * 60000), None), (sorted(user.keys), ["/b", "/kept"]), (cache.evictions, 0), (cache.drop(user, "/b"), True))
+    cache.add_store()
+    found += differences((put(cache, user, "/again", b"k" * 40000), None), (put(cache, user, "/large", b"l" * 50000), None))
+    with cache.reading(user, "/large"):
+        found += differences((cache.drop(user, "/large"), True), (put(cache, user, "/c", b"c" * 60000), ("S6", 10000)), (sorted(user.keys), ["/again", "/kept"]))
+        found += differences((put(cache, user, "/c", b"c" * 50000), None), (sorted(user.keys), ["/c"]), (cache.evictions, 2))
+    cache.close_stores()
+    return found
+
+
+def grants_nothing_without_memory():
+    """A move that the old store has no memory to begin does not begin. One that has begun goes on later, and until then grants no more than before."""
+    user = User("all", None, 100000)
+    cache = cache_of(user, evicts=False)
+    found = differences((put(cache, user, "/a", b"a" * 60000), None))
+    with mock.patch.object(cache.backend.store, "usage", side_effect=Refused("S14")):
+        found += differences((refusal(cache.move), ("S14", None)), (cache.old, None))
+    cache.add_store()
+    with mock.patch.object(cache.old.store, "usage", side_effect=Refused("S14")):
+        found += differences(([str(refused) for batch in cache.batches(user) for refused in cache.move_batch(user, batch)], [str(Refused("S14"))]))
+    cache.share_quota(user)
+    found += differences((put(cache, user, "/b", bytes(40001)), ("S6", 40000)), (put(cache, user, "/b", b"b" * 40000), None))
+    found += differences(([refused for batch in cache.batches(user) for refused in cache.move_batch(user, batch)], []), (cache.close_old(), True))
+    found += left_over(cache, user)
+    cache.close_stores()
+    return found
+
+
+class Broken(Exception):
+    """A body that ends early."""
+
+
+class Checked:
+    """A cache's lock. Each time it is released, what the cache counts and grants must agree with what its stores hold and reserve."""
+
+    def __init__(self, cache):
+        self.cache, self.found, self.copies = cache, [], {user: (None, ()) for user in cache.users}
+        """The store that a user's objects were copied to last, and the numbers of the uploads."""
+        self.lock, self.begin_copies = cache.lock, cache.begin_copies
+        cache.lock, cache.begin_copies = self, self.note_copies
+
+    def note_copies(self, user, lengths):
+        uploads, refusals = self.begin_copies(user, lengths)
+        self.copies[user] = (self.cache.backend, uploads)
+        return uploads, refusals
+
+    def __enter__(self):
+        self.lock.acquire()
+
+    def __exit__(self, *_):
+        try:
+            for user in self.cache.users if len(self.found) < 5 else ():
+                self.found += self.wrong_counts(user)
+        finally:
+            self.lock.release()
+
+    def wrong_counts(self, user):
+        cache, backends = self.cache, self.cache.backends()
+        held = [backend.store.list(backend.tenants[user]) for backend in backends]
+        usages = [backend.store.usage(backend.tenants[user]) for backend in backends]
+        uploads = [backend.store.uploads(backend.tenants[user]) for backend in backends]
+        twins = {address: length for address, length in held[0].items() if address in held[-1]} if cache.old else {}
+        store, numbers = self.copies[user]
+        copied = sum(upload.bound for upload in uploads[0] if store is cache.backend and upload.number in numbers)
+        found = differences(
+            ([set(objects) for objects in held], [set(backend.counts[user]) for backend in backends]), (cache.twins[user], twins), (cache.copying[user], copied),
+        )
+        taken = sum(usage.used + usage.reserved for usage in usages) - sum(twins.values()) - copied
+        free = usages[0].limit - usages[0].used - usages[0].reserved
+        # an upload of unknown length, whose end was just fixed, may reserve less than the cache knows yet
+        unknown = sum(upload.bound - upload.end for rows in uploads[1:] for upload in rows if upload.end is not None)
+        is_shared = user.limit - taken - unknown <= free <= user.limit - taken
+        return found + ([] if is_shared and free >= 0 else [f"{taken} bytes are taken and {free} are free, of {user.limit}; {unknown} may be"])
+
+
+class Worker(threading.Thread):
+    """Stores, reads and drops contents of a user's keys, which other threads do too."""
+
+    def __init__(self, cache, number):
+        super().__init__()
+        self.cache, self.user, self.chance, self.found, self.stored = cache, cache.users[number % 2], random.Random(number), [], 0
+
+    def run(self):
+        count, end = 0, time.monotonic() + SECONDS
+        try:
+            while (count < STEPS or self.cache.moves < MOVES) and not self.found and time.monotonic() < end:
+                count += 1
+                self.step()
+        except Exception as fault:
+            self.found.append(f"{type(fault).__name__}: {fault}")
+
+    def step(self):
+        key, kind = f"/{self.chance.randrange(KEYS)}", self.chance.randrange(8)
+        if kind < 5:
+            self.store(key, kind)
+        elif kind < 6:
+            self.cache.drop(self.user, key)
+        else:
+            self.read(key, kind)
+
+    def store(self, key, kind):
+        """Stores a content in parts, whose length may not be told, and of which the last may not arrive."""
+        content, waits = bytes([self.chance.randrange(FILLS)]) * self.chance.choice(LENGTHS), self.chance.random() < 0.2
+
+        def parts():
+            for at in range(0, len(content), UNIT):
+                if waits and at > 0:
+                    self.wait_for_move()
+                if kind > 2 and at + UNIT >= len(content):
+                    raise Broken
+                yield content[at : at + UNIT]
+
+        try:
+            self.cache.put(self.user, key, None if kind in (0, 4) else len(content), parts())
+            self.stored += 1
+        except Broken:
+            pass
+        except Refused as refused:
+            self.found += differences((refused.number, "S6"))
+
+    def wait_for_move(self):
+        """Waits a little for a move to begin or to end."""
+        before = self.cache.moves, self.cache.old
+        wait_until(lambda: (self.cache.moves, self.cache.old) != before, 0.03)
+
+    def read(self, key, kind):
+        """Reads a content, during which another may be stored."""
+        with self.cache.reading(self.user, key) as entry:
+            if entry is not None:
+                if kind == 7:
+                    self.store(key, 1)
+                    self.wait_for_move()
+                content = b"".join(self.cache.pieces(self.user, entry, 0, entry.length, UNIT))
+                self.found += [] if content in [bytes([fill]) * entry.length for fill in range(FILLS)] else [f"{key} has {len(content)} other bytes"]
+
+
+def move_on(cache, workers, found):
+    """Moves the content again and again while the workers work."""
+    try:
+        while any(worker.is_alive() for worker in workers):
+            cache.move()
+    except Exception as fault:
+        found.append(f"{type(fault).__name__}: {fault}")
+
+
+def left_over(cache, user):
+    """What the only store holds and reserves for a user beside what the keys lead to."""
+    live = {entry.address: entry.length for entry in user.keys.values()}
+    store, tenant = cache.backend.store, cache.backend.tenants[user]
+    return differences((cache.old, None), (store.list(tenant), live), (tuple(store.usage(tenant)), (sum(live.values()), 0, user.limit)), (store.uploads(tenant), []))
+
+
+def keeps_full_quotas():
+    """Whenever the cache's lock is free, a user has no more bytes than the quota, and all that is left of it is free; in the end nothing but the keys' content is
+    held."""
+    found = []
+    for evicts in False, True:
+        with mock.patch.multiple(cache_stores, **SMALL):
+            cache = Cache(lambda: Store(PROGRAM, sessions=3), [User("ann", "a", QUOTA), User("bob", "b", QUOTA)], 1 << 20, evicts)
+            checked, workers = Checked(cache), [Worker(cache, number) for number in range(4)]
+            mover = threading.Thread(target=move_on, args=(cache, workers, found))
+            for thread in (*workers, mover):
+                thread.start()
+            for worker in workers:
+                worker.join()
+            mover.join(SECONDS)
+            found += differences((mover.is_alive(), False))
+            cache.is_closed = True
+            mover.join()
+            found += checked.found + [fault for worker in workers for fault in worker.found] + [fault for user in cache.users for fault in left_over(cache, user)]
+            found += differences((all(worker.stored for worker in workers), True), (cache.evictions > 0, evicts))
+            cache.close_stores()
+    return found[:8]
