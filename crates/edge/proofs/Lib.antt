@@ -5,6 +5,7 @@ pub mod Joining
 pub mod FirstLines
 pub mod Inputs
 pub mod LineParts
+pub mod TextRooms
 pub mod Numbers
 pub mod Output
 pub mod Searches

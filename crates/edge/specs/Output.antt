@@ -15,5 +15,6 @@ pub record IsTruncated (old new : Option (List ℕ)) (text : List ℕ) : Type 0 
   pub front : AllBut old new text rest
 
 -- a prefix of the text was written: none of it, some, or all
-abbrev pub WroteSome : Option (List ℕ) → Option (List ℕ) → List ℕ → Type 0
-WroteSome old new text = (rest : List ℕ) × AllBut old new text rest
+pub record WroteSome (old new : Option (List ℕ)) (text : List ℕ) : Type 0 where
+  pub rest : List ℕ
+  pub front : AllBut old new text rest

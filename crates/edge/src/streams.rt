@@ -1,10 +1,11 @@
 //! Writing an output.
 
-ghost use Rattle.std.specs.Prelude.{◌≡◌, [], OnErr, OnOk, IfErr};
+ghost use Rattle.std.specs.Prelude.{◌≡◌, ◌<◌, [], OnErr, OnOk, IfErr, IfSome, length};
 ghost use Rattle.std.specs.Io.KnownBytes.{Appends, Keeps};
 ghost use Rattle.edge.specs.Output.{IsTruncated, WroteSome};
 
 use crate::outcome::Cause;
+use std::fmt::{Display, InlineText, Write as _};
 use std::io;
 use std::io::{ErrorKind, Write};
 
@@ -25,6 +26,23 @@ pub fn write_bytes<W: Write>(writer: &mut W, bytes: &[u8]) -> Result<(), Cause>
     ensures cause { IfErr result (λ cause. cause ≡ Cause.CannotWrite) }
 {
     write_whole(writer, bytes).map_err(|_| Cause::CannotWrite)
+}
+
+// Room for a text that is formatted before it is written.
+const TEXT_ROOM: usize = 192;
+
+/// Writes a text of at most 192 bytes. After an error a prefix of it was written, a proper one if it has any bytes. The text is formatted
+/// first, because a failing `Display` does not say what it wrote; if it is too long, nothing is written, and the error is `Other`.
+pub fn write_text<D: Display + Drop, W: Write>(text: D, writer: &mut W) -> io::Result<()>
+    ensures written { OnOk result (IfSome (D.output text) (Appends (W.contents writer.old) (W.contents writer.new))) }
+    ensures failed { OnErr result (IfSome (D.output text) (WroteSome (W.contents writer.old) (W.contents writer.new))) }
+    ensures cut { OnErr result (IfSome (D.output text) (λ text. 0 < length text → IsTruncated (W.contents writer.old) (W.contents writer.new) text)) }
+{
+    let mut room = InlineText::<TEXT_ROOM>::new();
+    match write!(room, "{text}") {
+        Ok(()) => write_whole(writer, room.as_str().as_bytes()),
+        Err(_) => Err(ErrorKind::Other.into()),
+    }
 }
 
 /// Writes all of `bytes`. An error is that of the writer, after it accepted a proper prefix of them: the error that it returned,

@@ -16,11 +16,11 @@ use Rattle.store_lines.specs.Script.{widest_start}
 use Rattle.store_lines.specs.Script as script
 use Rattle.store_lines.proofs.ScriptSteps.{Came, came, came_put, came_takes}
 use Rattle.store_lines.specs.Requests.{request_in}
-use Rattle.store_lines.specs.Session.{AreServed, AreSessionTurns, Ends, IsReportedAs, IsTurnOfRequest, IsTurnOfScriptLine, Manner, ServedAll, ServedSome, SessionTurn, no_memory, session_calls, session_replies, session_turn_text, reported_as}
+use Rattle.store_lines.specs.Session.{AreServed, AreSessionTurns, Ends, IsReportedAs, IsTurnOfRequest, IsTurnOfScriptLine, Manner, ServedAll, ServedCut, ServedSome, SessionTurn, no_memory, session_calls, session_replies, session_turn_text, reported_as}
 use Rattle.store_lines.specs.declared.request.Request.{Request}
 use Rattle.store_lines.specs.declared.request.Request.TheVariants.{Asks, Does, Entries, Fetch, Put, PutRaw}
 use Rattle.store_lines.specs.Access.{SessionState, alone_reach, alone_stands}
-use Rattle.store_lines.specs.Turns.{EndsOver, ServedAllOver, ServedSomeOver}
+use Rattle.store_lines.specs.Turns.{EndsOver, ServedAllOver, ServedCutOver, ServedOver, ServedSomeOver}
 use Rattle.store_lines.proofs.Turns.{of_turns}
 
 -- ---- the steps are a run
@@ -81,27 +81,25 @@ of_ends verdicts.Good rest h = h
 of_ends verdicts.Refused rest (inl h) = h
 of_ends verdicts.Refused rest (inr h) = absurd (let impossible = h.0 in cc)
 
+-- the state that a session of its own begins in
+abbrev first : SessionState
+first = record { store = widest_start; bytes = 0; calls = 0; own = [] }
+
+answered_alone : (store : ModelStore) (left : SessionState → Type 0) (input output rest : List ℕ) → store ≡ widest_start → ServedOver alone_reach (alone_stands store) left input output rest → AreServed input output rest
+answered_alone store left input output rest is h =
+    let p = h.plays first (sym is) in
+    are_served p.0.store input output rest h.turns (of_turns first p.0 input rest h.turns p.1.0) h.text_is
+
 pub all_served : {E : Type 0} (r : Result Verdict E) (old w1 w2 : Option (List ℕ)) (store : ModelStore) (left : SessionState → Type 0) → store ≡ widest_start → IfOk r (λ verdict. IfSome old (λ input. ServedAllOver alone_reach (alone_stands store) left input w1 w2 verdict))
     → IfOk r (λ verdict. IfSome old (λ input. ServedAll input w1 w2 verdict))
 all_served (Err e) old w1 w2 store left is h = tt
 all_served (Ok verdict) None w1 w2 store left is h = tt
-all_served (Ok verdict) (Some input) w1 w2 store left is h =
-    let p = h.answered.plays (record { store = widest_start; bytes = 0; calls = 0; own = [] }) (sym is) in
-    record {
-      output = h.output;
-      rest = h.rest;
-      answered = are_served p.0.store input h.output h.rest h.answered.turns (of_turns (record { store = widest_start; bytes = 0; calls = 0; own = [] }) p.0 input h.rest h.answered.turns p.1.0) h.answered.text_is;
-      ends = of_ends verdict h.rest h.ends;
-      wrote = h.wrote;
-    }
+all_served (Ok verdict) (Some input) w1 w2 store left is h = record { output = h.output; rest = h.rest; answered = answered_alone store left input h.output h.rest is h.answered; ends = of_ends verdict h.rest h.ends; wrote = h.wrote }
 
 pub some_served : (old w1 w2 : Option (List ℕ)) (store : ModelStore) → store ≡ widest_start → IfSome old (λ input. ServedSomeOver alone_reach (alone_stands store) input w1 w2) → IfSome old (λ input. ServedSome input w1 w2)
 some_served None w1 w2 store is h = tt
-some_served (Some input) w1 w2 store is h =
-    let p = h.answered.plays (record { store = widest_start; bytes = 0; calls = 0; own = [] }) (sym is) in
-    record {
-      output = h.output;
-      rest = h.rest;
-      answered = are_served p.0.store input h.output h.rest h.answered.turns (of_turns (record { store = widest_start; bytes = 0; calls = 0; own = [] }) p.0 input h.rest h.answered.turns p.1.0) h.answered.text_is;
-      wrote = h.wrote;
-    }
+some_served (Some input) w1 w2 store is h = record { output = h.output; rest = h.rest; answered = answered_alone store (λ _. Unit {0}) input h.output h.rest is h.answered; wrote = h.wrote }
+
+pub cut_served : (old w1 w2 : Option (List ℕ)) (store : ModelStore) → store ≡ widest_start → IfSome old (λ input. ServedCutOver alone_reach (alone_stands store) input w1 w2) → IfSome old (λ input. ServedCut input w1 w2)
+cut_served None w1 w2 store is h = tt
+cut_served (Some input) w1 w2 store is h = record { output = h.output; rest = h.rest; answered = answered_alone store (λ _. Unit {0}) input h.output h.rest is h.answered; wrote = h.wrote }

@@ -1,6 +1,5 @@
 -- What one line results in.
 use Rattle.std.proofs.Common.{◌≡◌, ◌<◌, ℕ, Bool, true, false, List, [], ◌∷◌, Ok, Err, Some, Option, Result, arith, inr, length, refl, subst, sym}
-use Rattle.std.specs.Prelude.{OnOk}
 use Rattle.std.specs.Io.KnownBytes.{Appends}
 use Rattle.store_books.specs.Refusals.{refusal_text}
 use Rattle.store_books.specs.declared.refusal.Refusal.{Refusal}
@@ -22,39 +21,39 @@ use Rattle.store_lines.specs.declared.request.EntryRange.{EntryRange}
 use Rattle.store_lines.specs.declared.request.Range.{Range}
 use Rattle.store_lines.specs.declared.request.Request.{Request}
 use Rattle.store_lines.specs.declared.request.Request.TheVariants.{Asks, Does, Entries, Fetch, Put, PutRaw}
-use Rattle.store_lines.specs.Access.{advance, at, SessionState, Reach, ReportedEntries, Took}
+use Rattle.store_lines.specs.Access.{advance, at, SessionState, Reach, ReportedEntries, ReportedThese, Took}
 use Rattle.store_lines.specs.inner.Reporting.{AnsweredOver, ReportedOver}
 use Rattle.store_lines.specs.Turns.{IsLinkedBytes, IsLinkedCall, IsLinkedCommand, IsLinkedEntries, IsLinkedLine, IsLinkedPut, IsLinkedRequest, IsLinkedScriptLine}
 
 -- ---- steps
 
-pub replied : (reach : Reach) (was is : SessionState → Type 0) (call : Call) (reply : Result Reply Refusal) (w1 w2 : Option (List ℕ)) → Took reach was is call reply → Appends w1 w2 (answer_text reply)
-    → ReportedOver was is (λ before turn after. IsLinkedCall reach as_script before call turn after) w1 w2
-replied reach was is call reply w1 w2 t wrote = record {
+pub replied : (reach : Reach) (was is : SessionState → Type 0) (call : Call) (reply : Result Reply Refusal) (Wrote : List ℕ → Type 0) → Took reach was is call reply → Wrote (answer_text reply)
+    → ReportedOver was is (λ before turn after. IsLinkedCall reach as_script before call turn after) Wrote
+replied reach was is call reply Wrote t wrote = record {
   turn = reported_as as_script (took call reply);
   goes = λ before session. (advance before t.found call reply t.left, (t.stands before session, (refl, (t.found, (t.linked before session, ((refl, t.step), (refl, refl, refl)))))));
   wrote = wrote;
 }
 
-pub put_reported : (reach : Reach) (was is : SessionState → Type 0) (upload offset : ℕ) (bytes : List ℕ) (answer : Answer) (w1 w2 : Option (List ℕ)) → AnsweredOver was is (λ before turn after. IsLinkedPut reach before upload offset bytes turn after) answer → Appends w1 w2 (reported_text [] answer)
-    → ReportedOver was is (λ before turn after. IsLinkedBytes reach before upload offset bytes turn after) w1 w2
-put_reported reach was is upload offset bytes answer w1 w2 a wrote = record {
+pub put_reported : (reach : Reach) (was is : SessionState → Type 0) (upload offset : ℕ) (bytes : List ℕ) (answer : Answer) (Wrote : List ℕ → Type 0) → AnsweredOver was is (λ before turn after. IsLinkedPut reach before upload offset bytes turn after) answer → Wrote (reported_text [] answer)
+    → ReportedOver was is (λ before turn after. IsLinkedBytes reach before upload offset bytes turn after) Wrote
+put_reported reach was is upload offset bytes answer Wrote a wrote = record {
   turn = reported_as as_script a.turn;
   goes = λ before session. let g = a.goes before session in (g.0, (g.1.0, (refl, g.1.1)));
-  wrote = subst (λ (t : List ℕ). Appends w1 w2 t) (a.text_is []) wrote;
+  wrote = subst Wrote (a.text_is []) wrote;
 }
 
-pub fetched : (reach : Reach) (was is : SessionState → Type 0) (tenant : ℕ) (address bytes : List ℕ) (range : Option Range) (w1 w2 : Option (List ℕ)) → Took reach was is (ask (questions.Fetch tenant address)) (Ok (replies.Object bytes)) → Appends w1 w2 (raw_text (ranged range bytes))
-    → ReportedOver was is (λ before turn after. IsLinkedCall reach (as_range range) before (ask (questions.Fetch tenant address)) turn after) w1 w2
-fetched reach was is tenant address bytes range w1 w2 t wrote = record {
+pub fetched : (reach : Reach) (was is : SessionState → Type 0) (tenant : ℕ) (address bytes : List ℕ) (range : Option Range) (Wrote : List ℕ → Type 0) → Took reach was is (ask (questions.Fetch tenant address)) (Ok (replies.Object bytes)) → Wrote (raw_text (ranged range bytes))
+    → ReportedOver was is (λ before turn after. IsLinkedCall reach (as_range range) before (ask (questions.Fetch tenant address)) turn after) Wrote
+fetched reach was is tenant address bytes range Wrote t wrote = record {
   turn = reported_as (as_range range) (took (ask (questions.Fetch tenant address)) (Ok (replies.Object bytes)));
   goes = λ before session. (advance before t.found (ask (questions.Fetch tenant address)) (Ok (replies.Object bytes)) t.left, (t.stands before session, (refl, (t.found, (t.linked before session, ((refl, t.step), (refl, refl, refl)))))));
   wrote = wrote;
 }
 
-pub unfetched : (reach : Reach) (was is : SessionState → Type 0) (tenant : ℕ) (address : List ℕ) (refusal : Refusal) (range : Option Range) (w1 w2 : Option (List ℕ)) → Took reach was is (ask (questions.Fetch tenant address)) (Err refusal) → Appends w1 w2 (refused_text (refusal_text refusal))
-    → ReportedOver was is (λ before turn after. IsLinkedCall reach (as_range range) before (ask (questions.Fetch tenant address)) turn after) w1 w2
-unfetched reach was is tenant address refusal range w1 w2 t wrote = record {
+pub unfetched : (reach : Reach) (was is : SessionState → Type 0) (tenant : ℕ) (address : List ℕ) (refusal : Refusal) (range : Option Range) (Wrote : List ℕ → Type 0) → Took reach was is (ask (questions.Fetch tenant address)) (Err refusal) → Wrote (refused_text (refusal_text refusal))
+    → ReportedOver was is (λ before turn after. IsLinkedCall reach (as_range range) before (ask (questions.Fetch tenant address)) turn after) Wrote
+unfetched reach was is tenant address refusal range Wrote t wrote = record {
   turn = reported_as (as_range range) (took (ask (questions.Fetch tenant address)) (Err refusal));
   goes = λ before session. (advance before t.found (ask (questions.Fetch tenant address)) (Err refusal) t.left, (t.stands before session, (refl, (t.found, (t.linked before session, ((refl, t.step), (refl, refl, refl)))))));
   wrote = wrote;
@@ -63,26 +62,29 @@ unfetched reach was is tenant address refusal range w1 w2 t wrote = record {
 -- ---- the journal
 
 -- entries of the journal, reported so
-abbrev pub EntriesOver : Reach → (SessionState → Type 0) → (SessionState → Type 0) → EntryRange → Option (List ℕ) → Option (List ℕ) → Type 0
-EntriesOver reach was is range w1 w2 = ReportedOver was is (λ before turn after. IsLinkedEntries reach range before turn after) w1 w2
+abbrev pub EntriesOver : Reach → (SessionState → Type 0) → (SessionState → Type 0) → EntryRange → (List ℕ → Type 0) → Type 0
+EntriesOver reach was is range Wrote = ReportedOver was is (λ before turn after. IsLinkedEntries reach range before turn after) Wrote
 
-pub reported_these : (given : Bool) (reach : Reach) (was is : SessionState → Type 0) (range : EntryRange) (w1 w2 : Option (List ℕ)) → given ≡ true → ReportedEntries reach was is given range w1 w2 → EntriesOver reach was is range w1 w2
-reported_these true reach was is range w1 w2 is_read these =
+pub these_reported : (reach : Reach) (was is : SessionState → Type 0) (range : EntryRange) (Wrote : List ℕ → Type 0) → ReportedThese reach was is range Wrote → EntriesOver reach was is range Wrote
+these_reported reach was is range Wrote these =
     let t = these.took in
     record {
       turn = reported_as as_script (listed (range_entries range t.found.journal));
       goes = λ before session. (at before t.found, (t.stands before session, (refl, (t.found, (t.linked before session, (refl, refl))))));
-      wrote = subst (λ (es : List Entry). Appends w1 w2 (entries_text es)) t.entries_are these.wrote;
+      wrote = subst (λ (es : List Entry). Wrote (entries_text es)) t.entries_are these.wrote;
     }
+
+pub reported_these : (given : Bool) (reach : Reach) (was is : SessionState → Type 0) (range : EntryRange) (w1 w2 : Option (List ℕ)) → given ≡ true → ReportedEntries reach was is given range w1 w2 → EntriesOver reach was is range (Appends w1 w2)
+reported_these true reach was is range w1 w2 is_read these = these_reported reach was is range (Appends w1 w2) these
 reported_these false reach was is range w1 w2 is_read h = absurd (cc)
 
-pub reported_none : (given : Bool) (reach : Reach) (was is : SessionState → Type 0) (range : EntryRange) (w1 w2 w3 : Option (List ℕ)) → given ≡ false → ReportedEntries reach was is given range w1 w2 → Appends w2 w3 (refused_text (refusal_text refusals.NoMemory))
-    → EntriesOver reach was is range w1 w3
-reported_none true reach was is range w1 w2 w3 is_read h wrote = absurd (cc)
-reported_none false reach was is range w1 w2 w3 is_read h wrote = record {
+pub reported_none : (Wrote : Option (List ℕ) → Option (List ℕ) → List ℕ → Type 0) (given : Bool) (reach : Reach) (was is : SessionState → Type 0) (range : EntryRange) (w1 w2 w3 : Option (List ℕ)) → given ≡ false → ReportedEntries reach was is given range w1 w2
+    → Wrote w2 w3 (refused_text (refusal_text refusals.NoMemory)) → EntriesOver reach was is range (Wrote w1 w3)
+reported_none Wrote true reach was is range w1 w2 w3 is_read h wrote = absurd (cc)
+reported_none Wrote false reach was is range w1 w2 w3 is_read h wrote = record {
   turn = no_memory;
   goes = λ before session. (before, (h.1.kept before session, (h.0, refl)));
-  wrote = subst (λ (w : Option (List ℕ)). Appends w w3 (refused_text (refusal_text refusals.NoMemory))) h.2 wrote;
+  wrote = subst (λ (w : Option (List ℕ)). Wrote w w3 (refused_text (refusal_text refusals.NoMemory))) h.2 wrote;
 }
 
 -- ---- a line of a script
@@ -115,7 +117,3 @@ script_turn reach old new line whole following rest (Put part) turn some is h = 
 script_turn reach old new line whole following rest (PutRaw part) turn some is h = absurd (found line (PutRaw part) (sym is))
 script_turn reach old new line whole following rest (Fetch wanted) turn some is h = absurd (found line (Fetch wanted) (sym is))
 script_turn reach old new line whole following rest (Entries range) turn some is h = (entries_turn reach old new line range turn some is h.0, h.1)
-
-pub on_ok : {A E P Q : Type 0} (r : Result A E) → (P → Q) → OnOk r P → OnOk r Q
-on_ok (Ok a) f h = f h
-on_ok (Err e) f h = tt

@@ -15,14 +15,16 @@ use Rattle.store_books.specs.Books.{empty_books, max_entries, max_tenants, max_w
 use Rattle.store_core.specs.Commands.{plan_in}
 use Rattle.edge.specs.Lines.{lines_of}
 use Rattle.edge.proofs.FirstLines.{lines_next, none_left, nothing_is}
+use Rattle.edge.specs.Output.{WroteSome}
 use Rattle.edge.proofs.Joining.{appends_more, appends_none}
+use Rattle.edge.proofs.Output.{some_after}
 use Rattle.store_core.specs.Model.{ModelStore, start}
 use Rattle.store_core.specs.Runs.{Call, Run, Step, ask, change}
 use Rattle.store_lines.specs.Grammar.{command_at}
 use Rattle.store_lines.specs.declared.request.Request.{Request}
 use Rattle.store_lines.specs.declared.request.Request.TheVariants.{Asks, Does, Put}
 use Rattle.store_lines.specs.inner.Answers.{AnswersRead, IsReadLine}
-use Rattle.store_lines.specs.Script.{AreTurnsOf, AreAnswered, IsTurnOfCommand, IsScriptBegun, IsTurnOfMade, IsTurnOf, IsTurnOfPart, IsTurnOfPut, Ran, RanOut, RanSome, IsTurnOfStep, Turn, bad, calls_of, ending_of, failed_write, listed, ran_all, ran_some, replies_of, skipped, took, turn_ending, turn_text, unmade, unplanned, verdict_ending, widest_start, worse}
+use Rattle.store_lines.specs.Script.{AreTurnsOf, AreAnswered, IsTurnOfCommand, IsScriptBegun, IsTurnOfMade, IsTurnOf, IsTurnOfPart, IsTurnOfPut, Ran, RanCut, RanOut, RanSome, IsTurnOfStep, Turn, bad, calls_of, ending_of, failed_write, listed, ran_all, ran_some, replies_of, skipped, took, turn_ending, turn_text, unmade, unplanned, verdict_ending, widest_start, worse}
 use Rattle.store_lines.specs.inner.Script.{ended_as, first_cause}
 use Rattle.store_lines.specs.declared.ending.Ending.{Ending}
 use Rattle.store_lines.specs.declared.ending.Ending.TheVariants as endings
@@ -257,8 +259,8 @@ pub reported_left : (now : Option (List ℕ)) (ending : Ending) → ending ≡ e
 reported_left None ending memory = tt
 reported_left (Some input) ending memory = inr memory
 
--- of a failed write the writer reports nothing
-pub whatever_written : (old now was is : Option (List ℕ)) (store : ModelStore) (ending : Ending) → IfSome old (IsUnder now was is store ending) → IfSome old (IsUnder now None None store ending)
+-- whatever was written
+whatever_written : (old now was is : Option (List ℕ)) (store : ModelStore) (ending : Ending) → IfSome old (IsUnder now was is store ending) → IfSome old (IsUnder now None None store ending)
 whatever_written None now was is store ending h = tt
 whatever_written (Some input) now was is store ending h = record {
   rest = h.rest;
@@ -276,6 +278,22 @@ reported_memory endings.Good e = absurd (cc)
 reported_memory endings.Refused e = absurd (cc)
 reported_memory endings.OutOfMemory e = refl
 
+-- and a failed write only where no answer does
+pub reported_write : (ending : Ending) → first_cause ending causes.CannotWrite ≡ causes.CannotWrite → ending ≢ endings.OutOfMemory
+reported_write endings.Good e = λ memory. cc
+reported_write endings.Refused e = λ memory. cc
+reported_write endings.OutOfMemory e = absurd (cc)
+
+pub no_failed_write : (ending : Ending) → ended_as ending ≢ Err causes.CannotWrite
+no_failed_write endings.Good = λ e. cc
+no_failed_write endings.Refused = λ e. cc
+no_failed_write endings.OutOfMemory = λ e. cc
+
+pub no_write_failed : (ending : Ending) → first_cause ending causes.CannotRead ≢ causes.CannotWrite
+no_write_failed endings.Good = λ e. cc
+no_write_failed endings.Refused = λ e. cc
+no_write_failed endings.OutOfMemory = λ e. cc
+
 pub no_failed_report : (ending : Ending) → first_cause ending causes.CannotWrite ≢ causes.CannotRead
 no_failed_report endings.Good = λ e. cc
 no_failed_report endings.Refused = λ e. cc
@@ -285,11 +303,6 @@ pub reported_memory_read : (ending : Ending) → first_cause ending causes.Canno
 reported_memory_read endings.Good e = absurd (cc)
 reported_memory_read endings.Refused e = absurd (cc)
 reported_memory_read endings.OutOfMemory e = refl
-
-pub at_failed_write : (old now left was is : Option (List ℕ)) (store : ModelStore) (ending : Ending) → ending ≡ endings.OutOfMemory → IfSome old (IsUnder now None None store ending) → IfSome old (λ input. RanOut input left was is)
-at_failed_write None now left was is store ending memory h = tt
-at_failed_write (Some input) now left was is store ending memory h =
-    failed_write (flat_map turn_text h.turns) (subst (λ (e : Ending). IsScriptBegun input (flat_map turn_text h.turns) e) memory (script_begun now None None store ending input h))
 
 -- ---- a line more of a run
 
@@ -313,6 +326,37 @@ turned (Some input) now then was is after store next ending said count kept text
       wrote = subst (λ (t : List ℕ). Appends was after t) (ap (λ t. flat_map turn_text h.turns ++ t) answer.text_is ∙ sym (text_more h.turns answer.turn)) (appends_more was is after (flat_map turn_text h.turns) text h.wrote wrote);
       ending_is = ap (λ e. worse e said) h.ending_is ∙ ap (worse (ending_of h.turns)) answer.ending_is ∙ sym (ending_more h.turns answer.turn);
     }
+
+-- ---- a write that failed
+
+-- the answer to a line was cut off
+cut_off : (old now then was is after : Option (List ℕ)) (store next : ModelStore) (ending said : Ending) (count : ℕ) (kept text : List ℕ) → IfSome old (IsUnder now was is store ending) → IfSome now (λ xs. IsReadLine (take_through 10 xs) count kept)
+    → DropsThrough now then 10 → 0 < count → AnswersRead store next count kept text said → WroteSome is after text → IfSome old (λ input. (output : List ℕ) × IsScriptBegun input output (worse ending said) × WroteSome was after output)
+unfolding turned whatever_written
+cut_off None now then was is after store next ending said count kept text h read rest some answered wrote = tt
+cut_off (Some input) now then was is after store next ending said count kept text h read rest some answered wrote =
+    let whole = take_through 10 h.rest in
+    let read2 : IsReadLine whole count kept = subst (λ (o : Option (List ℕ)). IfSome o (λ xs. IsReadLine (take_through 10 xs) count kept)) h.left read in
+    let answer = answered.answers whole read2 in
+    let under = turned (Some input) now then None None None store next ending said count kept text (whatever_written (Some input) now was is store ending h) read rest some answered tt in (
+      flat_map turn_text (h.turns ++ answer.turn ∷ []),
+      script_begun then None None next (worse ending said) input under,
+      subst (λ (t : List ℕ). WroteSome was after t) (ap (λ t. flat_map turn_text h.turns ++ t) answer.text_is ∙ sym (text_more h.turns answer.turn)) (some_after was is after (flat_map turn_text h.turns) text h.wrote wrote),
+    )
+
+pub at_cut : (old now then was is after : Option (List ℕ)) (store next : ModelStore) (ending said : Ending) (count : ℕ) (kept text : List ℕ) → worse ending said ≢ endings.OutOfMemory → IfSome old (IsUnder now was is store ending)
+    → IfSome now (λ xs. IsReadLine (take_through 10 xs) count kept) → DropsThrough now then 10 → 0 < count → AnswersRead store next count kept text said → WroteSome is after text → IfSome old (λ input. RanCut input was after)
+at_cut None now then was is after store next ending said count kept text memory h read rest some answered wrote = tt
+at_cut (Some input) now then was is after store next ending said count kept text memory h read rest some answered wrote =
+    let cut = cut_off (Some input) now then was is after store next ending said count kept text h read rest some answered wrote in
+    record { output = cut.0; ending = worse ending said; script = cut.1; has_memory = memory; wrote = cut.2 }
+
+pub at_failed_write : (old now then left was is after : Option (List ℕ)) (store next : ModelStore) (ending said : Ending) (count : ℕ) (kept text : List ℕ) → worse ending said ≡ endings.OutOfMemory → IfSome old (IsUnder now was is store ending)
+    → IfSome now (λ xs. IsReadLine (take_through 10 xs) count kept) → DropsThrough now then 10 → 0 < count → AnswersRead store next count kept text said → WroteSome is after text → IfSome old (λ input. RanOut input left was after)
+at_failed_write None now then left was is after store next ending said count kept text memory h read rest some answered wrote = tt
+at_failed_write (Some input) now then left was is after store next ending said count kept text memory h read rest some answered wrote =
+    let cut = cut_off (Some input) now then was is after store next ending said count kept text h read rest some answered wrote in
+    failed_write cut.0 (subst (λ (e : Ending). IsScriptBegun input cut.0 e) memory cut.1) cut.2
 
 -- ---- the empty store
 

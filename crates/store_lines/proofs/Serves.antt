@@ -25,11 +25,11 @@ use Rattle.store_lines.proofs.Reports.{plays, put_reported, script_turn}
 
 -- ---- a request
 
-pub served_by : (now w1 w2 : Option (List ℕ)) (reach : Reach) (was is : SessionState → Type 0) (request : Request) (Is : SessionState → SessionTurn → SessionState → Type 0)
-    → ((whole following : List ℕ) (before : SessionState) (turn : SessionTurn) (after : SessionState) → Is before turn after → IsLinkedRequest reach before (Some request) whole following turn after following) → ReportedOver was is Is w1 w2
-    → IfSome now (λ following. ServesRequestOver reach was is true request following now w1 w2)
-served_by None w1 w2 reach was is request Is does t = tt
-served_by (Some following) w1 w2 reach was is request Is does t = record {
+pub served_by : (now : Option (List ℕ)) (Wrote : List ℕ → Type 0) (reach : Reach) (was is : SessionState → Type 0) (request : Request) (Is : SessionState → SessionTurn → SessionState → Type 0)
+    → ((whole following : List ℕ) (before : SessionState) (turn : SessionTurn) (after : SessionState) → Is before turn after → IsLinkedRequest reach before (Some request) whole following turn after following) → ReportedOver was is Is Wrote
+    → IfSome now (λ following. ServesRequestOver reach was is true request following now Wrote)
+served_by None Wrote reach was is request Is does t = tt
+served_by (Some following) Wrote reach was is request Is does t = record {
   serves = λ whole. (
     following,
     (
@@ -43,12 +43,12 @@ served_by (Some following) w1 w2 reach was is request Is does t = record {
   );
 }
 
-pub served_raw : (now left w1 w2 : Option (List ℕ)) (reach : Reach) (was is : SessionState → Type 0) (part : RawPart) (got : Option Answer) (answer : Answer) → got ≡ Some answer → IfSome now (λ following. ReceivesOver reach was is got part.upload part.offset part.len following left)
-    → Appends w1 w2 (reported_text [] answer) → IfSome now (λ following. ServesRequestOver reach was is true (PutRaw part) following left w1 w2)
-served_raw None left w1 w2 reach was is part got answer same h wrote = tt
-served_raw (Some following) left w1 w2 reach was is part got answer same h wrote =
+pub served_raw : (now left : Option (List ℕ)) (Wrote : List ℕ → Type 0) (reach : Reach) (was is : SessionState → Type 0) (part : RawPart) (got : Option Answer) (answer : Answer) → got ≡ Some answer → IfSome now (λ following. ReceivesOver reach was is got part.upload part.offset part.len following left)
+    → Wrote (reported_text [] answer) → IfSome now (λ following. ServesRequestOver reach was is true (PutRaw part) following left Wrote)
+served_raw None left Wrote reach was is part got answer same h wrote = tt
+served_raw (Some following) left Wrote reach was is part got answer same h wrote =
     let h2 = subst (λ (o : Option Answer). ReceivesOver reach was is o part.upload part.offset part.len following left) same h in
-    let t = put_reported reach was is part.upload part.offset _ answer w1 w2 h2.2 wrote in
+    let t = put_reported reach was is part.upload part.offset _ answer Wrote h2.2 wrote in
     record {
       serves = λ whole. (
         drop part.len following,
@@ -64,7 +64,7 @@ served_raw (Some following) left w1 w2 reach was is part got answer same h wrote
     }
 
 pub served_none : (now left w : Option (List ℕ)) (reach : Reach) (was is : SessionState → Type 0) (part : RawPart) (got : Option Answer) → got ≡ None → IfSome now (λ following. ReceivesOver reach was is got part.upload part.offset part.len following left)
-    → IfSome now (λ following. ServesRequestOver reach was is false (PutRaw part) following left w w)
+    → IfSome now (λ following. ServesRequestOver reach was is false (PutRaw part) following left (Appends w w))
 served_none None left w reach was is part got same h = tt
 served_none (Some following) left w reach was is part got same h =
     let h2 = subst (λ (o : Option Answer). ReceivesOver reach was is o part.upload part.offset part.len following left) same h in
@@ -76,10 +76,10 @@ not_short : (line following : List ℕ) (request : Request) → Some request ≡
 not_short line following (PutRaw part) is h = found line (PutRaw part) (sym is)
 not_short line following _ is h = h
 
-has_served : (is_whole : Bool) (whole following : List ℕ) (left w1 w2 : Option (List ℕ)) (reach : Reach) (was is : SessionState → Type 0) (request : Request) → IsOwnOrScript whole (lines.Has request) → ServesOver reach was is is_whole (Some request) whole following left w1 w2
-    → ServesOver reach was is is_whole (request_in whole) whole following left w1 w2
-has_served is_whole whole following left w1 w2 reach was is request (inl own) h = subst (λ (q : Option Request). ServesOver reach was is is_whole q whole following left w1 w2) own h
-has_served true whole following left w1 w2 reach was is request (inr of) h =
+has_served : (is_whole : Bool) (whole following : List ℕ) (left : Option (List ℕ)) (Wrote : List ℕ → Type 0) (reach : Reach) (was is : SessionState → Type 0) (request : Request) → IsOwnOrScript whole (lines.Has request) → ServesOver reach was is is_whole (Some request) whole following left Wrote
+    → ServesOver reach was is is_whole (request_in whole) whole following left Wrote
+has_served is_whole whole following left Wrote reach was is request (inl own) h = subst (λ (q : Option Request). ServesOver reach was is is_whole q whole following left Wrote) own h
+has_served true whole following left Wrote reach was is request (inr of) h =
     let t = h.1.1 in
     let read : (0 < length (strip_last 10 whole)) × (Some request ≡ command_at (strip_last 10 whole)) = of.1 in (
       h.0,
@@ -94,23 +94,27 @@ has_served true whole following left w1 w2 reach was is request (inr of) h =
         },
       ),
     )
-has_served false whole following left w1 w2 reach was is request (inr of) h =
+has_served false whole following left Wrote reach was is request (inr of) h =
     let read : (0 < length (strip_last 10 whole)) × (Some request ≡ command_at (strip_last 10 whole)) = of.1 in
     absurd (not_short (strip_last 10 whole) following request read.1 h.0)
 
-pub served_has : {E : Type 0} (r : Result Bool E) (now left w1 w2 : Option (List ℕ)) (reach : Reach) (was is : SessionState → Type 0) (line : Line) (request : Request) → line ≡ lines.Has request
-    → IfOk r (λ is_whole. IfSome now (λ following. ServesRequestOver reach was is is_whole request following left w1 w2)) → IfOk r (λ is_whole. IfSome now (λ following. ServesLineOver reach was is is_whole line following left w1 w2))
-served_has (Err e) now left w1 w2 reach was is line request same h = tt
-served_has (Ok is_whole) None left w1 w2 reach was is line request same h = tt
-served_has (Ok is_whole) (Some following) left w1 w2 reach was is line request same h = record {
-  serves = λ whole own. has_served is_whole whole following left w1 w2 reach was is request (subst (IsOwnOrScript whole) same own) (h.serves whole);
+pub served_has : (is_whole : Bool) (now left : Option (List ℕ)) (Wrote : List ℕ → Type 0) (reach : Reach) (was is : SessionState → Type 0) (line : Line) (request : Request) → line ≡ lines.Has request
+    → IfSome now (λ following. ServesRequestOver reach was is is_whole request following left Wrote) → IfSome now (λ following. ServesLineOver reach was is is_whole line following left Wrote)
+served_has is_whole None left Wrote reach was is line request same h = tt
+served_has is_whole (Some following) left Wrote reach was is line request same h = record {
+  serves = λ whole own. has_served is_whole whole following left Wrote reach was is request (subst (IsOwnOrScript whole) same own) (h.serves whole);
 }
 
+pub served_has_ok : {E : Type 0} (r : Result Bool E) (now left : Option (List ℕ)) (Wrote : List ℕ → Type 0) (reach : Reach) (was is : SessionState → Type 0) (line : Line) (request : Request) → line ≡ lines.Has request
+    → IfOk r (λ is_whole. IfSome now (λ following. ServesRequestOver reach was is is_whole request following left Wrote)) → IfOk r (λ is_whole. IfSome now (λ following. ServesLineOver reach was is is_whole line following left Wrote))
+served_has_ok (Err e) now left Wrote reach was is line request same h = tt
+served_has_ok (Ok is_whole) now left Wrote reach was is line request same h = served_has is_whole now left Wrote reach was is line request same h
+
 -- the turn of a line without a request
-line_served : (now w1 w2 : Option (List ℕ)) (reach : Reach) (was : SessionState → Type 0) (line : Line) (turn : SessionTurn) → ((whole : List ℕ) → IsOwnOrScript whole line → (None ≡ request_in whole) × IsLineOf (strip_last 10 whole) line)
-    → ((text : List ℕ) (before : SessionState) → IsLineOf text line → IsLinkedScriptLine reach before text turn before) → Appends w1 w2 (session_turn_text turn) → IfSome now (λ following. ServesLineOver reach was was true line following now w1 w2)
-line_served None w1 w2 reach was line turn script goes wrote = tt
-line_served (Some following) w1 w2 reach was line turn script goes wrote = record {
+line_served : (now : Option (List ℕ)) (Wrote : List ℕ → Type 0) (reach : Reach) (was : SessionState → Type 0) (line : Line) (turn : SessionTurn) → ((whole : List ℕ) → IsOwnOrScript whole line → (None ≡ request_in whole) × IsLineOf (strip_last 10 whole) line)
+    → ((text : List ℕ) (before : SessionState) → IsLineOf text line → IsLinkedScriptLine reach before text turn before) → Wrote (session_turn_text turn) → IfSome now (λ following. ServesLineOver reach was was true line following now Wrote)
+line_served None Wrote reach was line turn script goes wrote = tt
+line_served (Some following) Wrote reach was line turn script goes wrote = record {
   serves = λ whole own.
       let of = script whole own in (
         following,
@@ -133,23 +137,23 @@ may_lack : (reach : Reach) (text : List ℕ) → MayTakeMemory text → MayLack 
 may_lack reach text (inl long) = inl long
 may_lack reach text (inr puts_it) = inr (inl puts_it)
 
-pub served_empty : (now w1 w2 : Option (List ℕ)) (reach : Reach) (was : SessionState → Type 0) (line : Line) → line ≡ lines.Empty → Appends w1 w2 [] → IfSome now (λ following. ServesLineOver reach was was true line following now w1 w2)
-served_empty now w1 w2 reach was line same wrote =
-    subst (λ (l : Line). IfSome now (λ following. ServesLineOver reach was was true l following now w1 w2)) (sym same)
-    (line_served now w1 w2 reach was lines.Empty (reported_as as_script skipped) (λ whole h. h) (λ text before none. empty_turn reach text before none) wrote)
+pub served_empty : (now : Option (List ℕ)) (Wrote : List ℕ → Type 0) (reach : Reach) (was : SessionState → Type 0) (line : Line) → line ≡ lines.Empty → Wrote [] → IfSome now (λ following. ServesLineOver reach was was true line following now Wrote)
+served_empty now Wrote reach was line same wrote =
+    subst (λ (l : Line). IfSome now (λ following. ServesLineOver reach was was true l following now Wrote)) (sym same)
+    (line_served now Wrote reach was lines.Empty (reported_as as_script skipped) (λ whole h. h) (λ text before none. empty_turn reach text before none) wrote)
 
-pub served_bad : (now w1 w2 : Option (List ℕ)) (reach : Reach) (was : SessionState → Type 0) (line : Line) → line ≡ lines.Bad → Appends w1 w2 (codes "bad\n") → IfSome now (λ following. ServesLineOver reach was was true line following now w1 w2)
-served_bad now w1 w2 reach was line same wrote =
-    subst (λ (l : Line). IfSome now (λ following. ServesLineOver reach was was true l following now w1 w2)) (sym same)
-    (line_served now w1 w2 reach was lines.Bad (reported_as as_script bad) (λ whole h. h) (λ text before is. (refl, plays reach before before text bad None is.0 is.1 (refl, refl))) wrote)
+pub served_bad : (now : Option (List ℕ)) (Wrote : List ℕ → Type 0) (reach : Reach) (was : SessionState → Type 0) (line : Line) → line ≡ lines.Bad → Wrote (codes "bad\n") → IfSome now (λ following. ServesLineOver reach was was true line following now Wrote)
+served_bad now Wrote reach was line same wrote =
+    subst (λ (l : Line). IfSome now (λ following. ServesLineOver reach was was true l following now Wrote)) (sym same)
+    (line_served now Wrote reach was lines.Bad (reported_as as_script bad) (λ whole h. h) (λ text before is. (refl, plays reach before before text bad None is.0 is.1 (refl, refl))) wrote)
 
-pub served_lost : (now w1 w2 : Option (List ℕ)) (reach : Reach) (was : SessionState → Type 0) (line : Line) → line ≡ lines.Lost → Appends w1 w2 (session_turn_text no_memory) → IfSome now (λ following. ServesLineOver reach was was true line following now w1 w2)
-served_lost now w1 w2 reach was line same wrote =
-    subst (λ (l : Line). IfSome now (λ following. ServesLineOver reach was was true l following now w1 w2)) (sym same)
-    (line_served now w1 w2 reach was lines.Lost no_memory (λ whole h. h) (λ text before may. (may_lack reach text may, refl)) wrote)
+pub served_lost : (now : Option (List ℕ)) (Wrote : List ℕ → Type 0) (reach : Reach) (was : SessionState → Type 0) (line : Line) → line ≡ lines.Lost → Wrote (session_turn_text no_memory) → IfSome now (λ following. ServesLineOver reach was was true line following now Wrote)
+served_lost now Wrote reach was line same wrote =
+    subst (λ (l : Line). IfSome now (λ following. ServesLineOver reach was was true l following now Wrote)) (sym same)
+    (line_served now Wrote reach was lines.Lost no_memory (λ whole h. h) (λ text before may. (may_lack reach text may, refl)) wrote)
 
 -- a line that was read
-pub served_read : (is_whole : Bool) (now left w1 w2 : Option (List ℕ)) (reach : Reach) (was is : SessionState → Type 0) (read : LineRead) (kept : List ℕ) (line : Line) → IsFound read kept line → IfSome now (λ following. ServesLineOver reach was is is_whole line following left w1 w2)
-    → IfSome now (λ following. ServesReadOver reach was is is_whole read kept following left w1 w2)
-served_read is_whole None left w1 w2 reach was is read kept line f h = tt
-served_read is_whole (Some following) left w1 w2 reach was is read kept line f h = record { serves = λ whole r. h.serves whole (f.is whole r) }
+pub served_read : (is_whole : Bool) (now left : Option (List ℕ)) (Wrote : List ℕ → Type 0) (reach : Reach) (was is : SessionState → Type 0) (read : LineRead) (kept : List ℕ) (line : Line) → IsFound read kept line → IfSome now (λ following. ServesLineOver reach was is is_whole line following left Wrote)
+    → IfSome now (λ following. ServesReadOver reach was is is_whole read kept following left Wrote)
+served_read is_whole None left Wrote reach was is read kept line f h = tt
+served_read is_whole (Some following) left Wrote reach was is read kept line f h = record { serves = λ whole r. h.serves whole (f.is whole r) }

@@ -6,7 +6,9 @@ use Rattle.std.specs.Io.BufRead.{DropsThrough, drop_through, take_through}
 use Rattle.std.specs.Io.KnownBytes.{Appends}
 use Rattle.std.proofs.BufReadLemmas.{take_through-nil, take_through_nonempty}
 use Rattle.std.proofs.KnownBytes.{Appends-nil, Appends-trans}
+use Rattle.edge.specs.Output.{WroteSome}
 use Rattle.edge.specs.declared.outcome.Verdict.TheVariants as verdicts
+use Rattle.edge.proofs.Output.{some_after}
 use Rattle.std.proofs.lemmas.List.Concat.{flat_map-append}
 use Rattle.store_lines.specs.inner.Requests.{IsSessionLine}
 use Rattle.store_lines.specs.Requests.{request_in}
@@ -14,7 +16,7 @@ use Rattle.store_lines.specs.Session.{SessionTurn, session_turn_text}
 use Rattle.edge.specs.declared.lines.LineRead.{LineRead}
 use Rattle.store_lines.specs.Access.{SessionState, Reach}
 use Rattle.store_lines.specs.inner.Reporting.{Leaves, ServesOver, ServesReadOver}
-use Rattle.store_lines.specs.Turns.{AreLinkedTurns, IsLinkedFirstLine, ServedAllOver, ServedOver, ServedSomeOver}
+use Rattle.store_lines.specs.Turns.{AreLinkedTurns, IsLinkedFirstLine, ServedAllOver, ServedCutOver, ServedOver, ServedSomeOver}
 
 -- the lines before the rest were served: what they came to, and what was written
 pub record IsUnder (reach : Reach) (was is : SessionState → Type 0) (now w1 w2 : Option (List ℕ)) (input : List ℕ) : Type 0 where
@@ -88,22 +90,22 @@ some_left : (rest : List ℕ) (read : LineRead) (kept : List ℕ) → IsSessionL
 some_left rest read kept r some = take_through_nonempty 10 rest (omega (arith, r.count_is, some))
 
 -- what a line that was read came to
-served_now : (reach : Reach) (was is : SessionState → Type 0) (now then left w1 w2 : Option (List ℕ)) (rest : List ℕ) (read : LineRead) (kept : List ℕ) (is_whole : Bool) → now ≡ Some rest → IfSome now (λ left. IsSessionLine (take_through 10 left) read kept)
-    → DropsThrough now then 10 → IfSome then (λ following. ServesReadOver reach was is is_whole read kept following left w1 w2) → ServesOver reach was is is_whole (request_in (take_through 10 rest)) (take_through 10 rest) (drop_through 10 rest) left w1 w2
-served_now reach was is now then left w1 w2 rest read kept is_whole at r drops served =
+served_now : (reach : Reach) (was is : SessionState → Type 0) (now then left : Option (List ℕ)) (Wrote : List ℕ → Type 0) (rest : List ℕ) (read : LineRead) (kept : List ℕ) (is_whole : Bool) → now ≡ Some rest → IfSome now (λ left. IsSessionLine (take_through 10 left) read kept)
+    → DropsThrough now then 10 → IfSome then (λ following. ServesReadOver reach was is is_whole read kept following left Wrote) → ServesOver reach was is is_whole (request_in (take_through 10 rest)) (take_through 10 rest) (drop_through 10 rest) left Wrote
+served_now reach was is now then left Wrote rest read kept is_whole at r drops served =
     let read2 : IsSessionLine (take_through 10 rest) read kept = subst (λ (o : Option (List ℕ)). IfSome o (λ l. IsSessionLine (take_through 10 l) read kept)) at r in
     let then_is : then ≡ Some (drop_through 10 rest) = subst (λ (o : Option (List ℕ)). DropsThrough o then 10) at drops in
-    let served2 = subst (λ (o : Option (List ℕ)). IfSome o (λ following. ServesReadOver reach was is is_whole read kept following left w1 w2)) then_is served in
+    let served2 = subst (λ (o : Option (List ℕ)). IfSome o (λ following. ServesReadOver reach was is is_whole read kept following left Wrote)) then_is served in
     served2.serves (take_through 10 rest) read2
 
 pub truncated : (reach : Reach) (was mid is : SessionState → Type 0) (old now then left w1 w2 w3 : Option (List ℕ)) (read : LineRead) (kept : List ℕ) (is_whole : Bool) → is_whole ≡ false → IfSome old (IsUnder reach was mid now w1 w2)
-    → IfSome now (λ left. IsSessionLine (take_through 10 left) read kept) → DropsThrough now then 10 → IfSome then (λ following. ServesReadOver reach mid is is_whole read kept following left w2 w3) → IfSome old (λ input. ServedAllOver reach was is input w1 w3 verdicts.Refused)
+    → IfSome now (λ left. IsSessionLine (take_through 10 left) read kept) → DropsThrough now then 10 → IfSome then (λ following. ServesReadOver reach mid is is_whole read kept following left (Appends w2 w3)) → IfSome old (λ input. ServedAllOver reach was is input w1 w3 verdicts.Refused)
 truncated reach was mid is None now then left w1 w2 w3 read kept is_whole none h r drops served = tt
 truncated reach was mid is (Some input) now then left w1 w2 w3 read kept is_whole none h r drops served =
     let whole = take_through 10 h.rest in
     let following = drop_through 10 h.rest in
-    let served1 = served_now reach mid is now then left w2 w3 h.rest read kept is_whole h.left r drops served in
-    let served2 : ServesOver reach mid is false (request_in whole) whole following left w2 w3 = subst (λ (w : Bool). ServesOver reach mid is w (request_in whole) whole following left w2 w3) none served1 in
+    let served1 = served_now reach mid is now then left (Appends w2 w3) h.rest read kept is_whole h.left r drops served in
+    let served2 : ServesOver reach mid is false (request_in whole) whole following left (Appends w2 w3) = subst (λ (w : Bool). ServesOver reach mid is w (request_in whole) whole following left (Appends w2 w3)) none served1 in
     let text : flat_map session_turn_text h.turns ++ [] ≡ flat_map session_turn_text h.turns = append-nil (flat_map session_turn_text h.turns) in
     record {
       output = flat_map session_turn_text h.turns;
@@ -114,14 +116,14 @@ truncated reach was mid is (Some input) now then left w1 w2 w3 read kept is_whol
     }
 
 pub turned : (reach : Reach) (was mid is : SessionState → Type 0) (old now then left w1 w2 w3 : Option (List ℕ)) (read : LineRead) (kept : List ℕ) (is_whole : Bool) → is_whole ≡ true → (reach.needs_newline ≡ true → read.is_ended ≡ true) → IfSome old (IsUnder reach was mid now w1 w2)
-    → IfSome now (λ left. IsSessionLine (take_through 10 left) read kept) → 0 < read.count → DropsThrough now then 10 → IfSome then (λ following. ServesReadOver reach mid is is_whole read kept following left w2 w3) → IfSome old (IsUnder reach was is left w1 w3)
+    → IfSome now (λ left. IsSessionLine (take_through 10 left) read kept) → 0 < read.count → DropsThrough now then 10 → IfSome then (λ following. ServesReadOver reach mid is is_whole read kept following left (Appends w2 w3)) → IfSome old (IsUnder reach was is left w1 w3)
 turned reach was mid is None now then left w1 w2 w3 read kept is_whole all ended h r some drops served = tt
 turned reach was mid is (Some input) now then left w1 w2 w3 read kept is_whole all ended h r some drops served =
     let whole = take_through 10 h.rest in
     let following = drop_through 10 h.rest in
     let read2 : IsSessionLine whole read kept = subst (λ (o : Option (List ℕ)). IfSome o (λ l. IsSessionLine (take_through 10 l) read kept)) h.left r in
-    let served1 = served_now reach mid is now then left w2 w3 h.rest read kept is_whole h.left r drops served in
-    let served2 : ServesOver reach mid is true (request_in whole) whole following left w2 w3 = subst (λ (w : Bool). ServesOver reach mid is w (request_in whole) whole following left w2 w3) all served1 in
+    let served1 = served_now reach mid is now then left (Appends w2 w3) h.rest read kept is_whole h.left r drops served in
+    let served2 : ServesOver reach mid is true (request_in whole) whole following left (Appends w2 w3) = subst (λ (w : Bool). ServesOver reach mid is w (request_in whole) whole following left (Appends w2 w3)) all served1 in
     let rest = served2.0 in
     let t = served2.1.1 in
     record {
@@ -133,4 +135,26 @@ turned reach was mid is (Some input) now then left w1 w2 w3 read kept is_whole a
           let g = t.goes p.0 p.1.0 in
           (g.0, (g.1.0, more_play reach start p.0 g.0 input h.rest rest h.turns t.turn p.1.1 (some_left h.rest read kept read2 some, (λ needs. read2.ended (ended needs)), g.1.1)));
       wrote = subst (λ (x : List ℕ). Appends w1 w3 x) (sym (text_more h.turns t.turn)) (Appends-trans w1 w2 w3 (flat_map session_turn_text h.turns) (session_turn_text t.turn) h.wrote t.wrote);
+    }
+
+-- a write failed in the answer to a line
+pub cut_off : (reach : Reach) (was mid is : SessionState → Type 0) (old now then left w1 w2 w3 : Option (List ℕ)) (read : LineRead) (kept : List ℕ) → (reach.needs_newline ≡ true → read.is_ended ≡ true) → IfSome old (IsUnder reach was mid now w1 w2)
+    → IfSome now (λ left. IsSessionLine (take_through 10 left) read kept) → 0 < read.count → DropsThrough now then 10 → IfSome then (λ following. ServesReadOver reach mid is true read kept following left (WroteSome w2 w3)) → IfSome old (λ input. ServedCutOver reach was input w1 w3)
+cut_off reach was mid is None now then left w1 w2 w3 read kept ended h r some drops served = tt
+cut_off reach was mid is (Some input) now then left w1 w2 w3 read kept ended h r some drops served =
+    let read2 : IsSessionLine (take_through 10 h.rest) read kept = subst (λ (o : Option (List ℕ)). IfSome o (λ l. IsSessionLine (take_through 10 l) read kept)) h.left r in
+    let served1 = served_now reach mid is now then left (WroteSome w2 w3) h.rest read kept true h.left r drops served in
+    let t = served1.1.1 in
+    record {
+      output = flat_map session_turn_text (h.turns ++ t.turn ∷ []);
+      rest = served1.0;
+      answered = record {
+        turns = h.turns ++ t.turn ∷ [];
+        plays = λ start session.
+            let p = h.plays start session in
+            let g = t.goes p.0 p.1.0 in
+            (g.0, (more_play reach start p.0 g.0 input h.rest served1.0 h.turns t.turn p.1.1 (some_left h.rest read kept read2 some, (λ needs. read2.ended (ended needs)), g.1.1), (g.0.store, tt)));
+        text_is = refl;
+      };
+      wrote = subst (λ (x : List ℕ). WroteSome w1 w3 x) (sym (text_more h.turns t.turn)) (some_after w1 w2 w3 (flat_map session_turn_text h.turns) (session_turn_text t.turn) h.wrote t.wrote);
     }

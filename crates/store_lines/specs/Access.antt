@@ -87,15 +87,15 @@ pub record TookEntries (reach : Reach) (was is : SessionState → Type 0) (range
 pub record Kept (was is : SessionState → Type 0) : Type 0 where
   pub kept : (before : SessionState) → was before → is before
 
--- entries were written
-pub record ReportedThese (reach : Reach) (was is : SessionState → Type 0) (range : EntryRange) (old new : Option (List ℕ)) : Type 0 where
+-- entries were written, or some of their text
+pub record ReportedThese (reach : Reach) (was is : SessionState → Type 0) (range : EntryRange) (Wrote : List ℕ → Type 0) : Type 0 where
   pub entries : List Entry
   pub took : TookEntries reach was is range entries
-  pub wrote : Appends old new (entries_text entries)
+  pub wrote : Wrote (entries_text entries)
 
 -- or an allocation failed for their copy, and nothing was written
 abbrev pub ReportedEntries : Reach → (SessionState → Type 0) → (SessionState → Type 0) → Bool → EntryRange → Option (List ℕ) → Option (List ℕ) → Type 0
-ReportedEntries reach was is true range old new = ReportedThese reach was is range old new
+ReportedEntries reach was is true range old new = ReportedThese reach was is range (Appends old new)
 ReportedEntries reach was is false range old new = reach.lacks × Kept was is × (new ≡ old)
 
 -- ---- a session's own store

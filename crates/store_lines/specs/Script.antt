@@ -11,6 +11,7 @@ use Rattle.store_books.specs.declared.refusal.Refusal.TheVariants as refusals
 use Rattle.store_core.specs.Carried.{IsCarried}
 use Rattle.store_core.specs.Commands.{plan_in}
 use Rattle.edge.specs.Lines.{lines_of}
+use Rattle.edge.specs.Output.{WroteSome}
 use Rattle.store_books.specs.Books.{empty_books, max_entries, max_tenants, max_workers}
 use Rattle.store_core.specs.Model.{ModelStore}
 use Rattle.store_core.specs.declared.reply.Reply.{Reply}
@@ -189,10 +190,19 @@ pub record RanSome (input : List ℕ) (old new : Option (List ℕ)) : Type 0 whe
   pub has_memory : ending ≢ endings.OutOfMemory
   pub wrote : Appends old new output
 
+-- A write failed: the writer grew by a prefix of the answers to a prefix of the lines, the last of which was being written. None of them
+-- is `refused S14`.
+pub record RanCut (input : List ℕ) (old new : Option (List ℕ)) : Type 0 where
+  pub output : List ℕ
+  pub ending : Ending
+  pub script : IsScriptBegun input output ending
+  pub has_memory : ending ≢ endings.OutOfMemory
+  pub wrote : WroteSome old new output
+
 -- The result of a run that ends out of memory. The writer grew by the script's output, with an answer `refused S14`, and the reader is at
 -- its end; or it grew by the answers to a prefix of the lines, and a line is left after these, or they have a `refused S14`. Or a write
--- failed, and the answers to a prefix of the lines have a `refused S14`.
+-- failed, the answers to a prefix of the lines have a `refused S14`, and the writer grew by a prefix of these answers.
 pub data RanOut (input : List ℕ) (left old new : Option (List ℕ)) : Type 0 where
   ran_all : IsAtEnd left → Ran input old new endings.OutOfMemory → RanOut input left old new
   ran_some : (output : List ℕ) (ending : Ending) (script : IsScriptBegun input output ending) → (script.back ≢ []) ⊎ (ending ≡ endings.OutOfMemory) → Appends old new output → RanOut input left old new
-  failed_write : (output : List ℕ) → IsScriptBegun input output endings.OutOfMemory → RanOut input left old new
+  failed_write : (output : List ℕ) → IsScriptBegun input output endings.OutOfMemory → WroteSome old new output → RanOut input left old new

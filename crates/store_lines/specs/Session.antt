@@ -4,6 +4,7 @@ use Rattle.std.specs.Fmt.{decimal}
 use Rattle.std.specs.List.{flat_map}
 use Rattle.std.specs.Io.BufRead.{drop_through, strip_last, take_through}
 use Rattle.std.specs.Io.KnownBytes.{Appends}
+use Rattle.edge.specs.Output.{WroteSome}
 use Rattle.edge.specs.declared.outcome.Verdict.{Verdict}
 use Rattle.edge.specs.declared.outcome.Verdict.TheVariants as verdicts
 use Rattle.store_books.specs.Refusals.{refusal_text}
@@ -149,7 +150,14 @@ pub record ServedSome (input : List ℕ) (old new : Option (List ℕ)) : Type 0 
   pub answered : AreServed input output rest
   pub wrote : Appends old new output
 
--- and the session reached its end
+-- A write failed: the writer grew by a prefix of the answers to the lines of a prefix of the input, the last of which was being written.
+pub record ServedCut (input : List ℕ) (old new : Option (List ℕ)) : Type 0 where
+  pub output : List ℕ
+  pub rest : List ℕ
+  pub answered : AreServed input output rest
+  pub wrote : WroteSome old new output
+
+-- the writer grew by all these answers, and the session reached its end
 pub record ServedAll (input : List ℕ) (old new : Option (List ℕ)) (verdict : Verdict) : Type 0 where
   pub output : List ℕ
   pub rest : List ℕ

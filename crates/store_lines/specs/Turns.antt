@@ -17,6 +17,7 @@ use Rattle.store_lines.specs.declared.request.Request.TheVariants.{Asks, Does, E
 use Rattle.store_lines.specs.Lines.{IsPutLine}
 use Rattle.store_lines.specs.Script.{IsTurnOfStep, Turn, bad, listed, range_entries, skipped, took, unmade, unplanned}
 use Rattle.edge.specs.Lines.{HasNewline}
+use Rattle.edge.specs.Output.{WroteSome}
 use Rattle.store_lines.specs.Lines.{max_request}
 use Rattle.store_lines.specs.Requests.{request_in}
 use Rattle.store_lines.specs.Session.{Ends, Manner, SessionTurn, as_range, as_script, no_memory, session_turn_text, reported_as}
@@ -149,3 +150,10 @@ pub record ServedAllOver (reach : Reach) (was is : SessionState → Type 0) (inp
   pub answered : ServedOver reach was is input output rest
   pub ends : EndsOver reach verdict rest
   pub wrote : Appends old new output
+
+-- A write failed: the writer grew by a prefix of the answers to the lines of a prefix of the input, the last of which was being written.
+pub record ServedCutOver (reach : Reach) (was : SessionState → Type 0) (input : List ℕ) (old new : Option (List ℕ)) : Type 0 where
+  pub output : List ℕ
+  pub rest : List ℕ
+  pub answered : ServedOver reach was (λ _. Unit {0}) input output rest
+  pub wrote : WroteSome old new output

@@ -1,12 +1,13 @@
 //! A session's access to its store.
 
-ghost use Rattle.std.specs.Prelude.{◌≡◌, IfErr, IfOk};
+ghost use Rattle.std.specs.Prelude.{◌≡◌, IfErr, IfOk, OnErr};
 ghost use Rattle.std.specs.Arc.{arc_value};
+ghost use Rattle.edge.specs.Output.{WroteSome};
 ghost use Rattle.store_core.specs.Commands.{put_result, reply_seen};
 ghost use Rattle.store_core.specs.Runs.{ask, change, put};
 ghost use Rattle.store_core.specs.declared.command.Question.TheVariants as questions;
 ghost use Rattle.store_core.specs.declared.reply.Reply.TheVariants as replies;
-ghost use Rattle.store_lines.specs.Access.{Reach, SessionState, ReportedEntries, Took, TookPlan};
+ghost use Rattle.store_lines.specs.Access.{Reach, SessionState, ReportedEntries, ReportedThese, Took, TookPlan};
 
 use crate::request::EntryRange;
 use b3_core::Work;
@@ -63,5 +64,6 @@ pub trait Access {
         range: EntryRange,
     ) -> Result<bool, Cause>
         ensures reported { IfOk result (λ given. ReportedEntries reach (stands self.old) (stands self.new) given range (W.contents writer.old) (W.contents writer.new)) }
+        ensures failed { OnErr result (ReportedThese reach (stands self.old) (stands self.new) range (WroteSome (W.contents writer.old) (W.contents writer.new))) }
         ensures cause { IfErr result (λ cause. cause ≡ Cause.CannotWrite) };
 }

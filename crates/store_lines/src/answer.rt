@@ -2,6 +2,7 @@
 
 ghost use Rattle.std.specs.Prelude.{◌≡◌, ◌<◌, IfErr, IfOk, OnErr, OnOk};
 ghost use Rattle.std.specs.Io.KnownBytes.{Appends};
+ghost use Rattle.edge.specs.Output.{WroteSome};
 ghost use Rattle.store_lines.specs.inner.Answers.{Answered, AnswersRead, PutsRead, reported_ending, reported_text};
 ghost use Rattle.store_lines.specs.Lines.{IsPutLine};
 ghost use Rattle.store_lines.specs.Script.{IsTurnOf, fault_ending, reply_ending};
@@ -49,6 +50,7 @@ impl Answer {
     /// Writes the answer of a store whose journal is `entries`. Allocates nothing.
     pub(crate) fn write<W: Write>(self, entries: &[Entry], writer: &mut W) -> Result<(), Cause>
         ensures wrote { OnOk result (Appends (W.contents writer.old) (W.contents writer.new) (reported_text entries.now self)) }
+        ensures failed { OnErr result (WroteSome (W.contents writer.old) (W.contents writer.new) (reported_text entries.now self)) }
         ensures cause { IfErr result (λ cause. cause ≡ Cause.CannotWrite) }
     {
         match self {

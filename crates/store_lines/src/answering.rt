@@ -1,7 +1,8 @@
 //! Answers to lines.
 
-ghost use Rattle.std.specs.Prelude.{◌≡◌, [], IfErr, OnOk};
+ghost use Rattle.std.specs.Prelude.{◌≡◌, [], IfErr, OnErr, OnOk};
 ghost use Rattle.std.specs.Io.KnownBytes.{Appends};
+ghost use Rattle.edge.specs.Output.{WroteSome};
 ghost use Rattle.store_core.specs.declared.command.Question.TheVariants as questions;
 ghost use Rattle.store_lines.specs.inner.Answers.{reported_text};
 ghost use Rattle.store_core.specs.Runs.{ask};
@@ -21,6 +22,7 @@ use store_core::Refusal;
 /// Writes an answer without entries of the journal, and flushes.
 pub(crate) fn report<W: Write>(writer: &mut W, answer: Answer) -> Result<(), Cause>
     ensures wrote { OnOk result (Appends (W.contents writer.old) (W.contents writer.new) (reported_text [] answer)) }
+    ensures failed { OnErr result (WroteSome (W.contents writer.old) (W.contents writer.new) (reported_text [] answer)) }
     ensures cause { IfErr result (λ cause. cause ≡ Cause.CannotWrite) }
 {
     answer.write(&[], writer)?;
@@ -35,7 +37,9 @@ pub(crate) fn give_entries<A: Access, W: Write>(
     range: EntryRange,
 ) -> Result<(), Cause>
     ensures reported { OnOk result (ReportedOver (A.stands access.old) (A.stands access.new)
-        (λ before turn after. IsLinkedEntries A.reach range before turn after) (W.contents writer.old) (W.contents writer.new)) }
+        (λ before turn after. IsLinkedEntries A.reach range before turn after) (Appends (W.contents writer.old) (W.contents writer.new))) }
+    ensures failed { OnErr result (ReportedOver (A.stands access.old) (A.stands access.new)
+        (λ before turn after. IsLinkedEntries A.reach range before turn after) (WroteSome (W.contents writer.old) (W.contents writer.new))) }
     ensures cause { IfErr result (λ cause. cause ≡ Cause.CannotWrite) }
 {
     if access.write_entries(alloc, writer, range)? {
@@ -53,7 +57,10 @@ pub(crate) fn give<A: Access, W: Write>(
 ) -> Result<(), Cause>
     ensures gave { OnOk result (ReportedOver (A.stands access.old) (A.stands access.new)
         (λ before turn after. IsLinkedCall A.reach (as_range wanted.range) before
-        (ask (questions.Fetch wanted.tenant wanted.address)) turn after) (W.contents writer.old) (W.contents writer.new)) }
+        (ask (questions.Fetch wanted.tenant wanted.address)) turn after) (Appends (W.contents writer.old) (W.contents writer.new))) }
+    ensures failed { OnErr result (ReportedOver (A.stands access.old) (A.stands access.new)
+        (λ before turn after. IsLinkedCall A.reach (as_range wanted.range) before
+        (ask (questions.Fetch wanted.tenant wanted.address)) turn after) (WroteSome (W.contents writer.old) (W.contents writer.new))) }
     ensures cause { IfErr result (λ cause. cause ≡ Cause.CannotWrite) }
 {
     match access.fetch(wanted.tenant, wanted.address) {

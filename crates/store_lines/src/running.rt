@@ -1,10 +1,11 @@
 //! The engine.
 
-ghost use Rattle.std.specs.Prelude.{◌≡◌, ◌<◌, ◌⊎◌, IfErr, IfOk, IfSome, OnOk, Err, Ok, length};
+ghost use Rattle.std.specs.Prelude.{◌≡◌, ◌≢◌, ◌<◌, ◌⊎◌, IfErr, IfOk, IfSome, OnErr, OnOk, Err, Ok, length};
 ghost use Rattle.std.specs.Io.BufRead.{DropsThrough, take_through};
 ghost use Rattle.std.specs.Io.KnownBytes.{Appends, IsAtEnd};
+ghost use Rattle.edge.specs.Output.{WroteSome};
 ghost use Rattle.store_lines.specs.inner.Answers.{IsReadLine, reported_ending, reported_text};
-ghost use Rattle.store_lines.specs.Script.{Ran, RanOut, RanSome, verdict_ending, widest_start, worse};
+ghost use Rattle.store_lines.specs.Script.{Ran, RanCut, RanOut, RanSome, verdict_ending, widest_start, worse};
 ghost use Rattle.store_lines.specs.inner.Script.{ended_as, first_cause};
 ghost use Rattle.store_lines.specs.declared.ending.Ending.TheVariants as endings;
 
@@ -34,8 +35,10 @@ pub fn run<R: BufRead, W: Write>(
     ensures end { OnOk result (IfSome (R.Read.remaining reader.old) (λ _. IsAtEnd (R.Read.remaining reader.new))) }
     // After a failed read it grew by the answers to a prefix of the lines, none of which is `refused S14`.
     ensures read { result ≡ Err Cause.CannotRead → IfSome (R.Read.remaining reader.old) (λ input. RanSome input (W.contents writer.old) (W.contents writer.new)) }
-    // If out of memory, it grew by the script's output, with a `refused S14` in it, or by the answers to a prefix of the lines; unless a
-    // write failed after a `refused S14`.
+    // After a failed write it grew by a prefix of such answers, the last of which was being written.
+    ensures failed { result ≡ Err Cause.CannotWrite → IfSome (R.Read.remaining reader.old) (λ input. RanCut input (W.contents writer.old) (W.contents writer.new)) }
+    // If out of memory, it grew by the script's output, with a `refused S14` in it, or by the answers to a prefix of the lines; or, if a
+    // write failed after a `refused S14`, by a prefix of these answers.
     ensures memory { result ≡ Err Cause.OutOfMemory → IfSome (R.Read.remaining reader.old) (λ input. RanOut input (R.Read.remaining reader.new) (W.contents writer.old) (W.contents writer.new)) }
 {
     let mut store = Store::new(alloc, Limits::full());
@@ -54,6 +57,7 @@ fn answer_lines<R: BufRead, W: Write>(
     ensures written { IfOk result (λ verdict. IfSome (R.Read.remaining reader.old) (λ input. Ran input (W.contents writer.old) (W.contents writer.new) (verdict_ending verdict))) }
     ensures end { OnOk result (IfSome (R.Read.remaining reader.old) (λ _. IsAtEnd (R.Read.remaining reader.new))) }
     ensures read { result ≡ Err Cause.CannotRead → IfSome (R.Read.remaining reader.old) (λ input. RanSome input (W.contents writer.old) (W.contents writer.new)) }
+    ensures failed { result ≡ Err Cause.CannotWrite → IfSome (R.Read.remaining reader.old) (λ input. RanCut input (W.contents writer.old) (W.contents writer.new)) }
     ensures memory { result ≡ Err Cause.OutOfMemory → IfSome (R.Read.remaining reader.old) (λ input. RanOut input (R.Read.remaining reader.new) (W.contents writer.old) (W.contents writer.new)) }
 {
     let mut ending = Ending::Good;
@@ -78,6 +82,7 @@ fn read_line<R: BufRead>(reader: &mut R, line: &mut Vec<u8>, ending: Ending) -> 
     // An allocation failed for a line's bytes, or an earlier answer was `refused S14`.
     ensures left { result ≡ Err Cause.OutOfMemory → IfSome (R.Read.remaining reader.old) (λ left. (0 < length left) ⊎ (ending ≡ endings.OutOfMemory)) }
     ensures cause { IfErr result (λ cause. ending ≡ endings.OutOfMemory → cause ≡ Cause.OutOfMemory) }
+    ensures unwritten { IfErr result (λ cause. cause ≢ Cause.CannotWrite) }
 {
     let read = edge::read_line(reader, line, MAX_LINE).map_err(|cause| first_cause(ending, cause))?;
     if read.is_kept {
@@ -95,6 +100,7 @@ fn report<W: Write>(
     ending: Ending,
 ) -> Result<(), Cause>
     ensures wrote { OnOk result (Appends (W.contents writer.old) (W.contents writer.new) (reported_text store.now.journal answer)) }
+    ensures failed { OnErr result (WroteSome (W.contents writer.old) (W.contents writer.new) (reported_text store.now.journal answer)) }
     ensures cause { IfErr result (λ cause. cause ≡ first_cause ending Cause.CannotWrite) }
 {
     let cause = first_cause(ending, Cause::CannotWrite);

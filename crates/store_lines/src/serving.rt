@@ -2,10 +2,12 @@
 
 ghost use Rattle.std.specs.Prelude.{◌≡◌, ◌≢◌, ◌<◌, ◌≤◌, false, true, IfErr, IfOk, IfSome, OnOk, Err, vec_capacity};
 ghost use Rattle.std.specs.Io.BufRead.{DropsThrough, take_through};
+ghost use Rattle.std.specs.Io.KnownBytes.{Appends};
+ghost use Rattle.edge.specs.Output.{WroteSome};
 ghost use Rattle.store_lines.specs.Lines.{max_request};
 ghost use Rattle.store_lines.specs.inner.Requests.{IsSessionLine};
-ghost use Rattle.store_lines.specs.Session.{ServedAll, ServedSome};
-ghost use Rattle.store_lines.specs.Turns.{ServedAllOver, ServedSomeOver};
+ghost use Rattle.store_lines.specs.Session.{ServedAll, ServedCut, ServedSome};
+ghost use Rattle.store_lines.specs.Turns.{ServedAllOver, ServedCutOver, ServedSomeOver};
 ghost use Rattle.store_lines.specs.inner.Reporting.{ServesLineOver, ServesRequestOver};
 
 use crate::access::Access;
@@ -37,6 +39,8 @@ pub fn serve<R: BufRead, W: Write>(
     ensures written { IfOk result (λ verdict. IfSome (R.Read.remaining reader.old) (λ input. ServedAll input (W.contents writer.old) (W.contents writer.new) verdict)) }
     // After a failed read it grew by the answers to a prefix of the lines.
     ensures read { result ≡ Err Cause.CannotRead → IfSome (R.Read.remaining reader.old) (λ input. ServedSome input (W.contents writer.old) (W.contents writer.new)) }
+    // After a failed write it grew by a prefix of such answers, the last of which was being written.
+    ensures failed { result ≡ Err Cause.CannotWrite → IfSome (R.Read.remaining reader.old) (λ input. ServedCut input (W.contents writer.old) (W.contents writer.new)) }
     // Running out of memory stops no session that has begun.
     ensures memory { result ≡ Err Cause.OutOfMemory → (reader.new ≡ reader.old) × (writer.new ≡ writer.old) }
 {
@@ -63,6 +67,8 @@ pub fn serve_over<A: Access, R: BufRead, W: Write>(
         (λ input. ServedAllOver A.reach (A.stands access.old) (A.stands access.new) input (W.contents writer.old) (W.contents writer.new) verdict)) }
     // After a failed read it grew by the answers to a prefix of the lines.
     ensures read { result ≡ Err Cause.CannotRead → IfSome (R.Read.remaining reader.old) (λ input. ServedSomeOver A.reach (A.stands access.old) input (W.contents writer.old) (W.contents writer.new)) }
+    // After a failed write it grew by a prefix of such answers, the last of which was being written.
+    ensures failed { result ≡ Err Cause.CannotWrite → IfSome (R.Read.remaining reader.old) (λ input. ServedCutOver A.reach (A.stands access.old) input (W.contents writer.old) (W.contents writer.new)) }
     // Running out of memory stops no session that has begun.
     ensures memory { result ≡ Err Cause.OutOfMemory → (reader.new ≡ reader.old) × (writer.new ≡ writer.old) }
 {
@@ -113,7 +119,10 @@ fn serve_line<A: Access, R: BufRead, W: Write>(
 ) -> Result<bool, Cause>
     ensures served { IfOk result (λ is_whole. IfSome (R.Read.remaining reader.old)
         (λ following. ServesLineOver A.reach (A.stands access.old) (A.stands access.new) is_whole line following
-        (R.Read.remaining reader.new) (W.contents writer.old) (W.contents writer.new))) }
+        (R.Read.remaining reader.new) (Appends (W.contents writer.old) (W.contents writer.new)))) }
+    ensures failed { result ≡ Err Cause.CannotWrite → IfSome (R.Read.remaining reader.old)
+        (λ following. ServesLineOver A.reach (A.stands access.old) (A.stands access.new) true line following
+        (R.Read.remaining reader.new) (WroteSome (W.contents writer.old) (W.contents writer.new))) }
     ensures unwritten { result ≡ Err Cause.CannotRead → writer.new ≡ writer.old }
     ensures cause { IfErr result (λ cause. cause ≢ Cause.OutOfMemory) }
 {
@@ -137,7 +146,10 @@ fn serve_request<A: Access, R: BufRead, W: Write>(
 ) -> Result<bool, Cause>
     ensures served { IfOk result (λ is_whole. IfSome (R.Read.remaining reader.old)
         (λ following. ServesRequestOver A.reach (A.stands access.old) (A.stands access.new) is_whole request following
-        (R.Read.remaining reader.new) (W.contents writer.old) (W.contents writer.new))) }
+        (R.Read.remaining reader.new) (Appends (W.contents writer.old) (W.contents writer.new)))) }
+    ensures failed { result ≡ Err Cause.CannotWrite → IfSome (R.Read.remaining reader.old)
+        (λ following. ServesRequestOver A.reach (A.stands access.old) (A.stands access.new) true request following
+        (R.Read.remaining reader.new) (WroteSome (W.contents writer.old) (W.contents writer.new))) }
     ensures unwritten { result ≡ Err Cause.CannotRead → writer.new ≡ writer.old }
     ensures cause { IfErr result (λ cause. cause ≢ Cause.OutOfMemory) }
 {

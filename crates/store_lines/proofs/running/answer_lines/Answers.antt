@@ -1,11 +1,14 @@
-use Rattle.std.proofs.Common.{rules, arith, ◌≡◌, ◌∙◌, ◌<◌, Err, List, None, ℕ, ap, subst, sym}
+use Rattle.std.proofs.Common.{rules, arith, ◌≡◌, ◌∙◌, ◌<◌, Err, List, ℕ, ap, subst, sym}
+use Rattle.std.specs.Prelude.{◌≢◌}
 use Rattle.std.specs.Io.KnownBytes.{Appends}
+use Rattle.edge.specs.Output.{WroteSome}
 use Rattle.store_lines.specs.inner.Answers.{AnswersRead, reported_ending, reported_text}
 use Rattle.store_lines.specs.Script.{worse}
+use Rattle.store_lines.specs.declared.ending.Ending.{Ending}
 use Rattle.store_lines.specs.inner.Script.{first_cause}
 use Rattle.store_lines.specs.declared.ending.Ending.TheVariants as endings
 use Rattle.edge.specs.declared.outcome.Cause.TheVariants as causes
-use Rattle.store_lines.proofs.ScriptSteps.{at_end, at_failed_write, at_refusal, at_stop, begun, ended_reader, has_memory, if_ended, is_out, is_verdict, line_left, no_failed_read, no_failed_report, nothing_read, reported_left, reported_memory, reported_memory_read, turned, whatever_written}
+use Rattle.store_lines.proofs.ScriptSteps.{at_cut, at_end, at_failed_write, at_refusal, at_stop, begun, ended_reader, has_memory, if_ended, is_out, is_verdict, line_left, no_failed_read, no_failed_report, no_failed_write, no_write_failed, nothing_read, reported_left, reported_memory, reported_memory_read, reported_write, turned}
 use Rattle.store_lines.proofs.running.answer_lines.Goals as goal
 
 pub loop-init : goal.loop-init
@@ -67,10 +70,35 @@ returns-in_err-report-clause-memory g c = λ is.
     let next : c.worse-ending.result ≡ worse c.loop.ending (reported_ending c.in_ok-answer.answer) = search rules in
     let reported : c.in_err-report.field-0.0 ≡ causes.OutOfMemory = search rules in
     let memory = reported_memory c.worse-ending.result (sym c.in_err-report.ensures.cause ∙ reported) in
-    let before = whatever_written (g.R.Read.remaining c.args.reader.now) (g.R.Read.remaining c.loop.reader) (g.W.Write.contents c.args.writer.now) (g.W.Write.contents c.loop.writer) c.loop.store c.loop.ending c.loop.invariant in
-    let after = turned (g.R.Read.remaining c.args.reader.now) (g.R.Read.remaining c.loop.reader) (g.R.Read.remaining c.read_line.new.reader) None None None
-    c.loop.store c.answer_read.new.store c.loop.ending (reported_ending c.in_ok-answer.answer) c.in_ok-count.count kept (reported_text c.answer_read.new.store.journal c.in_ok-answer.answer) before c.in_ok-count.ensures.read c.in_ok-count.ensures.rest some answered tt in
-    at_failed_write (g.R.Read.remaining c.args.reader.now) (g.R.Read.remaining c.read_line.new.reader) _ (g.W.Write.contents c.args.writer.now) (g.W.Write.contents c.report.new.writer) c.answer_read.new.store (worse c.loop.ending (reported_ending c.in_ok-answer.answer)) (sym next ∙ memory) after
+    let wrote : WroteSome (g.W.Write.contents c.loop.writer) (g.W.Write.contents c.report.new.writer) (reported_text c.answer_read.new.store.journal c.in_ok-answer.answer) = search rules in
+    at_failed_write (g.R.Read.remaining c.args.reader.now) (g.R.Read.remaining c.loop.reader) (g.R.Read.remaining c.read_line.new.reader) _ (g.W.Write.contents c.args.writer.now) (g.W.Write.contents c.loop.writer) (g.W.Write.contents c.report.new.writer)
+    c.loop.store c.answer_read.new.store c.loop.ending (reported_ending c.in_ok-answer.answer) c.in_ok-count.count kept (reported_text c.answer_read.new.store.journal c.in_ok-answer.answer) (sym next ∙ memory) c.loop.invariant c.in_ok-count.ensures.read c.in_ok-count.ensures.rest some answered wrote
+
+pub returns-in_err-report-clause-failed : goal.returns-in_err-report-clause-failed
+returns-in_err-report-clause-failed g c = λ is.
+    let kept = c.read_line.new.line.items in
+    let kept_is : c.as_slice.result.now ≡ kept = search rules in
+    let answered = subst (λ (k : List ℕ). AnswersRead c.loop.store c.answer_read.new.store c.in_ok-count.count k (reported_text c.answer_read.new.store.journal c.in_ok-answer.answer) (reported_ending c.in_ok-answer.answer)) kept_is c.in_ok-answer.ensures.answered in
+    let some : 0 < c.in_ok-count.count = omega arith in
+    let next : c.worse-ending.result ≡ worse c.loop.ending (reported_ending c.in_ok-answer.answer) = search rules in
+    let reported : c.in_err-report.field-0.0 ≡ causes.CannotWrite = search rules in
+    let memory = reported_write c.worse-ending.result (sym c.in_err-report.ensures.cause ∙ reported) in
+    let wrote : WroteSome (g.W.Write.contents c.loop.writer) (g.W.Write.contents c.report.new.writer) (reported_text c.answer_read.new.store.journal c.in_ok-answer.answer) = search rules in
+    at_cut (g.R.Read.remaining c.args.reader.now) (g.R.Read.remaining c.loop.reader) (g.R.Read.remaining c.read_line.new.reader) (g.W.Write.contents c.args.writer.now) (g.W.Write.contents c.loop.writer) (g.W.Write.contents c.report.new.writer)
+    c.loop.store c.answer_read.new.store c.loop.ending (reported_ending c.in_ok-answer.answer) c.in_ok-count.count kept (reported_text c.answer_read.new.store.journal c.in_ok-answer.answer) (subst (λ (e : Ending). e ≢ endings.OutOfMemory) next memory) c.loop.invariant c.in_ok-count.ensures.read c.in_ok-count.ensures.rest some answered wrote
+
+pub returns-in_err-count-clause-failed : goal.returns-in_err-count-clause-failed
+returns-in_err-count-clause-failed g c = λ is.
+    let reported : c.in_err-count.field-0.0 ≡ causes.CannotWrite = search rules in
+    absurd (c.in_err-count.ensures.unwritten reported)
+
+pub returns-then-count-eq0-clause-failed : goal.returns-then-count-eq0-clause-failed
+returns-then-count-eq0-clause-failed g c = λ is. absurd (no_failed_write c.loop.ending (rw c.ended_as.ensures at is))
+
+pub returns-clause-failed : goal.returns-clause-failed
+returns-clause-failed g c = λ is.
+    let reported : c.first_cause.result ≡ causes.CannotWrite = search rules in
+    absurd (no_write_failed c.loop.ending (sym c.first_cause.ensures ∙ reported))
 
 pub loop-preserved : goal.loop-preserved
 loop-preserved g c =

@@ -1,11 +1,13 @@
-use Rattle.std.proofs.Common.{rules, ◌≡◌, ◌≤◌, ◌<◌, arith, false, subst, sym, true, vec_capacity, List, ℕ}
+use Rattle.std.proofs.Common.{rules, ◌≡◌, ◌≤◌, ◌<◌, Err, arith, false, subst, sym, true, vec_capacity, List, ℕ}
 use Rattle.std.specs.Prelude.{IfSome}
+use Rattle.std.specs.Io.KnownBytes.{Appends}
+use Rattle.edge.specs.Output.{WroteSome}
 use Rattle.edge.specs.declared.outcome.Cause.TheVariants as causes
 use Rattle.store_lines.specs.Lines.{max_request}
 use Rattle.store_lines.specs.inner.Requests.{IsFound}
 use Rattle.store_lines.specs.Turns.{ServedSomeOver}
 use Rattle.store_lines.proofs.Serves.{served_read}
-use Rattle.store_lines.proofs.Under.{at_end, begun, truncated, stopped, turned, unended}
+use Rattle.store_lines.proofs.Under.{at_end, begun, cut_off, truncated, stopped, turned, unended}
 use Rattle.store_lines.proofs.serving.serve_over.Goals as goal
 
 pub loop-init : goal.loop-init
@@ -29,6 +31,19 @@ returns-in_err-serve_line-clause-read g c = λ is.
     let before = stopped reach was (g.A.Access.stands c.loop.access) (g.R.Read.remaining c.args.reader.now) (g.R.Read.remaining c.loop.reader) (g.W.Write.contents c.args.writer.now) (g.W.Write.contents c.loop.writer) c.loop.invariant.0 in
     subst (λ w. IfSome (g.R.Read.remaining c.args.reader.now) (λ input. ServedSomeOver reach was input (g.W.Write.contents c.args.writer.now) (g.W.Write.contents w))) (sym same) before
 
+pub returns-in_err-serve_line-clause-failed : goal.returns-in_err-serve_line-clause-failed
+returns-in_err-serve_line-clause-failed g c = λ is.
+    let cause : c.serve_line.result ≡ Err causes.CannotWrite = search rules in
+    let reach = g.A.Access.reach in
+    let mid = g.A.Access.stands c.loop.access in
+    let now = g.A.Access.stands c.serve_line.new.access in
+    let kept : c.as_slice.result.now ≡ c.next_line.new.line.items = search rules in
+    let found = subst (λ (k : List ℕ). IsFound c.in_ok-read.read k c.line_of-found.result) kept c.line_of-found.ensures in
+    let served = served_read true (g.R.Read.remaining c.next_line.new.reader) (g.R.Read.remaining c.serve_line.new.reader) (WroteSome (g.W.Write.contents c.loop.writer) (g.W.Write.contents c.serve_line.new.writer)) reach mid now c.in_ok-read.read c.next_line.new.line.items c.line_of-found.result found (c.serve_line.ensures.failed cause) in
+    let some : 0 < c.in_ok-read.read.count = omega arith in
+    cut_off reach (g.A.Access.stands c.args.access.now) mid now (g.R.Read.remaining c.args.reader.now) (g.R.Read.remaining c.loop.reader) (g.R.Read.remaining c.next_line.new.reader) (g.R.Read.remaining c.serve_line.new.reader) (g.W.Write.contents c.args.writer.now) (g.W.Write.contents c.loop.writer) (g.W.Write.contents c.serve_line.new.writer)
+    c.in_ok-read.read c.next_line.new.line.items (c.is_cut.ensures.whole (search rules)) c.loop.invariant.0 c.in_ok-read.ensures.read some c.in_ok-read.ensures.rest served
+
 pub returns-then-not-branch-clause-written : goal.returns-then-not-branch-clause-written
 returns-then-not-branch-clause-written g c =
     let reach = g.A.Access.reach in
@@ -37,7 +52,7 @@ returns-then-not-branch-clause-written g c =
     let none : c.in_ok-serve_line.field-0 ≡ false = search rules in
     let kept : c.as_slice.result.now ≡ c.next_line.new.line.items = search rules in
     let found = subst (λ (k : List ℕ). IsFound c.in_ok-read.read k c.line_of-found.result) kept c.line_of-found.ensures in
-    let served = served_read c.in_ok-serve_line.field-0 (g.R.Read.remaining c.next_line.new.reader) (g.R.Read.remaining c.serve_line.new.reader) (g.W.Write.contents c.loop.writer) (g.W.Write.contents c.serve_line.new.writer) reach mid now c.in_ok-read.read c.next_line.new.line.items c.line_of-found.result found c.in_ok-serve_line.ensures.served in
+    let served = served_read c.in_ok-serve_line.field-0 (g.R.Read.remaining c.next_line.new.reader) (g.R.Read.remaining c.serve_line.new.reader) (Appends (g.W.Write.contents c.loop.writer) (g.W.Write.contents c.serve_line.new.writer)) reach mid now c.in_ok-read.read c.next_line.new.line.items c.line_of-found.result found c.in_ok-serve_line.ensures.served in
     truncated reach (g.A.Access.stands c.args.access.now) mid now (g.R.Read.remaining c.args.reader.now) (g.R.Read.remaining c.loop.reader) (g.R.Read.remaining c.next_line.new.reader) (g.R.Read.remaining c.serve_line.new.reader) (g.W.Write.contents c.args.writer.now) (g.W.Write.contents c.loop.writer) (g.W.Write.contents c.serve_line.new.writer)
     c.in_ok-read.read c.next_line.new.line.items c.in_ok-serve_line.field-0 none c.loop.invariant.0 c.in_ok-read.ensures.read c.in_ok-read.ensures.rest served
 
@@ -55,7 +70,7 @@ loop-preserved g c =
     let whole : c.in_ok-serve_line.field-0 ≡ true = search rules in
     let kept : c.as_slice.result.now ≡ c.next_line.new.line.items = search rules in
     let found = subst (λ (k : List ℕ). IsFound c.in_ok-read.read k c.line_of-found.result) kept c.line_of-found.ensures in
-    let served = served_read c.in_ok-serve_line.field-0 (g.R.Read.remaining c.next_line.new.reader) (g.R.Read.remaining c.serve_line.new.reader) (g.W.Write.contents c.loop.writer) (g.W.Write.contents c.serve_line.new.writer) reach mid now c.in_ok-read.read c.next_line.new.line.items c.line_of-found.result found c.in_ok-serve_line.ensures.served in
+    let served = served_read c.in_ok-serve_line.field-0 (g.R.Read.remaining c.next_line.new.reader) (g.R.Read.remaining c.serve_line.new.reader) (Appends (g.W.Write.contents c.loop.writer) (g.W.Write.contents c.serve_line.new.writer)) reach mid now c.in_ok-read.read c.next_line.new.line.items c.line_of-found.result found c.in_ok-serve_line.ensures.served in
     let some : 0 < c.in_ok-read.read.count = omega arith in
     let room : max_request ≤ vec_capacity c.next_line.new.line = search rules in (
       turned reach (g.A.Access.stands c.args.access.now) mid now (g.R.Read.remaining c.args.reader.now) (g.R.Read.remaining c.loop.reader) (g.R.Read.remaining c.next_line.new.reader) (g.R.Read.remaining c.serve_line.new.reader) (g.W.Write.contents c.args.writer.now) (g.W.Write.contents c.loop.writer) (g.W.Write.contents c.serve_line.new.writer)
