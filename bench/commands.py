@@ -1,5 +1,5 @@
 """bench/commands.py [PROGRAM..]: times `b3store run` over generated scripts: small objects of eight tenants, with and without
-forgets. It prints commands a second of each program, the best of turns that they take in turn."""
+forgets. It prints the commands per second of each program, in the best of several runs, which alternate."""
 import random
 import subprocess
 import sys

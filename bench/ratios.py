@@ -1,4 +1,4 @@
-"""Runs each measurement in turn, several times, and prints ratios: of the best times, and the median of those of each turn."""
+"""Runs the measurements several times, alternating, and prints ratios: that of the best times, and the median of the ratios of each turn."""
 import os
 import statistics
 import subprocess

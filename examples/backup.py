@@ -14,9 +14,9 @@ A file is not read again if its length, mode, owner and time are those in the la
 which also compares the objects that are there. All files are written under other names, synced, and then renamed; a backup is recorded last. So a save that
 is killed changes no earlier backup. The next save uses or removes what it left. Only one save can use a repository at a time.
 
-`check` reads everything. It prints each object that is missing, truncated or altered, with its pack, and each file that a backup lacks. If only an index is
-missing or wrong, everything can be restored, and the next save writes the index again. A wrong object is written again by `save --all` of a folder that has the
-same content.
+`check` reads everything. It prints each object that is missing, truncated or altered, with its pack, and each file that a backup can't restore. If only an
+index is missing or wrong, everything can be restored, and the next save writes the index again. A wrong object is written again by `save --all` of a folder
+that has the same content.
 
 It keeps files, folders, links and hard links, with times, modes, owners and groups. If an owner can't be restored, for example by a user other than root,
 that is reported, and no setuid or setgid bit is set. It doesn't keep extended attributes, access lists and holes in files. Anything else (a pipe, a device,

@@ -14,7 +14,7 @@
  * Build it with `cc abc.c $(pkg-config --cflags --libs b3) -o abc`.
  *
  * The library is proved: for every input, each call writes what the specification of BLAKE3 defines (O'Connor, Aumasson, Neves and
- * Wilcox-O'Hearn, 2020; the sections below are those of this specification). docs/LIBRARY.md says what is proved and what isn't.
+ * Wilcox-O'Hearn, 2020; the sections below are those of this specification). docs/PROOF.md says what is proved and what isn't.
  *
  * A call returns B3_DONE or a number that says what is wrong. If several things are wrong, it returns the first in the order stated at
  * the call. If it returns anything but B3_DONE, nothing that was passed to it has changed.

@@ -19,7 +19,7 @@ class AsyncStore:
             tenant = await store.tenant()
             rows = await asyncio.gather(*(store.upload(content, tenant) for content in contents))
 
-    Methods have the same arguments as those of `Store`, and raise the same errors. A command whose coroutine is cancelled still runs to its end."""
+    It has most methods of `Store`, and each raises the same errors. A command whose coroutine is cancelled still runs to its end."""
 
     def __init__(self, store: Transfers, threads: int = 4) -> None:
         self.store = store

@@ -13,7 +13,7 @@ Value = TypeVar("Value")
 class Commands(Sessions):
     """A method for each command. Arguments are checked before anything is sent: TypeError for a wrong type, ValueError for a value that no command
     takes. Every method can raise Refused, which changes nothing, and Ended; docstrings list the refusals, which `REFUSALS` explains. S13, a full
-    journal, and S14, out of memory, can happen to every command that changes something."""
+    journal, can happen to every command that changes something, and S14, out of memory, to every command."""
 
     def __init__(self) -> None:
         super().__init__()

@@ -1,11 +1,12 @@
-"""python3 tests/failures PROGRAM: runs each subcommand again and again, and fails one of its writes or reads each time: the first, the second,
-and so on, until a run meets none. Each call moves one byte, and the calls after the failed one would succeed.
+"""python3 tests/failures PROGRAM: runs each subcommand again and again, and lets one of its writes or reads fail each time: the first, the second,
+and so on, until a run has none that could fail. Each call moves one byte, and the calls after the failed one would succeed.
 
-After a failed write to standard output the output is exactly the bytes before it: nothing is written any more, and the status is 3. A failed
-write to standard error changes neither the output nor the status. After a failed read of standard input or of a list the output is the answers
-to what was read whole before it, and the status is 3; after a failed read of a file that file is unreadable or read again, and the others are read.
+After a failed write to standard output, the output must be exactly the bytes before it: nothing more is written, and the status is 3. A failed
+write to standard error must change neither the output nor the status. After a failed read of standard input or of a list, the output must be the
+answers to all that was completely read before it, and the status 3. After a failed read of a file, that file must be unreadable or read again,
+and the other files must be read.
 
-The last line is `N passed, M failed`. The calls are failed by a small library that is preloaded (failing.c), so it needs a C compiler, `cc`.
+The last line is `N passed, M failed`. A small preloaded library (failing.c) makes the calls fail, so a C compiler, `cc`, is needed.
 """
 import os
 import subprocess

@@ -1,17 +1,16 @@
-"""python3 tests/growths PROGRAM [--program-alone] [--crates FOLDER]: runs the program again and again, and refuses it one growth
-of its memory each time: the first, the second, and so on, until a run meets none.
+"""python3 tests/growths PROGRAM [--program-alone] [--crates FOLDER]: runs the program again and again, and lets one growth of its
+memory fail each time: the first, the second, and so on, until a run has no growth that could fail.
 
-Where no growth is refused, the answer is the second reading's. Else each run must end by itself: with the same answer, or with
-status 3 and `b3store: out of memory`. Then an engine that writes at its end has written nothing; `upload` may have reported its
-refusal; and `run` has answered as the model does, but for commands that it refused with S14, from whose state it went on. `serve`
-does so to its end, unless it had no memory to begin.
+If no growth fails, the answer must be that of the second implementation. Otherwise each run must end by itself, with the same
+answer, or with status 3 and `b3store: out of memory`. In the latter case, an engine that writes at its end must have written nothing,
+except that `upload` may have reported its refusal; and `run` must have answered as the model does, except for commands that it refused
+with S14, which changed nothing. `serve` must continue like this to the end, unless there was no memory to begin.
 
-Then the same is done to each test in a module `growths` of the repository's sources, by its built test program,
-crates/NAME/out/NAME_tests, where `rt ci` and `rt test` leave it: each run must pass. `--crates` names another folder for `crates`,
-and `--program-alone` leaves the tests out. Each command and each test must meet a growth that is refused, else it fails. The last
-line is `N passed, M failed`.
+Then the same is done to each test in a module `growths` of the crates' sources, by the test program crates/NAME/out/NAME_tests that
+`rt ci` or `rt test` has built: each run must pass. `--crates` names another folder instead of `crates`, and `--program-alone` omits
+these tests. Each command and each test must have at least one growth that fails. The last line is `N passed, M failed`.
 
-The memory is refused by a small library that is preloaded (refusing.c), so it needs a C compiler, `cc`.
+A small preloaded library (refusing.c) makes the growths fail, so a C compiler, `cc`, is needed.
 """
 import argparse
 import os

@@ -1,14 +1,15 @@
-"""python3 tests/memory PROGRAM: shows of a built program what no contract says of memory.
+"""python3 tests/memory PROGRAM: tests what no contract says about the memory of a built program.
 
-- A seal keeps the bytes of its parts, and copies none; nor do a seal of what is known and a forget, which hand bytes back. What each asks
-  of memory is the same where its parts are 64 times as long.
-- A fetch shares the object: eight fetches ask for less than one of its parts has. That is shown of a test program of store_tests.
-- An upload asks for at most half as much again as its input has.
-- A fetch of an object 64 times as long asks for no more, and of a line that is too long for a command no more is kept than of the longest.
-- What is forgotten, and what an upload held that was aborted or sealed as known, is given back: some thousand rounds of each take no more
-  memory than some hundred, but for the entries of the journal.
+- A seal keeps the bytes of its parts without copying them; a seal of known content and a forget, which free bytes, don't copy them either. Each
+  of them allocates the same amount of memory if its parts are 64 times as long.
+- A fetch shares the object: eight fetches allocate less memory than one of its parts has. This is tested with a test program of store_tests.
+- An upload allocates at most 1.5 times as many bytes as its input has.
+- A fetch of an object that is 64 times as long allocates no more memory, and of a line that is too long for a command no more bytes are kept
+  than of the longest command.
+- What is forgotten is freed, and so are the parts of an upload that was aborted or sealed as known: thousands of rounds of each take no more
+  memory than hundreds, except for the entries of the journal.
 
-Each script's answers are compared too. The last line is `N passed, M failed`. It needs a C compiler, `cc`.
+Each script's answers are compared too. The last line is `N passed, M failed`. A C compiler, `cc`, is needed.
 """
 import argparse
 import functools

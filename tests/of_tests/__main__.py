@@ -1,9 +1,11 @@
-"""python3 tests/of_tests: shows that tests/growths, tests/failures, tests/random, tests/sessions, tests/memory, tests/program, tests/pages, tests/clients and
-tests/soak fail where they must: over `true` and `cat` in the program's place, where no growth can be refused, and where there is no C compiler or no test program. Each is
-run so, and must end with status 1 and a last line `N passed, M failed`, where M is not 0 and no more pass than is said here.
+"""python3 tests/of_tests: tests that tests/growths, tests/failures, tests/random, tests/sessions, tests/memory, tests/program, tests/pages,
+tests/clients and tests/soak fail when they must: with `true` or `cat` instead of the program, if no growth of memory can be made to fail, and
+without a C compiler or a test program. Each must end with status 1 and a last line `N passed, M failed`, where M is not 0, and where no more
+tests pass than this file says.
 
-A stand-in (stand_in.c) gives the answers that tests/growths wants, and grows once. With it tests/growths passes; linked statically
-it can't be refused that growth. The last line is `N passed, M failed`, which counts these trials. It needs a C compiler, `cc`.
+A stand-in program (stand_in.c) gives the answers that tests/growths expects, and its memory grows once. With it tests/growths passes, unless it
+is linked statically, so that this growth can't be made to fail. The last line is `N passed, M failed`, which counts these trials. A C compiler,
+`cc`, is needed.
 """
 import os
 import re

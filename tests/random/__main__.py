@@ -1,5 +1,5 @@
-"""python3 tests/random PROGRAM [--cases N] [--seed S]: runs the program over random scripts, sessions, journals, check files,
-uploads and inputs of `sum`, and compares what it writes with the plain second reading of tests/second_reading, which was written from
+"""python3 tests/random PROGRAM [--cases N] [--seed S]: runs the program on random scripts, sessions, journals, check files, uploads and
+inputs of `sum`, and compares its output with that of the second implementation, tests/second_reading, which was written from
 docs/FORMATS.md.
 
 A case that differs is printed after FAILED with its seed; `--cases 1 --seed S` runs it again. The last line is

@@ -1,9 +1,11 @@
-"""python3 tests/sessions PROGRAM [--commands N] [--minutes M] [--seed S] [--program-alone] [CASE..]: clients of `b3store serve --at PATH --sessions N`, over one store.
+"""python3 tests/sessions PROGRAM [--commands N] [--minutes M] [--seed S] [--program-alone] [CASE..]: tests clients of one store, which
+`b3store serve --at PATH --sessions N` serves.
 
-Four and then sixteen clients in processes of their own send random commands on a few tenants, uploads and contents, N in all (default 100,000). The
-journal has to explain every answer by the model of tests/second_reading, as history.py says. Clients are killed for M minutes (default 0.1) while others
-work, clients don't read, come in numbers, or come wrongly; and a growth of memory is refused while two clients work. The same checks find each mistake
-of plain_server.py, a slow server by the second reading that breaks promises. The last line is `N passed, M failed`. Words that name CASES run these alone.
+Four and then sixteen clients, each in its own process, send N random commands in all (default 100,000) about a few tenants, uploads and contents. The
+journal must explain every answer, by the model of tests/second_reading (history.py says how). Clients are killed for M minutes (default 0.1) while others
+work; some clients don't read their answers, many come at once, and some connect in a wrong way; and growths of memory fail while two clients work. The
+same checks must find each mistake of plain_server.py, a slow server that is made from the second implementation and breaks promises. The last line is
+`N passed, M failed`. With CASEs only these are run.
 """
 import argparse
 import functools
