@@ -56,9 +56,13 @@ with_names a = with_rule (with_rule a (words_rule (codes "file"))) (value_rule (
 abbrev pub with_list : App → App
 with_list a = with_rule (with_rule a (value_rule (codes "files-from"))) (short_flag_rule (codes "null") 48)
 
+-- `[--key HEX64] [--key-file FILE]`
+abbrev pub with_keys : App → App
+with_keys a = with_rule (with_rule a (value_rule (codes "key"))) (value_rule (codes "key-file"))
+
 -- `[--key HEX64] [--key-file FILE] [--context TEXT]`
 abbrev pub with_mode : App → App
-with_mode a = with_rule (with_rule (with_rule a (value_rule (codes "key"))) (value_rule (codes "key-file"))) (value_rule (codes "context"))
+with_mode a = with_rule (with_keys a) (value_rule (codes "context"))
 
 -- `[--threads T] [--no-progress]`
 abbrev pub with_work : App → App
@@ -88,9 +92,13 @@ with_cut a = with_rule (with_rule a (number_rule (codes "workers") max_threads))
 abbrev pub upload_line : App
 upload_line = with_rule (with_rule (with_cut (new_app (codes "upload"))) (flag_rule (codes "journal"))) (flag_rule (codes "no-progress"))
 
--- `[LIST].. [--quiet] [--status]`
+-- `[LIST]..`
+abbrev pub with_lists : App → App
+with_lists a = with_rule a (words_rule (codes "list"))
+
+-- `[--quiet] [--status]`
 abbrev pub with_shown : App → App
-with_shown a = with_rule (with_rule (with_rule a (words_rule (codes "list"))) (flag_rule (codes "quiet"))) (flag_rule (codes "status"))
+with_shown a = with_rule (with_rule a (flag_rule (codes "quiet"))) (flag_rule (codes "status"))
 
 -- `[--ignore-missing]`
 abbrev pub with_missing : App → App
@@ -98,7 +106,7 @@ with_missing a = with_rule a (flag_rule (codes "ignore-missing"))
 
 -- `check` with these
 abbrev pub check_line : App
-check_line = with_work (with_missing (with_shown (new_app (codes "check"))))
+check_line = with_work (with_missing (with_shown (with_lists (new_app (codes "check")))))
 
 -- `audit`
 abbrev pub audit_line : App

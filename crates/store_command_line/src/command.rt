@@ -5,7 +5,7 @@ ghost use Rattle.clap.specs.Words.{app_of, new_app, rule_of};
 ghost use Rattle.clap.specs.declared.builder.command.Command.TheViews.{out-Command as fields_of};
 ghost use Rattle.store_upload.specs.Uploads.{max_part_chunks};
 ghost use Rattle.store_command_line.specs.CommandLine.{max_sessions, max_output_len, max_threads, value_rule, flag_rule, short_flag_rule};
-ghost use Rattle.store_command_line.specs.CommandLine.{words_rule, program_line, with_list, with_cut, with_door, with_mode, with_names};
+ghost use Rattle.store_command_line.specs.CommandLine.{words_rule, program_line, with_cut, with_door, with_keys, with_list, with_lists, with_mode, with_names};
 ghost use Rattle.store_command_line.specs.CommandLine.{with_shown, with_missing, with_work, sum_line, run_line, serve_line, upload_line, check_line};
 ghost use Rattle.store_command_line.specs.CommandLine.{audit_line, migrate_line, answering_line, storing_line, command_line, number_rule};
 
@@ -23,13 +23,26 @@ fn value_argument<'a>(alloc: Global, id: &'a str, value_name: &'a str, help: &'a
         .help(help)
 }
 
+// An option `--ID` whose value is a number of threads.
+fn thread_count_argument<'a>(
+    alloc: Global,
+    id: &'a str,
+    value_name: &'a str,
+    help: &'a str,
+) -> Arg<'a>
+    ensures rule { rule_of result ≡ number_rule id.entry.now max_threads }
+    ensures local { result.global ≡ false }
+{
+    value_argument(alloc, id, value_name, help).value_parser(value_parser!(u32).range(1..17))
+}
+
 // The option `--threads`.
 fn threads_argument<'a>(alloc: Global) -> Arg<'a>
     ensures rule { rule_of result ≡ number_rule (codes "threads") max_threads }
     ensures local { result.global ≡ false }
 {
     let help = "Hash with at most this many threads (1 to 16, by default one for each processor)";
-    value_argument(alloc, "threads", "T", help).value_parser(value_parser!(u32).range(1..17))
+    thread_count_argument(alloc, "threads", "T", help)
 }
 
 // Positional arguments.
@@ -76,19 +89,27 @@ fn with_list<'a>(alloc: Global, command: Command<'a>) -> Result<Command<'a>, All
         .arg(null_argument(alloc))
 }
 
+// The keys.
+fn with_keys<'a>(alloc: Global, command: Command<'a>) -> Result<Command<'a>, AllocError>
+    requires { (fields_of command).has_globals ≡ false }
+    ensures shape { IfOk result (λ c. app_of c ≡ with_keys (app_of command.entry)) }
+    ensures local { IfOk result (λ c. (fields_of c).has_globals ≡ false) }
+{
+    let key = "Hash with this key: 32 bytes, as 64 hexadecimal digits; other processes can see it";
+    let key_file = "Hash with the key in this file: 32 bytes, or 64 hexadecimal digits";
+    command
+        .arg(value_argument(alloc, "key", "HEX64", key))?
+        .arg(value_argument(alloc, "key-file", "FILE", key_file))
+}
+
 // The modes.
 fn with_mode<'a>(alloc: Global, command: Command<'a>) -> Result<Command<'a>, AllocError>
     requires { (fields_of command).has_globals ≡ false }
     ensures shape { IfOk result (λ c. app_of c ≡ with_mode (app_of command.entry)) }
     ensures local { IfOk result (λ c. (fields_of c).has_globals ≡ false) }
 {
-    let key = "Hash with this key: 32 bytes, as 64 hexadecimal digits; other processes can see it";
-    let key_file = "Hash with the key in this file: 32 bytes, or 64 hexadecimal digits";
     let context = "Derive a key from the input, with this context; excludes the keys";
-    command
-        .arg(value_argument(alloc, "key", "HEX64", key))?
-        .arg(value_argument(alloc, "key-file", "FILE", key_file))?
-        .arg(value_argument(alloc, "context", "TEXT", context))
+    with_keys(alloc, command)?.arg(value_argument(alloc, "context", "TEXT", context))
 }
 
 // The flag that turns off progress.
@@ -249,7 +270,7 @@ fn workers_argument<'a>(alloc: Global) -> Arg<'a>
     ensures local { result.global ≡ false }
 {
     let help = "Hash parts with this many threads (1 to 16, 4 by default)";
-    value_argument(alloc, "workers", "W", help).value_parser(value_parser!(u32).range(1..17))
+    thread_count_argument(alloc, "workers", "W", help)
 }
 
 // The option `--part-chunks`.
@@ -307,17 +328,25 @@ fn bare_check<'a>(alloc: Global) -> Command<'a>
         .after_help(check_codes())
 }
 
-// The name of the list, and which lines of the report are written.
+// The names of the lists.
+fn with_lists<'a>(alloc: Global, command: Command<'a>) -> Result<Command<'a>, AllocError>
+    requires { (fields_of command).has_globals ≡ false }
+    ensures shape { IfOk result (λ c. app_of c ≡ with_lists (app_of command.entry)) }
+    ensures local { IfOk result (λ c. (fields_of c).has_globals ≡ false) }
+{
+    let list = "Read the check lines from these files; standard input if none is named, or for -";
+    command.arg(words_argument(alloc, "list", "LIST", list))
+}
+
+// Which lines of the report are written.
 fn with_shown<'a>(alloc: Global, command: Command<'a>) -> Result<Command<'a>, AllocError>
     requires { (fields_of command).has_globals ≡ false }
     ensures shape { IfOk result (λ c. app_of c ≡ with_shown (app_of command.entry)) }
     ensures local { IfOk result (λ c. (fields_of c).has_globals ≡ false) }
 {
-    let list = "Read the check lines from these files; standard input if none is named, or for -";
     let quiet = "Write no lines for good files, and no counts if the report passes";
     let status = "Write no report: only the exit status says whether the reports pass";
     command
-        .arg(words_argument(alloc, "list", "LIST", list))?
         .arg(flag_argument(alloc, "quiet", quiet))?
         .arg(flag_argument(alloc, "status", status))
 }
@@ -336,7 +365,8 @@ fn check_command<'a>(alloc: Global) -> Result<Command<'a>, AllocError>
     ensures shape { IfOk result (λ c. app_of c ≡ check_line) }
     ensures local { IfOk result (λ c. (fields_of c).has_globals ≡ false) }
 {
-    let command = with_shown(alloc, bare_check(alloc))?;
+    let command = with_lists(alloc, bare_check(alloc))?;
+    let command = with_shown(alloc, command)?;
     let command = with_missing(alloc, command)?;
     with_work(alloc, command)
 }
