@@ -41,18 +41,22 @@
 mod ahead;
 mod checking;
 mod digests;
+mod file_system;
 mod files;
 mod keys;
 mod lists;
 mod sources;
 mod summing;
+mod system;
 
 pub use b3_parallel::HashThreads;
 pub use checking::check;
 pub use digests::Digests;
 pub use edge::{Cause, Verdict};
+pub use file_system::{FileSystem, SourceFile};
 pub use files::{SystemFiles, SystemInputs, fault_of};
 pub use keys::read_key;
 pub use lists::{names_of, read_names};
 pub use sources::{FileFault, Reason, Sources, Standing};
 pub use summing::{SumLine, SumLines, SumMode, SumRequest, sum, sum_files, write_root};
+pub use system::SystemFile;
