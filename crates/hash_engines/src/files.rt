@@ -26,16 +26,16 @@ use std::thread::Threads;
 
 // The bytes of a source, starting at an offset.
 #[derive(Drop)]
-struct Following<S> {
+struct SourceFrom<S> {
     source: S,
     start: u64,
 }
 
-impl<S: Source> Source for Following<S> {
+impl<S: Source> Source for SourceFrom<S> {
     ghost bytes = { λ f. known_from (S.bytes f.source) f.start };
 
-    fn again(&self) -> io::Result<Following<S>> {
-        Ok(Following {
+    fn again(&self) -> io::Result<SourceFrom<S>> {
+        Ok(SourceFrom {
             source: self.source.again()?,
             start: self.start,
         })
@@ -93,7 +93,7 @@ impl<T: Threads + Runtime, F: FileSystem> FileHasher<'_, T, F> {
     }
 
     // Opens the file at a path.
-    fn opened(&self, path: &str) -> Result<F::File, FileFault>
+    fn open_file(&self, path: &str) -> Result<F::File, FileFault>
         ensures bytes { IfOk result (λ file. F.File.bytes file ≡ F.bytes_at self.now.file_system.now path.now) }
         ensures remaining { IfOk result (λ file. F.File.remaining file ≡ F.bytes_at self.now.file_system.now path.now) }
         ensures read { result ≡ Err (Failed NotUtf8) → ⊥ }
@@ -133,8 +133,8 @@ impl<T: Threads + Runtime, F: FileSystem> FileHasher<'_, T, F> {
         }
     }
 
-    // The root of all bytes of the small file at a path, which is opened and has `len` bytes. They are read at once. If it has another
-    // length by now, or cannot be read, it is opened again, and read as a stream.
+    // The root of all bytes of the small file at a path, which is open and has `len` bytes. They are read at once. If that fails, or the
+    // file has another length by now, it is opened again, and this thread reads it as a stream.
     fn small_root(&mut self, path: &str, file: F::File, len: u64) -> Result<Top, FileFault>
         requires { F.File.remaining file ≡ F.bytes_at self.old.file_system.now path.now }
         ensures root { IsRootOfSome self.old.mode result }
@@ -146,12 +146,11 @@ impl<T: Threads + Runtime, F: FileSystem> FileHasher<'_, T, F> {
         if let Some(root) = root_at_once(&mut file, len, &mode, &mut self.room, &mut self.work) {
             return Ok(root);
         }
-        let mut file = self.opened(path)?;
-        self.stream_root(&mut file)
+        let mut again = self.open_file(path)?;
+        self.stream_root(&mut again)
     }
 
-    // The root of all bytes of the file with this name. A regular file is read as its length allows, and any other one as a stream, as `sum`
-    // reads its input.
+    // The root of all bytes of the file with this name. A file that is not regular is read as a stream, as `sum` reads its input.
     fn file_root(&mut self, name: &[u8]) -> Result<Top, FileFault>
         ensures root { IsRootOfSome self.old.mode result }
         ensures same { (self.new.mode ≡ self.old.mode) × (self.new.file_system ≡ self.old.file_system) }
@@ -161,7 +160,7 @@ impl<T: Threads + Runtime, F: FileSystem> FileHasher<'_, T, F> {
         let Ok(path) = str::from_utf8(name) else {
             return Err(FileFault::Failed(Reason::NotUtf8));
         };
-        let mut file = self.opened(path)?;
+        let mut file = self.open_file(path)?;
         match file.regular_len() {
             Some(len) if is_small(len) => self.small_root(path, file, len),
             Some(len) => self.large_root(file, len),
@@ -192,7 +191,7 @@ impl<T: Threads + Runtime, F: FileSystem> FileHasher<'_, T, F> {
     {
         let (source, start) = input.as_file()?;
         let len = source.regular_len()?.saturating_sub(start);
-        let root = self.source_root(&Following { source, start }, len)?;
+        let root = self.source_root(&SourceFrom { source, start }, len)?;
         input.take_all();
         Some(root)
     }
@@ -323,8 +322,8 @@ impl<'a, T: Threads + Runtime, F: FileSystem + Copy + Send + 'static> SystemFile
         }
     }
 
-    // The root of all bytes of the file with this name, as it was hashed ahead or as it is now.
-    fn root_of_file(&mut self, name: &[u8]) -> Result<Top, FileFault>
+    /// The root of all bytes of the file with this name, as it was hashed ahead or as it is now.
+    pub fn root_of_file(&mut self, name: &[u8]) -> Result<Top, FileFault>
         ensures root { IsRootOfSome self.old.mode result }
         ensures mode { self.new.mode ≡ self.old.mode }
         ensures file_system { self.new.file_system ≡ self.old.file_system }
