@@ -52,7 +52,7 @@ impl<S: Source> Source for SourceFrom<S> {
 // Hashes files, one at a time.
 #[derive(Drop)]
 struct FileHasher<'a, T, F> {
-    file_system: &'a F,
+    file_system: F,
     threads: &'a HashThreads<'a, T>,
     mode: Mode,
     room: Vec<u8>,
@@ -94,8 +94,8 @@ impl<T: Threads + Runtime, F: FileSystem> FileHasher<'_, T, F> {
 
     // Opens the file at a path.
     fn open_file(&self, path: &str) -> Result<F::File, FileFault>
-        ensures bytes { IfOk result (λ file. F.File.bytes file ≡ F.bytes_at self.now.file_system.now path.now) }
-        ensures remaining { IfOk result (λ file. F.File.remaining file ≡ F.bytes_at self.now.file_system.now path.now) }
+        ensures bytes { IfOk result (λ file. F.File.bytes file ≡ F.bytes_at self.now.file_system path.now) }
+        ensures remaining { IfOk result (λ file. F.File.remaining file ≡ F.bytes_at self.now.file_system path.now) }
         ensures read { result ≡ Err (Failed NotUtf8) → ⊥ }
     {
         match self.file_system.open(path) {
@@ -136,10 +136,10 @@ impl<T: Threads + Runtime, F: FileSystem> FileHasher<'_, T, F> {
     // The root of all bytes of the small file at a path, which is open and has `len` bytes. They are read at once. If that fails, or the
     // file has another length by now, it is opened again, and this thread reads it as a stream.
     fn small_root(&mut self, path: &str, file: F::File, len: u64) -> Result<Top, FileFault>
-        requires { F.File.remaining file ≡ F.bytes_at self.old.file_system.now path.now }
+        requires { F.File.remaining file ≡ F.bytes_at self.old.file_system path.now }
         ensures root { IsRootOfSome self.old.mode result }
         ensures same { (self.new.mode ≡ self.old.mode) × (self.new.file_system ≡ self.old.file_system) }
-        ensures left { IsRootOfLeft (F.bytes_at self.old.file_system.now path.now) self.old.mode result }
+        ensures left { IsRootOfLeft (F.bytes_at self.old.file_system path.now) self.old.mode result }
         ensures read { result ≡ Err (Failed NotUtf8) → ⊥ }
     {
         let (mode, mut file) = (self.mode, file);
@@ -154,7 +154,7 @@ impl<T: Threads + Runtime, F: FileSystem> FileHasher<'_, T, F> {
     fn file_root(&mut self, name: &[u8]) -> Result<Top, FileFault>
         ensures root { IsRootOfSome self.old.mode result }
         ensures same { (self.new.mode ≡ self.old.mode) × (self.new.file_system ≡ self.old.file_system) }
-        ensures left { IsRootOfLeft (F.bytes_at self.old.file_system.now name.now) self.old.mode result }
+        ensures left { IsRootOfLeft (F.bytes_at self.old.file_system name.now) self.old.mode result }
         ensures name { IsRootOfFile name.now result }
     {
         let Ok(path) = str::from_utf8(name) else {
@@ -216,19 +216,19 @@ impl<'a, T, F: FileSystem> Model for SystemFiles<'a, T, F> {
 
     ghost Value = { Setting F };
 
-    ghost view = { λ f. record { file_system = f.hasher.file_system.now; mode = f.hasher.mode; threads = f.hasher.threads.now.count } };
+    ghost view = { λ f. record { file_system = f.hasher.file_system; mode = f.hasher.mode; threads = f.hasher.threads.now.count } };
 
-    ghost invariant = { λ f. All (IsNamedRoot (F.bytes_at f.hasher.file_system.now) f.hasher.mode) f.known.items };
+    ghost invariant = { λ f. All (IsNamedRoot (F.bytes_at f.hasher.file_system) f.hasher.mode) f.known.items };
 }
 
 impl<'a, T: Threads + Runtime, F: FileSystem + Copy + Send + 'static> SystemFiles<'a, T, F> {
     /// The files of a file system, hashed in a mode. At most `threads.count` threads hash a file, and at most as many files at a time.
     pub fn new(
-        file_system: &'a F,
+        file_system: F,
         threads: &'a HashThreads<'a, T>,
         mode: SumMode<'_>,
     ) -> SystemFiles<'a, T, F>
-        ensures file_system { result.file_system ≡ file_system.entry.now }
+        ensures file_system { result.file_system ≡ file_system }
         ensures mode { result.mode ≡ sum_mode mode.entry }
         ensures threads { result.threads ≡ threads.entry.now.count }
     {
@@ -277,7 +277,7 @@ impl<'a, T: Threads + Runtime, F: FileSystem + Copy + Send + 'static> SystemFile
             mode,
             ..
         } = &self.hasher;
-        self.known = hash_groups(threads, *file_system, *mode, size, names);
+        self.known = hash_groups(threads, file_system, *mode, size, names);
         self.next = 0;
     }
 
