@@ -82,7 +82,7 @@ fn sum_standard<T: Threads + Runtime>(
     let mut work = Work::new(rt);
     let (mut input, mut writer) = (StandardInput::new(rt), standard_output(rt));
     extent.note_input(&input);
-    let mut files = SystemFiles::new(rt, threads, request.mode);
+    let mut files = SystemFiles::new(*rt, threads, request.mode);
     match files.root_of_file_input(&mut input) {
         Some(root) => write_root(rt.alloc(), &request.line, root, &mut writer, &mut work)?,
         None => sum(threads, request, &mut input, &mut writer, &mut work)?,
@@ -101,7 +101,7 @@ fn sum_named<T: Threads + Runtime>(
     let Ok(mut writer) = LineWriter::new(rt.alloc(), standard_output(rt)) else {
         return Err(Cause::OutOfMemory);
     };
-    let files = SystemFiles::new(rt, threads, mode);
+    let files = SystemFiles::new(*rt, threads, mode);
     let input = Some(StandardInput::new(rt));
     let inputs = SystemInputs::new(files, input, StandardError::new(rt));
     let mut inputs = Metered::new(rt, extent, inputs);
@@ -183,7 +183,7 @@ fn checked<T: Threads + Runtime, R: Read>(
         alloc: rt.alloc(),
         count: options.threads,
     };
-    let files = SystemFiles::new(rt, &threads, SumMode::Hash);
+    let files = SystemFiles::new(*rt, &threads, SumMode::Hash);
     let inputs = SystemInputs::new(files, input, StandardError::new(rt));
     let digests = Digests::new(Metered::new(rt, extent, inputs), Work::new(rt));
     let mut names = ExplainedNames::new(refusals, digests);

@@ -1,7 +1,6 @@
 //! The standard streams.
 
-use hash_engines::Standing;
-use std::fs::File;
+use hash_engines::{FileSystem, Standing, SystemFile};
 use std::io::{ErrorKind, IsTerminal, Printer, Read, Write};
 use std::rt::Stdin;
 use std::{fs, io};
@@ -54,14 +53,14 @@ impl Read for StandardInput<'_> {
     }
 }
 
-impl Standing for StandardInput<'_> {
-    fn as_file(&self) -> Option<(File, u64)> {
+impl Standing<SystemFile> for StandardInput<'_> {
+    fn as_file(&self) -> Option<(SystemFile, u64)> {
         let found = fs::metadata(self.rt, PATH).ok()?;
         if self.is_taken || !found.is_file() {
             return None;
         }
         let place = self.place()?;
-        let file = File::open(self.rt, PATH).ok()?;
+        let file = self.rt.open(PATH).ok()?;
         Some((file, place))
     }
 

@@ -10,6 +10,8 @@ mod command_lines;
 #[cfg(test)]
 mod fakes;
 #[cfg(test)]
+mod files;
+#[cfg(test)]
 mod growths;
 #[cfg(test)]
 mod sessions;

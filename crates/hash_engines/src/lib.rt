@@ -34,25 +34,31 @@
 //! is an open file, `SystemFiles::root_of_file_input` returns its root, and `write_root` writes what `sum` does. `read_key` and
 //! `read_names` read the key and the names that `sum` takes from files.
 //!
-//! Contracts know what a reader returns and what a writer accepted if the types specify it, as slices and vectors do. The texts and
-//! verdicts are defined in `specs/`: `Sums`, `Checks`, `Keys` and `Lists`.
+//! `SystemFiles` hash the files of any `FileSystem`; in the program that is the runtime, which opens each as a `SystemFile`.
+//!
+//! Contracts know what a reader returns, what a writer accepted and which bytes a file system has at a path if the types specify it, as
+//! slices and vectors do. The texts and verdicts are defined in `specs/`: `Sums`, `Checks`, `Keys` and `Lists`.
 #![tactic(auto)]
 
 mod ahead;
 mod checking;
 mod digests;
+mod file_system;
 mod files;
 mod keys;
 mod lists;
 mod sources;
 mod summing;
+mod system;
 
 pub use b3_parallel::HashThreads;
 pub use checking::check;
 pub use digests::Digests;
 pub use edge::{Cause, Verdict};
+pub use file_system::{FileSystem, SourceFile};
 pub use files::{SystemFiles, SystemInputs, fault_of};
 pub use keys::read_key;
 pub use lists::{names_of, read_names};
 pub use sources::{FileFault, Reason, Sources, Standing};
 pub use summing::{SumLine, SumLines, SumMode, SumRequest, sum, sum_files, write_root};
+pub use system::SystemFile;

@@ -1,15 +1,16 @@
 //! Sources of the bytes to hash.
 
-ghost use Rattle.std.specs.Prelude.{◌≡◌, ℕ, List, Result, None, IfSome};
+ghost use Rattle.std.specs.Prelude.{◌≡◌, ℕ, List, Result, IfSome};
 ghost use Rattle.std.specs.Io.KnownBytes.{IsAtEnd};
 ghost use Rattle.b3_core.specs.Tree.{ModelTop};
+ghost use Rattle.b3_parallel.specs.Sources.{known_from};
 ghost use Rattle.hash_engines.specs.Sums.{reason_text};
 ghost use Rattle.hash_engines.specs.declared.sources.FileFault.{FileFault as Refusal};
 ghost use Rattle.hash_engines.specs.declared.sources.Reason.{Reason as Cause};
 
+use crate::file_system::SourceFile;
 use b3_check::{Name, NumberedLine};
 use b3_core::Top;
-use std::fs::File;
 use std::io::Read;
 
 /// Why the bytes of a name are not available.
@@ -83,10 +84,10 @@ pub trait Sources {
 }
 
 /// An input that may be an open file, such as standard input redirected from a file.
-pub trait Standing: Read {
+pub trait Standing<F: SourceFile>: Read {
     /// The file, opened for reading, and the current position of the input in it.
-    fn as_file(&self) -> Option<(File, u64)>
-        ensures { IfSome result (λ _. Self.remaining self.now ≡ None) };
+    fn as_file(&self) -> Option<(F, u64)>
+        ensures { IfSome result (λ opened. Self.remaining self.now ≡ known_from (F.bytes opened.0) opened.1) };
 
     /// Consumes all bytes of the file from that position on: the input returns none of them any more.
     fn take_all(&mut self)

@@ -28,6 +28,7 @@ mod command;
 mod laws;
 mod object;
 mod reply;
+mod segments;
 mod stepping;
 mod store;
 

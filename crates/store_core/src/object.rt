@@ -6,6 +6,7 @@ ghost use Rattle.b3_core.specs.Modes.{hash_of};
 ghost use Rattle.b3_forest.specs.Uploads.{content_of, part_of};
 ghost use Rattle.store_core.specs.Model.{AreJoined};
 
+use crate::segments::Segments;
 use b3_forest::Segment;
 use std::alloc::AllocError;
 use std::marker::Model;
@@ -17,7 +18,7 @@ use store_books::{Address, Content};
 pub struct Object {
     address: Address,
     len: u64,
-    segments: Vec<Segment>,
+    segments: Segments,
 }
 
 impl Model for Object {
@@ -28,10 +29,10 @@ impl Model for Object {
 
     ghost Value = { List ℕ };
 
-    ghost view = { λ o. content_of (map part_of o.segments.items) };
+    ghost view = { λ o. content_of (map part_of o.segments) };
 
-    ghost invariant = { λ o. (o.address ≡ hash_of (content_of (map part_of o.segments.items)))
-        × (o.len ≡ length (content_of (map part_of o.segments.items))) × AreJoined 0 (map part_of o.segments.items) };
+    ghost invariant = { λ o. (o.address ≡ hash_of (content_of (map part_of o.segments)))
+        × (o.len ≡ length (content_of (map part_of o.segments))) × AreJoined 0 (map part_of o.segments) };
 }
 
 impl Object {
@@ -45,7 +46,7 @@ impl Object {
         Object {
             address,
             len,
-            segments,
+            segments: Segments::new(segments),
         }
     }
 
