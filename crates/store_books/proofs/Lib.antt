@@ -2,10 +2,11 @@ pub mod Lists
 pub mod Numbers
 pub mod ObjectsByNumber
 pub mod RisingHolders
-pub mod HolderSearch
 pub mod AddressedObjects
+pub mod Pairs
+pub mod HeldObjects
 pub mod Catalogs
-pub mod Holdings
+pub mod CatalogChanges
 pub mod HoldingRows
 pub mod Sums
 pub mod Commands

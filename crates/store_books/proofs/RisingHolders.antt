@@ -1,8 +1,8 @@
 -- Holders of an object, by number.
-use Rattle.std.proofs.Common.{◌≡◌, ◌≢◌, ◌∙◌, ◌+◌, ◌<◌, ◌≤◌, ℕ, Bool, true, false, List, [], ◌∷◌, refl, ap, sym, arith, inl, inr, length}
+use Rattle.std.proofs.Common.{◌≡◌, ◌≢◌, ◌∙◌, ◌+◌, ◌<◌, ◌≤◌, ℕ, Bool, true, false, List, [], ◌∷◌, refl, ap, sym, subst, arith, inl, inr, length}
 use Rattle.std.specs.Prelude.{nat_le, nat_lt, ◌==◌, ◌||◌, ◌&&◌, not}
 use Rattle.std.specs.List.{AllByRecursion, list_any}
-use Rattle.std.proofs.lemmas.Bool.{cases_eq, eqb-true, eqb-false, ltb-true, ltb-false, ne_eqb, eq-eqb, leb-true, le-ltb, lt-ltb}
+use Rattle.std.proofs.lemmas.Bool.{cases_eq, cases_lt, eqb-true, eqb-false, ltb-true, ltb-false, ne_eqb, eq-eqb, leb-true}
 use Rattle.store_books.specs.Books.{IsRisingFrom}
 use Rattle.store_books.specs.Commands.{with_holder, without_holder}
 use Rattle.store_books.proofs.Lists.{either}
@@ -162,13 +162,6 @@ alone_without t [] one held = refl
 alone_without t (h ∷ []) one held = let turned : ((t == h) || false) ≡ true = rw (eqb_turned t h) held in alone_step t h (t == h) turned
 alone_without t (h ∷ i ∷ hs) one held = absurd (let two : length (h ∷ i ∷ hs) ≤ 1 = leb-true (length (h ∷ i ∷ hs)) 1 one in omega arith)
 
-pub other_alone : (t u : ℕ) (hs : List ℕ) → nat_le (length hs) 1 ≡ true → has t hs ≡ true → t ≢ u → has u hs ≡ false
-other_alone t u [] one held apart = refl
-other_alone t u (h ∷ []) one held apart =
-    let other : h ≢ u = λ e. apart (elim (cases_eq h t) [ inl same ↦ sym same ∙ e | inr differ ↦ absurd (let never = rw (ne_eqb h t differ) at held in cc) ]) in
-    rw (ne_eqb h u other) refl
-other_alone t u (h ∷ i ∷ hs) one held apart = absurd (let two : length (h ∷ i ∷ hs) ≤ 1 = leb-true (length (h ∷ i ∷ hs)) 1 one in omega arith)
-
 several_step : (h i : ℕ) (hs less : List ℕ) (same : Bool) → 0 < length (either same (i ∷ hs) (h ∷ less))
 several_step h i hs less true = omega arith
 several_step h i hs less false = omega arith
@@ -180,53 +173,55 @@ several_without t [] many = absurd (cc)
 several_without t (h ∷ []) many = absurd (cc)
 several_without t (h ∷ i ∷ hs) many = several_step h i hs (without_holder t (i ∷ hs)) (t == h)
 
--- a tenant goes before the first that is above it
-before_step : (t h : ℕ) (hs : List ℕ) (before : Bool) (rest : List ℕ) → before ≡ true → either before (t ∷ h ∷ hs) rest ≡ t ∷ h ∷ hs
-before_step t h hs true rest is = refl
-before_step t h hs false rest is = absurd (cc)
-
-pub with_before : (t h : ℕ) (hs : List ℕ) → t < h → with_holder t (h ∷ hs) ≡ t ∷ h ∷ hs
-unfolding with_holder
-with_before t h hs lt = before_step t h hs (nat_lt t h) _ (lt-ltb t h lt)
-
-here_step : (t h : ℕ) (hs more : List ℕ) (before same : Bool) → before ≡ false → same ≡ true → either before (t ∷ h ∷ hs) (either same (h ∷ hs) (h ∷ more)) ≡ h ∷ hs
-here_step t h hs more true same b s = absurd (cc)
-here_step t h hs more false true b s = refl
-here_step t h hs more false false b s = absurd (cc)
-
-pub with_here : (t h : ℕ) (hs : List ℕ) → h ≤ t → t ≡ h → with_holder t (h ∷ hs) ≡ h ∷ hs
-unfolding with_holder
-with_here t h hs le e = here_step t h hs (with_holder t hs) (nat_lt t h) (t == h) (le-ltb t h le) (eq-eqb t h e)
-
-later_step : (t h : ℕ) (hs more : List ℕ) (before same : Bool) → before ≡ false → same ≡ false → either before (t ∷ h ∷ hs) (either same (h ∷ hs) (h ∷ more)) ≡ h ∷ more
-later_step t h hs more true same b s = absurd (cc)
-later_step t h hs more false true b s = absurd (cc)
-later_step t h hs more false false b s = refl
-
-pub with_later : (t h : ℕ) (hs : List ℕ) → h ≤ t → t ≢ h → with_holder t (h ∷ hs) ≡ h ∷ with_holder t hs
-unfolding with_holder
-with_later t h hs le apart = later_step t h hs (with_holder t hs) (nat_lt t h) (t == h) (le-ltb t h le) (ne_eqb t h apart)
-
 pub with_none : (t : ℕ) → with_holder t [] ≡ t ∷ []
 unfolding with_holder
 with_none t = refl
 
-here_less : (t h : ℕ) (hs less : List ℕ) (same : Bool) → same ≡ true → either same hs (h ∷ less) ≡ hs
-here_less t h hs less true is = refl
-here_less t h hs less false is = absurd (cc)
+-- ---- rows with the same numbers
 
-pub without_here : (t h : ℕ) (hs : List ℕ) → t ≡ h → without_holder t (h ∷ hs) ≡ hs
+pub first_has : (x : ℕ) (xs : List ℕ) → has x (x ∷ xs) ≡ true
+first_has x xs = rw (eq-eqb x x refl) refl
+
+pub rest_has : (x q : ℕ) (xs : List ℕ) → x ≢ q → has q (x ∷ xs) ≡ has q xs
+rest_has x q xs apart = rw (ne_eqb x q apart) refl
+
+pub same_rows : (m : ℕ) (xs ys : List ℕ) → IsRisingFrom m xs → IsRisingFrom m ys → ((q : ℕ) → has q xs ≡ has q ys) → xs ≡ ys
+same_rows m [] [] h k same = refl
+same_rows m [] (y ∷ ys) h k same = absurd (let no : false ≡ true = same y ∙ first_has y ys in cc)
+same_rows m (x ∷ xs) [] h k same = absurd (let no : false ≡ true = sym (same x) ∙ first_has x xs in cc)
+same_rows m (x ∷ xs) (y ∷ ys) h k same = elim (cases_eq x y) [
+  | inl one ↦ subst (λ (z : ℕ). x ∷ xs ≡ z ∷ ys) one (ap (λ zs. x ∷ zs) (same_rows (x + 1) xs ys h.1 (subst (λ (z : ℕ). IsRisingFrom (z + 1) ys) (sym one) k.1) (tails one)))
+  | inr apart ↦ elim (cases_lt x y) [
+    | inl less ↦ absurd (let no : true ≡ false = sym (first_has x xs) ∙ same x ∙ not_below x y (y ∷ ys) less (omega arith, k.1) in cc)
+    | inr more ↦ absurd (let no : true ≡ false = sym (first_has y ys) ∙ sym (same y) ∙ not_below y x (x ∷ xs) (omega (arith, more, apart)) (omega arith, h.1) in cc)
+  ]
+]
+  where
+    tails : x ≡ y → (q : ℕ) → has q xs ≡ has q ys
+    tails one q = elim (cases_eq x q) [
+      | inl here ↦
+          let later : q < x + 1 = omega (arith, here) in
+          not_below q (x + 1) xs later h.1 ∙ sym (not_below q (y + 1) ys (omega (arith, here, one)) k.1)
+      | inr apart ↦ sym (rest_has x q xs apart) ∙ same q ∙ rest_has y q ys (λ e. apart (one ∙ e))
+    ]
+
+-- ---- how many
+
+longer_step : (t h : ℕ) (hs more : List ℕ) (before same : Bool) → (t == h) ≡ same → ((h == t) || has t hs) ≡ false → (has t hs ≡ false → length more ≡ length hs + 1) → length (either before (t ∷ h ∷ hs) (either same (h ∷ hs) (h ∷ more))) ≡ length (h ∷ hs) + 1
+longer_step t h hs more true same is absent rest = omega arith
+longer_step t h hs more false true is absent rest = absurd (let no = rw (eqb_turned h t, is) at absent in cc)
+longer_step t h hs more false false is absent rest = let longer = rest (rw (eqb_turned h t, is) at absent) in omega (arith, longer)
+
+pub length_with : (t : ℕ) (hs : List ℕ) → has t hs ≡ false → length (with_holder t hs) ≡ length hs + 1
+unfolding with_holder
+length_with t [] absent = omega arith
+length_with t (h ∷ hs) absent = longer_step t h hs (with_holder t hs) (nat_lt t h) (t == h) refl absent (length_with t hs)
+
+shorter_step : (t h : ℕ) (hs less : List ℕ) (same : Bool) → (t == h) ≡ same → ((h == t) || has t hs) ≡ true → (has t hs ≡ true → length less + 1 ≡ length hs) → length (either same hs (h ∷ less)) + 1 ≡ length (h ∷ hs)
+shorter_step t h hs less true is held rest = omega arith
+shorter_step t h hs less false is held rest = let shorter = rest (rw (eqb_turned h t, is) at held) in omega (arith, shorter)
+
+pub length_without : (t : ℕ) (hs : List ℕ) → has t hs ≡ true → length (without_holder t hs) + 1 ≡ length hs
 unfolding without_holder
-without_here t h hs e = here_less t h hs (without_holder t hs) (t == h) (eq-eqb t h e)
-
-later_less : (t h : ℕ) (hs less : List ℕ) (same : Bool) → same ≡ false → either same hs (h ∷ less) ≡ h ∷ less
-later_less t h hs less true is = absurd (cc)
-later_less t h hs less false is = refl
-
-pub without_later : (t h : ℕ) (hs : List ℕ) → t ≢ h → without_holder t (h ∷ hs) ≡ h ∷ without_holder t hs
-unfolding without_holder
-without_later t h hs apart = later_less t h hs (without_holder t hs) (t == h) (ne_eqb t h apart)
-
-pub without_none : (t : ℕ) → without_holder t [] ≡ []
-unfolding without_holder
-without_none t = refl
+length_without t [] held = absurd (cc)
+length_without t (h ∷ hs) held = shorter_step t h hs (without_holder t hs) (t == h) refl held (length_without t hs)

@@ -1,11 +1,12 @@
 -- What questions report about the books.
-use Rattle.std.specs.Prelude.{◌==◌, ℕ, List, Result, Ok, Err, filter, length, map, if◌then◌else◌}
+use Rattle.std.specs.Prelude.{◌==◌, ℕ, List, [], Result, Ok, Err, filter, length, map, if◌then◌else◌}
 use Rattle.std.specs.List.{range_with_len}
+use Rattle.std.specs.Option.{option_map_or}
 use Rattle.store_books.specs.declared.books.UploadStatus.{UploadStatus}
 use Rattle.store_books.specs.declared.books.Usage.{Usage}
 use Rattle.store_books.specs.declared.refusal.Refusal.{Refusal}
 use Rattle.store_books.specs.declared.refusal.Refusal.TheVariants.{NoTenant}
-use Rattle.store_books.specs.Books.{ModelOwnedUpload, ModelBooks, Filed, is_absent, is_held_by, limit_of, reserved_of, use_of}
+use Rattle.store_books.specs.Books.{ModelOwnedUpload, ModelBooks, Filed, is_absent, is_held_by, limit_of, object_among, reserved_of, use_of}
 use Rattle.store_upload.specs.Uploads.{held_bytes}
 
 module _ {P O : Type 0} (size : O → ℕ) where
@@ -33,3 +34,8 @@ module _ {O : Type 0} (size : O → ℕ) (address : O → List ℕ) where
   -- the addresses and lengths of the objects that the tenant holds, in their order
   abbrev pub listed : ℕ → List (Filed O) → List (List ℕ × ℕ)
   listed tenant objects = map (λ o. (address o.content, size o.content)) (filter (is_held_by tenant) objects)
+
+module _ {O : Type 0} (address : O → List ℕ) where
+  -- the tenants that hold the object at the address, by number
+  abbrev pub holders_at : List (Filed O) → List ℕ → List ℕ
+  holders_at objects at = option_map_or (λ o. o.holders) (object_among address objects at) []

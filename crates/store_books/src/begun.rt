@@ -55,20 +55,28 @@ impl<H: HeldParts> OwnedUpload<H> {
     }
 }
 
-/// Adds a part to the upload `number`. Returns the upload's length afterwards.
+// A command that may change an upload's length: the upload's tenant, and its length before and after.
+#[derive(Clone, Copy, Debug)]
+pub(crate) struct Resized {
+    pub(crate) tenant: u64,
+    pub(crate) before: u64,
+    pub(crate) after: u64,
+}
+
+/// Adds a part to the upload `number`.
 pub(crate) fn put<H: HeldParts>(
     uploads: &mut BTreeMap<u64, OwnedUpload<H>>,
     number: u64,
     part: H::Given,
     work: &mut H::Work,
-) -> Result<u64, H::Given>
+) -> Result<Resized, H::Given>
     requires there { IsSome (lookup (is_number number) uploads.old.entries) }
     requires fits { IfSome (lookup (is_number number) uploads.old.entries) (λ u. Fits u.upload.plan (H.start part) (H.Part.len (H.kept part))) }
     requires free { IfSome (lookup (is_number number) uploads.old.entries) (λ u. place_fault H.Part.len u.upload (H.start part) (H.Part.len (H.kept part)) ≡ None) }
     ensures put { OnOk result ((u : ModelOwnedUpload H.Part) → lookup (is_number number) uploads.old.entries ≡ Some u
         → uploads.new.entries ≡ set_value (is_number number) uploads.old.entries (record u { upload = with_more H.Part.len u.upload (H.start part) (H.kept part) })) }
-    ensures length { IfOk result (λ n. (u : ModelOwnedUpload H.Part) → lookup (is_number number) uploads.old.entries ≡ Some u
-        → n ≡ length_of (with_more H.Part.len u.upload (H.start part) (H.kept part))) }
+    ensures resized { IfOk result (λ r. (u : ModelOwnedUpload H.Part) → lookup (is_number number) uploads.old.entries ≡ Some u
+        → r ≡ record { tenant = u.tenant; before = length_of u.upload; after = length_of (with_more H.Part.len u.upload (H.start part) (H.kept part)) }) }
     ensures count { OnOk result ((u : ModelOwnedUpload H.Part) → lookup (is_number number) uploads.old.entries ≡ Some u
         → work.new ≡ H.works u.upload.parts (H.start part) (H.kept part) work.old) }
     ensures back { IfErr result (λ back. back ≡ part) }
@@ -78,21 +86,41 @@ pub(crate) fn put<H: HeldParts>(
     let Some(begun) = uploads.get_mut(&number) else {
         unreachable!();
     };
+    let (tenant, before) = (begun.tenant, begun.upload.length());
     match begun.upload.put(part, work) {
-        Ok(()) => Ok(begun.upload.length()),
+        Ok(()) => {
+            let after = begun.upload.length();
+            Ok(Resized {
+                tenant,
+                before,
+                after,
+            })
+        },
         Err(part) => Err(part),
     }
 }
 
 /// Fixes the end of the upload `number`.
-pub(crate) fn fix<H: HeldParts>(uploads: &mut BTreeMap<u64, OwnedUpload<H>>, number: u64, len: u64)
+pub(crate) fn fix<H: HeldParts>(
+    uploads: &mut BTreeMap<u64, OwnedUpload<H>>,
+    number: u64,
+    len: u64,
+) -> Resized
     requires there { IsSome (lookup (is_number number) uploads.old.entries) }
     requires may { IfSome (lookup (is_number number) uploads.old.entries) (λ u. fix_fault H.Part.len u.upload len ≡ None) }
-    ensures { (u : ModelOwnedUpload H.Part) → lookup (is_number number) uploads.old.entries ≡ Some u
+    ensures fixed { (u : ModelOwnedUpload H.Part) → lookup (is_number number) uploads.old.entries ≡ Some u
         → uploads.new.entries ≡ set_value (is_number number) uploads.old.entries (record u { upload = fixed_at u.upload len }) }
+    ensures resized { (u : ModelOwnedUpload H.Part) → lookup (is_number number) uploads.old.entries ≡ Some u
+        → result ≡ record { tenant = u.tenant; before = length_of u.upload; after = len } }
 {
-    match uploads.get_mut(&number) {
-        Some(begun) => begun.upload.fix(len),
-        None => unreachable!(),
+    let Some(begun) = uploads.get_mut(&number) else {
+        unreachable!();
+    };
+    let (tenant, before) = (begun.tenant, begun.upload.length());
+    begun.upload.fix(len);
+    Resized {
+        tenant,
+        before,
+        after: len,
     }
 }

@@ -1,27 +1,42 @@
 //! Filed objects in filing order, found by their addresses, and who holds which.
 
-ghost use Rattle.std.specs.Prelude.{◌≡◌, ◌+◌, ◌<◌, ◌∷◌, ◌++◌, [], false, ℕ, List, length, nat_le, true, if◌then◌else◌};
+ghost use Rattle.std.specs.Prelude.{◌≡◌, ◌+◌, ◌-◌, ◌^◌, ◌<◌, ◌∷◌, ◌++◌, [], ℕ, List, length, map, nat_le, true, if◌then◌else◌};
 ghost use Rattle.std.specs.Prelude.{None, Some, IfNone, IfOk, IfSome, IsSome, OnErr, OnOk};
 ghost use Rattle.std.specs.BTreeMap.{WritesThrough, get};
-ghost use Rattle.std.specs.Map.{values_of};
-ghost use Rattle.std.specs.Option.{option_map};
 ghost use Rattle.std.specs.Ordering.{nat_cmp};
+ghost use Rattle.store_books.specs.declared.catalog.FiledObject.{FiledObject as ModelFiledObject};
 ghost use Rattle.store_books.specs.Books.{Filed as Item, is_held_by, max_entries, object_among};
+ghost use Rattle.store_books.specs.Forgetting.{label_of};
 ghost use Rattle.store_books.specs.inner.Catalog.{IsKnown};
 ghost use Rattle.store_books.specs.Commands.{with_holder, with_holders, without_holder};
-ghost use Rattle.store_books.specs.Questions.{listed};
+ghost use Rattle.store_books.specs.Questions.{holders_at, listed};
 
 use crate::address::Address;
-use crate::content::Content;
-use crate::filed::FiledObject;
+use crate::content::{Content, ObjectLabel};
 use crate::index::AddressIndex;
 use crate::known::Known;
 use std::alloc::{AllocError, Global};
-use std::collections::btree_map::Values;
 use std::collections::{BTreeMap, BTreeSet};
 use std::marker::Model;
 
-// Each object is kept under the number of its filing. That number is kept under the object's address, and for each tenant that holds it.
+// A filed object, and the number of tenants that hold it.
+#[derive(Drop)]
+pub(crate) struct FiledObject<O: Content> {
+    content: O,
+    holders: u64,
+}
+
+impl<O: Content> FiledObject<O> {
+    // The object.
+    fn content(&self) -> &O
+        ensures { result.now ≡ self.now.content }
+    {
+        &self.content
+    }
+}
+
+// Each object is kept under the number of its filing. That number is kept under the object's address, and in a pair with each tenant that
+// holds it.
 #[derive(Drop)]
 pub(crate) struct Catalog<O: Content, I: AddressIndex> {
     numbers: I,
@@ -34,13 +49,13 @@ pub(crate) struct Catalog<O: Content, I: AddressIndex> {
 impl<O: Content, I: AddressIndex> Model for Catalog<O, I> {
     ghost use Rattle.std.specs.Map.{values_of};
     ghost use Rattle.store_books.specs.Kept.{ModelCatalog};
-    ghost use Rattle.store_books.specs.inner.Catalog.{AreCatalogued, AreHoldings};
+    ghost use Rattle.store_books.specs.inner.Catalog.{AreNumbered, ArePaired, with_addresses};
 
     ghost Value = { ModelCatalog O };
 
-    ghost view = { λ c. record { objects = values_of (values_of c.filed.entries); filings = c.filings } };
+    ghost view = { λ c. record { objects = values_of (values_of (with_addresses O.address c.held.keys c.filed.entries)); filings = c.filings } };
 
-    ghost invariant = { λ c. AreCatalogued O.address c.filings c.filed (I.number_of c.numbers) × AreHoldings c.filed c.held };
+    ghost invariant = { λ c. AreNumbered c.filings (with_addresses O.address c.held.keys c.filed.entries) (I.number_of c.numbers) × ArePaired c.filed.entries c.held.keys };
 }
 
 impl<O: Content, I: AddressIndex> Catalog<O, I> {
@@ -63,21 +78,35 @@ impl<O: Content, I: AddressIndex> Catalog<O, I> {
         self.filed.len() as u64
     }
 
-    /// The objects, in filing order.
-    pub(crate) fn iter(&self) -> Values<'_, u64, FiledObject<O>>
-        ensures { values_of result ≡ self.now.objects }
+    /// The addresses and lengths of the objects, in filing order.
+    pub(crate) fn labels(&self, alloc: Global) -> Result<Vec<ObjectLabel>, AllocError>
+        ensures { IfOk result (λ labels. labels.items ≡ map (λ o. label_of O.size O.address o.content) self.now.objects) }
     {
-        self.filed.values()
+        let mut labels = Vec::new(alloc);
+        for filed in self.filed.values() {
+            labels.push(ObjectLabel {
+                address: filed.content.address(),
+                len: filed.content.length(),
+            })?;
+        }
+        Ok(labels)
     }
 
-    // The object at the address.
-    fn find(&self, address: Address) -> Option<&FiledObject<O>>
-        ensures { option_map (λ f. f.now.1) result ≡ object_among O.address self.now.objects address }
+    /// The tenants that hold the object at the address, by number.
+    pub(crate) fn holders_of(&self, alloc: Global, address: Address) -> Result<Vec<u64>, AllocError>
+        ensures { IfOk result (λ holders. holders.items ≡ holders_at O.address self.now.objects address) }
     {
-        match self.numbers.get(address) {
-            Some(number) => self.filed.get(&number),
-            None => None,
+        let mut holders = Vec::new(alloc);
+        let Some(number) = self.numbers.get(address) else {
+            return Ok(holders);
+        };
+        for pair in self.held.iter() {
+            let (tenant, held) = *pair;
+            if held == number {
+                holders.push(tenant)?;
+            }
         }
+        Ok(holders)
     }
 
     /// What is filed at the address.
@@ -85,11 +114,16 @@ impl<O: Content, I: AddressIndex> Catalog<O, I> {
         ensures found { IfSome result (IsKnown O.size O.address self.now.objects address tenant) }
         ensures absent { IfNone result (object_among O.address self.now.objects address ≡ None) }
     {
-        let filed = self.find(address)?;
+        let Some(number) = self.numbers.get(address) else {
+            return None;
+        };
+        let Some(filed) = self.filed.get(&number) else {
+            unreachable!();
+        };
         Some(Known {
-            size: filed.length(),
-            is_holder: filed.is_held_by(tenant),
-            is_alone: filed.is_alone(),
+            size: filed.content.length(),
+            is_holder: self.held.contains(&(tenant, number)),
+            is_alone: filed.holders <= 1,
         })
     }
 
@@ -98,9 +132,12 @@ impl<O: Content, I: AddressIndex> Catalog<O, I> {
         ensures found { IfSome result (λ content. (o : Item O) × (object_among O.address self.now.objects address ≡ Some o) × (content.now ≡ o.content)) }
         ensures none { IfNone result (object_among O.address self.now.objects address ≡ None) }
     {
-        match self.find(address) {
+        let Some(number) = self.numbers.get(address) else {
+            return None;
+        };
+        match self.filed.get(&number) {
             Some(filed) => Some(filed.content()),
-            None => None,
+            None => unreachable!(),
         }
     }
 
@@ -115,29 +152,27 @@ impl<O: Content, I: AddressIndex> Catalog<O, I> {
             let Some(filed) = objects.get(&number) else {
                 unreachable!();
             };
-            list.push((filed.address(), filed.length()))?;
+            list.push((filed.content.address(), filed.content.length()))?;
         }
         Ok(list)
     }
 
     /// Files an object with one holder as the last one. A failure leaves everything unchanged.
-    pub(crate) fn file_last(
-        &mut self,
-        alloc: Global,
-        content: O,
-        tenant: u64,
-    ) -> Result<(), AllocError>
+    pub(crate) fn file_last(&mut self, content: O, tenant: u64) -> Result<(), AllocError>
         requires absent { object_among O.address self.old.objects (O.address content) ≡ None }
         requires room { self.old.filings < max_entries }
         ensures filed { OnOk result (self.new ≡ record { objects = self.old.objects ++ record { content = content; holders = tenant ∷ [] } ∷ []; filings = self.old.filings + 1 }) }
         ensures unchanged { OnErr result (self.new ≡ self.old) }
     {
         let address = content.address();
-        let filed = FiledObject::new(alloc, content, tenant)?;
         self.numbers.insert(address, self.filings)?;
         let Ok(_new) = self.held.insert((tenant, self.filings)) else {
             self.numbers.remove(address);
             return Err(AllocError);
+        };
+        let filed = FiledObject {
+            content,
+            holders: 1,
         };
         let Ok(_none) = self.filed.insert(self.filings, filed) else {
             let _undone = self.held.remove(&(tenant, self.filings));
@@ -161,13 +196,12 @@ impl<O: Content, I: AddressIndex> Catalog<O, I> {
         let Ok(is_new) = self.held.insert((tenant, number)) else {
             return Err(AllocError);
         };
-        let Err(refused) = add_at(&mut self.filed, number, tenant) else {
-            return Ok(());
-        };
         if is_new {
-            let _undone = self.held.remove(&(tenant, number));
+            // For the proof alone: an object has no more holders than there are pairs.
+            let _pairs = self.held.len();
+            count_one_more(&mut self.filed, number);
         }
-        Err(refused)
+        Ok(())
     }
 
     /// Removes a holder from the object at the address. Returns the object if it has no other holder.
@@ -187,39 +221,36 @@ impl<O: Content, I: AddressIndex> Catalog<O, I> {
             let Some(filed) = self.filed.remove(&number) else {
                 unreachable!();
             };
-            return Some(filed.into_content());
+            let FiledObject { content, .. } = filed;
+            return Some(content);
         }
-        leave_at(&mut self.filed, number, tenant);
+        count_one_less(&mut self.filed, number);
         None
     }
 }
 
-// Adds a holder to the object `number`.
-fn add_at<O: Content>(
-    filed: &mut BTreeMap<u64, FiledObject<O>>,
-    number: u64,
-    tenant: u64,
-) -> Result<(), AllocError>
-    requires { IsSome (get nat_cmp filed.old number) }
-    ensures added { OnOk result ((f : List ℕ × Item O) → get nat_cmp filed.old number ≡ Some f
-        → WritesThrough nat_cmp (nat_cmp number) filed.old (f.0, record f.1 { holders = with_holder tenant f.1.holders }) filed.new) }
-    ensures unchanged { OnErr result (filed.new.entries ≡ filed.old.entries) }
+// Counts one more holder of the object `number`.
+fn count_one_more<O: Content>(filed: &mut BTreeMap<u64, FiledObject<O>>, number: u64)
+    requires there { IsSome (get nat_cmp filed.old number) }
+    requires few { IfSome (get nat_cmp filed.old number) (λ f. f.holders + 1 < 2 ^ 64) }
+    ensures { (f : ModelFiledObject O) → get nat_cmp filed.old number ≡ Some f
+        → WritesThrough nat_cmp (nat_cmp number) filed.old (record f { holders = f.holders + 1 }) filed.new }
 {
     match filed.get_mut(&number) {
-        Some(found) => found.add(tenant),
+        Some(found) => found.holders += 1,
         None => unreachable!(),
     }
 }
 
-// Removes a holder from the object `number`.
-fn leave_at<O: Content>(filed: &mut BTreeMap<u64, FiledObject<O>>, number: u64, tenant: u64)
-    requires { IsSome (get nat_cmp filed.old number) }
-    ensures left { (f : List ℕ × Item O) → get nat_cmp filed.old number ≡ Some f
-        → WritesThrough nat_cmp (nat_cmp number) filed.old (f.0, record f.1 { holders = without_holder tenant f.1.holders }) filed.new }
-    ensures freed { (f : List ℕ × Item O) → get nat_cmp filed.old number ≡ Some f → is_held_by tenant (record f.1 { holders = without_holder tenant f.1.holders }) ≡ false }
+// Counts one holder less of the object `number`.
+fn count_one_less<O: Content>(filed: &mut BTreeMap<u64, FiledObject<O>>, number: u64)
+    requires there { IsSome (get nat_cmp filed.old number) }
+    requires some { IfSome (get nat_cmp filed.old number) (λ f. 0 < f.holders) }
+    ensures { (f : ModelFiledObject O) → get nat_cmp filed.old number ≡ Some f
+        → WritesThrough nat_cmp (nat_cmp number) filed.old (record f { holders = f.holders - 1 }) filed.new }
 {
     match filed.get_mut(&number) {
-        Some(found) => found.leave(tenant),
+        Some(found) => found.holders -= 1,
         None => unreachable!(),
     }
 }

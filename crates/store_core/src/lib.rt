@@ -41,7 +41,7 @@ pub use store_books::{
     UploadId, UploadStatus, Usage,
 };
 pub use store_journal::{
-    AcceptedPuts, BadText, Entry, IllegalEntry, JournalWriter, LeftObject, ReadError, ReplayError,
+    AcceptedPuts, BadText, Entry, IllegalEntry, JournalWriter, ObjectLabel, ReadError, ReplayError,
     Replayed, ReplayedUpload, Version, entry_laws, entry_lines, journal_laws, read_entry,
     read_journal, replay, write_entries, write_entry, write_journal,
 };

@@ -3,7 +3,7 @@
 use std::alloc::{AllocError, Global};
 use std::test::Fail;
 use store_journal::{
-    LeftObject, Replayed, ReplayedUpload, TenantId, Totals, read_journal, replay, write_journal,
+    ObjectLabel, Replayed, ReplayedUpload, TenantId, Totals, read_journal, replay, write_journal,
 };
 
 // Has every kind of entry but a forget entry; leaves an upload with a closed plan, one without an end, and one whose end is below its
@@ -40,8 +40,8 @@ upload 6 of 1 bound 2049 end Some(1025) parts {}
 objects 2 bytes 5 uploads 3 held 1025 parts 2, accepted 1035 4
 ";
 
-fn object_text(alloc: Global, object: &LeftObject) -> Result<String, AllocError> {
-    let (address, len, holders) = (object.address(), object.length(), object.holders());
+fn object_text(alloc: Global, object: ObjectLabel, holders: &[u64]) -> Result<String, AllocError> {
+    let ObjectLabel { address, len } = object;
     format!(in alloc; "object {address} {len} of {holders:?}\n")
 }
 
@@ -59,8 +59,9 @@ fn left_text(alloc: Global, replayed: &Replayed, totals: Totals) -> Result<Strin
             text.push_str(format!(in alloc; "limit {limit}\n")?.as_str())?;
         }
     }
-    for object in replayed.objects() {
-        text.push_str(object_text(alloc, object)?.as_str())?;
+    for object in replayed.objects(alloc)? {
+        let holders = replayed.holders_of(alloc, object.address)?;
+        text.push_str(object_text(alloc, object, holders.as_slice())?.as_str())?;
     }
     for (upload, left) in replayed.uploads() {
         text.push_str(upload_text(alloc, *upload, left)?.as_str())?;

@@ -69,7 +69,7 @@ impl<H: HeldParts, O: Content, I: AddressIndex> Books<H, O, I> {
         };
         let tenant = begun.tenant();
         let len = begun.upload().length();
-        self.catalog.file_last(self.alloc, content, tenant)?;
+        self.catalog.file_last(content, tenant)?;
         let more = Amounts {
             used: len,
             object_bytes: len,

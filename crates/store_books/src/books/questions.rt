@@ -1,20 +1,19 @@
 //! Questions.
 
-ghost use Rattle.std.specs.Prelude.{◌≡◌, IfOk, slice_get};
-ghost use Rattle.std.specs.Map.{values_of};
+ghost use Rattle.std.specs.Prelude.{◌≡◌, IfOk, map, slice_get};
 ghost use Rattle.store_books.specs.Books.{ModelOwnedUpload};
-ghost use Rattle.store_books.specs.Questions.{listed, open_upload_of, open_uploads, usage_in, usages_of};
+ghost use Rattle.store_books.specs.Forgetting.{label_of};
+ghost use Rattle.store_books.specs.Questions.{holders_at, listed, open_upload_of, open_uploads, usage_in, usages_of};
 
 use crate::address::Address;
 use crate::begun::OwnedUpload;
 use crate::books::{Books, UploadStatus, Usage};
-use crate::content::Content;
-use crate::filed::FiledObject;
+use crate::content::{Content, ObjectLabel};
 use crate::index::AddressIndex;
 use crate::refusal::Refusal;
 use crate::upload_id::UploadId;
 use std::alloc::{AllocError, Global};
-use std::collections::btree_map::{Iter, Values};
+use std::collections::btree_map::Iter;
 use store_upload::HeldParts;
 
 impl<H: HeldParts, O: Content, I: AddressIndex> Books<H, O, I> {
@@ -43,11 +42,19 @@ impl<H: HeldParts, O: Content, I: AddressIndex> Books<H, O, I> {
             .map(|found| found.limit)
     }
 
-    /// The objects, in filing order.
-    pub fn objects(&self) -> Values<'_, u64, FiledObject<O>>
-        ensures { values_of result ≡ self.now.objects }
+    /// The addresses and lengths of all objects, in filing order.
+    pub fn labels(&self, alloc: Global) -> Result<Vec<ObjectLabel>, AllocError>
+        ensures { IfOk result (λ labels. labels.items ≡ map (λ o. label_of O.size O.address o.content) self.now.objects) }
     {
-        self.catalog.iter()
+        self.catalog.labels(alloc)
+    }
+
+    /// The tenants that hold the object at the address, by number. The time is linear in the number of all pairs of a tenant and an
+    /// object that it holds.
+    pub fn holders_of(&self, alloc: Global, address: Address) -> Result<Vec<u64>, AllocError>
+        ensures { IfOk result (λ holders. holders.items ≡ holders_at O.address self.now.objects address) }
+    {
+        self.catalog.holders_of(alloc, address)
     }
 
     /// The open uploads with their numbers, by number.

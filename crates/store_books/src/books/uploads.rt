@@ -76,20 +76,18 @@ impl<H: HeldParts, O: Content, I: AddressIndex> Books<H, O, I> {
         ensures uncounted { OnErr result (work.new ≡ work.old) }
     {
         let len = H::len_of(&part);
-        let Some(begun) = self.uploads.get(&number) else {
-            unreachable!();
+        let resized = begun::put(&mut self.uploads, number, part, work)?;
+        let less = Amounts {
+            reserved: resized.before,
+            ..NONE
         };
-        let tenant = begun.tenant();
-        let reserved = begun.upload().length();
-        let after = begun::put(&mut self.uploads, number, part, work)?;
-        let less = Amounts { reserved, ..NONE };
         let more = Amounts {
-            reserved: after,
+            reserved: resized.after,
             held: len,
             parts: 1,
             ..NONE
         };
-        self.accounts.change(tenant, less, more);
+        self.accounts.change(resized.tenant, less, more);
         Ok(())
     }
 
@@ -111,18 +109,16 @@ impl<H: HeldParts, O: Content, I: AddressIndex> Books<H, O, I> {
         requires { fix_refusal H.Part.len self.old number len ≡ None }
         ensures { self.new ≡ with_fixed self.old number len }
     {
-        let Some(begun) = self.uploads.get(&number) else {
-            unreachable!();
-        };
-        let tenant = begun.tenant();
-        let reserved = begun.upload().length();
-        begun::fix(&mut self.uploads, number, len);
-        let less = Amounts { reserved, ..NONE };
-        let more = Amounts {
-            reserved: len,
+        let resized = begun::fix(&mut self.uploads, number, len);
+        let less = Amounts {
+            reserved: resized.before,
             ..NONE
         };
-        self.accounts.change(tenant, less, more);
+        let more = Amounts {
+            reserved: resized.after,
+            ..NONE
+        };
+        self.accounts.change(resized.tenant, less, more);
     }
 
     /// Why the upload would not be aborted: S7, S13.

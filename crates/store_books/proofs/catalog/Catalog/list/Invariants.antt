@@ -5,4 +5,4 @@ use Rattle.store_books.proofs.catalog.Catalog.list.Given as goal
 
 -- those so far, and those that are left, which are filed
 abbrev pub invariant-loop-pair : goal.invariant-loop-pair
-invariant-loop-pair g l = (l.list.items ++ reported_of g.O.Content.size g.O.Content.address l.objects l.pair-iterator ≡ listed g.O.Content.size g.O.Content.address l.tenant l.self.objects) × AreThere l.objects l.pair-iterator
+invariant-loop-pair g l = (l.list.items ++ reported_of g.O.Content.size g.O.Content.address l.objects.entries l.pair-iterator ≡ listed g.O.Content.size g.O.Content.address l.tenant l.self.objects) × AreThere l.objects.entries l.pair-iterator
