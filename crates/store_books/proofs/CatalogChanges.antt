@@ -188,13 +188,13 @@ module _ {O : Type 0} (address : O → List ℕ) (k : ℕ) (m : BTreeMap ℕ (Fi
         objects_left : with_addresses address g.keys r.entries ≡ remove_entry (is_at (nat_cmp n)) (with_addresses address h.keys m.entries)
         objects_left = shown_less address k m.entries h.keys p are paired t n a number here.0 here.1 here.2 r.entries g.keys false changes ordered entries
 
-        pub right_gone : IsStrictlySortedBy nat_cmp (keys_of r.entries) → (q : Numbers) → ((b : List ℕ) → q b ≡ cond (bytes_eq a b) None (p b)) → AreRight r g q
-        right_gone sorted q numbers = (
+        pub right_removed : IsStrictlySortedBy nat_cmp (keys_of r.entries) → (q : Numbers) → ((b : List ℕ) → q b ≡ cond (bytes_eq a b) None (p b)) → AreRight r g q
+        right_removed sorted q numbers = (
           numbered_less address k m.entries h.keys p are (with_addresses address g.keys r.entries) q a n number objects_left (ordered_with address g.keys r.entries sorted) numbers,
           paired_less address k m.entries h.keys p are paired t n a number here.0 here.1 here.2 r.entries g.keys false changes ordered entries (holders_left ∙ none_left),
         )
 
-        pub shows_gone : Shows r g (λ o. without_holder t o.holders)
-        shows_gone =
+        pub shows_removed : Shows r g (λ o. without_holder t o.holders)
+        shows_removed =
             shows r g (λ o. without_holder t o.holders) (catalog_less address k m.entries h.keys p are x is (with_addresses address g.keys r.entries) a n number objects_left object
             ∙ ap (λ (hs : List ℕ). record x { objects = with_holders address x.objects a object hs }) (sym none_left))

@@ -2,7 +2,7 @@ use Rattle.std.proofs.Common.{◌∙◌, Some, ap, sym}
 use Rattle.store_books.specs.Books.{Filed}
 use Rattle.store_books.specs.inner.Catalog.{with_address}
 use Rattle.store_books.proofs.Catalogs.{is_filed, is_numbered, object_at_number}
-use Rattle.store_books.proofs.CatalogChanges.{count_some, is_there_at, right_gone, right_less, shows_gone, shows_less}
+use Rattle.store_books.proofs.CatalogChanges.{count_some, is_there_at, right_removed, right_less, shows_removed, shows_less}
 use Rattle.store_upload.proofs.Places.{some_is}
 use Rattle.store_books.proofs.catalog.Catalog.drop_holder.Goals as goal
 
@@ -19,14 +19,14 @@ unreachable-requires-in_default-remove g c =
 pub invariant_of-self : goal.invariant_of-self
 invariant_of-self g c =
     let all = c.self.inside in
-    right_gone g.O.Content.address all.filings all.filed all.held (g.I.AddressIndex.number_of all.numbers) c.args.self.now c.self.invariant.0 c.self.invariant.1 c.self.view_is c.args.tenant c.in-Some.number c.args.address (sym c.in-Some.ensures)
+    right_removed g.O.Content.address all.filings all.filed all.held (g.I.AddressIndex.number_of all.numbers) c.args.self.now c.self.invariant.0 c.self.invariant.1 c.self.view_is c.args.tenant c.in-Some.number c.args.address (sym c.in-Some.ensures)
     c.args.is_alone c.requires.held c.remove-was.new.self c.remove-was.ensures.updates.0 c.remove-was.ensures.ordered c.if-is_alone.true c.remove-then-is_alone.new.self c.remove-then-is_alone.ensures.entries c.remove-then-is_alone.ensures.ordered
     (g.I.AddressIndex.number_of c.remove.new.self) c.remove.ensures
 
 pub returns-then-is_alone-clause-left : goal.returns-then-is_alone-clause-left
 returns-then-is_alone-clause-left g c =
     let all = c.self.inside in
-    shows_gone g.O.Content.address all.filings all.filed all.held (g.I.AddressIndex.number_of all.numbers) c.args.self.now c.self.invariant.0 c.self.invariant.1 c.self.view_is c.args.tenant c.in-Some.number c.args.address (sym c.in-Some.ensures)
+    shows_removed g.O.Content.address all.filings all.filed all.held (g.I.AddressIndex.number_of all.numbers) c.args.self.now c.self.invariant.0 c.self.invariant.1 c.self.view_is c.args.tenant c.in-Some.number c.args.address (sym c.in-Some.ensures)
     c.args.is_alone c.requires.held c.remove-was.new.self c.remove-was.ensures.updates.0 c.remove-was.ensures.ordered c.if-is_alone.true c.remove-then-is_alone.new.self c.remove-then-is_alone.ensures.entries
 
 pub returns-then-is_alone-clause-freed : goal.returns-then-is_alone-clause-freed
