@@ -162,12 +162,12 @@ abbrev pub sealed_by : ModelStoreBooks → ℕ → Option ModelObject → Accept
 sealed_by s number None = record {
   reply = record { address = address_in s number; new = true; bytes = content_in s number; released = opened s number };
   state = with_filed s number (content_in s number);
-  entry = entry.Seal number (address_in s number) true;
+  entry = entry.Seal true number (address_in s number);
 }
 sealed_by s number (Some object) = record {
   reply = record { address = address_in s number; new = false; bytes = object.content; released = opened s number };
   state = with_joined hash_of s number (address_in s number);
-  entry = entry.Seal number (address_in s number) false;
+  entry = entry.Seal false number (address_in s number);
 }
 
 abbrev pub filed_in : ModelStoreBooks → ℕ → Result (Acceptance ModelSealed) Refusal

@@ -146,8 +146,8 @@ entry_open number u b (Begin m t len) apart was = begun_more b (after b (Begin m
 entry_open number u b (Open m t at_most) apart was = begun_more b (after b (Open m t at_most)) number u _ refl was
 entry_open number u b (Put m offset n) apart was = put_open b m offset n number u (upload_at b m) refl was
 entry_open number u b (Fix m n) apart was = fix_open b m n number u (upload_at b m) refl was
-entry_open number u b (Seal m at true) apart was = new_open b m number (record { address = at; len = upload_length b m }) u (upload_at b m) apart was
-entry_open number u b (Seal m at false) apart was = known_open b m number at u (upload_at b m) (object_at label_address b at) apart was
+entry_open number u b (Seal true m at) apart was = new_open b m number (record { address = at; len = upload_length b m }) u (upload_at b m) apart was
+entry_open number u b (Seal false m at) apart was = known_open b m number at u (upload_at b m) (object_at label_address b at) apart was
 entry_open number u b (Abort m) apart was = ended b (after b (Abort m)) m number u apart refl was
 entry_open number u b (Forget t at) apart was = left_open b t number at u (object_at label_address b at) was
 

@@ -151,8 +151,8 @@ entry_holds b (Begin number t len) tenant at apart was = was
 entry_holds b (Open number t at_most) tenant at apart was = was
 entry_holds b (Put number offset len) tenant at apart was = stay b (after b (Put number offset len)) tenant at (put_same b number offset len (upload_at b number)) was
 entry_holds b (Fix number n) tenant at apart was = stay b (after b (Fix number n)) tenant at (fix_same b number n (upload_at b number)) was
-entry_holds b (Seal number other true) tenant at apart was = new_holds b number (record { address = other; len = upload_length b number }) tenant at (upload_at b number) was
-entry_holds b (Seal number other false) tenant at apart was = known_holds b number other tenant at (upload_at b number) (object_at label_address b other) refl was
+entry_holds b (Seal true number other) tenant at apart was = new_holds b number (record { address = other; len = upload_length b number }) tenant at (upload_at b number) was
+entry_holds b (Seal false number other) tenant at apart was = known_holds b number other tenant at (upload_at b number) (object_at label_address b other) refl was
 entry_holds b (Abort number) tenant at apart was = was
 entry_holds b (Forget t other) tenant at apart was = left_holds b t other tenant at (object_at label_address b other) refl apart was
 
@@ -186,14 +186,14 @@ seal_known b number at u (Some v) (Some o) is known reported =
     tenant_in (Some w) = w.tenant
 
 -- the tenant of an upload that is sealed holds what it sealed
-seal_holds : (b : Bare) (number : ℕ) (at : List ℕ) (new : Bool) (u : ModelOwnedUpload ℕ) → upload_at b number ≡ Some u → IsLegal b (Seal number at new) → Holds (after b (Seal number at new)) u.tenant at
+seal_holds : (b : Bare) (number : ℕ) (at : List ℕ) (new : Bool) (u : ModelOwnedUpload ℕ) → upload_at b number ≡ Some u → IsLegal b (Seal new number at) → Holds (after b (Seal new number at)) u.tenant at
 seal_holds b number at new u found legal = by new ((and_parts _ (says_filing new (object_at label_address b at)) ((and_parts (is_none (ready_refusal as_it_is b number)) _ legal).1)).1)
   where
     none_reported : (o : Option (Filed ObjectLabel)) → says_filing true o ≡ true → o ≡ None
     none_reported None reported = refl
     none_reported (Some o) reported = absurd (true≢false (sym reported))
 
-    by : (n : Bool) → says_filing n (object_at label_address b at) ≡ true → Holds (after b (Seal number at n)) u.tenant at
+    by : (n : Bool) → says_filing n (object_at label_address b at) ≡ true → Holds (after b (Seal n number at)) u.tenant at
     by true reported = seal_new b number (record { address = at; len = upload_length b number }) u (upload_at b number) found (none_reported (object_at label_address b at) reported)
     by false reported = seal_known b number at u (upload_at b number) (object_at label_address b at) found refl reported
 
@@ -214,7 +214,7 @@ unlabelled s tenant at was = by (object_at hash_of s at) refl
 
 pub sealed_is_held : SealedIsHeld
 sealed_is_held found later upload at new u more lawful lawful' begun grown none =
-    let seal : Entry = Seal upload at new in
+    let seal : Entry = Seal new upload at in
     let b : Bare = replayed_of found.state in
     let mine : ModelOwnedUpload ℕ = bare_begun length u in
     let joined : later.journal ≡ found.journal ++ seal ∷ more = grown ∙ append_assoc found.journal (seal ∷ []) more in

@@ -17,7 +17,7 @@ use Rattle.store_lease.proofs.SealedObjects.{sealed_is_held}
 
 -- the entry says what the reply says
 abbrev IsSealEntry : ℕ → Result (Acceptance ModelSealed) Refusal → Type 0
-IsSealEntry number (Ok a) = a.entry ≡ Seal number a.reply.address a.reply.new
+IsSealEntry number (Ok a) = a.entry ≡ Seal a.reply.new number a.reply.address
 IsSealEntry number (Err refusal) = Unit {0}
 
 unless_entry : (s : ModelStoreBooks) (number : ℕ) (refusal : Option Refusal) (known : Option ModelObject) → IsSealEntry number (unless refusal (sealed_by s number known))
@@ -41,15 +41,15 @@ sealed_is x y same = ap sealed_or same
     sealed_or _ = x
 
 reported_entry : (number : ℕ) (m : Result (Acceptance ModelSealed) Refusal) (old new : ModelStore) (sealed : ModelSealed) → IsSealEntry number m → StepsAs as_is (replied replies.Sealed m) old (Ok (replies.Sealed sealed)) new
-    → new.journal ≡ old.journal ++ Seal number sealed.address sealed.new ∷ []
+    → new.journal ≡ old.journal ++ Seal sealed.new number sealed.address ∷ []
 reported_entry number (Ok a) old new sealed is step =
     let same : sealed ≡ a.reply = sealed_is sealed a.reply step.0 in
-    let entry : a.entry ≡ Seal number sealed.address sealed.new = is ∙ ap (λ (m : ModelSealed). Seal number m.address m.new) (sym same) in
+    let entry : a.entry ≡ Seal sealed.new number sealed.address = is ∙ ap (λ (m : ModelSealed). Seal m.new number m.address) (sym same) in
     ap (λ (s : ModelStore). s.journal) step.1 ∙ ap (λ (e : Entry). old.journal ++ e ∷ []) entry
 reported_entry number (Err refusal) old new sealed is step = absurd step
 
 pub reported_is_held : ReportedIsHeld
 reported_is_held before now more upload sealed u later took begun lawful grown none =
     let entry = reported_entry upload (seal_in took.found.state upload) took.found took.left sealed (seal_entry took.found.state upload) took.step in
-    let joined : later.journal ≡ (took.found.journal ++ Seal upload sealed.address sealed.new ∷ []) ++ more = grown ∙ ap (λ (l : List Entry). l ++ more) (took.seen ∙ entry) in
+    let joined : later.journal ≡ (took.found.journal ++ Seal sealed.new upload sealed.address ∷ []) ++ more = grown ∙ ap (λ (l : List Entry). l ++ more) (took.seen ∙ entry) in
     sealed_is_held took.found later upload sealed.address sealed.new u more took.law lawful begun joined none

@@ -35,7 +35,7 @@ forgets tenant at _ = false
 abbrev pub SealedIsHeld : Type 0
 SealedIsHeld = (found later : ModelStore) (upload : ℕ) (at : List ℕ) (new : Bool) (u : ModelOwnedUpload (List ℕ)) (more : List Entry) → IsCarried found → IsCarried later
     → upload_at found.state upload ≡ Some u
-    → later.journal ≡ (found.journal ++ Seal upload at new ∷ []) ++ more
+    → later.journal ≡ (found.journal ++ Seal new upload at ∷ []) ++ more
     → AllByRecursion (λ e. forgets u.tenant at e ≡ false) more
     → IsHeld hash_of later.state u.tenant at
 
@@ -54,7 +54,7 @@ ReportedIsHeld = (before now : ModelFront) (more : List Entry) (upload : ℕ) (s
 
 -- whether the entry says that the upload was sealed or aborted
 abbrev pub closes : ℕ → Entry → Bool
-closes number (Seal n at new) = n == number
+closes number (Seal new n at) = n == number
 closes number (Abort n) = n == number
 closes number _ = false
 
