@@ -31,8 +31,8 @@ const FIELDS: &str = "Tenant { tenant: TenantId { number: 0 }, limit: 4096 }
 Limit { tenant: TenantId { number: 3 }, limit: 18446744073709551615 }
 Begin { upload: UploadId { number: 0 }, tenant: TenantId { number: 1 }, len: 2 }
 Put { upload: UploadId { number: 0 }, offset: 1024, len: 1 }
-Seal { upload: UploadId { number: 4 }, address: Address { bytes: [0, 0, 0, 0, 0, 0, 0, 0, 0, 0, 0, 0, 0, 0, 0, 0, 0, 0, 0, 0, 0, 0, 0, 0, 0, 0, 0, 0, 0, 0, 0, 0] }, new: true }
-Seal { upload: UploadId { number: 18446744073709551615 }, address: Address { bytes: [0, 0, 0, 0, 0, 0, 0, 0, 0, 0, 0, 0, 0, 0, 0, 0, 0, 0, 0, 0, 0, 0, 0, 0, 0, 0, 0, 0, 0, 0, 0, 0] }, new: false }
+Seal { new: true, upload: UploadId { number: 4 }, address: Address { bytes: [0, 0, 0, 0, 0, 0, 0, 0, 0, 0, 0, 0, 0, 0, 0, 0, 0, 0, 0, 0, 0, 0, 0, 0, 0, 0, 0, 0, 0, 0, 0, 0] } }
+Seal { new: false, upload: UploadId { number: 18446744073709551615 }, address: Address { bytes: [0, 0, 0, 0, 0, 0, 0, 0, 0, 0, 0, 0, 0, 0, 0, 0, 0, 0, 0, 0, 0, 0, 0, 0, 0, 0, 0, 0, 0, 0, 0, 0] } }
 Abort { upload: UploadId { number: 12 } }
 Forget { tenant: TenantId { number: 6 }, address: Address { bytes: [0, 0, 0, 0, 0, 0, 0, 0, 0, 0, 0, 0, 0, 0, 0, 0, 0, 0, 0, 0, 0, 0, 0, 0, 0, 0, 0, 0, 0, 0, 0, 0] } }
 Open { upload: UploadId { number: 5 }, tenant: TenantId { number: 3 }, at_most: 2048 }
