@@ -26,11 +26,9 @@ use std::io::{self, BufReader, BufWriter, IsTerminal};
 use std::marker::Brand;
 use std::process::ExitCode;
 use std::sync::Wait;
-use std::sync::ledger::Blank;
 use std::thread::Threads;
 use store_command_line::{AskedUpload, Fault, Input, Options, SumInputs, options};
-use store_engines::{ALL_PARTS, Cause, UploadOptions, Verdict, audit, migrate, upload};
-use store_history::UnnamedHistory;
+use store_engines::{Cause, UnnamedLedgers, UploadOptions, Verdict, audit, migrate, upload};
 use store_lines::{run, serve};
 use words::{Foreign, are_among, no_files, words_of};
 
@@ -69,8 +67,7 @@ fn uploaded<T: Threads + Wait + Sync + Runtime>(
 ) -> Result<Verdict, Cause> {
     extent.note_input(&StandardInput::new(rt));
     let (mut reader, mut writer) = (rt.stdin(), standard_output(rt));
-    let (bytes, calls) = (Blank::new(ALL_PARTS), Blank::new(ALL_PARTS));
-    let history = UnnamedHistory::new(rt.alloc())?;
+    let ledgers = UnnamedLedgers::new(rt.alloc())?;
     let options = UploadOptions {
         workers: asked.workers,
         part_chunks: asked.part_chunks,
@@ -80,9 +77,7 @@ fn uploaded<T: Threads + Wait + Sync + Runtime>(
         threads,
         rt.alloc(),
         options,
-        bytes,
-        calls,
-        history,
+        ledgers,
         &mut reader,
         &mut writer,
     )

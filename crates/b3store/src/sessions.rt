@@ -12,17 +12,16 @@ use std::fs::{File, OpenOptions};
 use std::io::{BufReader, ErrorKind};
 use std::marker::Brand;
 use std::os::unix::fs::FileTypeExt;
-use std::sync::ledger::Blank;
 use std::sync::{Arc, Mutex, Wait};
 use std::thread::Threads;
 use std::{fs, io, thread};
 use store_command_line::DoorOptions;
 use store_core::Limits;
-use store_history::{Front, UnnamedHistory};
+use store_history::Front;
 use store_lease::Lease;
-use store_ledger::{ALL_PARTS, Ledgers, Share};
+use store_ledger::{Ledgers, Share};
 use store_lines::Access;
-use store_shared::Shared;
+use store_shared::{Shared, UnnamedLedgers};
 
 // The maximum length in bytes of a line with a number: 20 digits and a newline.
 const MAX_NUMBER_LINE: usize = 21;
@@ -66,14 +65,6 @@ struct Server<L: Ledgers> {
     store: Shared<L>,
     path: String,
     door: Mutex<Door>,
-}
-
-// The ledgers and the history of a new store, which a type parameter is to name.
-#[derive(Drop)]
-struct UnnamedLedgers {
-    bytes: Blank,
-    calls: Blank,
-    history: UnnamedHistory,
 }
 
 // Opens a named pipe for reading without waiting for a writer. If there is no writer any more, its input is at its end.
@@ -230,12 +221,7 @@ fn serve_all<L: Ledgers + Send + Sync + 'static, T: Threads + Wait + Copy + Send
     requires history { ledgers.history ≡ L.history }
 {
     let alloc: Global = rt.alloc();
-    let UnnamedLedgers {
-        bytes,
-        calls,
-        history,
-    } = ledgers;
-    let (store, mut share) = Shared::<L>::new(alloc, Limits::full(), bytes, calls, history);
+    let (store, mut share) = Shared::<L>::new(alloc, Limits::full(), ledgers);
     let server = Server {
         store,
         path: String::from_str(alloc, options.path)?,
@@ -257,11 +243,7 @@ fn serve_named<T: Threads + Wait + Copy + Send + 'static>(
     door: Door,
     options: &DoorOptions<'_>,
 ) -> Result<Verdict, Cause> {
-    let ledgers = UnnamedLedgers {
-        bytes: Blank::new(ALL_PARTS),
-        calls: Blank::new(ALL_PARTS),
-        history: UnnamedHistory::new(rt.alloc())?,
-    };
+    let ledgers = UnnamedLedgers::new(rt.alloc())?;
     serve_all::<Brand, _>(rt, threads, door, options, ledgers)
 }
 

@@ -7,17 +7,16 @@ use b3_core::{Runtime, Work};
 use std::marker::Brand;
 use std::process::Abort;
 use std::sync::Wait;
-use std::sync::ledger::Blank;
 use std::test::Fail;
 use std::thread;
 use std::thread::Threads;
 use store_core::Limits;
 use store_engines::Verdict;
-use store_history::{Front, UnnamedHistory};
+use store_history::Front;
 use store_lease::Lease;
-use store_ledger::{ALL_PARTS, Accepted, Ledgers, Share};
+use store_ledger::{Accepted, Ledgers, Share};
 use store_lines::serve_over;
-use store_shared::Shared;
+use store_shared::{Shared, UnnamedLedgers};
 
 // Serves a session with these lines, and returns its share, what it has seen, and whether these are its answers.
 fn is_answered<L: Ledgers, R: Wait + AllocGlobal + Runtime>(
@@ -65,12 +64,12 @@ const PAGES_ANSWERS: &[u8] =
 fn serve_side_by_side<
     L: Ledgers + Send + Sync,
     R: Threads + Wait + Sync + AllocGlobal + Runtime + Abort,
->(rt: &R, bytes: Blank, calls: Blank, history: UnnamedHistory)
-    requires bytes { (bytes.name ≡ L.bytes_name) × (bytes.parts ≡ L.bytes_parts) × (bytes.parts ≡ 2 ^ 32) }
-    requires calls { (calls.name ≡ L.calls_name) × (calls.parts ≡ L.calls_parts) × (calls.parts ≡ 2 ^ 32) }
-    requires history { history ≡ L.history }
+>(rt: &R, ledgers: UnnamedLedgers)
+    requires bytes { (ledgers.bytes.name ≡ L.bytes_name) × (ledgers.bytes.parts ≡ L.bytes_parts) × (ledgers.bytes.parts ≡ 2 ^ 32) }
+    requires calls { (ledgers.calls.name ≡ L.calls_name) × (ledgers.calls.parts ≡ L.calls_parts) × (ledgers.calls.parts ≡ 2 ^ 32) }
+    requires history { ledgers.history ≡ L.history }
 {
-    let (shared, mut share) = Shared::<L>::new(rt.alloc(), Limits::full(), bytes, calls, history);
+    let (shared, mut share) = Shared::<L>::new(rt.alloc(), Limits::full(), ledgers);
     let own = share.split(1);
     let other = share.split(1);
     let both = &shared;
@@ -101,8 +100,7 @@ fn serve_side_by_side<
 
 #[test]
 fn sessions_share_a_store_and_page_its_journal(rt: HostRuntime) -> Result<(), Fail> {
-    let (bytes, calls) = (Blank::new(ALL_PARTS), Blank::new(ALL_PARTS));
-    let history = UnnamedHistory::new(rt.alloc())?;
-    serve_side_by_side::<Brand, _>(&rt, bytes, calls, history);
+    let ledgers = UnnamedLedgers::new(rt.alloc())?;
+    serve_side_by_side::<Brand, _>(&rt, ledgers);
     Ok(())
 }

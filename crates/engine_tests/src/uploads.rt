@@ -5,12 +5,9 @@ use b3_core::Runtime;
 use b3_tests::pattern;
 use std::marker::Brand;
 use std::sync::Wait;
-use std::sync::ledger::Blank;
 use std::test::Fail;
 use std::thread::Threads;
-use store_engines::{Cause, UploadOptions, Verdict, audit, upload};
-use store_history::UnnamedHistory;
-use store_ledger::ALL_PARTS;
+use store_engines::{Cause, UnnamedLedgers, UploadOptions, Verdict, audit, upload};
 
 /// The result of an upload.
 pub(crate) fn uploaded<R: Threads + Wait + Sync + AllocGlobal + Runtime>(
@@ -19,18 +16,8 @@ pub(crate) fn uploaded<R: Threads + Wait + Sync + AllocGlobal + Runtime>(
     reader: &mut ByteReader<'_>,
     writer: &mut ByteWriter,
 ) -> Result<Verdict, Cause> {
-    let (bytes, calls) = (Blank::new(ALL_PARTS), Blank::new(ALL_PARTS));
-    let history = UnnamedHistory::new(rt.alloc())?;
-    upload::<Brand, _, _, _>(
-        rt,
-        rt.alloc(),
-        options,
-        bytes,
-        calls,
-        history,
-        reader,
-        writer,
-    )
+    let ledgers = UnnamedLedgers::new(rt.alloc())?;
+    upload::<Brand, _, _, _>(rt, rt.alloc(), options, ledgers, reader, writer)
 }
 
 // The output for the pattern of 2049 bytes in three parts, before its journal.

@@ -8,7 +8,7 @@ mod sharing;
 
 use anyhow::Result;
 use b3_core::{Runtime, Work};
-use b3_forest::{Plan, Prepared};
+use b3_forest::Prepared;
 use calls::{digest_of_pieces, digest_of_reader, stored_len};
 use sharing::back_up_shared;
 use std::alloc::Global;
@@ -16,7 +16,7 @@ use std::io;
 use std::io::{Read, Write};
 use std::sync::Wait;
 use std::thread::Threads;
-use store_core::{Address, Limits, Store, TenantId, UploadId};
+use store_core::{Address, Limits, Store, TenantId};
 
 // The bytes of a part. All parts but the last are whole chunks of 1024 bytes.
 const PART_LEN: usize = 1024;
@@ -24,24 +24,7 @@ const PART_LEN: usize = 1024;
 // The maximum length of a stream in bytes; a part beyond it is refused.
 const MAX_LEN: u64 = 1 << 30;
 
-// Hashes one part, which needs no store, and puts it to its upload.
-fn put(
-    alloc: Global,
-    store: &mut Store,
-    upload: UploadId,
-    plan: &Plan,
-    offset: usize,
-    bytes: &[u8],
-    work: &mut Work,
-) -> Result<()> {
-    let mut own = Vec::with_capacity(alloc, bytes.len())?;
-    own.extend_from_slice(bytes)?;
-    let part = Prepared::make(alloc, plan, offset as u64, own, work)?;
-    let _held = store.put(upload, part, work)?;
-    Ok(())
-}
-
-// Files bytes for a tenant, and returns their address.
+// Files bytes for a tenant, and returns their address. Each part is hashed, which needs no store, and then put.
 fn back_up(
     alloc: Global,
     store: &mut Store,
@@ -55,7 +38,9 @@ fn back_up(
         let last = (rest.len() - 1) % PART_LEN + 1;
         let offset = rest.len() - last;
         let (front, part) = rest.split_at(offset);
-        put(alloc, store, upload, &plan, offset, part, work)?;
+        let own = Vec::from_slice(alloc, part)?;
+        let part = Prepared::make(alloc, &plan, offset as u64, own, work)?;
+        let _held = store.put(upload, part, work)?;
         rest = front;
     }
     let sealed = store.seal(upload, work)?;

@@ -10,12 +10,10 @@ use b3_forest::BorrowedBytes;
 use std::alloc::Global;
 use std::marker::Brand;
 use std::sync::Wait;
-use std::sync::ledger::Blank;
 use std::thread::Threads;
 use store_core::{Address, Limits};
-use store_history::UnnamedHistory;
-use store_ledger::{ALL_PARTS, Accepted, Ledgers};
-use store_shared::{PassAll, Shared, UploadRequest, lent_open_tenant};
+use store_ledger::{Accepted, Ledgers};
+use store_shared::{PassAll, Shared, UnnamedLedgers, UploadRequest, lent_open_tenant};
 
 // The number of chunks, of 1024 bytes, in a part, and the number of threads that hash parts.
 const PART_CHUNKS: u64 = 1;
@@ -30,26 +28,23 @@ pub fn back_up_shared<T: Threads + Wait + Sync + Runtime>(
 ) -> Result<(Address, Accepted)>
     ensures { IfOk result (λ reported. (reported.0 ≡ hash_of bytes.now) × (reported.1.bytes ≡ length bytes.now)) }
 {
-    let (of_bytes, of_calls) = (Blank::new(ALL_PARTS), Blank::new(ALL_PARTS));
-    let history = UnnamedHistory::new(alloc)?;
-    back_up_counted::<Brand, _>(threads, alloc, bytes, of_bytes, of_calls, history)
+    let ledgers = UnnamedLedgers::new(alloc)?;
+    back_up_counted::<Brand, _>(threads, alloc, bytes, ledgers)
 }
 
-// The same, with the two ledgers of the store's book and its history as a parameter.
+// The same, with the ledgers of the store as a parameter.
 fn back_up_counted<L: Ledgers, T: Threads + Wait + Sync + Runtime>(
     threads: &T,
     alloc: Global,
     bytes: &[u8],
-    of_bytes: Blank,
-    of_calls: Blank,
-    history: UnnamedHistory,
+    ledgers: UnnamedLedgers,
 ) -> Result<(Address, Accepted)>
-    requires bytes { (of_bytes.name ≡ L.bytes_name) × (of_bytes.parts ≡ L.bytes_parts) × (of_bytes.parts ≡ all_parts) }
-    requires calls { (of_calls.name ≡ L.calls_name) × (of_calls.parts ≡ L.calls_parts) × (of_calls.parts ≡ all_parts) }
-    requires history { history ≡ L.history }
+    requires bytes { (ledgers.bytes.name ≡ L.bytes_name) × (ledgers.bytes.parts ≡ L.bytes_parts) × (ledgers.bytes.parts ≡ all_parts) }
+    requires calls { (ledgers.calls.name ≡ L.calls_name) × (ledgers.calls.parts ≡ L.calls_parts) × (ledgers.calls.parts ≡ all_parts) }
+    requires history { ledgers.history ≡ L.history }
     ensures { IfOk result (λ reported. (reported.0 ≡ hash_of bytes.now) × (reported.1.bytes ≡ length bytes.now)) }
 {
-    let (shared, share) = Shared::<L>::new(alloc, Limits::full(), of_bytes, of_calls, history);
+    let (shared, share) = Shared::<L>::new(alloc, Limits::full(), ledgers);
     let tenant = lent_open_tenant(&mut *shared.lock(threads), 1 << 40)?;
     let request = UploadRequest {
         tenant,

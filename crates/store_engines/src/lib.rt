@@ -22,5 +22,5 @@ mod uploading;
 pub use auditing::audit;
 pub use edge::{Cause, Verdict};
 pub use migrating::migrate;
-pub use store_ledger::ALL_PARTS;
+pub use store_shared::UnnamedLedgers;
 pub use uploading::{UploadOptions, upload};

@@ -20,12 +20,12 @@ use edge::{Cause, Verdict, write_all};
 use std::alloc::{AllocError, Global};
 use std::io::{Read, Write};
 use std::sync::Wait;
-use std::sync::ledger::Blank;
 use std::thread::Threads;
 use store_core::{Address, Entry, Limits, Refusal, TenantId};
-use store_history::UnnamedHistory;
 use store_ledger::{Ledgers, Share};
-use store_shared::{Locked, PassAll, Shared, UploadFaultKind, UploadRequest, lent_open_tenant};
+use store_shared::{
+    Locked, PassAll, Shared, UnnamedLedgers, UploadFaultKind, UploadRequest, lent_open_tenant,
+};
 
 /// How `upload` splits its input, and what it writes.
 #[derive(Clone, Copy, Debug)]
@@ -148,20 +148,18 @@ fn stretch_len(part_chunks: u32) -> usize
 ///
 /// It stops at the first failed read or write, or if out of memory. `refused U5` and `refused U1 S14` are written first; the result is out
 /// of memory even if that write fails. It writes nothing before it has read everything. If out of memory, it has written at most a prefix
-/// of such a line; after a failed write, a prefix of its output. The two blanks are for the store's book.
+/// of such a line; after a failed write, a prefix of its output.
 pub fn upload<L: Ledgers, T: Threads + Wait + Sync + Runtime, R: Read, W: Write>(
     rt: &T,
     alloc: Global,
     options: UploadOptions,
-    bytes: Blank,
-    calls: Blank,
-    history: UnnamedHistory,
+    ledgers: UnnamedLedgers,
     reader: &mut R,
     writer: &mut W,
 ) -> Result<Verdict, Cause>
-    requires bytes { (bytes.name ≡ L.bytes_name) × (bytes.parts ≡ L.bytes_parts) × (bytes.parts ≡ all_parts) }
-    requires calls { (calls.name ≡ L.calls_name) × (calls.parts ≡ L.calls_parts) × (calls.parts ≡ all_parts) }
-    requires history { history ≡ L.history }
+    requires bytes { (ledgers.bytes.name ≡ L.bytes_name) × (ledgers.bytes.parts ≡ L.bytes_parts) × (ledgers.bytes.parts ≡ all_parts) }
+    requires calls { (ledgers.calls.name ≡ L.calls_name) × (ledgers.calls.parts ≡ L.calls_parts) × (ledgers.calls.parts ≡ all_parts) }
+    requires history { ledgers.history ≡ L.history }
     ensures written { result ≡ Ok Verdict.Good → IfSome (R.remaining reader.old) (λ input.
         WroteUpload options input (W.contents writer.old) (W.contents writer.new)) }
     ensures refused { result ≡ Ok Verdict.Refused → SomeRefusal options (W.contents writer.old) (W.contents writer.new) }
@@ -173,13 +171,7 @@ pub fn upload<L: Ledgers, T: Threads + Wait + Sync + Runtime, R: Read, W: Write>
         WrotePrefix options input (W.contents writer.old) (W.contents writer.new)) }
 {
     let input = read_stretches(alloc, reader, stretch_len(options.part_chunks))?;
-    let (shared, share): (Shared<L>, Share<L>) = Shared::new(
-        alloc,
-        Limits::full(),
-        bytes,
-        calls,
-        history,
-    );
+    let (shared, share): (Shared<L>, Share<L>) = Shared::new(alloc, Limits::full(), ledgers);
     let tenant = match lent_open_tenant(&mut *shared.lock(rt), LIMIT) {
         Ok(tenant) => tenant,
         Err(refusal) => return refuse(alloc, UploadFaultKind::Refused(refusal), writer),

@@ -30,12 +30,18 @@ use store_ledger::{Ledgers, Share};
 // The maximum number of parts that are put while the lock is taken once, while workers run.
 const MAX_IN_HAND: usize = 16;
 
-// The store and its upload, the share in which parts are recorded, what was noted of the upload's bytes, the collector's own fault, and the
+// The upload to which parts are put, and its store.
+#[derive(Drop)]
+pub(crate) struct Target<'a, L: Ledgers> {
+    pub(crate) shared: &'a Shared<L>,
+    pub(crate) upload: UploadId,
+}
+
+// The target of the parts, the share in which they are recorded, what was noted of the upload's bytes, the collector's own fault, and the
 // compressions that it makes.
 #[derive(Drop)]
 pub(crate) struct Collector<'a, L: Ledgers> {
-    pub(crate) shared: &'a Shared<L>,
-    pub(crate) upload: UploadId,
+    pub(crate) target: Target<'a, L>,
     pub(crate) share: Share<L>,
     pub(crate) follow: Follow<'a>,
     pub(crate) fault: Option<UploadFaultKind>,
@@ -88,8 +94,7 @@ fn note_all(
 // the lock is released, because the guard is dropped before the variables declared above it.
 fn put_all<L: Ledgers, R: Wait>(
     rt: &R,
-    shared: &Shared<L>,
-    upload: UploadId,
+    target: &Target<'_, L>,
     parts: Vec<Prepared>,
     share: &mut Share<L>,
     work: &mut Work,
@@ -98,9 +103,9 @@ fn put_all<L: Ledgers, R: Wait>(
     ensures err { OnErr result (RoseByPrefix (map (λ p. p.part) parts.items) share.old share.new) }
 {
     let mut rest = parts.into_iter();
-    let mut locked = shared.lock(rt);
+    let mut locked = target.shared.lock(rt);
     while let Some(part) = rest.next() {
-        if let Err(refused) = lent_put(&mut *locked, share, upload, part, work) {
+        if let Err(refused) = lent_put(&mut *locked, share, target.upload, part, work) {
             return Err(refused);
         }
     }
@@ -175,7 +180,7 @@ impl<'a, L: Ledgers> Collector<'a, L> {
             return Err(kind);
         }
         let (share, work) = (&mut self.share, &mut self.work);
-        if let Err(refused) = put_all(rt, self.shared, self.upload, parts, share, work) {
+        if let Err(refused) = put_all(rt, &self.target, parts, share, work) {
             return Err(UploadFaultKind::Refused(refused.reason));
         }
         Ok(())
@@ -318,8 +323,7 @@ impl<'a, L: Ledgers> Collector<'a, L> {
         ensures fault { IfErr result.1 (λ kind. (self.entry.fault ≡ Some kind) ⊎ (workers_fault ≡ Some kind) ⊎ (kind ≡ StrangePart)) }
     {
         let Collector {
-            shared: _,
-            upload: _,
+            target: _,
             share,
             follow,
             fault,

@@ -14,7 +14,7 @@ ghost use Rattle.store_shared.specs.Uploads.{IsAnswered};
 ghost use Rattle.store_shared.specs.inner.Workers.{AreWorkersOf, IsThreadOf};
 ghost use Rattle.store_books.specs.Books.{max_workers};
 
-use crate::collector::Collector;
+use crate::collector::{Collector, Target};
 use crate::crew::{Crew, first_fault, join_all, start_all, workers_of};
 use crate::cut::Cut;
 use crate::fault::{UploadFault, UploadFaultKind};
@@ -128,7 +128,8 @@ fn upload_parts<L: Ledgers, G: Gate + Sync, R: Threads + Wait + Sync + Runtime>(
         Ok(upload) => upload,
         Err(kind) => return (share, Err(UploadFault::unbegun(kind))),
     };
-    let (share, hashed) = put_parts(rt, alloc, shared, share, request, upload);
+    let target = Target { shared, upload };
+    let (share, hashed) = put_parts(rt, alloc, target, share, request);
     let kind = match hashed {
         Ok(address) => match seal(rt, shared, upload, address) {
             Ok(sealed) => return (share, Ok(sealed)),
@@ -195,13 +196,12 @@ fn workers_for(parts: u64, most: u64) -> u64
 }
 
 // Puts all parts of an upload that was begun, and returns its address.
-fn put_parts<L: Ledgers, G: Gate + Sync, R: Threads + Wait + Sync + Runtime>(
+fn put_parts<'a, L: Ledgers, G: Gate + Sync, R: Threads + Wait + Sync + Runtime>(
     rt: &R,
     alloc: Global,
-    shared: &Shared<L>,
+    target: Target<'a, L>,
     share: Share<L>,
-    request: &UploadRequest<'_, G>,
-    upload: UploadId,
+    request: &UploadRequest<'a, G>,
 ) -> (Share<L>, Result<Address, UploadFaultKind>)
     requires bytes { length (borrowed_bytes request.now.bytes) ≤ max_bytes }
     requires part_chunks { (0 < request.now.part_chunks) × (request.now.part_chunks ≤ max_part_chunks) }
@@ -240,8 +240,7 @@ fn put_parts<L: Ledgers, G: Gate + Sync, R: Threads + Wait + Sync + Runtime>(
         return (share, no_memory);
     };
     let collector = Collector {
-        shared,
-        upload,
+        target,
         share,
         follow,
         fault: None,

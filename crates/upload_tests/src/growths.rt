@@ -14,13 +14,13 @@ use std::alloc::{AllocError, Global};
 use std::marker::Brand;
 use std::process::Abort;
 use std::sync::Wait;
-use std::sync::ledger::Blank;
 use std::test::Fail;
 use std::thread::Threads;
 use store_core::{Limits, Refusal, Store, TenantId, replay};
-use store_history::UnnamedHistory;
 use store_ledger::{Ledgers, Share};
-use store_shared::{ALL_PARTS, PassAll, Shared, UploadFault, UploadFaultKind, lent_open_tenant};
+use store_shared::{
+    PassAll, Shared, UnnamedLedgers, UploadFault, UploadFaultKind, lent_open_tenant,
+};
 
 // Whether an upload reported that it ran out of memory and left nothing.
 fn is_out_of_memory(fault: UploadFault) -> bool {
@@ -82,19 +82,17 @@ fn ended<R: Abort>(
 
 fn sealed_in_the_end<L: Ledgers, R: Threads + Wait + Sync + AllocGlobal + Runtime + Abort>(
     rt: &R,
-    bytes: Blank,
-    calls: Blank,
-    history: UnnamedHistory,
+    ledgers: UnnamedLedgers,
     workers: u64,
 ) -> Result<(), AllocError>
-    requires bytes { (bytes.name ≡ L.bytes_name) × (bytes.parts ≡ L.bytes_parts) × (bytes.parts ≡ 2 ^ 32) }
-    requires calls { (calls.name ≡ L.calls_name) × (calls.parts ≡ L.calls_parts) × (calls.parts ≡ 2 ^ 32) }
-    requires history { history ≡ L.history }
+    requires bytes { (ledgers.bytes.name ≡ L.bytes_name) × (ledgers.bytes.parts ≡ L.bytes_parts) × (ledgers.bytes.parts ≡ 2 ^ 32) }
+    requires calls { (ledgers.calls.name ≡ L.calls_name) × (ledgers.calls.parts ≡ L.calls_parts) × (ledgers.calls.parts ≡ 2 ^ 32) }
+    requires history { ledgers.history ≡ L.history }
 {
     let alloc = rt.alloc();
     let input = pattern(alloc, 0, 2049)?;
     let row = input.as_slice();
-    let (shared, share) = Shared::<L>::new(alloc, Limits::full(), bytes, calls, history);
+    let (shared, share) = Shared::<L>::new(alloc, Limits::full(), ledgers);
     open_in_the_end(rt, &shared);
     let tenant = TenantId::new(0);
     let (share, answer) = upload_row(rt, alloc, &shared, share, &PassAll, tenant, row, 1, workers);
@@ -114,9 +112,8 @@ fn is_sealed<R: Threads + Wait + Sync + AllocGlobal + Runtime + Abort>(
     rt: &R,
     workers: u64,
 ) -> Result<(), AllocError> {
-    let (bytes, calls) = (Blank::new(ALL_PARTS), Blank::new(ALL_PARTS));
-    let history = UnnamedHistory::new(rt.alloc())?;
-    sealed_in_the_end::<Brand, R>(rt, bytes, calls, history, workers)
+    let ledgers = UnnamedLedgers::new(rt.alloc())?;
+    sealed_in_the_end::<Brand, R>(rt, ledgers, workers)
 }
 
 #[test]

@@ -8,16 +8,14 @@ use b3_core::{Runtime, Work};
 use b3_forest::{Plan, Prepared};
 use std::marker::Brand;
 use std::process::Abort;
-use std::sync::ledger::Blank;
 use std::sync::{Arc, Wait};
 use std::test::Fail;
 use std::thread;
 use std::thread::Threads;
 use store_core::{Address, Limits, Object, Refusal, Store, TenantId, Totals, UploadId, Usage};
-use store_history::UnnamedHistory;
 use store_ledger::{Accepted, Ledgers, NotWhole, Share};
 use store_shared::{
-    ALL_PARTS, Shared, lent_abort, lent_begin, lent_begin_open, lent_fix, lent_forget,
+    Shared, UnnamedLedgers, lent_abort, lent_begin, lent_begin_open, lent_fix, lent_forget,
     lent_open_tenant, lent_put, lent_seal, lent_seal_as, lent_set_limit,
 };
 
@@ -65,21 +63,19 @@ fn begin_two_chunks<L: Ledgers, R: Wait>(rt: &R, shared: &Shared<L>) -> Result<(
 // settle.
 fn two_halves<L: Ledgers + Send + Sync, R: Threads + Wait + Sync + AllocGlobal + Runtime + Abort>(
     rt: &R,
-    bytes: Blank,
-    calls: Blank,
-    history: UnnamedHistory,
+    ledgers: UnnamedLedgers,
     first: u64,
 ) -> Result<(), Fail>
-    requires bytes { (bytes.name ≡ L.bytes_name) × (bytes.parts ≡ L.bytes_parts) × (bytes.parts ≡ 2 ^ 32) }
-    requires calls { (calls.name ≡ L.calls_name) × (calls.parts ≡ L.calls_parts) × (calls.parts ≡ 2 ^ 32) }
-    requires history { history ≡ L.history }
+    requires bytes { (ledgers.bytes.name ≡ L.bytes_name) × (ledgers.bytes.parts ≡ L.bytes_parts) × (ledgers.bytes.parts ≡ 2 ^ 32) }
+    requires calls { (ledgers.calls.name ≡ L.calls_name) × (ledgers.calls.parts ≡ L.calls_parts) × (ledgers.calls.parts ≡ 2 ^ 32) }
+    requires history { ledgers.history ≡ L.history }
     requires first { first ≤ 1024 }
 {
     let one = half(rt, first)?;
     let two = half(rt, 1024 - first)?;
     let work_one = Work::new(rt);
     let work_two = Work::new(rt);
-    let (shared, mut share) = Shared::<L>::new(rt.alloc(), Limits::full(), bytes, calls, history);
+    let (shared, mut share) = Shared::<L>::new(rt.alloc(), Limits::full(), ledgers);
     let other = share.split(1);
     let _begun = begin_two_chunks(rt, &shared);
     let both = &shared;
@@ -206,9 +202,8 @@ const NOTHING: Totals = Totals {
 #[test]
 fn two_threads_put_a_half_each(rt: HostRuntime) -> Result<(), Fail> {
     for first in [0, 1024] {
-        let (bytes, calls) = (Blank::new(ALL_PARTS), Blank::new(ALL_PARTS));
-        let history = UnnamedHistory::new(rt.alloc())?;
-        two_halves::<Brand, _>(&rt, bytes, calls, history, first)?;
+        let ledgers = UnnamedLedgers::new(rt.alloc())?;
+        two_halves::<Brand, _>(&rt, ledgers, first)?;
     }
     Ok(())
 }
@@ -263,20 +258,18 @@ fn fix_and_seal<L: Ledgers, R: Wait + Abort>(
 // A part that was put to an aborted upload counts as accepted.
 fn one_after_another<L: Ledgers, R: Wait + AllocGlobal + Runtime + Abort>(
     rt: &R,
-    bytes: Blank,
-    calls: Blank,
-    history: UnnamedHistory,
+    ledgers: UnnamedLedgers,
 ) -> Result<(), Fail>
-    requires bytes { (bytes.name ≡ L.bytes_name) × (bytes.parts ≡ L.bytes_parts) × (bytes.parts ≡ 2 ^ 32) }
-    requires calls { (calls.name ≡ L.calls_name) × (calls.parts ≡ L.calls_parts) × (calls.parts ≡ 2 ^ 32) }
-    requires history { history ≡ L.history }
+    requires bytes { (ledgers.bytes.name ≡ L.bytes_name) × (ledgers.bytes.parts ≡ L.bytes_parts) × (ledgers.bytes.parts ≡ 2 ^ 32) }
+    requires calls { (ledgers.calls.name ≡ L.calls_name) × (ledgers.calls.parts ≡ L.calls_parts) × (ledgers.calls.parts ≡ 2 ^ 32) }
+    requires history { ledgers.history ≡ L.history }
 {
     let alone = half(rt, 1024)?;
     let plan = Plan::open(4096).ok().ok_or("no plan")?;
     let second = chunk(rt, &plan, 1024)?;
     let first = chunk(rt, &plan, 0)?;
     let mut work = Work::new(rt);
-    let (shared, mut share) = Shared::<L>::new(rt.alloc(), Limits::full(), bytes, calls, history);
+    let (shared, mut share) = Shared::<L>::new(rt.alloc(), Limits::full(), ledgers);
     give_up(rt, &shared, &mut share, alone, &mut work);
     fix_and_seal(rt, &shared, &mut share, second, first, &mut work);
     let all = Accepted {
@@ -291,7 +284,6 @@ fn one_after_another<L: Ledgers, R: Wait + AllocGlobal + Runtime + Abort>(
 
 #[test]
 fn one_upload_is_aborted_and_the_next_is_fixed(rt: HostRuntime) -> Result<(), Fail> {
-    let (bytes, calls) = (Blank::new(ALL_PARTS), Blank::new(ALL_PARTS));
-    let history = UnnamedHistory::new(rt.alloc())?;
-    one_after_another::<Brand, _>(&rt, bytes, calls, history)
+    let ledgers = UnnamedLedgers::new(rt.alloc())?;
+    one_after_another::<Brand, _>(&rt, ledgers)
 }

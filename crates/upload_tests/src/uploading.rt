@@ -10,14 +10,12 @@ use b3_tests::pattern;
 use std::alloc::Global;
 use std::marker::Brand;
 use std::sync::Wait;
-use std::sync::ledger::Blank;
 use std::test::Fail;
 use std::thread;
 use std::thread::Threads;
 use store_core::{Limits, TenantId};
-use store_history::UnnamedHistory;
 use store_ledger::{Accepted, Ledgers, Share};
-use store_shared::{ALL_PARTS, Gate, Locked, Shared, UploadFault, lent_open_tenant, upload};
+use store_shared::{Gate, Locked, Shared, UnnamedLedgers, UploadFault, lent_open_tenant, upload};
 
 /// A store with limits and `tenants` tenants, each with the limit `limit`; and an upload for the last of them of `len` bytes of the
 /// pattern. If it has a neighbour, that is upload 0, which holds a part when the upload is begun.
@@ -118,23 +116,21 @@ pub(crate) fn uploaded<
     R: Threads + Wait + Sync + AllocGlobal + Runtime,
 >(
     rt: &R,
-    bytes: Blank,
-    calls: Blank,
-    history: UnnamedHistory,
+    ledgers: UnnamedLedgers,
     gate: &G,
     signal: &Signal,
     deed: Deed,
     cut: Cut,
 ) -> Result<String, Fail>
-    requires bytes { (bytes.name ≡ L.bytes_name) × (bytes.parts ≡ L.bytes_parts) × (bytes.parts ≡ 2 ^ 32) }
-    requires calls { (calls.name ≡ L.calls_name) × (calls.parts ≡ L.calls_parts) × (calls.parts ≡ 2 ^ 32) }
-    requires history { history ≡ L.history }
+    requires bytes { (ledgers.bytes.name ≡ L.bytes_name) × (ledgers.bytes.parts ≡ L.bytes_parts) × (ledgers.bytes.parts ≡ 2 ^ 32) }
+    requires calls { (ledgers.calls.name ≡ L.calls_name) × (ledgers.calls.parts ≡ L.calls_parts) × (ledgers.calls.parts ≡ 2 ^ 32) }
+    requires history { ledgers.history ≡ L.history }
 {
     let alloc = rt.alloc();
     let limits = Limits::new(cut.tenants, cut.entries, cut.max_workers);
     let limits = limits.ok().ok_or("no limits")?;
     let input = pattern(alloc, 0, cut.len)?;
-    let (shared, mut other) = Shared::<L>::new(alloc, limits, bytes, calls, history);
+    let (shared, mut other) = Shared::<L>::new(alloc, limits, ledgers);
     let one = other.split(1);
     open_tenants(rt, &shared, cut);
     if cut.has_neighbour {
@@ -177,8 +173,7 @@ pub(crate) fn left_by<R: Threads + Wait + Sync + AllocGlobal + Runtime>(
     deed: Deed,
     cut: Cut,
 ) -> Result<String, Fail> {
-    let (bytes, calls) = (Blank::new(ALL_PARTS), Blank::new(ALL_PARTS));
     let gate = Checkpoint { rule, signal };
-    let history = UnnamedHistory::new(rt.alloc())?;
-    uploaded::<Brand, _, R>(rt, bytes, calls, history, &gate, signal, deed, cut)
+    let ledgers = UnnamedLedgers::new(rt.alloc())?;
+    uploaded::<Brand, _, R>(rt, ledgers, &gate, signal, deed, cut)
 }

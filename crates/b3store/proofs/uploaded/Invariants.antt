@@ -2,9 +2,9 @@ use Rattle.b3store.proofs.uploaded.Given as goal
 
 abbrev pub ghosts-upload : goal.ghosts-upload
 ghosts-upload g a = record {
-  bytes_name = a.bytes.name;
-  bytes_parts = a.bytes.parts;
-  calls_name = a.calls.name;
-  calls_parts = a.calls.parts;
-  history = a.history;
+  bytes_name = a.ledgers.bytes.name;
+  bytes_parts = a.ledgers.bytes.parts;
+  calls_name = a.ledgers.calls.name;
+  calls_parts = a.ledgers.calls.parts;
+  history = a.ledgers.history;
 }

@@ -2,9 +2,9 @@ use Rattle.engine_tests.proofs.sessions.sessions_share_a_store_and_page_its_jour
 
 abbrev pub ghosts-serve_side_by_side : goal.ghosts-serve_side_by_side
 ghosts-serve_side_by_side g a = record {
-  bytes_name = a.bytes.name;
-  bytes_parts = a.bytes.parts;
-  calls_name = a.calls.name;
-  calls_parts = a.calls.parts;
-  history = a.history;
+  bytes_name = a.ledgers.bytes.name;
+  bytes_parts = a.ledgers.bytes.parts;
+  calls_name = a.ledgers.calls.name;
+  calls_parts = a.ledgers.calls.parts;
+  history = a.ledgers.history;
 }

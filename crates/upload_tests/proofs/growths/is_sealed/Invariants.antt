@@ -2,9 +2,9 @@ use Rattle.upload_tests.proofs.growths.is_sealed.Given as goal
 
 abbrev pub ghosts-sealed_in_the_end : goal.ghosts-sealed_in_the_end
 ghosts-sealed_in_the_end g a = record {
-  bytes_name = a.bytes.name;
-  bytes_parts = a.bytes.parts;
-  calls_name = a.calls.name;
-  calls_parts = a.calls.parts;
-  history = a.history;
+  bytes_name = a.ledgers.bytes.name;
+  bytes_parts = a.ledgers.bytes.parts;
+  calls_name = a.ledgers.calls.name;
+  calls_parts = a.ledgers.calls.parts;
+  history = a.ledgers.history;
 }

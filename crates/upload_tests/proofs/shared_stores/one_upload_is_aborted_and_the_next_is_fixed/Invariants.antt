@@ -2,9 +2,9 @@ use Rattle.upload_tests.proofs.shared_stores.one_upload_is_aborted_and_the_next_
 
 abbrev pub ghosts-one_after_another : goal.ghosts-one_after_another
 ghosts-one_after_another g a = record {
-  bytes_name = a.bytes.name;
-  bytes_parts = a.bytes.parts;
-  calls_name = a.calls.name;
-  calls_parts = a.calls.parts;
-  history = a.history;
+  bytes_name = a.ledgers.bytes.name;
+  bytes_parts = a.ledgers.bytes.parts;
+  calls_name = a.ledgers.calls.name;
+  calls_parts = a.ledgers.calls.parts;
+  history = a.ledgers.history;
 }

@@ -2,9 +2,9 @@ use Rattle.upload_tests.proofs.shared_stores.two_threads_put_a_half_each.Given a
 
 abbrev pub ghosts-two_halves : goal.ghosts-two_halves
 ghosts-two_halves g a = record {
-  bytes_name = a.bytes.name;
-  bytes_parts = a.bytes.parts;
-  calls_name = a.calls.name;
-  calls_parts = a.calls.parts;
-  history = a.history;
+  bytes_name = a.ledgers.bytes.name;
+  bytes_parts = a.ledgers.bytes.parts;
+  calls_name = a.ledgers.calls.name;
+  calls_parts = a.ledgers.calls.parts;
+  history = a.ledgers.history;
 }
