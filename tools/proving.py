@@ -74,20 +74,31 @@ def processors():
     return max(1, min(len(os.sched_getaffinity(0)), free // (GIB_PER_JOB << 20)))
 
 
-def build_words(kit_folder, crates, crate, library, made, jobs, cpu):
-    """The command that proves and builds a crate in its folder. `library` gives where the library of a crate below it is; `made` is what
-    the command writes: a library, a static library, or a program's object file for that processor."""
-    words = [f"{kit_folder}/bin/rattle", "build", "--crate-name", crate.name, crate.root, "--jobs", str(jobs)]
+def check_words(kit_folder, crates, crate, library, jobs):
+    """The command that proves a crate in its folder. `library` gives where the library of a crate below it is."""
+    words = [f"{kit_folder}/bin/rattle", "check", "--crate-name", crate.name, crate.root, "--jobs", str(jobs)]
     words += ["--antt-project", f"{kit_folder}/rattle/logic/antt-project.json", "--logic-built", f"{kit_folder}/logic_built"]
     words += ["-L", f"dependency={kit_folder}/rlibs"]
     for name in below(crates, crate.name):
         words += ["-L", f"dependency={os.path.dirname(library(name))}"]
     for name in ["std", *crate.uses]:
         words += ["--extern", f"{name}={library(name) if name in crates else f'{kit_folder}/rlibs/{name}.rlib'}"]
+    return [*words, "--crate-type", "staticlib"] if crate.is_static else words
+
+
+def build_words(kit_folder, crates, crate, library, made, jobs, cpu):
+    """The command that proves and builds a crate in its folder. `made` is what it writes: a library, a static library, or a program's object
+    file for that processor."""
+    words = check_words(kit_folder, crates, crate, library, jobs)
+    words[1] = "build"
     if crate.is_library:
         return [*words, "--statements", "-o", made]
-    words += ["--crate-type", "staticlib"] if crate.is_static else []
     return [*words, "--toolchain", f"{kit_folder}/toolchain", "--backend", "llvm", "--cpu", cpu, "-o", made]
+
+
+def left_library(name):
+    """Where `rt ci` leaves a crate's library."""
+    return os.path.join(TOP, "crates", name, "out", "rlib", f"{name}.rlib")
 
 
 def link_words(kit_folder, object_file, program):
