@@ -128,8 +128,7 @@ fn upload_parts<L: Ledgers, G: Gate + Sync, R: Threads + Wait + Sync + Runtime>(
         Ok(upload) => upload,
         Err(kind) => return (share, Err(UploadFault::unbegun(kind))),
     };
-    let target = Target { shared, upload };
-    let (share, hashed) = put_parts(rt, alloc, target, share, request);
+    let (share, hashed) = put_parts(rt, alloc, shared, share, request, upload);
     let kind = match hashed {
         Ok(address) => match seal(rt, shared, upload, address) {
             Ok(sealed) => return (share, Ok(sealed)),
@@ -196,12 +195,13 @@ fn workers_for(parts: u64, most: u64) -> u64
 }
 
 // Puts all parts of an upload that was begun, and returns its address.
-fn put_parts<'a, L: Ledgers, G: Gate + Sync, R: Threads + Wait + Sync + Runtime>(
+fn put_parts<L: Ledgers, G: Gate + Sync, R: Threads + Wait + Sync + Runtime>(
     rt: &R,
     alloc: Global,
-    target: Target<'a, L>,
+    shared: &Shared<L>,
     share: Share<L>,
-    request: &UploadRequest<'a, G>,
+    request: &UploadRequest<'_, G>,
+    upload: UploadId,
 ) -> (Share<L>, Result<Address, UploadFaultKind>)
     requires bytes { length (borrowed_bytes request.now.bytes) ≤ max_bytes }
     requires part_chunks { (0 < request.now.part_chunks) × (request.now.part_chunks ≤ max_part_chunks) }
@@ -240,7 +240,7 @@ fn put_parts<'a, L: Ledgers, G: Gate + Sync, R: Threads + Wait + Sync + Runtime>
         return (share, no_memory);
     };
     let collector = Collector {
-        target,
+        target: Target { shared, upload },
         share,
         follow,
         fault: None,
