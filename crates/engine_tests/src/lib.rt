@@ -14,6 +14,8 @@ mod files;
 #[cfg(test)]
 mod growths;
 #[cfg(test)]
+mod promises;
+#[cfg(test)]
 mod sessions;
 #[cfg(test)]
 mod streams;
