@@ -97,7 +97,7 @@ pub dropped : {E : Type 0} (r : Result (Option Answer) E) (now left : Option (Li
     → IfOk r (λ given. IfSome now (λ following. ReceivesOver reach was is given upload offset len following left))
 dropped (Err e) now left reach was is upload offset len answer f l h = tt
 dropped (Ok given) None left reach was is upload offset len answer f l h = tt
-dropped (Ok None) (Some following) left reach was is upload offset len answer f l h = (h, l)
+dropped (Ok None) (Some following) left reach was is upload offset len answer f l h = (h.0, l, h.1)
 dropped (Ok (Some given)) (Some following) left reach was is upload offset len answer f l h =
     (h.1, h.2, subst (λ (a : Answer). PutOver reach was is upload offset (take len following) a) (sym h.0) (f (take len following) (length-take-le len following h.1)))
 
@@ -119,4 +119,4 @@ pub truncated : (now left : Option (List ℕ)) (reach : Reach) (was is : Session
     → IfSome now (λ following. ReceivesOver reach was is None upload offset len following left)
 truncated None left reach was is upload offset len bytes is_whole cut h l = tt
 truncated (Some following) left reach was is upload offset len bytes true cut h l = absurd (cc)
-truncated (Some following) left reach was is upload offset len bytes false cut h l = (h, l)
+truncated (Some following) left reach was is upload offset len bytes false cut h l = (h.0, l, h.1)

@@ -68,7 +68,7 @@ pub served_none : (now left w : Option (List ℕ)) (reach : Reach) (was is : Ses
 served_none None left w reach was is part got same h = tt
 served_none (Some following) left w reach was is part got same h =
     let h2 = subst (λ (o : Option Answer). ReceivesOver reach was is o part.upload part.offset part.len following left) same h in
-    record { serves = λ whole. (h2.0, Appends-nil w, h2.1) }
+    record { serves = λ whole. (h2.0, Appends-nil w, h2.1, h2.2) }
 
 -- ---- a line
 

@@ -1,9 +1,10 @@
 -- How far a session has come.
-use Rattle.std.proofs.Common.{◌≡◌, ◌∙◌, ◌<◌, ◌++◌, ◌∷◌, [], ℕ, Bool, true, false, List, Some, None, Option, ap, append-nil, arith, inl, inr, length, refl, subst, sym}
+use Rattle.std.proofs.Common.{◌≡◌, ◌∙◌, ◌<◌, ◌++◌, ◌∷◌, [], ℕ, Bool, true, false, List, Some, None, Option, ◌⊎◌, ap, append-nil, arith, cond, eqb, inl, inr, length, refl, slice_index, subst, suc, sym, ◌-◌}
 use Rattle.std.specs.Prelude.{IfSome}
 use Rattle.std.specs.List.{flat_map}
 use Rattle.std.specs.Io.BufRead.{DropsThrough, drop_through, take_through}
-use Rattle.std.specs.Io.KnownBytes.{Appends}
+use Rattle.std.specs.Io.KnownBytes.{Appends, IsAtEnd}
+use Rattle.std.proofs.lemmas.Bool.{eqb-true}
 use Rattle.std.proofs.BufReadLemmas.{take_through-nil, take_through_nonempty}
 use Rattle.std.proofs.KnownBytes.{Appends-nil, Appends-trans}
 use Rattle.edge.specs.Output.{WroteSome}
@@ -13,6 +14,7 @@ use Rattle.std.proofs.lemmas.List.Concat.{flat_map-append}
 use Rattle.store_lines.specs.inner.Requests.{IsSessionLine}
 use Rattle.store_lines.specs.Requests.{request_in}
 use Rattle.store_lines.specs.Session.{SessionTurn, session_turn_text}
+use Rattle.edge.specs.Lines.{HasNewline}
 use Rattle.edge.specs.declared.lines.LineRead.{LineRead}
 use Rattle.store_lines.specs.Access.{SessionState, Reach}
 use Rattle.store_lines.specs.inner.Reporting.{Leaves, ServesOver, ServesReadOver}
@@ -72,6 +74,32 @@ at_end reach was is (Some input) now w1 w2 read kept h r none =
     let nothing : h.rest ≡ [] = take_through-nil 10 h.rest (omega (arith, read2.count_is, none)) in
     record { output = flat_map session_turn_text h.turns; rest = h.rest; answered = answered reach was is now w1 w2 input h; ends = nothing; wrote = h.wrote }
 
+-- a newline is the last byte of a longer line too
+onto : (b : ℕ) (line : List ℕ) → HasNewline line → HasNewline (b ∷ line)
+onto b [] has = absurd (omega (arith, has.0))
+onto b (x ∷ line) has =
+    let last : suc (length (x ∷ line) - 1) ≡ length (b ∷ x ∷ line) - 1 = omega arith in
+    (omega arith, subst (λ (j : ℕ). slice_index (b ∷ x ∷ line) j ≡ 10) last has.1)
+
+-- nothing is left after a line without a newline
+no_newline : (bytes : List ℕ) → (HasNewline (take_through 10 bytes) → ⊥) → drop_through 10 bytes ≡ []
+no_newline [] lacks = refl
+no_newline (b ∷ bytes) lacks = by_test (eqb b 10) refl lacks (λ later. no_newline bytes later)
+  where
+    by_test : (t : Bool) → eqb b 10 ≡ t → (HasNewline (cond t (b ∷ []) (b ∷ take_through 10 bytes)) → ⊥) → ((HasNewline (take_through 10 bytes) → ⊥) → drop_through 10 bytes ≡ []) → cond t bytes (drop_through 10 bytes) ≡ []
+    by_test true same none later = absurd (none (omega arith, eqb-true b 10 same))
+    by_test false other none later = later (λ has. none (onto b (take_through 10 bytes) has))
+
+-- the reader is at its end
+pub all_read : (reach : Reach) (was is : SessionState → Type 0) (old now then w1 w2 : Option (List ℕ)) (read : LineRead) (kept : List ℕ) → IfSome old (IsUnder reach was is now w1 w2) → IfSome now (λ left. IsSessionLine (take_through 10 left) read kept)
+    → DropsThrough now then 10 → (read.count ≡ 0) ⊎ (read.is_ended ≡ false) → IfSome old (λ _. IsAtEnd then)
+all_read reach was is None now then w1 w2 read kept h r drops last = tt
+all_read reach was is (Some input) now then w1 w2 read kept h r drops last =
+    let read2 : IsSessionLine (take_through 10 h.rest) read kept = subst (λ (o : Option (List ℕ)). IfSome o (λ left. IsSessionLine (take_through 10 left) read kept)) h.left r in
+    let then_is : then ≡ Some (drop_through 10 h.rest) = subst (λ (o : Option (List ℕ)). DropsThrough o then 10) h.left drops in
+    let lacks : HasNewline (take_through 10 h.rest) → ⊥ = elim last [ inl none ↦ (λ has. omega (arith, read2.count_is, none, has.0)) | inr unended ↦ read2.unended unended ] in
+    subst IsAtEnd (sym then_is) (no_newline h.rest lacks)
+
 -- a line lacks the newline that it needs
 pub unended : (reach : Reach) (was is : SessionState → Type 0) (old now w1 w2 : Option (List ℕ)) (read : LineRead) (kept : List ℕ) → IfSome old (IsUnder reach was is now w1 w2) → IfSome now (λ left. IsSessionLine (take_through 10 left) read kept) → 0 < read.count
     → reach.needs_newline ≡ true → read.is_ended ≡ false → IfSome old (λ input. ServedAllOver reach was is input w1 w2 verdicts.Refused)
@@ -114,6 +142,16 @@ truncated reach was mid is (Some input) now then left w1 w2 w3 read kept is_whol
       ends = inl served2.0;
       wrote = subst (λ (t : List ℕ). Appends w1 w3 t) text (Appends-trans w1 w2 w3 (flat_map session_turn_text h.turns) [] h.wrote served2.1);
     }
+
+pub at_cut : (reach : Reach) (was mid is : SessionState → Type 0) (old now then left w1 w2 : Option (List ℕ)) (Wrote : List ℕ → Type 0) (read : LineRead) (kept : List ℕ) (is_whole : Bool) → is_whole ≡ false → IfSome old (IsUnder reach was mid now w1 w2)
+    → IfSome now (λ left. IsSessionLine (take_through 10 left) read kept) → DropsThrough now then 10 → IfSome then (λ following. ServesReadOver reach mid is is_whole read kept following left Wrote) → IfSome old (λ _. IsAtEnd left)
+at_cut reach was mid is None now then left w1 w2 Wrote read kept is_whole none h r drops served = tt
+at_cut reach was mid is (Some input) now then left w1 w2 Wrote read kept is_whole none h r drops served =
+    let whole = take_through 10 h.rest in
+    let following = drop_through 10 h.rest in
+    let served1 = served_now reach mid is now then left Wrote h.rest read kept is_whole h.left r drops served in
+    let served2 : ServesOver reach mid is false (request_in whole) whole following left Wrote = subst (λ (w : Bool). ServesOver reach mid is w (request_in whole) whole following left Wrote) none served1 in
+    served2.3
 
 pub turned : (reach : Reach) (was mid is : SessionState → Type 0) (old now then left w1 w2 w3 : Option (List ℕ)) (read : LineRead) (kept : List ℕ) (is_whole : Bool) → is_whole ≡ true → (reach.needs_newline ≡ true → read.is_ended ≡ true) → IfSome old (IsUnder reach was mid now w1 w2)
     → IfSome now (λ left. IsSessionLine (take_through 10 left) read kept) → 0 < read.count → DropsThrough now then 10 → IfSome then (λ following. ServesReadOver reach mid is is_whole read kept following left (Appends w2 w3)) → IfSome old (IsUnder reach was is left w1 w3)

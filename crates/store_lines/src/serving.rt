@@ -2,7 +2,7 @@
 
 ghost use Rattle.std.specs.Prelude.{◌≡◌, ◌≢◌, ◌<◌, ◌≤◌, false, true, IfErr, IfOk, IfSome, OnOk, Err, vec_capacity};
 ghost use Rattle.std.specs.Io.BufRead.{DropsThrough, take_through};
-ghost use Rattle.std.specs.Io.KnownBytes.{Appends};
+ghost use Rattle.std.specs.Io.KnownBytes.{Appends, IsAtEnd};
 ghost use Rattle.edge.specs.Output.{WroteSome};
 ghost use Rattle.store_lines.specs.Lines.{max_request};
 ghost use Rattle.store_lines.specs.inner.Requests.{IsSessionLine};
@@ -37,6 +37,7 @@ pub fn serve<R: BufRead, W: Write>(
 ) -> Result<Verdict, Cause>
     // The writer grew by the answers to all lines, except for a `putb` that is truncated by the end of the input.
     ensures written { IfOk result (λ verdict. IfSome (R.Read.remaining reader.old) (λ input. ServedAll input (W.contents writer.old) (W.contents writer.new) verdict)) }
+    ensures end { OnOk result (IfSome (R.Read.remaining reader.old) (λ _. IsAtEnd (R.Read.remaining reader.new))) }
     // After a failed read it grew by the answers to a prefix of the lines.
     ensures read { result ≡ Err Cause.CannotRead → IfSome (R.Read.remaining reader.old) (λ input. ServedSome input (W.contents writer.old) (W.contents writer.new)) }
     // After a failed write it grew by a prefix of such answers, the last of which was being written.
@@ -65,6 +66,7 @@ pub fn serve_over<A: Access, R: BufRead, W: Write>(
     // a state that is linked to what the answer before left.
     ensures written { IfOk result (λ verdict. IfSome (R.Read.remaining reader.old)
         (λ input. ServedAllOver A.reach (A.stands access.old) (A.stands access.new) input (W.contents writer.old) (W.contents writer.new) verdict)) }
+    ensures end { OnOk result (IfSome (R.Read.remaining reader.old) (λ _. IsAtEnd (R.Read.remaining reader.new))) }
     // After a failed read it grew by the answers to a prefix of the lines.
     ensures read { result ≡ Err Cause.CannotRead → IfSome (R.Read.remaining reader.old) (λ input. ServedSomeOver A.reach (A.stands access.old) input (W.contents writer.old) (W.contents writer.new)) }
     // After a failed write it grew by a prefix of such answers, the last of which was being written.

@@ -124,16 +124,16 @@ fn is_back(removed: Option<Arc<Object>>) -> bool {
     }
 }
 
-// Whether the store has an upload of 2048 bytes.
-fn is_planned(store: &Store, upload: UploadId) -> bool {
+/// Whether the store has an upload of 2048 bytes.
+pub(crate) fn is_planned(store: &Store, upload: UploadId) -> bool {
     let Ok(plan) = store.plan(upload) else {
         return false;
     };
     plan.bound() == 2048
 }
 
-// Whether the tenant holds the bytes of the pattern of 2048, and nothing else.
-fn is_filed(store: &Store, tenant: TenantId) -> bool {
+/// Whether the tenant holds the bytes of the pattern of 2048, and nothing else.
+pub(crate) fn is_filed(store: &Store, tenant: TenantId) -> bool {
     let address = Address::new(PATTERN_2048);
     let Ok(object) = store.fetch(tenant, address) else {
         return false;
@@ -183,7 +183,8 @@ fn sealed_and_forgotten<L: Ledgers, R: Wait + Runtime + Abort>(
     assert_eq!(rt; shared.lock(rt).store().totals(), NOTHING);
 }
 
-fn usage_of(used: u64, reserved: u64, limit: u64) -> Usage {
+/// The usage with these numbers.
+pub(crate) fn usage_of(used: u64, reserved: u64, limit: u64) -> Usage {
     Usage {
         used,
         reserved,

@@ -7,17 +7,17 @@ abbrev pub TakesSome : Option (List ℕ) → Option (List ℕ) → ℕ → Optio
 TakesSome old new most (Some count) bytes = (length bytes ≡ count) × (count ≤ most) × Consumes old new bytes
 TakesSome old new most None bytes = Consumes old new bytes × (length bytes ≡ 0) × OnSome old (IsAtEnd new)
 
--- `len` bytes were read, unless the input ended before
+-- `len` bytes were read, unless the input ended before; then all that there was
 abbrev pub Skipped : Bool → ℕ → List ℕ → Option (List ℕ) → Type 0
 Skipped true len input left = (len ≤ length input) × (left ≡ Some (drop len input))
-Skipped false len input left = length input < len
+Skipped false len input left = (length input < len) × IsAtEnd left
 
 -- and kept
 abbrev pub Copied : Bool → ℕ → List ℕ → List ℕ → Option (List ℕ) → Type 0
 Copied true len input bytes left = (len ≤ length input) × (bytes ≡ take len input) × (left ≡ Some (drop len input))
-Copied false len input bytes left = length input < len
+Copied false len input bytes left = (length input < len) × IsAtEnd left
 
 -- an answer after `len` bytes that were dropped, or none if they are truncated
 abbrev pub Dropped : {X : Type 0} → Option X → X → ℕ → List ℕ → Option (List ℕ) → Type 0
-Dropped None answer len input left = length input < len
+Dropped None answer len input left = (length input < len) × IsAtEnd left
 Dropped (Some given) answer len input left = (given ≡ answer) × (len ≤ length input) × (left ≡ Some (drop len input))

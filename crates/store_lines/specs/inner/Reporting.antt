@@ -1,5 +1,6 @@
 -- Definitions for private functions.
 use Rattle.std.specs.Prelude.{◌≡◌, ◌<◌, ◌≤◌, ℕ, Bool, true, false, List, [], Option, Some, None, drop, length, take}
+use Rattle.std.specs.Io.KnownBytes.{IsAtEnd}
 use Rattle.store_core.specs.Model.{ModelStore}
 use Rattle.store_journal.specs.declared.entry.Entry.{Entry}
 use Rattle.store_lines.specs.inner.Answers.{reported_ending, reported_text}
@@ -31,10 +32,10 @@ pub record AnsweredOver (was is : SessionState → Type 0) (Is : SessionState �
   pub text_is : (entries : List Entry) → reported_text entries answer ≡ turn_text turn
   pub ending_is : reported_ending answer ≡ turn_ending turn
 
--- one line was served, or its bytes are truncated
+-- one line was served, or its bytes are truncated by the end of the input
 abbrev pub ServesOver : Reach → (SessionState → Type 0) → (SessionState → Type 0) → Bool → Option Request → List ℕ → List ℕ → Option (List ℕ) → (List ℕ → Type 0) → Type 0
 ServesOver reach was is true request whole following left Wrote = (rest : List ℕ) × ((left ≡ Some rest) × ReportedOver was is (λ before turn after. IsLinkedRequest reach before request whole following turn after rest) Wrote)
-ServesOver reach was is false request whole following left Wrote = IsShort request following × Wrote [] × Leaves was is
+ServesOver reach was is false request whole following left Wrote = IsShort request following × Wrote [] × Leaves was is × IsAtEnd left
 
 -- the same for a request, whatever line spelled it
 pub record ServesRequestOver (reach : Reach) (was is : SessionState → Type 0) (is_whole : Bool) (request : Request) (following : List ℕ) (left : Option (List ℕ)) (Wrote : List ℕ → Type 0) : Type 0 where
@@ -50,6 +51,6 @@ pub record ServesReadOver (reach : Reach) (was is : SessionState → Type 0) (is
 
 -- the bytes after a put were taken, and its result
 abbrev pub ReceivesOver : Reach → (SessionState → Type 0) → (SessionState → Type 0) → Option Answer → ℕ → ℕ → ℕ → List ℕ → Option (List ℕ) → Type 0
-ReceivesOver reach was is None upload offset len following left = (length following < len) × Leaves was is
+ReceivesOver reach was is None upload offset len following left = (length following < len) × Leaves was is × IsAtEnd left
 ReceivesOver reach was is (Some answer) upload offset len following left =
     (len ≤ length following) × (left ≡ Some (drop len following)) × AnsweredOver was is (λ before turn after. IsLinkedPut reach before upload offset (take len following) turn after) answer

@@ -1,4 +1,4 @@
-use Rattle.std.proofs.Common.{rules, ◌≡◌, ◌≤◌, ◌<◌, Err, arith, false, subst, sym, true, vec_capacity, List, ℕ}
+use Rattle.std.proofs.Common.{rules, ◌≡◌, ◌≤◌, ◌<◌, Err, arith, false, inl, inr, subst, sym, true, vec_capacity, List, ℕ}
 use Rattle.std.specs.Prelude.{IfSome}
 use Rattle.std.specs.Io.KnownBytes.{Appends}
 use Rattle.edge.specs.Output.{WroteSome}
@@ -7,7 +7,7 @@ use Rattle.store_lines.specs.Lines.{max_request}
 use Rattle.store_lines.specs.inner.Requests.{IsFound}
 use Rattle.store_lines.specs.Turns.{ServedSomeOver}
 use Rattle.store_lines.proofs.Serves.{served_read}
-use Rattle.store_lines.proofs.Under.{at_end, begun, cut_off, truncated, stopped, turned, unended}
+use Rattle.store_lines.proofs.Under.{all_read, at_cut, at_end, begun, cut_off, truncated, stopped, turned, unended}
 use Rattle.store_lines.proofs.serving.serve_over.Goals as goal
 
 pub loop-init : goal.loop-init
@@ -21,6 +21,11 @@ returns-in_err-read-clause-read g c = λ is. stopped g.A.Access.reach (g.A.Acces
 pub returns-then-read-eq0-clause-written : goal.returns-then-read-eq0-clause-written
 returns-then-read-eq0-clause-written g c =
     at_end g.A.Access.reach (g.A.Access.stands c.args.access.now) (g.A.Access.stands c.loop.access) (g.R.Read.remaining c.args.reader.now) (g.R.Read.remaining c.loop.reader) (g.W.Write.contents c.args.writer.now) (g.W.Write.contents c.loop.writer) c.in_ok-read.read c.next_line.new.line.items c.loop.invariant.0 c.in_ok-read.ensures.read (search rules)
+
+pub returns-then-read-eq0-clause-end : goal.returns-then-read-eq0-clause-end
+returns-then-read-eq0-clause-end g c =
+    all_read g.A.Access.reach (g.A.Access.stands c.args.access.now) (g.A.Access.stands c.loop.access) (g.R.Read.remaining c.args.reader.now) (g.R.Read.remaining c.loop.reader) (g.R.Read.remaining c.next_line.new.reader) (g.W.Write.contents c.args.writer.now) (g.W.Write.contents c.loop.writer)
+    c.in_ok-read.read c.next_line.new.line.items c.loop.invariant.0 c.in_ok-read.ensures.read c.in_ok-read.ensures.rest (inl (search rules))
 
 pub returns-in_err-serve_line-clause-read : goal.returns-in_err-serve_line-clause-read
 returns-in_err-serve_line-clause-read g c = λ is.
@@ -61,6 +66,24 @@ returns-then-is_cut-clause-written g c =
     let some : 0 < c.in_ok-read.read.count = omega arith in
     let cut = c.is_cut.ensures.cut (search rules) in
     unended g.A.Access.reach (g.A.Access.stands c.args.access.now) (g.A.Access.stands c.loop.access) (g.R.Read.remaining c.args.reader.now) (g.R.Read.remaining c.loop.reader) (g.W.Write.contents c.args.writer.now) (g.W.Write.contents c.loop.writer) c.in_ok-read.read c.next_line.new.line.items c.loop.invariant.0 c.in_ok-read.ensures.read some cut.0 cut.1
+
+pub returns-then-is_cut-clause-end : goal.returns-then-is_cut-clause-end
+returns-then-is_cut-clause-end g c =
+    let cut = c.is_cut.ensures.cut (search rules) in
+    all_read g.A.Access.reach (g.A.Access.stands c.args.access.now) (g.A.Access.stands c.loop.access) (g.R.Read.remaining c.args.reader.now) (g.R.Read.remaining c.loop.reader) (g.R.Read.remaining c.next_line.new.reader) (g.W.Write.contents c.args.writer.now) (g.W.Write.contents c.loop.writer)
+    c.in_ok-read.read c.next_line.new.line.items c.loop.invariant.0 c.in_ok-read.ensures.read c.in_ok-read.ensures.rest (inr cut.1)
+
+pub returns-then-not-branch-clause-end : goal.returns-then-not-branch-clause-end
+returns-then-not-branch-clause-end g c =
+    let reach = g.A.Access.reach in
+    let mid = g.A.Access.stands c.loop.access in
+    let now = g.A.Access.stands c.serve_line.new.access in
+    let none : c.in_ok-serve_line.field-0 ≡ false = search rules in
+    let kept : c.as_slice.result.now ≡ c.next_line.new.line.items = search rules in
+    let found = subst (λ (k : List ℕ). IsFound c.in_ok-read.read k c.line_of-found.result) kept c.line_of-found.ensures in
+    let served = served_read c.in_ok-serve_line.field-0 (g.R.Read.remaining c.next_line.new.reader) (g.R.Read.remaining c.serve_line.new.reader) (Appends (g.W.Write.contents c.loop.writer) (g.W.Write.contents c.serve_line.new.writer)) reach mid now c.in_ok-read.read c.next_line.new.line.items c.line_of-found.result found c.in_ok-serve_line.ensures.served in
+    at_cut reach (g.A.Access.stands c.args.access.now) mid now (g.R.Read.remaining c.args.reader.now) (g.R.Read.remaining c.loop.reader) (g.R.Read.remaining c.next_line.new.reader) (g.R.Read.remaining c.serve_line.new.reader) (g.W.Write.contents c.args.writer.now) (g.W.Write.contents c.loop.writer)
+    (Appends (g.W.Write.contents c.loop.writer) (g.W.Write.contents c.serve_line.new.writer)) c.in_ok-read.read c.next_line.new.line.items c.in_ok-serve_line.field-0 none c.loop.invariant.0 c.in_ok-read.ensures.read c.in_ok-read.ensures.rest served
 
 pub loop-preserved : goal.loop-preserved
 loop-preserved g c =
