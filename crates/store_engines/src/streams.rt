@@ -9,8 +9,8 @@ use std::alloc::Global;
 use std::io;
 use std::io::{ErrorKind, Read};
 
-// The number of bytes per read into stretches.
-fn at_a_time() -> usize
+/// The number of bytes per read.
+pub(crate) fn at_a_time() -> usize
     ensures { 0 < result }
 {
     1 << 16
@@ -42,8 +42,8 @@ pub fn read_stretches<R: Read>(
     Err(Cause::CannotRead)
 }
 
-// Reads once, into the front of a buffer.
-fn read_some<R: Read>(reader: &mut R, buffer: &mut Vec<u8>) -> io::Result<usize>
+/// Reads once, into the front of a buffer.
+pub(crate) fn read_some<R: Read>(reader: &mut R, buffer: &mut Vec<u8>) -> io::Result<usize>
     requires { 0 < vec_len buffer.old }
     ensures len { vec_len buffer.new ≡ vec_len buffer.old }
     ensures count { IfOk result (λ count. count ≤ vec_len buffer.old) }

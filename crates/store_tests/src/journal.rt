@@ -5,8 +5,8 @@ use hex::FromHex;
 use std::alloc::{AllocError, Global};
 use std::test::Fail;
 use store_journal::{
-    Address, BadText, Entry, IllegalEntry, ReadError, ReplayError, TenantId, UploadId, entry_lines,
-    read_entry, read_journal, write_entry, write_journal,
+    Address, BadText, Entry, IllegalEntry, ReadError, ReplayError, TenantId, TextPlace, UploadId,
+    entry_lines, read_entry, read_journal, write_entry, write_journal,
 };
 
 // The hash of one zero byte.
@@ -79,6 +79,18 @@ fn a_journal_is_read_and_written(rt: HostRuntime) -> Result<(), Fail> {
     write_journal(entries.as_slice(), &mut written)?;
     assert_eq!(rt; written.as_slice(), LINES.as_bytes());
     Ok(())
+}
+
+#[test]
+fn a_text_is_read_line_by_line(rt: HostRuntime) {
+    let mut place = TextPlace::start();
+    let header = place.read(b"b3store-journal 2");
+    let entry = place.read(b"fix 5 1025");
+    let second_header = place.read(b"b3store-journal 2");
+    let upload = UploadId::new(5);
+    assert_eq!(rt; header, Ok(None));
+    assert_eq!(rt; entry, Ok(Some(Entry::Fix { upload, len: 1025 })));
+    assert_eq!(rt; second_header, Err(BadText { line: 3 }));
 }
 
 #[test]
