@@ -6,11 +6,12 @@ use crate::hashes::PATTERN_2048;
 use crate::parts::part_at;
 use crate::shared_stores::{is_filed, is_planned, usage_of};
 use b3_core::{Runtime, Work};
+use b3_forest::{Plan, Prepared};
 use std::marker::Brand;
 use std::process::Abort;
 use std::sync::Wait;
 use std::test::Fail;
-use store_core::{Address, Limits, Store, TenantId, Totals, UploadId, UploadStatus};
+use store_core::{Address, Limits, Store, TenantId, Totals, UploadId, UploadStatus, Usage};
 use store_ledger::{Ledgers, Share};
 use store_shared::{
     Shared, UnnamedLedgers, lent_begin, lent_open_tenant, lent_put, lent_seal, lent_set_limit,
@@ -32,50 +33,70 @@ fn limit_at(entries: usize) -> u64 {
     (entries as u64).saturating_add(4096)
 }
 
-// Whether each question about the store, with this number of entries, is answered as if only the limit had changed.
-fn is_whole(store: &Store, entries: usize) -> bool {
-    let (tenant, address) = (TenantId::new(0), Address::new(PATTERN_2048));
-    let used = usage_of(2048, 2048, limit_at(entries));
-    let started = UploadStatus {
-        upload: UploadId::new(1),
-        bound: 2048,
-        end: Some(2048),
-        held: 1024,
-    };
-    let (Ok(uploads), Ok(tenants)) = (store.uploads(tenant), store.tenants()) else {
-        return false;
-    };
-    let is_answered = store.holds(tenant, address) == Ok(2048)
-        && store.usage(tenant) == Ok(used)
-        && store.totals() == LEFT
-        && store.journal().len() == entries;
-    let is_listed = uploads.as_slice() == [started].as_slice()
-        && tenants.as_slice() == [used].as_slice();
-    is_filed(store, tenant) && is_planned(store, started.upload) && is_answered && is_listed
+// Whether these are all tenants.
+fn is_only_tenant(tenants: &[Usage], usage: Usage) -> bool {
+    match tenants.first() {
+        Some(first) => *first == usage && tenants.len() == 1,
+        None => false,
+    }
 }
 
-// Files the pattern of 2048 bytes, and begins an upload of it: six entries.
-fn file_and_begin<L: Ledgers, R: Wait + AllocGlobal + Runtime>(
+// Whether these are all uploads: one with its first half.
+fn is_only_upload(uploads: &[UploadStatus]) -> bool {
+    match uploads.first() {
+        Some(first) => {
+            let is_begun = first.bound == 2048 && first.end == Some(2048) && first.held == 1024;
+            is_begun && first.upload.number() == 1 && uploads.len() == 1
+        }
+        None => false,
+    }
+}
+
+// Whether each question about the store, with this number of entries, is answered as if only the limit had changed.
+fn is_whole(store: &Store, entries: usize) -> bool {
+    let (tenant, upload) = (TenantId::new(0), UploadId::new(1));
+    let used = usage_of(2048, 2048, limit_at(entries));
+    let Ok(uploads) = store.uploads(tenant) else {
+        return false;
+    };
+    let Ok(tenants) = store.tenants() else {
+        return false;
+    };
+    let is_listed = is_only_upload(uploads.as_slice()) && is_only_tenant(tenants.as_slice(), used);
+    let is_held = store.holds(tenant, Address::new(PATTERN_2048)) == Ok(2048);
+    let is_used = store.usage(tenant) == Ok(used);
+    let is_counted = store.totals() == LEFT && store.journal().len() == entries;
+    let is_there = is_filed(store, tenant) && is_planned(store, upload);
+    is_listed && is_held && is_used && is_counted && is_there
+}
+
+// Files the pattern of 2048 bytes, and begins an upload of it with its first half: six entries.
+fn file_and_begin<L: Ledgers, R: Wait + Abort>(
     rt: &R,
     shared: &Shared<L>,
     share: &mut Share<L>,
-) -> Result<(), Fail> {
-    let mut work = Work::new(rt);
-    let mut locked = shared.lock(rt);
-    let tenant = lent_open_tenant(&mut *locked, limit_at(6))
-        .ok()
-        .ok_or("no tenant")?;
-    for len in [2048, 1024] {
-        let begun = lent_begin(&mut *locked, tenant, 2048);
-        let (upload, plan) = begun.ok().ok_or("no upload")?;
-        let part = part_at(rt.alloc(), &plan, 0, len, &mut work).ok_or("no part")?;
-        let _held = lent_put(&mut *locked, share, upload, part, &mut work);
-        let _sealed = lent_seal(&mut *locked, upload, &mut work);
-    }
-    Ok(())
+    whole: Prepared,
+    half: Prepared,
+    work: &mut Work,
+) {
+    let (tenant, first, second) = (TenantId::new(0), UploadId::new(0), UploadId::new(1));
+    assert!(rt; lent_open_tenant(&mut *shared.lock(rt), limit_at(6)).is_ok());
+    assert!(rt; lent_begin(&mut *shared.lock(rt), tenant, 2048).is_ok());
+    assert!(rt; lent_put(&mut *shared.lock(rt), share, first, whole, work).is_ok());
+    assert!(rt; lent_seal(&mut *shared.lock(rt), first, work).is_ok());
+    assert!(rt; lent_begin(&mut *shared.lock(rt), tenant, 2048).is_ok());
+    assert!(rt; lent_put(&mut *shared.lock(rt), share, second, half, work).is_ok());
 }
 
-// Each guard of the lock sees a whole store, and adds an entry.
+// Whether a guard of the lock sees a whole store, to which it adds an entry.
+fn is_seen<L: Ledgers, R: Wait>(rt: &R, shared: &Shared<L>, entries: usize) -> bool {
+    let mut locked = shared.lock(rt);
+    let is_whole = is_whole(locked.store(), entries);
+    let limit = limit_at(entries.saturating_add(1));
+    let is_set = lent_set_limit(&mut *locked, TenantId::new(0), limit).is_ok();
+    is_whole && is_set
+}
+
 fn grow<L: Ledgers, R: Wait + AllocGlobal + Runtime + Abort>(
     rt: &R,
     ledgers: UnnamedLedgers,
@@ -84,15 +105,17 @@ fn grow<L: Ledgers, R: Wait + AllocGlobal + Runtime + Abort>(
     requires calls { (ledgers.calls.name ≡ L.calls_name) × (ledgers.calls.parts ≡ L.calls_parts) × (ledgers.calls.parts ≡ 2 ^ 32) }
     requires history { ledgers.history ≡ L.history }
 {
+    let plan = Plan::new(2048).ok().ok_or("no plan")?;
+    let mut work = Work::new(rt);
+    let whole = part_at(rt.alloc(), &plan, 0, 2048, &mut work).ok_or("no part")?;
+    let half = part_at(rt.alloc(), &plan, 0, 1024, &mut work).ok_or("no part")?;
     let (shared, mut share) = Shared::<L>::new(rt.alloc(), Limits::full(), ledgers);
-    file_and_begin(rt, &shared, &mut share)?;
+    file_and_begin(rt, &shared, &mut share, whole, half, &mut work);
     for entries in 6..ENTRIES {
-        let mut locked = shared.lock(rt);
-        assert!(rt; is_whole(locked.store(), entries));
-        let limit = limit_at(entries.saturating_add(1));
-        assert!(rt; lent_set_limit(&mut *locked, TenantId::new(0), limit).is_ok());
+        assert!(rt; is_seen(rt, &shared, entries));
     }
-    assert!(rt; is_whole(shared.close().store(), ENTRIES));
+    let locked = shared.close();
+    assert!(rt; is_whole(locked.store(), ENTRIES));
     Ok(())
 }
 
