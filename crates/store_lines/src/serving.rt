@@ -70,7 +70,8 @@ pub fn serve_over<A: Access, R: BufRead, W: Write>(
     // After a failed read it grew by the answers to a prefix of the lines.
     ensures read { result ≡ Err Cause.CannotRead → IfSome (R.Read.remaining reader.old) (λ input. ServedSomeOver A.reach (A.stands access.old) input (W.contents writer.old) (W.contents writer.new)) }
     // After a failed write it grew by a prefix of such answers, the last of which was being written.
-    ensures failed { result ≡ Err Cause.CannotWrite → IfSome (R.Read.remaining reader.old) (λ input. ServedCutOver A.reach (A.stands access.old) input (W.contents writer.old) (W.contents writer.new)) }
+    ensures failed { result ≡ Err Cause.CannotWrite → IfSome (R.Read.remaining reader.old)
+        (λ input. ServedCutOver A.reach (A.stands access.old) input (W.contents writer.old) (W.contents writer.new)) }
     // Running out of memory stops no session that has begun.
     ensures memory { result ≡ Err Cause.OutOfMemory → (reader.new ≡ reader.old) × (writer.new ≡ writer.old) }
 {
