@@ -192,10 +192,11 @@ class Files:
         self.writer = threading.Thread(target=self.write_on, args=(cache,), daemon=True)
         self.writer.start()
 
-    def note(self, user, key, entry):
-        """Records that a key leads to an object of the user's, or nowhere. This is called in the order in which keys change."""
+    def note(self, user, key, entry, content=None):
+        """Records that a key leads to an object of the user's, or nowhere. This is called in the order in which keys change. Content that isn't given is
+        read from a store when it is written."""
         with self.changed:
-            self.waiting.append((user, key, entry))
+            self.waiting.append((user, key, entry, content))
             self.bytes += entry.length if entry is not None else 0
             self.changed.notify_all()
 
@@ -240,10 +241,9 @@ class Files:
 
     def write(self, cache, batch, moves):
         """Writes some changes of keys, and moves some content to the last segment."""
-        texts = [text for user, key, entry in batch for text in self.texts_of(cache, user, key, entry)]
+        texts = [text for change in batch for text in self.texts_of(cache, *change)]
         emptied = self.emptiest() if moves else None
         texts += self.move(emptied) if emptied else []
-        self.last.flush()
         os.fdatasync(self.last.fileno())
         self.log.write(b"".join(map(checked_line, texts)))
         self.log.flush()
@@ -257,11 +257,11 @@ class Files:
         if moves and self.lines > 2 * (len(self.keys) + len(self.refs)) + IDLE_LINES:
             self.write_log()
 
-    def texts_of(self, cache, user, key, entry):
+    def texts_of(self, cache, user, key, entry, content):
         """The lines of a key that has changed. If no store holds its content any more and it isn't on disk, a later change has undone this one."""
         texts = []
         if entry is not None and entry.address not in self.places:
-            line = self.append_held(cache, user, entry.address)
+            line = self.append_held(cache, user, entry.address, content)
             if line is None:
                 entry = None
             else:
@@ -272,7 +272,7 @@ class Files:
         self.note_key(user.name, key, entry.address)
         return [*texts, f"key {user.name} {entry.address} {key}"]
 
-    def append_held(self, cache, user, address):
+    def append_held(self, cache, user, address, content):
         """Appends an object that a store holds for a user, and returns its line; None if no store holds it. An object may move while it is read:
         then it is read from where it is now."""
         tried = None
@@ -281,15 +281,23 @@ class Files:
             if backend is None or backend is tried:
                 return None
             tried = backend
+            if content is not None:
+                return self.append(address, lambda: self.write_pieces([content]))
             with contextlib.suppress(Refused, Ended):
-                return self.append(address, backend.store.ranges(backend.tenants[user], address))
+                return self.append(address, lambda: backend.store.fetch_to(backend.tenants[user], address, self.last.fileno()))
 
-    def append(self, address, pieces):
-        """Appends an object's bytes to the last segment, and returns its line."""
+    def write_pieces(self, pieces):
+        """Writes some bytes to the last segment."""
+        for piece in pieces:
+            view = memoryview(piece)
+            while view.nbytes:
+                view = view[self.last.write(view) :]
+
+    def append(self, address, write):
+        """Appends an object to the last segment by a function that writes its bytes, and returns its line."""
         offset = self.last.tell()
         try:
-            for piece in pieces:
-                self.last.write(piece)
+            write()
         except (Refused, Ended):
             self.last.seek(offset)
             self.last.truncate()
@@ -311,7 +319,7 @@ class Files:
         for address in self.live_objects(segment):
             if moved < MOVED_AT_ONCE:
                 moved += self.places[address].length
-                texts.append(self.append(address, self.content(address)))
+                texts.append(self.append(address, lambda: self.write_pieces(self.content(address))))
         return texts
 
     def remove(self, segment):
@@ -327,7 +335,7 @@ class Files:
         if self.last is not None:
             self.last.close()
         self.name = f"segment.{time.time_ns()}"
-        self.last = open(self.at(self.name), "xb")
+        self.last = open(self.at(self.name), "xb", buffering=0)
         os.fsync(self.folder)
 
     def write_log(self):

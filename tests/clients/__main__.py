@@ -12,6 +12,7 @@ import backups
 import cache_disk
 import cache_moves
 import cache_quotas
+import cache_requests
 import caches
 import cases as package
 import packs
@@ -55,6 +56,7 @@ CASES = (
     ("a cache's full quotas in moves", cache_quotas.keeps_full_quotas),
     ("a cache that writes from two stores", cache_moves.writes_from_both_stores),
     ("a cache's metrics while its content moves", cache_moves.counts_while_content_moves),
+    *cache_requests.CASES,
     ("two caches on one folder", caches.keeps_others_out),
     ("a cache with wrong words", caches.refuses_wrong_words),
     ("a cache's keys of any bytes", caches.keys_of_any_bytes),
