@@ -20,6 +20,7 @@ import threading
 import time
 
 from b3store import Ended, Refused
+from b3store.console import count_text, error_text
 from b3store.files import FolderInUse, checked_line, checked_text, lock_folder, replace_file
 from cache_stores import Entry
 
@@ -223,7 +224,7 @@ class Files:
                 due = time.monotonic() + SECONDS_BETWEEN_SYNCS
         except (OSError, ValueError) as fault:
             with self.changed:
-                self.fault = OSError(f"{self.path} can't be written: {fault}")
+                self.fault = OSError(f"{self.path} can't be written: {error_text(fault)}")
                 self.changed.notify_all()
 
     def write_batch(self, cache, due):
@@ -363,7 +364,7 @@ class Loader:
         """Stores what is on disk, and reports what can't be stored or isn't as it was stored."""
         dropped = self.files.read()
         if dropped:
-            print(f"cache_server: the last {dropped} bytes of the log are no whole lines, and are dropped", file=sys.stderr)
+            print(f"cache_server: the log has no complete line in its last {count_text(dropped, 'byte')}, which the server drops", file=sys.stderr)
         users = {user.name: user for user in self.cache.users}
         faults, count = collections.Counter(), 0
         for (name, key), address in list(self.files.keys.items()):
@@ -371,10 +372,10 @@ class Loader:
             count += fault is None
             faults.update([fault] if fault else [])
         for fault, keys in faults.items():
-            print(f"cache_server: {keys} keys are left out: {fault}", file=sys.stderr)
+            print(f"cache_server: {count_text(keys, 'key')} left out: {fault}", file=sys.stderr)
         if not self.files.keys:
             return "begins empty"
-        return f"has {count} keys, {self.cache.totals()[0]} objects"
+        return f"has {count_text(count, 'key')}, {count_text(self.cache.totals()[0], 'object')}"
 
     def load_key(self, user, key, address):
         """Stores one key's object if the user doesn't hold it. Returns why it can't be stored, or None."""
@@ -392,7 +393,7 @@ class Loader:
             return str(refusal)
         except (OSError, ValueError) as fault:
             self.files.lose(address)
-            return str(fault)
+            return error_text(fault)
 
     def load_object(self, user, address):
         backend, place = self.cache.backend, self.files.place(address)

@@ -53,6 +53,7 @@ import time
 
 sys.path.insert(0, os.path.join(os.path.dirname(os.path.dirname(os.path.abspath(__file__))), "python"))
 from b3store import MAX_LIMIT, MAX_SESSIONS, Ended, Refused, Store
+from b3store.console import count_text, fault_text
 from b3store.files import FolderInUse
 from cache_files import Files, Loader
 from cache_http import SECONDS_OF_SILENCE, WRITTEN_AT_ONCE, Connection, Cut, Server
@@ -362,7 +363,8 @@ def serve(options, files, stopping):
         if server.fault is not None:
             raise server.fault
         objects = {entry.address for user in cache.users for entry in user.keys.values()}
-        print(f"cache_server: saved {sum(len(user.keys) for user in cache.users)} keys, {len(objects)} objects", flush=True)
+        keys = sum(len(user.keys) for user in cache.users)
+        print(f"cache_server: saved {count_text(keys, 'key')}, {count_text(len(objects), 'object')}", flush=True)
     finally:
         cache.close_stores()
 
@@ -387,7 +389,7 @@ def main():
         print(f"cache_server: {fault}", file=sys.stderr)
         return 3
     except (FolderInUse, OSError, Refused, ValueError) as fault:
-        print(f"cache_server: {fault}", file=sys.stderr)
+        print(f"cache_server: {fault_text(fault)}", file=sys.stderr)
         return 1
 
 

@@ -26,6 +26,8 @@ CASES = (
     ("a backup that leads elsewhere", backups.restores_nothing_elsewhere),
     ("a backup with wrong words", backups.refuses_wrong_words),
     ("owners and hard links", backups.keeps_owners_and_links),
+    ("a backup of deep folders", backups.keeps_deep_folders),
+    ("a backup's last words", backups.ends_with_a_sentence),
     ("a backup's pieces", backups.splits_by_content),
     *packs.CASES,
     ("a cache's keys", caches.caches_keys),

@@ -230,7 +230,7 @@ def ends_with_its_store():
             cache.ask("PUT", "/k", b"abc")
         for method, key, body in ("GET", "/k", None), ("HEAD", "/k", None), ("PUT", "/l", b"four"), ("DELETE", "/k", None), ("GET", "/none", None):
             cache, answer = ask_without_store(lambda: Cache(folder), method, key, body)
-            found += differences((cache.begun.split(", ", 1)[1], "has 1 keys, 1 objects\n"), (answer and answer[0], 503), (cache.process.returncode, 3))
+            found += differences((cache.begun.split(", ", 1)[1], "has 1 key, 1 object\n"), (answer and answer[0], 503), (cache.process.returncode, 3))
             found += differences((cache.told[1], "cache_server: the store has ended; its exit status is -9\n"))
         return found
 
