@@ -36,6 +36,8 @@ MOVED_AT_ONCE = 1 << 24
 """How many bytes are moved between two syncs."""
 MAX_WAITING = 1 << 26
 """While this many bytes wait to be written, PUTs wait too: a disk that writes as many in a second is never more than a second late."""
+MAX_CHANGES = 1000
+"""And while this many changes of keys do."""
 SECONDS_BETWEEN_SYNCS = 0.4
 SECONDS_TO_LOCK = 1
 COPIED = 1 << 20
@@ -57,6 +59,15 @@ def whole_lines(content):
     return texts, end
 
 
+def last_changes(batch):
+    """The last change of each key, in their order."""
+    changes = {}
+    for change in batch:
+        changes.pop(change[:2], None)
+        changes[change[:2]] = change
+    return list(changes.values())
+
+
 class Files:
     """A folder's segments and its log, and their writer."""
 
@@ -68,7 +79,8 @@ class Files:
         """The keys of the log by user and key, the objects' places, and how many keys lead to an object."""
         self.live, self.sizes = collections.Counter(), collections.Counter()
         """For each segment, how many of its bytes keys lead to, and its length."""
-        self.waiting, self.bytes, self.changed = [], 0, threading.Condition()
+        self.waiting, self.bytes, self.changes, self.changed = [], 0, 0, threading.Condition()
+        """The changes of keys that wait, and how many bytes and changes wait or are being written."""
         self.fault, self.has_ended, self.lines = None, False, 0
         self.log = self.last = self.writer = self.name = None
 
@@ -199,12 +211,17 @@ class Files:
         with self.changed:
             self.waiting.append((user, key, entry, content))
             self.bytes += entry.length if entry is not None else 0
+            self.changes += 1
             self.changed.notify_all()
 
+    def is_late(self):
+        """Whether too much waits to be written."""
+        return self.bytes > MAX_WAITING or self.changes > MAX_CHANGES
+
     def wait(self):
-        """Waits while too many bytes wait to be written."""
+        """Waits while too much waits to be written."""
         with self.changed:
-            self.changed.wait_for(lambda: self.bytes <= MAX_WAITING or self.fault is not None)
+            self.changed.wait_for(lambda: not self.is_late() or self.fault is not None)
 
     def end(self):
         """Writes what was recorded, and ends the writer."""
@@ -231,12 +248,13 @@ class Files:
         """Writes what is recorded until a time, and returns whether that was the end."""
         with self.changed:
             self.changed.wait_for(lambda: self.waiting or self.has_ended or self.emptiest() is not None)
-            self.changed.wait_for(lambda: self.has_ended or self.bytes > MAX_WAITING, max(0, due - time.monotonic()))
+            self.changed.wait_for(lambda: self.has_ended or self.is_late(), max(0, due - time.monotonic()))
             has_ended, batch, self.waiting = self.has_ended, self.waiting, []
-            written = self.bytes
-        self.write(cache, batch, moves=not has_ended)
+            written, count = self.bytes, self.changes
+        self.write(cache, last_changes(batch), moves=not has_ended)
         with self.changed:
             self.bytes -= written
+            self.changes -= count
             self.changed.notify_all()
         return has_ended
 
@@ -278,12 +296,12 @@ class Files:
         then it is read from where it is now."""
         tried = None
         while True:
+            if content is not None:
+                return self.append(address, lambda: self.write_pieces([content]))
             backend = cache.find(user, address)
             if backend is None or backend is tried:
                 return None
             tried = backend
-            if content is not None:
-                return self.append(address, lambda: self.write_pieces([content]))
             with contextlib.suppress(Refused, Ended):
                 return self.append(address, lambda: backend.store.fetch_to(backend.tenants[user], address, self.last.fileno()))
 

@@ -267,7 +267,10 @@ class CacheServer(Server):
     """Answers requests to a cache."""
 
     def __init__(self, address, cache, stopping, compares):
-        super().__init__(address, Handler)
+        try:
+            super().__init__(address, Handler)
+        except OSError as fault:
+            raise OSError(fault.errno, fault.strerror, f"port {address[1]}") from None
         self.cache, self.stopping, self.compares, self.fault, self.metrics = cache, stopping, compares, None, Metrics()
 
     def address_of(self, key):

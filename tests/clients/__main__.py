@@ -40,6 +40,7 @@ CASES = (
     ("a cache, and connections that end", caches.aborts_what_is_cut),
     ("a cache that begins again", cache_disk.begins_again),
     ("a cache that is killed", cache_disk.loses_a_second),
+    ("a cache of many clients that is killed", cache_disk.loses_a_second_of_many),
     ("a cache whose files end early", cache_disk.reads_to_the_last_whole_record),
     ("a cache that gives disk back", cache_disk.gives_disk_back),
     ("a cache that stops", cache_disk.stops_at_once),

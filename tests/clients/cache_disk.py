@@ -1,4 +1,5 @@
 """What caches have on disk."""
+import collections
 import contextlib
 import http.client
 import os
@@ -137,6 +138,44 @@ def loses_a_second():
     """Killed at any moment, it begins with all that was answered a second before; a key that has changed since has what it had in that second, or none."""
     with tempfile.TemporaryDirectory() as place:
         return killed_lives(place, [1.3 + 0.2 * life for life in range(4)])
+
+
+def put_on(cache, thread, answered):
+    """Stores numbers under ten keys, again and again over one connection until it breaks, and notes when each was answered."""
+    connection, count = http.client.HTTPConnection("127.0.0.1", cache.port, timeout=SECONDS), 0
+    with contextlib.suppress(OSError, http.client.HTTPException):
+        while True:
+            key = f"/{thread}.{count % 10}"
+            connection.request("PUT", key, b"%d " % count * 100)
+            connection.getresponse().read()
+            answered[key].append((count, time.monotonic()))
+            count += 1
+
+
+def loses_a_second_of_many():
+    """The same while several clients store small contents as fast as they can."""
+    with tempfile.TemporaryDirectory() as place:
+        found, folder = [], os.path.join(place, "cache")
+        for seconds in 1.9, 2.6:
+            answered = collections.defaultdict(list)
+            with Cache(folder) as cache:
+                threads = [threading.Thread(target=put_on, args=(cache, thread, answered)) for thread in range(6)]
+                for thread in threads:
+                    thread.start()
+                time.sleep(seconds)
+                killed = time.monotonic()
+                cache.process.kill()
+                for thread in threads:
+                    thread.join()
+                cache.process.communicate()
+                cache.told = "", ""
+            with Cache(folder) as cache:
+                for key, numbers in answered.items():
+                    due = max((number for number, moment in numbers if moment < killed - 1), default=-1)
+                    status, content = cache.ask("GET", key)
+                    number = int(content.split()[0]) if status == 200 else -1
+                    found += [f"{key} has {number}, after {due}"] if number < due or content != b"%d " % number * 100 * (status == 200) else []
+        return found[:5]
 
 
 def reads_to_the_last_whole_record():

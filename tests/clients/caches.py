@@ -201,7 +201,7 @@ def refuses_wrong_words():
         cases += [([word, value], 2, repr(value)) for word, value in (
             ("--port", "70000"), ("--port", "x"), ("--limit", "-1"), ("--most", "5x"), ("--sessions", "0"), ("--sessions", "65"), ("--journal-limit", "-1"),
         )]
-        cases += [(["--port", port], 1, "in use"), (["--program", "/no/program"], 1, "/no/program"), (["--program", "true"], 3, "the store has ended")]
+        cases += [(["--port", port], 1, f"port {port}: address already in use"), (["--program", "/no/program"], 1, "/no/program"), (["--program", "true"], 3, "the store has ended")]
         for words, status, part in cases:
             command = [sys.executable, os.path.join(TOP, "examples", "cache_server.py"), os.path.join(place, "cache"), "--port", "0", "--program", PROGRAM, *words]
             run = subprocess.run(command, capture_output=True, timeout=SECONDS)
