@@ -19,6 +19,8 @@ from b3store import MAX_LIMIT, RANGE_LEN, Ended, Refused, Store
 
 PART = 1 << 20
 """The length of a part: an upload takes this much memory in the server's process."""
+SMALL = 1 << 16
+"""Content up to this length is stored in one turn, under the lock; longer content is hashed without it, so that several threads can."""
 FIRST_BOUND = 4 * PART
 """What an upload of unknown length reserves at first."""
 MAX_BATCH, MAX_BATCH_BYTES = 100, 4 * PART
@@ -102,15 +104,17 @@ class Cache:
 
     def put(self, user, key, length, parts, address=None):
         """Stores the content of some parts, whose total length may not be known before. Content that hasn't the address, if one is given, is refused."""
-        if length is not None and length <= PART:
+        if length is not None and length <= SMALL:
             return self.put_small(user, key, b"".join(parts) if length == 0 else next(iter(parts)), address)
         upload = Growing(self, user, key) if length is None else Fixed(self, user, key, length)
+        content = None
         try:
             for part in parts:
                 upload.put(part)
+                content = part if length == len(part) else None
             upload.fix()
             with self.lock:
-                self.lead(user, key, upload.seal(address))
+                self.lead(user, key, upload.seal(address), content)
                 self.share_quota(user)
         except BaseException:
             upload.abort()

@@ -4,7 +4,7 @@ from typing import Callable, Dict, Iterator, List, Optional, Sequence, TypeVar
 
 from .sessions import MAX_FILED_AHEAD, Kinds, Session, Sessions, write_all
 from .values import (
-    MAX_LIMIT, MAX_UPLOAD_LEN, RANGE_LEN, Buffer, Filed, Held, ObjectRow, OpenUpload, Refused, Totals, Usage, check_address, check_bytes,
+    MAX_LIMIT, MAX_UPLOAD_LEN, PART_LEN, RANGE_LEN, Buffer, Filed, Held, ObjectRow, OpenUpload, Refused, Totals, Usage, check_address, check_bytes,
     check_number, parse_digits, parse_filed, parse_held, parse_number, parse_object, parse_open_upload, parse_usage,
 )
 
@@ -136,7 +136,7 @@ class Commands(Sessions):
         os.set_blocking(target, False)
         try:
             while left > 0:
-                wanted = min(RANGE_LEN, left)
+                wanted = min(PART_LEN, left)
                 line = fetch_line(tenant, address, offset, wanted)
                 with self._turn() as session:
                     count, rest, fault = session.move(line, wanted, target)

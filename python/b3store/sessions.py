@@ -4,6 +4,7 @@ import errno
 import os
 import queue
 import select
+import time
 from types import TracebackType
 from typing import Any, BinaryIO, Callable, List, Optional, Sequence, Tuple, Type, Union
 
@@ -17,8 +18,8 @@ MAX_AHEAD = 8
 MAX_FILED_AHEAD = 24
 """How many contents are filed, or objects forgotten, before the first one's answers are read. All their answers fit any pipe, too."""
 
-SECONDS_FOR_ROOM = 0.01
-"""How long a session waits for a descriptor that bytes are moved to."""
+SECONDS_FOR_ROOM = 0.02
+"""How long a session waits, in all, for a descriptor that bytes are moved to."""
 
 Kinds = Union[str, Tuple[str, ...]]
 """The first word that an answer must have; or several, one of which it must have."""
@@ -193,7 +194,7 @@ class Session:
 
     def _move_rest(self, first: bytes, left: int, target: int) -> Tuple[bytes, Optional[OSError]]:
         """Moves some bytes that were read and `left` others, and returns those that the descriptor had no room for, and its fault."""
-        fault, source = None, self._reading.fileno()
+        fault, source, end = None, self._reading.fileno(), None
         try:
             while left > 0 and not first:
                 try:
@@ -204,7 +205,8 @@ class Session:
                         break
                     left -= moved
                 except BlockingIOError:
-                    if not can_write(target, SECONDS_FOR_ROOM):
+                    end = end or time.monotonic() + SECONDS_FOR_ROOM
+                    if not can_write(target, max(0, end - time.monotonic())):
                         break
         except OSError as error:
             fault = error
