@@ -295,7 +295,7 @@ def writes_from_both_stores():
         cache = Stores(lambda: Store(PROGRAM, sessions=2), [user], 1 << 30)
         cache.files = files
         for key, content in ("/old", b"abc"), ("/moves", large), ("/gone", b"gone"):
-            cache.put(user, key, len(content), [content])
+            cache.put(user, key, len(content), [content[: 1 << 20], content[1 << 20 :]])
         cache.old, cache.backend = cache.backend, cache.open_backend()
         cache.put(user, "/new", 4, [b"four"])
         cache.drop(user, "/gone")
