@@ -72,6 +72,17 @@ def our_cache(program, place):
         yield int(line.split("port ")[1].split(",")[0])
 
 
+def bare(length):
+    """Starts bench/bare_server.py. The function to start one."""
+
+    @contextlib.contextmanager
+    def start(_, __):
+        with running([sys.executable, os.path.join(TOP, "bench", "bare_server.py"), str(length)], stdout=subprocess.PIPE) as server:
+            yield int(server.stdout.readline())
+
+    return start
+
+
 @contextlib.contextmanager
 def nginx(_, place):
     port = free_port()

@@ -25,18 +25,21 @@ a socket) is reported and left out. It doesn't compress or encrypt, and removes 
 The store computes the address of each piece, and compares what is read from the repository with it. It holds up to `--memory` bytes; beyond that it forgets
 the oldest objects.
 
-The status is 0 if all was saved, restored or correct; 1 if something was not, which is reported; 2 for a usage error; 3 if the store has ended.
+The status is 0 if all was saved, restored or correct; 1 if something was not, which is reported; 2 for a usage error; 3 if the store has ended; 130 after
+Ctrl-C.
 """
 import argparse
 import collections
 import fcntl
 import os
 import re
+import signal
 import stat
 import sys
 
 sys.path.insert(0, os.path.join(os.path.dirname(os.path.dirname(os.path.abspath(__file__))), "python"))
 from b3store import MAX_LIMIT, Ended, Refused, Store
+from b3store.console import drop_output, error_text, fault_text, open_standard_files
 from backup_check import check
 from backup_packs import WriteFailed
 from backup_repository import ADDRESS, Damaged, Repository, quoted, unquoted
@@ -58,13 +61,21 @@ example:
 def entries_of(folder):
     """Yields the paths below a folder, in the order of their names, each after the folder that it is in, and with None; and a folder that can't be listed
     once more, with the reason."""
-    for entry in sorted(os.scandir(folder), key=lambda entry: entry.name):
+    waiting = sorted_entries(folder)
+    while waiting:
+        entry = waiting.pop()
         yield entry.path, None
         if entry.is_dir(follow_symlinks=False):
             try:
-                yield from entries_of(entry.path)
+                waiting += sorted_entries(entry.path)
             except OSError as fault:
-                yield entry.path, fault.strerror
+                yield entry.path, error_text(fault)
+
+
+def sorted_entries(folder):
+    """The entries of a folder, the first in the order of their names last."""
+    with os.scandir(folder) as entries:
+        return sorted(entries, key=lambda entry: entry.name, reverse=True)
 
 
 def place_in(folder, path):
@@ -106,7 +117,7 @@ def known_files(repository, folder):
     try:
         lines = [line[0].split(" ") for line in repository.lines_of(backups[-1]) if line[1] == "file"]
     except (Refused, OSError, Damaged) as fault:
-        print(f"the last backup can't be read, so each file is read: {fault}")
+        print(f"the last backup can't be read, so each file is read: {fault_text(fault)}")
         return {}
     return {tuple(words[:5]): words[5:] for words in lines}
 
@@ -118,7 +129,7 @@ def lines_of_folder(repository, options, known):
         try:
             words = None if fault else words_of(repository, options.folder, path, known, linked)
         except OSError as error:
-            words, fault = None, error.strerror
+            words, fault = None, error_text(error)
         if words is not None:
             found.append(words)
         else:
@@ -150,18 +161,21 @@ class Restoring:
     def __init__(self, repository, folder):
         self.repository, self.folder = repository, folder
         self.folders, self.unowned, self.is_whole = [], 0, True
+        self.own = set()
+        """The folders that were restored: none of them is a link, or below one."""
 
     def restore(self, line):
         """Restores a line's file, link or folder. Raises OSError if a folder on its path is a link."""
         kind, path, *_, more = line.groups()
-        place = place_in(self.folder, unquoted(path))
-        if os.path.realpath(os.path.dirname(place)) != os.path.normpath(os.path.join(os.path.realpath(self.folder), os.path.dirname(unquoted(path)))):
+        place, above = place_in(self.folder, unquoted(path)), os.path.dirname(unquoted(path))
+        if above not in self.own and os.path.realpath(os.path.dirname(place)) != os.path.normpath(os.path.join(os.path.realpath(self.folder), above)):
             raise OSError("a folder on its way is a link")
         words = more.split()
         if kind == "folder":
             if os.path.islink(place) or not os.path.isdir(place):
                 os.mkdir(place)
             self.folders.append((place, line))
+            self.own.add(unquoted(path))
             return
         if kind == "same":
             os.link(place_in(self.folder, unquoted(words[0])), place, follow_symlinks=False)
@@ -192,7 +206,7 @@ class Restoring:
         try:
             work(*words, line)
         except (Refused, OSError) as fault:
-            print(f"not restored: {unquoted(line[2])} {fault}")
+            print(f"not restored: {unquoted(line[2])} {error_text(fault)}")
             self.is_whole = False
 
 
@@ -247,19 +261,31 @@ def read_options():
     return parser.parse_args()
 
 
+def run(options):
+    with Store(options.program, sessions=1) as store:
+        repository = Repository(options.repository, store, options.memory)
+        is_right = options.work(repository, options)
+        sys.stdout.flush()
+        return 0 if is_right else 1
+
+
 def main():
+    if not open_standard_files():
+        print("backup: standard output is closed", file=sys.stderr)
+        return 1
     sys.stdout.reconfigure(errors="surrogateescape")
     options = read_options()
     try:
-        with Store(options.program, sessions=1) as store:
-            repository = Repository(options.repository, store, options.memory)
-            return 0 if options.work(repository, options) else 1
+        return run(options)
     except (Refused, OSError, Damaged, WriteFailed) as fault:
-        print(f"backup: {fault}", file=sys.stderr)
-        return 1
+        status, text = 1, fault_text(fault)
     except Ended as fault:
-        print(f"backup: {fault}", file=sys.stderr)
-        return 3
+        status, text = 3, str(fault)
+    except KeyboardInterrupt:
+        status, text = 128 + signal.SIGINT, "interrupted"
+    print(f"backup: {text}", file=sys.stderr)
+    drop_output()
+    return status
 
 
 if __name__ == "__main__":

@@ -3,6 +3,7 @@ import fcntl
 import os
 
 from b3store import Refused
+from b3store.console import count_text, error_text
 from backup_repository import ADDRESS, Damaged, unquoted
 
 
@@ -87,7 +88,7 @@ class Checking:
 
 
 def reason(fault):
-    return getattr(fault, "strerror", None) or str(fault)
+    return error_text(fault)
 
 
 def check(repository, _):
@@ -100,7 +101,7 @@ def check(repository, _):
         broken = sum(not checking.check_backup(backup) for backup in backups)
     unused = [length for address, length in checking.right.items() if address not in checking.used]
     if unused and not broken:
-        print(f"objects that no backup uses: {len(unused)}, {sum(unused)} bytes")
+        print(f"objects that no backup uses: {len(unused)}, with {count_text(sum(unused), 'byte')}")
     print(f"objects {len(checking.right) + len(wrong)} wrong {len(wrong)}")
     print(f"backups {len(backups)} broken {broken}")
     return not wrong and not broken and not checking.wrong_packs

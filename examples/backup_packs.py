@@ -16,6 +16,7 @@ import stat
 import threading
 
 from b3store import Refused
+from b3store.console import error_text
 
 PACK = 1 << 26
 """The maximum length of a pack, in bytes."""
@@ -120,7 +121,7 @@ class Pack:
         except Refused:
             self.fault = f"after {self.rows.count(10)} pieces there are no right rows"
         except OSError as fault:
-            self.fault = fault.strerror
+            self.fault = error_text(fault)
 
     def pieces(self):
         """Yields the row of each piece, its address, its position and its length."""
@@ -276,7 +277,7 @@ class Writer(threading.Thread):
                 if self.fault is None:
                     work(*words)
             except OSError as fault:
-                self.fault = WriteFailed(f"{self.folder}: a pack can't be written: {fault.strerror}")
+                self.fault = WriteFailed(f"{self.folder}: a pack can't be written: {error_text(fault)}")
                 self.drop()
             finally:
                 self.queue.task_done()

@@ -20,6 +20,7 @@ import threading
 import time
 
 from b3store import Ended, Refused
+from b3store.console import count_text, error_text
 from b3store.files import FolderInUse, checked_line, checked_text, lock_folder, replace_file
 from cache_stores import Entry
 
@@ -35,6 +36,8 @@ MOVED_AT_ONCE = 1 << 24
 """How many bytes are moved between two syncs."""
 MAX_WAITING = 1 << 26
 """While this many bytes wait to be written, PUTs wait too: a disk that writes as many in a second is never more than a second late."""
+MAX_CHANGES = 1000
+"""And while this many changes of keys do."""
 SECONDS_BETWEEN_SYNCS = 0.4
 SECONDS_TO_LOCK = 1
 COPIED = 1 << 20
@@ -56,6 +59,15 @@ def whole_lines(content):
     return texts, end
 
 
+def last_changes(batch):
+    """The last change of each key, in their order."""
+    changes = {}
+    for change in batch:
+        changes.pop(change[:2], None)
+        changes[change[:2]] = change
+    return list(changes.values())
+
+
 class Files:
     """A folder's segments and its log, and their writer."""
 
@@ -67,7 +79,8 @@ class Files:
         """The keys of the log by user and key, the objects' places, and how many keys lead to an object."""
         self.live, self.sizes = collections.Counter(), collections.Counter()
         """For each segment, how many of its bytes keys lead to, and its length."""
-        self.waiting, self.bytes, self.changed = [], 0, threading.Condition()
+        self.waiting, self.bytes, self.changes, self.changed = [], 0, 0, threading.Condition()
+        """The changes of keys that wait, and how many bytes and changes wait or are being written."""
         self.fault, self.has_ended, self.lines = None, False, 0
         self.log = self.last = self.writer = self.name = None
 
@@ -192,17 +205,23 @@ class Files:
         self.writer = threading.Thread(target=self.write_on, args=(cache,), daemon=True)
         self.writer.start()
 
-    def note(self, user, key, entry):
-        """Records that a key leads to an object of the user's, or nowhere. This is called in the order in which keys change."""
+    def note(self, user, key, entry, content=None):
+        """Records that a key leads to an object of the user's, or nowhere. This is called in the order in which keys change. Content that isn't given is
+        read from a store when it is written."""
         with self.changed:
-            self.waiting.append((user, key, entry))
+            self.waiting.append((user, key, entry, content))
             self.bytes += entry.length if entry is not None else 0
+            self.changes += 1
             self.changed.notify_all()
 
+    def is_late(self):
+        """Whether too much waits to be written."""
+        return self.bytes > MAX_WAITING or self.changes > MAX_CHANGES
+
     def wait(self):
-        """Waits while too many bytes wait to be written."""
+        """Waits while too much waits to be written."""
         with self.changed:
-            self.changed.wait_for(lambda: self.bytes <= MAX_WAITING or self.fault is not None)
+            self.changed.wait_for(lambda: not self.is_late() or self.fault is not None)
 
     def end(self):
         """Writes what was recorded, and ends the writer."""
@@ -222,28 +241,28 @@ class Files:
                 due = time.monotonic() + SECONDS_BETWEEN_SYNCS
         except (OSError, ValueError) as fault:
             with self.changed:
-                self.fault = OSError(f"{self.path} can't be written: {fault}")
+                self.fault = OSError(f"{self.path} can't be written: {error_text(fault)}")
                 self.changed.notify_all()
 
     def write_batch(self, cache, due):
         """Writes what is recorded until a time, and returns whether that was the end."""
         with self.changed:
             self.changed.wait_for(lambda: self.waiting or self.has_ended or self.emptiest() is not None)
-            self.changed.wait_for(lambda: self.has_ended or self.bytes > MAX_WAITING, max(0, due - time.monotonic()))
+            self.changed.wait_for(lambda: self.has_ended or self.is_late(), max(0, due - time.monotonic()))
             has_ended, batch, self.waiting = self.has_ended, self.waiting, []
-            written = self.bytes
-        self.write(cache, batch, moves=not has_ended)
+            written, count = self.bytes, self.changes
+        self.write(cache, last_changes(batch), moves=not has_ended)
         with self.changed:
             self.bytes -= written
+            self.changes -= count
             self.changed.notify_all()
         return has_ended
 
     def write(self, cache, batch, moves):
         """Writes some changes of keys, and moves some content to the last segment."""
-        texts = [text for user, key, entry in batch for text in self.texts_of(cache, user, key, entry)]
+        texts = [text for change in batch for text in self.texts_of(cache, *change)]
         emptied = self.emptiest() if moves else None
         texts += self.move(emptied) if emptied else []
-        self.last.flush()
         os.fdatasync(self.last.fileno())
         self.log.write(b"".join(map(checked_line, texts)))
         self.log.flush()
@@ -257,11 +276,11 @@ class Files:
         if moves and self.lines > 2 * (len(self.keys) + len(self.refs)) + IDLE_LINES:
             self.write_log()
 
-    def texts_of(self, cache, user, key, entry):
+    def texts_of(self, cache, user, key, entry, content):
         """The lines of a key that has changed. If no store holds its content any more and it isn't on disk, a later change has undone this one."""
         texts = []
         if entry is not None and entry.address not in self.places:
-            line = self.append_held(cache, user, entry.address)
+            line = self.append_held(cache, user, entry.address, content)
             if line is None:
                 entry = None
             else:
@@ -272,24 +291,32 @@ class Files:
         self.note_key(user.name, key, entry.address)
         return [*texts, f"key {user.name} {entry.address} {key}"]
 
-    def append_held(self, cache, user, address):
+    def append_held(self, cache, user, address, content):
         """Appends an object that a store holds for a user, and returns its line; None if no store holds it. An object may move while it is read:
         then it is read from where it is now."""
         tried = None
         while True:
+            if content is not None:
+                return self.append(address, lambda: self.write_pieces([content]))
             backend = cache.find(user, address)
             if backend is None or backend is tried:
                 return None
             tried = backend
             with contextlib.suppress(Refused, Ended):
-                return self.append(address, backend.store.ranges(backend.tenants[user], address))
+                return self.append(address, lambda: backend.store.fetch_to(backend.tenants[user], address, self.last.fileno()))
 
-    def append(self, address, pieces):
-        """Appends an object's bytes to the last segment, and returns its line."""
+    def write_pieces(self, pieces):
+        """Writes some bytes to the last segment."""
+        for piece in pieces:
+            view = memoryview(piece)
+            while view.nbytes:
+                view = view[self.last.write(view) :]
+
+    def append(self, address, write):
+        """Appends an object to the last segment by a function that writes its bytes, and returns its line."""
         offset = self.last.tell()
         try:
-            for piece in pieces:
-                self.last.write(piece)
+            write()
         except (Refused, Ended):
             self.last.seek(offset)
             self.last.truncate()
@@ -311,7 +338,7 @@ class Files:
         for address in self.live_objects(segment):
             if moved < MOVED_AT_ONCE:
                 moved += self.places[address].length
-                texts.append(self.append(address, self.content(address)))
+                texts.append(self.append(address, lambda: self.write_pieces(self.content(address))))
         return texts
 
     def remove(self, segment):
@@ -327,7 +354,7 @@ class Files:
         if self.last is not None:
             self.last.close()
         self.name = f"segment.{time.time_ns()}"
-        self.last = open(self.at(self.name), "xb")
+        self.last = open(self.at(self.name), "xb", buffering=0)
         os.fsync(self.folder)
 
     def write_log(self):
@@ -355,7 +382,7 @@ class Loader:
         """Stores what is on disk, and reports what can't be stored or isn't as it was stored."""
         dropped = self.files.read()
         if dropped:
-            print(f"cache_server: the last {dropped} bytes of the log are no whole lines, and are dropped", file=sys.stderr)
+            print(f"cache_server: the log has no complete line in its last {count_text(dropped, 'byte')}, which the server drops", file=sys.stderr)
         users = {user.name: user for user in self.cache.users}
         faults, count = collections.Counter(), 0
         for (name, key), address in list(self.files.keys.items()):
@@ -363,10 +390,10 @@ class Loader:
             count += fault is None
             faults.update([fault] if fault else [])
         for fault, keys in faults.items():
-            print(f"cache_server: {keys} keys are left out: {fault}", file=sys.stderr)
+            print(f"cache_server: {count_text(keys, 'key')} left out: {fault}", file=sys.stderr)
         if not self.files.keys:
             return "begins empty"
-        return f"has {count} keys, {self.cache.totals()[0]} objects"
+        return f"has {count_text(count, 'key')}, {count_text(self.cache.totals()[0], 'object')}"
 
     def load_key(self, user, key, address):
         """Stores one key's object if the user doesn't hold it. Returns why it can't be stored, or None."""
@@ -384,7 +411,7 @@ class Loader:
             return str(refusal)
         except (OSError, ValueError) as fault:
             self.files.lose(address)
-            return str(fault)
+            return error_text(fault)
 
     def load_object(self, user, address):
         backend, place = self.cache.backend, self.files.place(address)

@@ -19,6 +19,8 @@ from b3store import MAX_LIMIT, RANGE_LEN, Ended, Refused, Store
 
 PART = 1 << 20
 """The length of a part: an upload takes this much memory in the server's process."""
+SMALL = 1 << 16
+"""Content up to this length is stored in one turn, under the lock; longer content is hashed without it, so that several threads can."""
 FIRST_BOUND = 4 * PART
 """What an upload of unknown length reserves at first."""
 MAX_BATCH, MAX_BATCH_BYTES = 100, 4 * PART
@@ -100,28 +102,30 @@ class Cache:
 
     # ---- storing
 
-    def put(self, user, key, length, parts):
-        """Stores the content of some parts, whose total length may not be known before."""
-        if length is not None and length <= PART:
-            return self.put_small(user, key, b"".join(parts))
+    def put(self, user, key, length, parts, address=None):
+        """Stores the content of some parts, whose total length may not be known before. Content that hasn't the address, if one is given, is refused."""
+        if length is not None and length <= SMALL:
+            return self.put_small(user, key, b"".join(parts) if length == 0 else next(iter(parts)), address)
         upload = Growing(self, user, key) if length is None else Fixed(self, user, key, length)
+        content = None
         try:
             for part in parts:
                 upload.put(part)
+                content = part if length == len(part) else None
             upload.fix()
             with self.lock:
-                self.lead(user, key, upload.seal())
+                self.lead(user, key, upload.seal(address), content)
                 self.share_quota(user)
         except BaseException:
             upload.abort()
             raise
 
-    def put_small(self, user, key, content):
+    def put_small(self, user, key, content, address):
         def file():
             with self.lock:
                 backend = self.backend
-                filed = backend.store.file(backend.tenants[user], content)
-                self.lead(user, key, Entry(backend, filed.address, filed.length))
+                filed = backend.store.file(backend.tenants[user], content, address)
+                self.lead(user, key, Entry(backend, filed.address, filed.length), content)
 
         self.with_room(user, key, len(content), file)
 
@@ -154,12 +158,12 @@ class Cache:
 
     # ---- keys, under the lock
 
-    def lead(self, user, key, entry):
-        """Lets a key lead to an object that the user holds, or nowhere."""
+    def lead(self, user, key, entry, content=None):
+        """Lets a key lead to an object that the user holds, whose content may be given, or nowhere."""
         if self.is_closed:
             raise Ended("the server stops")
         if self.files is not None:
-            self.files.note(user, key, entry)
+            self.files.note(user, key, entry, content)
         old = user.keys.pop(key, None)
         if entry is not None:
             user.keys[key] = entry
@@ -443,9 +447,10 @@ class Fixed:
     def fix(self):
         """Ends the content. The length is known."""
 
-    def seal(self):
+    def seal(self, address=None):
         """Files the object, under the cache's lock, and returns its entry, which nothing uses yet."""
-        filed = self.backend.store.seal(self.number)
+        store = self.backend.store
+        filed = store.seal(self.number) if address is None else store.seal_as(self.number, address)
         self.end()
         return Entry(self.backend, filed.address, filed.length)
 

@@ -12,7 +12,8 @@ import os
 import subprocess
 import sys
 
-from cache_server import stop_signals
+from cache_server import SECONDS_BETWEEN_LOOKS, number, stop_signals
+from b3store.console import fault_text
 
 NGINX = """\
 daemon off;
@@ -51,38 +52,52 @@ class Server:
         words = [sys.executable, os.path.join(os.path.dirname(os.path.abspath(__file__)), "cache_server.py"), folder, "--port", "0", "--program", program]
         self.process = subprocess.Popen(words, stdout=subprocess.PIPE)
         line = self.process.stdout.readline().decode()
-        if "port " not in line:
-            sys.exit("cluster: a cache server does not begin")
-        self.port = int(line.split("port ")[1].split(",")[0])
+        self.port = int(line.split("port ")[1].split(",")[0]) if "port " in line else None
 
 
 def read_options():
     parser = argparse.ArgumentParser(description="Run several cache servers, with nginx in front of them.")
     parser.add_argument("folder", metavar="FOLDER", help="keep the content of server K in FOLDER/K")
-    parser.add_argument("--servers", type=int, default=4, metavar="N", help="run N cache servers (default: 4)")
-    parser.add_argument("--port", type=int, default=8080, metavar="N", help="let nginx listen on this port (default: 8080)")
+    parser.add_argument("--servers", type=number(1, 64), default=4, metavar="N", help="run N cache servers (default: 4)")
+    parser.add_argument("--port", type=number(1, 65535), default=8080, metavar="N", help="let nginx listen on this port (default: 8080)")
     parser.add_argument("--program", default="b3store", metavar="PATH", help="run this b3store program (default: b3store)")
     return parser.parse_args()
 
 
-def main():
-    options = read_options()
-    stopping = stop_signals()
-    folder = os.path.abspath(options.folder)
+def start_all(options, processes):
+    """Starts the servers and nginx, the last of `processes`. Raises OSError or ValueError."""
+    folder, servers = os.path.abspath(options.folder), []
     os.makedirs(folder, exist_ok=True)
-    servers = [Server(os.path.join(folder, str(number)), options.program) for number in range(options.servers)]
+    for at in range(options.servers):
+        servers.append(Server(os.path.join(folder, str(at)), options.program))
+        processes.append(servers[-1].process)
+        if servers[-1].port is None:
+            raise ValueError("a cache server doesn't start")
     lines = "\n".join(f"    server 127.0.0.1:{server.port} max_fails=1 fail_timeout=2s;" for server in servers)
     with open(os.path.join(folder, "nginx.conf"), "w", encoding="utf-8") as file:
         file.write(NGINX.format(folder=folder, servers=lines, port=options.port))
-    nginx = subprocess.Popen(["nginx", "-c", file.name, "-e", os.path.join(folder, "nginx.log")])
+    processes.append(subprocess.Popen(["nginx", "-c", file.name, "-e", os.path.join(folder, "nginx.log")]))
     print(f"cluster: port {options.port}", flush=True)
     print(f"cluster: servers {' '.join(str(server.process.pid) for server in servers)}", flush=True)
-    stopping.wait()
-    for process in [nginx, *[server.process for server in servers]]:
+
+
+def main():
+    options = read_options()
+    stopping, processes, status = stop_signals(), [], 0
+    try:
+        start_all(options, processes)
+        while not stopping.wait(SECONDS_BETWEEN_LOOKS):
+            if processes[-1].poll() is not None:
+                raise ValueError("nginx has ended")
+    except (OSError, ValueError) as fault:
+        print(f"cluster: {fault_text(fault)}", file=sys.stderr)
+        status = 1
+    for process in reversed(processes):
         process.terminate()
-    for process in [nginx, *[server.process for server in servers]]:
+    for process in processes:
         process.wait()
+    return status
 
 
 if __name__ == "__main__":
-    main()
+    sys.exit(main())

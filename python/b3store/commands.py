@@ -1,9 +1,10 @@
 """The commands of a store, over its sessions."""
+import os
 from typing import Callable, Dict, Iterator, List, Optional, Sequence, TypeVar
 
-from .sessions import MAX_FILED_AHEAD, Kinds, Session, Sessions
+from .sessions import MAX_FILED_AHEAD, Kinds, Session, Sessions, write_all
 from .values import (
-    MAX_LIMIT, MAX_UPLOAD_LEN, RANGE_LEN, Buffer, Filed, Held, ObjectRow, OpenUpload, Refused, Totals, Usage, check_address, check_bytes,
+    MAX_LIMIT, MAX_UPLOAD_LEN, PART_LEN, RANGE_LEN, Buffer, Filed, Held, ObjectRow, OpenUpload, Refused, Totals, Usage, check_address, check_bytes,
     check_number, parse_digits, parse_filed, parse_held, parse_number, parse_object, parse_open_upload, parse_usage,
 )
 
@@ -123,6 +124,29 @@ class Commands(Sessions):
             raise TypeError("the buffer to read into must be writable")
         line = fetch_line(tenant, address, offset, view.nbytes)
         return self._talk(lambda session, words: session.content_into(words, view), "bytes", line)
+
+    def fetch_to(
+        self, tenant: int, address: str, target: int, offset: int = 0, length: int = MAX_UPLOAD_LEN, seconds: Optional[float] = None
+    ) -> int:
+        """Writes up to `length` bytes of an object, starting at `offset`, to the descriptor of a file, a pipe or a socket, and returns how many. The system
+        moves them if it can, so that Python copies none. Other commands can run meanwhile: what the descriptor has no room for is read before it is waited
+        for. Raises OSError if it can't be written to, TimeoutError if it has no room for `seconds`. Refusals: S1, S12."""
+        first, left = check_number("offset", offset), check_number("length", length)
+        is_blocking = os.get_blocking(target)
+        os.set_blocking(target, False)
+        try:
+            while left > 0:
+                wanted = min(PART_LEN, left)
+                line = fetch_line(tenant, address, offset, wanted)
+                with self._turn() as session:
+                    count, rest, fault = session.move(line, wanted, target)
+                if fault is not None:
+                    raise fault
+                write_all(target, rest, seconds)
+                offset, left = offset + count, left - count if count == wanted else 0
+        finally:
+            os.set_blocking(target, is_blocking)
+        return offset - first
 
     def ranges(self, tenant: int, address: str, length: int = RANGE_LEN) -> Iterator[bytes]:
         """Yields an object's bytes in ranges of `length`. Other commands can run between two of them. Refusals: S1, S12."""

@@ -39,6 +39,17 @@ def error_text(fault: BaseException) -> str:
     return str(fault) or type(fault).__name__
 
 
+def fault_text(fault: BaseException) -> str:
+    """An error in a few words, after the file that it is about."""
+    name = getattr(fault, "filename", None)
+    return error_text(fault) if name is None else f"{os.fsdecode(name) if isinstance(name, bytes) else name}: {error_text(fault)}"
+
+
+def count_text(count: int, noun: str) -> str:
+    """A number of things: `1 key`, `2 keys`."""
+    return f"{count} {noun}" if count == 1 else f"{count} {noun}s"
+
+
 def finish(run: Callable[[], int]) -> int:
     """Runs a program, and returns its exit status. What it raises ends it with a message, and never with a traceback."""
     if not open_standard_files():

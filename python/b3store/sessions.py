@@ -1,8 +1,10 @@
 """Sessions: connections to a store, each used by one thread at a time, and the rule that a broken one is never used again."""
 import contextlib
+import errno
 import os
 import queue
 import select
+import time
 from types import TracebackType
 from typing import Any, BinaryIO, Callable, List, Optional, Sequence, Tuple, Type, Union
 
@@ -16,8 +18,44 @@ MAX_AHEAD = 8
 MAX_FILED_AHEAD = 24
 """How many contents are filed, or objects forgotten, before the first one's answers are read. All their answers fit any pipe, too."""
 
+SECONDS_FOR_ROOM = 0.02
+"""How long a session waits, in all, for a descriptor that bytes are moved to."""
+
 Kinds = Union[str, Tuple[str, ...]]
 """The first word that an answer must have; or several, one of which it must have."""
+
+
+_splice: Optional[Callable[[int, int, int], int]] = getattr(os, "splice", None)
+
+
+def splice(source: int, target: int, count: int) -> Optional[int]:
+    """Moves up to `count` bytes within the kernel, and returns how many: 0 at the end of the source, None if the system can't with these descriptors."""
+    if _splice is None:
+        return None
+    try:
+        return _splice(source, target, count)
+    except OSError as error:
+        if error.errno in (errno.EINVAL, errno.ENOSYS):
+            return None
+        raise
+
+
+def can_write(target: int, seconds: Optional[float]) -> bool:
+    """Whether a descriptor has room, or a fault, within some time."""
+    poll = select.poll()
+    poll.register(target, select.POLLOUT)
+    return bool(poll.poll(None if seconds is None else 1000 * seconds))
+
+
+def write_all(target: int, content: bytes, seconds: Optional[float]) -> None:
+    """Writes all bytes to a descriptor that doesn't block. Raises TimeoutError if it has no room for some time."""
+    view = memoryview(content)
+    while view.nbytes:
+        try:
+            view = view[os.write(target, view) :]
+        except BlockingIOError:
+            if not can_write(target, seconds):
+                raise TimeoutError("the descriptor takes no bytes") from None
 
 
 class Session:
@@ -56,7 +94,9 @@ class Session:
 
     def answer(self, kinds: Kinds) -> List[str]:
         """Returns the words of an answer after its kind, or all of them if several kinds are allowed. Raises Refused."""
-        words = self.line()
+        return self._checked(kinds, self.line())
+
+    def _checked(self, kinds: Kinds, words: List[str]) -> List[str]:
         if words[0] == "refused":
             raise parse_refusal(words[1:])
         if isinstance(kinds, tuple) and words[0] in kinds:
@@ -138,6 +178,52 @@ class Session:
         if got < count:
             raise self._ended()
         return count
+
+    def move(self, line: str, max_len: int, target: int) -> Tuple[int, bytes, Optional[OSError]]:
+        """Sends a command that is answered by up to `max_len` raw bytes, and moves them to a descriptor that doesn't block. Returns how many the answer
+        has, the last of them if the descriptor has had no room for a moment, and the fault if it can't be written to: the answer is read to its end."""
+        self.write(line.encode("ascii") + b"\n")
+        got = self._read_some(len(b"bytes %d\n" % max_len))
+        while b"\n" not in got:
+            got += self._read_some(1)
+        head, _, first = got.partition(b"\n")
+        count = parse_number(self._checked("bytes", head.decode("ascii").split(" ")))
+        if not len(first) <= count <= max_len:
+            raise ValueError(f"{count} bytes instead of {max_len}")
+        return (count, *self._move_rest(first, count - len(first), target))
+
+    def _move_rest(self, first: bytes, left: int, target: int) -> Tuple[bytes, Optional[OSError]]:
+        """Moves some bytes that were read and `left` others, and returns those that the descriptor had no room for, and its fault."""
+        fault, source, end = None, self._reading.fileno(), None
+        try:
+            while left > 0 and not first:
+                try:
+                    moved = splice(source, target, left)
+                    if moved == 0:
+                        raise self._ended()
+                    if moved is None:
+                        break
+                    left -= moved
+                except BlockingIOError:
+                    end = end or time.monotonic() + SECONDS_FOR_ROOM
+                    if not can_write(target, max(0, end - time.monotonic())):
+                        break
+        except OSError as error:
+            fault = error
+        rest = first + self._reading.read(left) if left else first
+        if len(rest) < len(first) + left:
+            raise self._ended()
+        return rest, fault
+
+    def _read_some(self, count: int) -> bytes:
+        """Reads up to `count` bytes that are there, and none ahead of them."""
+        try:
+            got = os.read(self._reading.fileno(), count)
+        except OSError:
+            got = b""
+        if not got:
+            raise self._ended()
+        return got
 
     def close(self) -> None:
         """Closes both ends."""

@@ -3,6 +3,7 @@ import os
 
 import hashes
 import installing
+import moves
 import programs
 import served
 import sessions
@@ -35,6 +36,7 @@ CASES = (
     ("contents that are filed together", transfers.files_together),
     ("objects as files", transfers.objects_as_files),
     ("objects read into buffers", transfers.reads_into_buffers),
+    *moves.CASES,
     ("objects and the journal one by one", transfers.iterates),
     ("a store for asyncio", transfers.by_asyncio),
     ("a session that is in use", transfers.scales),

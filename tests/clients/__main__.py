@@ -12,6 +12,7 @@ import backups
 import cache_disk
 import cache_moves
 import cache_quotas
+import cache_requests
 import caches
 import cases as package
 import packs
@@ -25,6 +26,8 @@ CASES = (
     ("a backup that leads elsewhere", backups.restores_nothing_elsewhere),
     ("a backup with wrong words", backups.refuses_wrong_words),
     ("owners and hard links", backups.keeps_owners_and_links),
+    ("a backup of deep folders", backups.keeps_deep_folders),
+    ("a backup's last words", backups.ends_with_a_sentence),
     ("a backup's pieces", backups.splits_by_content),
     *packs.CASES,
     ("a cache's keys", caches.caches_keys),
@@ -37,6 +40,7 @@ CASES = (
     ("a cache, and connections that end", caches.aborts_what_is_cut),
     ("a cache that begins again", cache_disk.begins_again),
     ("a cache that is killed", cache_disk.loses_a_second),
+    ("a cache of many clients that is killed", cache_disk.loses_a_second_of_many),
     ("a cache whose files end early", cache_disk.reads_to_the_last_whole_record),
     ("a cache that gives disk back", cache_disk.gives_disk_back),
     ("a cache that stops", cache_disk.stops_at_once),
@@ -55,6 +59,7 @@ CASES = (
     ("a cache's full quotas in moves", cache_quotas.keeps_full_quotas),
     ("a cache that writes from two stores", cache_moves.writes_from_both_stores),
     ("a cache's metrics while its content moves", cache_moves.counts_while_content_moves),
+    *cache_requests.CASES,
     ("two caches on one folder", caches.keeps_others_out),
     ("a cache with wrong words", caches.refuses_wrong_words),
     ("a cache's keys of any bytes", caches.keys_of_any_bytes),

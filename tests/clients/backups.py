@@ -1,16 +1,19 @@
 """Backups by examples/backup.py."""
+import contextlib
 import fcntl
 import io
 import os
 import random
 import re
 import shutil
+import signal
 import stat
 import subprocess
 import sys
 import tempfile
+import time
 
-from shared import ABC, EMPTY, PROGRAM, SECONDS, TOP, differences
+from shared import ABC, EMPTY, PROGRAM, SECONDS, TOP, differences, script_of
 from b3store import Store
 import backup_pieces
 from backup_repository import Repository
@@ -212,6 +215,49 @@ def keeps_owners_and_links():
             was, now = (os.lstat(os.path.join(at, name)) for at in (folder, restored))
             found += differences(((now.st_mode, now.st_uid, now.st_gid, now.st_mtime_ns, now.st_nlink), (was.st_mode, was.st_uid, was.st_gid, was.st_mtime_ns, was.st_nlink)))
         return found + differences((os.path.samefile(os.path.join(restored, "a"), os.path.join(restored, "b")), True))
+
+
+def keeps_deep_folders():
+    """Folders in folders, more than Python's functions may call each other."""
+    with tempfile.TemporaryDirectory() as place:
+        folder, repository, restored = (os.path.join(place, name) for name in ("folder", "repository", "restored"))
+        depth = sys.getrecursionlimit() + 100
+        deepest = os.path.join(folder, *["d"] * depth)
+        os.makedirs(folder)
+        for level in range(1, depth + 1):
+            os.mkdir(os.path.join(folder, *["d"] * level))
+        with open(os.path.join(deepest, "f"), "wb") as file:
+            file.write(b"abc")
+        status, lines = backup("save", folder, repository)
+        found = differences((status, 0), (lines[0], f"files 1 folders {depth} links 0"))
+        found += differences((backup("restore", repository, lines[-1].split()[1], restored), (0, [])))
+        with open(os.path.join(restored, os.path.relpath(deepest, folder), "f"), "rb") as file:
+            found += differences((file.read(), b"abc"))
+        for top in folder, restored:
+            for level in range(depth, 0, -1):
+                with contextlib.suppress(FileNotFoundError):
+                    os.remove(os.path.join(top, *["d"] * level, "f"))
+                os.rmdir(os.path.join(top, *["d"] * level))
+        return found
+
+
+def ends_with_a_sentence():
+    """Output that can't be written, and an interrupt, are told in one line."""
+    with tempfile.TemporaryDirectory() as place:
+        folder, repository = os.path.join(place, "folder"), os.path.join(place, "repository")
+        os.mkdir(folder)
+        found = differences((backup("save", folder, repository)[0], 0))
+        for output, text in (">&-", "standard output is closed"), ("> /dev/full", "no space left on device"):
+            run = subprocess.run(["sh", "-c", f'"$@" {output}', "sh", *BACKUP, "check", repository], stderr=subprocess.PIPE, timeout=SECONDS)
+            found += differences((run.returncode, 1), (run.stderr.decode(), f"backup: {text}\n"))
+        words = [*BACKUP[:-1], script_of(place, "touch begun; exec sleep 60"), "check", repository]
+        with subprocess.Popen(words, cwd=place, stdout=subprocess.PIPE, stderr=subprocess.PIPE) as waiting:
+            while not os.path.exists(os.path.join(place, "begun")):
+                time.sleep(0.02)
+            time.sleep(0.5)
+            waiting.send_signal(signal.SIGINT)
+            out, err = waiting.communicate(timeout=SECONDS)
+        return found + differences((waiting.returncode, 130), (out, b""), (err, b"backup: interrupted\n"))
 
 
 def splits_by_content():

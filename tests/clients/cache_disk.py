@@ -1,4 +1,5 @@
 """What caches have on disk."""
+import collections
 import contextlib
 import http.client
 import os
@@ -24,7 +25,7 @@ def begins_again():
         with Cache(folder, USERS) as cache:
             found += differences((cache.begun.split(", ", 1)[1], "has 4 keys, 2 objects\n"), (cache.ask("GET", "/b", token="token-b"), (200, b"abc")))
             cache.ask("DELETE", "/four", token="token-a")
-            found += differences((cache.stop(), ("cache_server: saved 3 keys, 1 objects\n", "")))
+            found += differences((cache.stop(), ("cache_server: saved 3 keys, 1 object\n", "")))
         segment, offset, _ = places_of(folder)[ABC]
         with open(os.path.join(folder, segment), "r+b") as file:
             file.seek(offset)
@@ -33,7 +34,7 @@ def begins_again():
             out, err = cache.stop()
         with open(os.path.join(folder, "aside", ABC), "rb") as file:
             found += differences((file.read(), b"abd"))
-        return found + differences((cache.begun.split(", ", 1)[1], "has 0 keys, 0 objects\n"), ("2 keys are left out: its user doesn't exist" in err, True), ("1 keys are left out: S11" in err, True))
+        return found + differences((cache.begun.split(", ", 1)[1], "has 0 keys, 0 objects\n"), ("2 keys left out: its user doesn't exist" in err, True), ("1 key left out: S11" in err, True))
 
 
 def texts_of_log(folder):
@@ -139,6 +140,44 @@ def loses_a_second():
         return killed_lives(place, [1.3 + 0.2 * life for life in range(4)])
 
 
+def put_on(cache, thread, answered):
+    """Stores numbers under ten keys, again and again over one connection until it breaks, and notes when each was answered."""
+    connection, count = http.client.HTTPConnection("127.0.0.1", cache.port, timeout=SECONDS), 0
+    with contextlib.suppress(OSError, http.client.HTTPException):
+        while True:
+            key = f"/{thread}.{count % 10}"
+            connection.request("PUT", key, b"%d " % count * 100)
+            connection.getresponse().read()
+            answered[key].append((count, time.monotonic()))
+            count += 1
+
+
+def loses_a_second_of_many():
+    """The same while several clients store small contents as fast as they can."""
+    with tempfile.TemporaryDirectory() as place:
+        found, folder = [], os.path.join(place, "cache")
+        for seconds in 1.9, 2.6:
+            answered = collections.defaultdict(list)
+            with Cache(folder) as cache:
+                threads = [threading.Thread(target=put_on, args=(cache, thread, answered)) for thread in range(6)]
+                for thread in threads:
+                    thread.start()
+                time.sleep(seconds)
+                killed = time.monotonic()
+                cache.process.kill()
+                for thread in threads:
+                    thread.join()
+                cache.process.communicate()
+                cache.told = "", ""
+            with Cache(folder) as cache:
+                for key, numbers in answered.items():
+                    due = max((number for number, moment in numbers if moment < killed - 1), default=-1)
+                    status, content = cache.ask("GET", key)
+                    number = int(content.split()[0]) if status == 200 else -1
+                    found += [f"{key} has {number}, after {due}"] if number < due or content != b"%d " % number * 100 * (status == 200) else []
+        return found[:5]
+
+
 def reads_to_the_last_whole_record():
     """A log that ends within a line, or with what is none, and a segment that ends within an object."""
     with tempfile.TemporaryDirectory() as place:
@@ -152,14 +191,14 @@ def reads_to_the_last_whole_record():
                 log.write(garbage)
             with Cache(folder) as cache:
                 found += differences((cache.begun.split(", ", 1)[1], "has 3 keys, 3 objects\n"), (cache.ask("GET", "/c") == (200, b"c" * 5000), True))
-                told = f"cache_server: the last {len(garbage)} bytes of the log are no whole lines, and are dropped\n"
+                told = f"cache_server: the log has no complete line in its last {len(garbage)} bytes, which the server drops\n"
                 found += differences((cache.stop()[1], told), (len(texts_of_log(folder)), whole))
         segment, offset, length = sorted(places_of(folder).values(), key=lambda row: row[1])[-1]
         os.truncate(os.path.join(folder, segment), offset + length - 1)
         with Cache(folder) as cache:
             found += differences((cache.begun.split(", ", 1)[1], "has 2 keys, 2 objects\n"), (cache.ask("GET", "/c")[0], 404))
             found += differences((cache.ask("PUT", "/c", b"c" * 5000)[0], 201))
-            found += differences((cache.stop()[1], "cache_server: 1 keys are left out: its object is cut off\n"))
+            found += differences((cache.stop()[1], "cache_server: 1 key left out: its object is cut off\n"))
         with Cache(folder) as cache:
             return found + differences((cache.begun.split(", ", 1)[1], "has 3 keys, 3 objects\n"), (cache.ask("GET", "/c") == (200, b"c" * 5000), True))
 
@@ -214,7 +253,7 @@ def begins_from_an_older_folder():
         for _ in range(2):
             with Cache(folder) as cache:
                 found += differences((cache.begun.split(", ", 1)[1], "has 3 keys, 3 objects\n"), (cache.ask("GET", "/four"), (200, b"four")))
-                found += differences((cache.ask("GET", "/none"), (200, b"")), ("1 keys are left out: its user doesn't exist" in cache.stop()[1], True))
+                found += differences((cache.ask("GET", "/none"), (200, b"")), ("1 key left out: its user doesn't exist" in cache.stop()[1], True))
         return found
 
 
@@ -231,7 +270,7 @@ def ends_where_nothing_can_be_written():
                 _, err = server.communicate(timeout=SECONDS)
             finally:
                 server.kill()
-        return differences((server.returncode, 1), (err.decode(), f"cache_server: {place}/cache can't be written: [Errno 27] File too large\n"))
+        return differences((server.returncode, 1), (err.decode(), f"cache_server: {place}/cache can't be written: file too large\n"))
 
 
 def keeps_what_it_cannot_begin_with():

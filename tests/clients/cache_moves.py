@@ -289,29 +289,29 @@ def refusal(work, *words):
 def writes_from_both_stores():
     """What is written to disk is read from the store that holds it, also if it moves while it is read. A move leaves the order of the keys."""
     with tempfile.TemporaryDirectory() as place:
-        folder, user, large = os.path.join(place, "cache"), User("all", None, 1 << 30), os.urandom(3 << 18)
+        folder, user, large = os.path.join(place, "cache"), User("all", None, 1 << 30), os.urandom(3 << 19)
         files = Files(folder)
         files.read()
         cache = Stores(lambda: Store(PROGRAM, sessions=2), [user], 1 << 30)
         cache.files = files
         for key, content in ("/old", b"abc"), ("/moves", large), ("/gone", b"gone"):
-            cache.put(user, key, len(content), [content])
+            cache.put(user, key, len(content), [content[: 1 << 20], content[1 << 20 :]])
         cache.old, cache.backend = cache.backend, cache.open_backend()
         cache.put(user, "/new", 4, [b"four"])
         cache.drop(user, "/gone")
-        ranges = cache.old.store.ranges
+        fetch_to, has_moved = cache.old.store.fetch_to, []
 
-        def moving_ranges(tenant, address):
-            for number, content in enumerate(ranges(tenant, address)):
-                yield content
-                if number == 1:
-                    for batch in cache.batches(user):
-                        cache.move_batch(user, batch)
+        def fetch_and_move(tenant, address, target):
+            count = fetch_to(tenant, address, target, 0, 1 << 20)
+            for batch in cache.batches(user):
+                cache.move_batch(user, batch)
+            has_moved.append(address)
+            return count + fetch_to(tenant, address, target, count)
 
-        cache.old.store.ranges = moving_ranges
+        cache.old.store.fetch_to = fetch_and_move
         files.start(cache)
         files.end()
-        found = differences((list(user.keys), ["/old", "/moves", "/new"]), (sorted(cache.old.counts[user]), []), (cache.close_old(), True), (len(cache.backends()), 1), (cache.totals(), (3, len(large) + 7)))
+        found = differences((len(has_moved), 1), (list(user.keys), ["/old", "/moves", "/new"]), (sorted(cache.old.counts[user]), []), (cache.close_old(), True), (len(cache.backends()), 1), (cache.totals(), (3, len(large) + 7)))
         cache.close_stores()
         os.close(files.folder)
         files = Files(folder)

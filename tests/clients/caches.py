@@ -201,7 +201,7 @@ def refuses_wrong_words():
         cases += [([word, value], 2, repr(value)) for word, value in (
             ("--port", "70000"), ("--port", "x"), ("--limit", "-1"), ("--most", "5x"), ("--sessions", "0"), ("--sessions", "65"), ("--journal-limit", "-1"),
         )]
-        cases += [(["--port", port], 1, "in use"), (["--program", "/no/program"], 1, "/no/program"), (["--program", "true"], 3, "the store has ended")]
+        cases += [(["--port", port], 1, f"port {port}: address already in use"), (["--program", "/no/program"], 1, "/no/program"), (["--program", "true"], 3, "the store has ended")]
         for words, status, part in cases:
             command = [sys.executable, os.path.join(TOP, "examples", "cache_server.py"), os.path.join(place, "cache"), "--port", "0", "--program", PROGRAM, *words]
             run = subprocess.run(command, capture_output=True, timeout=SECONDS)
@@ -230,7 +230,7 @@ def ends_with_its_store():
             cache.ask("PUT", "/k", b"abc")
         for method, key, body in ("GET", "/k", None), ("HEAD", "/k", None), ("PUT", "/l", b"four"), ("DELETE", "/k", None), ("GET", "/none", None):
             cache, answer = ask_without_store(lambda: Cache(folder), method, key, body)
-            found += differences((cache.begun.split(", ", 1)[1], "has 1 keys, 1 objects\n"), (answer and answer[0], 503), (cache.process.returncode, 3))
+            found += differences((cache.begun.split(", ", 1)[1], "has 1 key, 1 object\n"), (answer and answer[0], 503), (cache.process.returncode, 3))
             found += differences((cache.told[1], "cache_server: the store has ended; its exit status is -9\n"))
         return found
 

@@ -93,7 +93,7 @@ def finds_changed_packs():
         cases = (
             (truncate, pack, f"wrong: {addresses[-1]} in {pack}: the pack is truncated", 1, False),
             (flip, pack, f"wrong: {addresses[-1]} in {pack}: S11: ", 1, False),
-            (os.remove, pack, f"wrong: {addresses[0]} in {pack}: No such file or directory", 1, False),
+            (os.remove, pack, f"wrong: {addresses[0]} in {pack}: no such file or directory", 1, False),
             (change_digit, pack, f"wrong: {pack}: before object {addresses[0]}", 1, True),
             (os.remove, index, f"missing: {index}, which the next save makes", 0, True),
             (truncate, index, f"wrong: {index}: ", 1, True),
@@ -242,7 +242,7 @@ def writes_that_fail():
             run = subprocess.run([*limited, "save", folder, repository], capture_output=True, timeout=SECONDS)
             lines = run.stderr.decode().splitlines()
             found += differences((run.returncode, 1 if limit < 100000 else 0), (len(lines), int(limit < 100000)), (b"left out" in run.stdout, False))
-            found += [] if limit > 100000 or "File too large" in lines[-1] else [lines[-1]]
+            found += [] if limit > 100000 or "file too large" in lines[-1] else [lines[-1]]
             found += differences((names_of(repository, ".new"), []), (backup("check", repository)[0], 0))
             found += differences((restores(repository, address, state), True))
         return found

@@ -1,0 +1,188 @@
+"""HTTP/1.1 of one connection: reads requests and their bodies, and writes the heads of answers (cache_server.py).
+
+`http.server` reads headers as those of a mail, which takes most of the time of a small answer, and splits a request's first line at any white space, so that
+keys of raw bytes become others. Here a key is what is between the two spaces of the first line, and headers are kept by names in lower case.
+"""
+import email.utils
+import http
+import http.server
+import re
+import socket
+import struct
+import sys
+import time
+
+REQUEST_LINE = re.compile(r"([!-~]+) ([^ ]+) HTTP/([0-9])\.([0-9])")
+HEADER_NAME = re.compile("[!-9;-~]+")
+NUMBER = re.compile("[0-9]{1,19}")
+CHUNK_LINE = re.compile(rb"([0-9a-fA-F]{1,15})[ \t]*(?:;[^\n]*)?\r?\n")
+MAX_LINE = 1 << 16
+MAX_HEADERS = 100
+SECONDS_OF_SILENCE = 60
+WRITTEN_AT_ONCE = 1 << 16
+"""Headers and a small content are sent by one write."""
+PHRASES = {status.value: status.phrase for status in http.HTTPStatus}
+
+
+class Cut(Exception):
+    """A request's body is truncated or malformed."""
+
+
+class Malformed(Exception):
+    """A request that can't be read. `status` is that of the answer."""
+
+    def __init__(self, status):
+        super().__init__(status)
+        self.status = status
+
+
+class Connection(http.server.BaseHTTPRequestHandler):
+    """One connection. A class made of it has a method for each method of HTTP, such as `do_GET`."""
+
+    protocol_version = "HTTP/1.1"
+    disable_nagle_algorithm = True
+    wbufsize = WRITTEN_AT_ONCE
+    date = (0, "")
+    """A second, and its text."""
+
+    def setup(self):
+        super().setup()
+        # the system ends a silent read or write; a timeout of Python's would poll before each
+        for option in socket.SO_RCVTIMEO, socket.SO_SNDTIMEO:
+            self.connection.setsockopt(socket.SOL_SOCKET, option, struct.pack("ll", SECONDS_OF_SILENCE, 0))
+
+    def parse_request(self):
+        """Reads a request's first line and its headers. A request that isn't complete is not answered, and nothing is done for it."""
+        self.requestline, self.command, self.close_connection, self.headers = "", None, True, {}
+        try:
+            line = self.text_of(self.raw_requestline)
+            if line == "":
+                line = self.text_of(self.rfile.readline(MAX_LINE + 1))
+            if line is None:
+                return False
+            found = REQUEST_LINE.fullmatch(line)
+            if not found:
+                raise Malformed(400)
+            self.requestline, (self.command, self.path, major, minor) = line, found.groups()
+            if major != "1":
+                raise Malformed(505)
+            return self.read_headers() and self.begin_body(minor == "0")
+        except Malformed as fault:
+            self.send_head(fault.status, ["Content-Length: 0", "Connection: close"])
+            return False
+
+    @staticmethod
+    def text_of(line):
+        """A line's text, without its end; None if it is not complete."""
+        if len(line) > MAX_LINE:
+            raise Malformed(431)
+        if not line.endswith(b"\n"):
+            return None
+        return line[: -2 if line.endswith(b"\r\n") else -1].decode("latin-1")
+
+    def read_headers(self):
+        """Reads the headers. Returns whether they are complete."""
+        for _ in range(MAX_HEADERS + 1):
+            line = self.text_of(self.rfile.readline(MAX_LINE + 1))
+            if not line:
+                return line is not None
+            name, colon, value = line.partition(":")
+            if not colon or not HEADER_NAME.fullmatch(name):
+                raise Malformed(400)
+            name, value = name.lower(), value.strip(" \t")
+            self.headers[name] = f"{self.headers[name]}, {value}" if name in self.headers else value
+        raise Malformed(431)
+
+    def begin_body(self, is_old):
+        """Finds out whether the connection is kept after the request, and how long its body is: `length` is None for chunks, or if it isn't told."""
+        words = self.headers.get("connection", "").lower()
+        coding, length = self.headers.get("transfer-encoding"), self.headers.get("content-length")
+        if coding is not None and (length is not None or coding.lower() != "chunked"):
+            raise Malformed(400 if length is not None else 501)
+        if length is not None and not NUMBER.fullmatch(length):
+            raise Malformed(400)
+        self.has_chunks, self.length = coding is not None, None if length is None else int(length)
+        # bytes that a method doesn't read must not be taken for a request
+        is_left = self.command != "PUT" and (self.has_chunks or bool(self.length))
+        self.close_connection = is_left or "close" in words or (is_old and "keep-alive" not in words)
+        if self.headers.get("expect", "").lower() == "100-continue" and not is_old:
+            self.wfile.write(b"HTTP/1.1 100 Continue\r\n\r\n")
+            self.wfile.flush()
+        return True
+
+    def body(self, part_len):
+        """Yields the request's body in parts of one length, of which only the last may be shorter."""
+        if self.has_chunks:
+            yield from parts_of(http_chunks(self.rfile), part_len)
+            return
+        for start in range(0, self.length, part_len):
+            part = bytearray(min(part_len, self.length - start))
+            if self.rfile.readinto(part) != len(part):
+                raise Cut
+            yield part
+
+    def send_head(self, status, lines):
+        """Writes the head of an answer. It is sent with what is written next, or at the request's end."""
+        self.log_request(status)
+        now = int(time.time())
+        if now != Connection.date[0]:
+            Connection.date = now, email.utils.formatdate(now, usegmt=True)
+        head = [f"HTTP/1.1 {status} {PHRASES[status]}", f"Date: {Connection.date[1]}", *lines, "\r\n"]
+        self.wfile.write("\r\n".join(head).encode("latin-1"))
+
+    def send_error(self, code, message=None, explain=None):
+        """Answers a request that http.server itself refuses."""
+        self.close_connection = True
+        self.send_head(int(code), ["Content-Length: 0", "Connection: close"])
+        self.wfile.flush()
+
+    def log_message(self, *_):
+        pass
+
+
+class Server(http.server.ThreadingHTTPServer):
+    """Answers each connection in a thread."""
+
+    daemon_threads = True
+    request_queue_size = 128
+
+    def handle_error(self, request, client_address):
+        """Reports what ended a connection, unless the client or its silence did."""
+        fault = sys.exc_info()[1]
+        if not isinstance(fault, OSError):
+            print(f"cache_server: a request failed: {type(fault).__name__}: {fault}", file=sys.stderr, flush=True)
+
+
+def http_chunks(file):
+    """Yields the content of a body in HTTP's chunks, in pieces."""
+    while True:
+        found = CHUNK_LINE.fullmatch(file.readline(MAX_LINE))
+        if not found:
+            raise Cut
+        left = int(found[1], 16)
+        if left == 0:
+            break
+        while left > 0:
+            piece = file.read1(min(MAX_LINE, left))
+            if not piece:
+                raise Cut
+            left -= len(piece)
+            yield piece
+        if file.readline(3) not in (b"\r\n", b"\n"):
+            raise Cut
+    for _ in range(MAX_HEADERS):
+        if file.readline(MAX_LINE) in (b"\r\n", b"\n"):
+            return
+    raise Cut
+
+
+def parts_of(pieces, part_len):
+    """Yields the same bytes in parts of one length, of which only the last may be shorter."""
+    part = bytearray()
+    for piece in pieces:
+        part += piece
+        while len(part) >= part_len:
+            yield part[:part_len]
+            del part[:part_len]
+    if part:
+        yield part

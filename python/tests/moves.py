@@ -1,0 +1,78 @@
+"""Objects that are written to descriptors."""
+import os
+import socket
+import tempfile
+import threading
+
+from shared import FOUR, PROGRAM, differences, ended, raised, refusal, script_of
+from b3store import Refused, Store
+from b3store import sessions
+
+LENGTH = 1000003
+"""No whole number of ranges."""
+
+
+def to_files(store, content, address):
+    """Writes ranges of an object to files, and compares them with the same bytes."""
+    found = []
+    for mode in "wb+", "ab+":
+        for first, length in (0, LENGTH), (5, 700000), (LENGTH - 3, 100), (LENGTH, 5), (LENGTH + 5, 5), (7, 0), (0, 1 << 40):
+            with tempfile.NamedTemporaryFile(mode) as file:
+                wanted = content[first : first + length]
+                count = store.fetch_to(0, address, file.fileno(), first, length)
+                with open(file.name, "rb") as again:
+                    found += [] if (count, again.read()) == (len(wanted), wanted) else [f"{mode} {first} {length}: {count} bytes"]
+    return found
+
+
+def to_a_slow_socket(store, content, address):
+    """Another thread's commands go on, though there is one session and nobody reads the socket."""
+    ours, theirs = socket.socketpair()
+    with ours, theirs:
+        found = differences((raised(lambda: store.fetch_to(0, address, ours.fileno(), seconds=0.2)), TimeoutError), (os.get_blocking(ours.fileno()), True))
+    ours, theirs = socket.socketpair()
+    with ours, theirs:
+        writer = threading.Thread(target=lambda: (store.fetch_to(0, address, ours.fileno()), ours.shutdown(socket.SHUT_WR)))
+        writer.start()
+        found += differences((store.fetch(0, address) == content, True), (writer.is_alive(), True))
+        found += differences((b"".join(iter(lambda: theirs.recv(1 << 16), b"")) == content, True))
+        writer.join()
+    return found
+
+
+def writes_to_descriptors():
+    """With the system's way to move bytes and without it; what can't be written to leaves the store as it is."""
+    content, found, splice = os.urandom(LENGTH), [], sessions._splice
+    for way in splice, None:
+        sessions._splice = way
+        try:
+            with Store(PROGRAM, sessions=1) as store, open("/dev/full", "wb") as full, open(os.devnull, "rb") as readable:
+                address = store.upload(content, store.tenant()).address
+                found += to_files(store, content, address) + to_a_slow_socket(store, content, address)
+                reading, broken = os.pipe()
+                os.close(reading)
+                for target, fault in (full.fileno(), OSError), (readable.fileno(), OSError), (broken, BrokenPipeError), (1 << 20, OSError), ("1", TypeError):
+                    found += differences((raised(store.fetch_to, 0, address, target), fault))
+                os.close(broken)
+                found += differences((raised(store.fetch_to, 0, address, 1, -1), ValueError), (refusal(store.fetch_to, 0, FOUR, 1), ("S12", None)))
+                found += differences((raised(store.fetch_to, 1, address, 1), Refused), (store.fetch(0, address) == content, True))
+        finally:
+            sessions._splice = splice
+    return found
+
+
+def ends_within_an_object():
+    """Stores that end, or answer nonsense, while an object is written."""
+    found = []
+    with tempfile.TemporaryDirectory() as place, open(os.devnull, "wb") as nowhere:
+        for answer in r"bytes 262144\nabc", r"byt", r"bytes 262145\n", r"bytes x\n", r"held 5\n", "":
+            with Store(script_of(place, f"read -r line; printf '{answer}'; exit 7"), sessions=1) as store:
+                found += [] if ended(store.fetch_to, 0, FOUR, nowhere.fileno()) else [f"{answer!r}: the store goes on"]
+                found += differences((store.alive, False))
+    return found
+
+
+CASES = (
+    ("objects written to descriptors", writes_to_descriptors),
+    ("stores that end within an object", ends_within_an_object),
+)

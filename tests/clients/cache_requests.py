@@ -1,0 +1,126 @@
+"""Requests to examples/cache_server.py as a client writes them that makes mistakes, or has a reason to."""
+import os
+import socket
+import tempfile
+
+from servers import Cache, raw_answer
+from shared import ABC, FOUR, SECONDS, differences
+
+CLOSE = b"Connection: close\r\n"
+WRONG = (
+    ("a length of many digits", b"PUT /k HTTP/1.1\r\nContent-Length: " + b"9" * 5000 + b"\r\n\r\n", 400),
+    ("two lengths", b"PUT /k HTTP/1.1\r\nContent-Length: 3\r\nContent-Length: 4\r\n\r\nabcd", 400),
+    ("a length and chunks", b"PUT /k HTTP/1.1\r\nContent-Length: 3\r\nTransfer-Encoding: chunked\r\n\r\n3\r\nabc\r\n0\r\n\r\n", 400),
+    ("another coding", b"PUT /k HTTP/1.1\r\nTransfer-Encoding: gzip\r\n\r\nabc", 501),
+    ("a chunk of fewer than no bytes", b"PUT /k HTTP/1.1\r\nTransfer-Encoding: chunked\r\n\r\n-3\r\nabc\r\n0\r\n\r\n", 400),
+    ("a chunk's length with a prefix", b"PUT /k HTTP/1.1\r\nTransfer-Encoding: chunked\r\n\r\n0x3\r\nabc\r\n0\r\n\r\n", 400),
+    ("a chunk that is longer than its length", b"PUT /k HTTP/1.1\r\nTransfer-Encoding: chunked\r\n\r\n3\r\nabcd\r\n0\r\n\r\n", 400),
+    ("no version", b"GET /d\r\n\r\n", 400),
+    ("another version", b"PRI * HTTP/2.0\r\n\r\n", 505),
+    ("another method", b"BREW /d HTTP/1.1\r\n\r\n", 501),
+    ("no words", bytes(range(128, 228)) + b"\n\n", 400),
+    ("a long line", b"GET /" + b"a" * 100000 + b" HTTP/1.1\r\n\r\n", 414),
+    ("many headers", b"GET /d HTTP/1.1\r\n" + b"".join(b"X%d: y\r\n" % number for number in range(200)) + b"\r\n", 431),
+    ("a header in two lines", b"GET /d HTTP/1.1\r\nX: y\r\n z\r\n\r\n", 400),
+    ("a header without a value", b"GET /d HTTP/1.1\r\nX\r\n\r\n", 400),
+    ("a space after a header's name", b"PUT /d HTTP/1.1\r\nContent-Length : 3\r\n\r\nabc", 400),
+)
+
+
+def status_of(answer):
+    """The status of an answer's first line; None if there is no answer."""
+    words = answer.split(b" ", 2)
+    return int(words[1]) if words[0] == b"HTTP/1.1" else None
+
+
+def answer_of_half(port, request):
+    """What a server answers to a request after which the client sends nothing more."""
+    with socket.create_connection(("127.0.0.1", port), timeout=SECONDS) as connection:
+        connection.sendall(request)
+        connection.shutdown(socket.SHUT_WR)
+        return b"".join(iter(lambda: connection.recv(4096), b""))
+
+
+def refuses_wrong_requests():
+    """Each is refused, changes nothing, and ends its connection; the server reports none of them."""
+    with tempfile.TemporaryDirectory() as place, Cache(os.path.join(place, "cache")) as cache:
+        found = differences((cache.ask("PUT", "/d", b"abc")[0], 201))
+        for name, request, status in WRONG:
+            told = status_of(answer_of_half(cache.port, request))
+            found += [] if told == status else [f"{name}: {told}"]
+        found += differences((cache.ask("GET", "/d"), (200, b"abc")), (cache.ask("GET", "/k"), (404, b"")))
+        return found + differences((cache.stop()[1], ""))
+
+
+def does_nothing_for_half_a_request():
+    """Nor for bytes that are the body of another one."""
+    with tempfile.TemporaryDirectory() as place, Cache(os.path.join(place, "cache")) as cache:
+        found = differences((cache.ask("PUT", "/d", b"abc")[0], 201))
+        for half in b"DELETE /d HTTP/1.1\r\n", b"DELETE /d HTTP/1.1\r\nHost: x", b"DELETE /d HTT":
+            found += differences((answer_of_half(cache.port, half), b""))
+        hidden = b"DELETE /d HTTP/1.1\r\n\r\n"
+        inside = raw_answer(cache.port, b"GET /d HTTP/1.1\r\nContent-Length: %d\r\n\r\n%s" % (len(hidden), hidden))
+        found += differences((status_of(inside), 200), (inside.count(b"HTTP/1.1"), 1))
+        return found + differences((cache.ask("GET", "/d"), (200, b"abc")))
+
+
+def keeps_keys_apart():
+    """Keys are bytes: those that differ in one byte are different, whatever it is."""
+    with tempfile.TemporaryDirectory() as place, Cache(os.path.join(place, "cache")) as cache:
+        keys = [b"/\xc3" + bytes([last]) for last in range(256) if last not in b" \n"] + [b"/\xc3", b"//\xc3"]
+        head = b" HTTP/1.1\r\n" + CLOSE
+        found = [key for key in keys if status_of(raw_answer(cache.port, b"PUT " + key + head + b"Content-Length: 4\r\n\r\n" + key.rjust(4, b"."))) != 201]
+        found += [key for key in keys if not raw_answer(cache.port, b"GET " + key + head + b"\r\n").endswith(b"\r\n\r\n" + key.rjust(4, b"."))]
+        return [f"{key}: wrong" for key in found[:5]]
+
+
+def asks_for_the_body():
+    """A client that waits to be asked for its body, as curl does, is asked at once."""
+    with tempfile.TemporaryDirectory() as place, Cache(os.path.join(place, "cache")) as cache:
+        with socket.create_connection(("127.0.0.1", cache.port), timeout=SECONDS) as connection:
+            connection.sendall(b"PUT /k HTTP/1.1\r\nExpect: 100-continue\r\nContent-Length: 3\r\n" + CLOSE + b"\r\n")
+            found = differences((connection.recv(4096), b"HTTP/1.1 100 Continue\r\n\r\n"))
+            connection.sendall(b"abc")
+            found += differences((status_of(connection.recv(4096)), 201))
+        return found + differences((cache.ask("GET", "/k"), (200, b"abc")))
+
+
+def takes_long_extensions():
+    """What follows the length of a chunk is no content."""
+    request = b"PUT /k HTTP/1.1\r\nTransfer-Encoding: chunked\r\n" + CLOSE + b"\r\n3;" + b"e" * 200 + b"\r\nabc\r\n0\r\nX: y\r\n\r\n"
+    with tempfile.TemporaryDirectory() as place, Cache(os.path.join(place, "cache")) as cache:
+        return differences((status_of(raw_answer(cache.port, request)), 201), (cache.ask("GET", "/k"), (200, b"abc")))
+
+
+def compares_addresses():
+    """With `--compare` a key that has an address gets no other content, in one part, in several, or in chunks."""
+    with tempfile.TemporaryDirectory() as place, Cache(os.path.join(place, "cache"), words=["--compare"]) as cache:
+        large = os.urandom(1500000)
+        cache.ask("PUT", "/large", large)
+        address = cache.ask("HEAD", "/large") and etag(cache.port, "/large")
+        chunked = {"Transfer-Encoding": "chunked"}
+        found = differences(
+            (cache.ask("PUT", f"/cas/{ABC}", b"abc")[0], 201), (cache.ask("PUT", f"/cas/{ABC}", b"abd")[0], 400),
+            (cache.ask("GET", f"/cas/{ABC}"), (200, b"abc")), (cache.ask("PUT", f"/x/cas/blake3/{FOUR}", b"abc")[0], 400),
+            (cache.ask("PUT", f"/cas/{address}", large)[0], 201), (cache.ask("PUT", f"/cas/{address}", large[:-1] + b"x")[0], 400),
+            (cache.ask("PUT", f"/cas/{FOUR}", iter([b"ab", b"c"]), None, chunked)[0], 400), (cache.ask("GET", f"/cas/{FOUR}"), (404, b"")),
+            (cache.ask("PUT", f"/cas/{ABC}", iter([b"ab", b"c"]), None, chunked)[0], 201), (cache.ask("PUT", f"/ac/{ABC}", b"four")[0], 201),
+        )
+    with tempfile.TemporaryDirectory() as place, Cache(os.path.join(place, "cache")) as cache:
+        return found + differences((cache.ask("PUT", f"/cas/{ABC}", b"abd")[0], 201))
+
+
+def etag(port, key):
+    """The address of a key's content."""
+    answer = raw_answer(port, f"HEAD {key} HTTP/1.1\r\nConnection: close\r\n\r\n".encode())
+    return answer.split(b'ETag: "')[1][:64].decode()
+
+
+CASES = (
+    ("a cache's wrong requests", refuses_wrong_requests),
+    ("a cache's half requests", does_nothing_for_half_a_request),
+    ("a cache's keys that differ in a byte", keeps_keys_apart),
+    ("a cache's clients that wait to be asked", asks_for_the_body),
+    ("a cache's chunks with more words", takes_long_extensions),
+    ("a cache that compares addresses", compares_addresses),
+)
