@@ -71,7 +71,11 @@ def output_to(path: Optional[str]) -> Iterator[Callable[[memoryview], None]]:
         return
     is_special = os.path.exists(path) and not os.path.isfile(path)
     aside = path if is_special else f"{path}.{os.getpid()}.part"
-    with open(aside, "wb" if is_special else "xb", buffering=0) as file:
+    try:
+        file = open(aside, "wb" if is_special else "xb", buffering=0)
+    except OSError as fault:
+        raise type(fault)(fault.errno, fault.strerror, path) from None
+    with file:
         try:
             yield writer(file.fileno(), path)
             if not is_special:

@@ -42,6 +42,8 @@ def puts_and_gets():
         copy = os.path.join(place, "copy")
         found += differences((client("get", address, "-o", copy), (0, b"", "")), (open(copy, "rb").read() == content, True))
         found += differences((client("get", ABC, "--output", copy), (0, b"", "")), (open(copy, "rb").read(), b"abc"), (client("get", ABC, "-o", "/dev/null"), (0, b"", "")), (client("get", ABC, "-o", "-"), (0, b"abc", "")))
+        nowhere = os.path.join(place, "none", "copy")
+        found += differences((client("get", ABC, "-o", nowhere), (3, b"", f"b3store: {nowhere}: no such file or directory\n")))
         found += differences((client("has", ABC), (0, f"{ABC} 3\n".encode(), "")), (client("has", "0" * 64, ABC), (1, f"{ABC} 3\n".encode(), "")))
         rows = f"{ABC} 3\n{address} {len(content)}\n{FOUR} 4\n{EMPTY} 0\n"
         found += differences((client("ls"), (0, rows.encode(), "")), (client("rm", FOUR, EMPTY), (0, b"", "")), (client("ls", "--tenant", "0"), (0, rows[: -67 - 67].encode(), "")))
