@@ -94,14 +94,8 @@ fn read_and_verify(rt: HostRuntime) -> Result<(), Fail> {
         Ok(counts) => counts,
         Err(_) => return Err(Fail::new("no counts")),
     };
-    assert_eq!(rt;
-        (
-            file.lines().len(),
-            text.len(),
-            counts.missing,
-            counts.faults
-        ),
-        (3, 0, 2, 1)
+    assert!(rt;
+        file.lines().len() == 3 && text.len() == 0 && counts.missing == 2 && counts.faults == 1
     );
     Ok(())
 }

@@ -178,7 +178,7 @@ fn texts_show_no_key(rt: HostRuntime) -> Result<(), Fail> {
     let text = format!(in rt.alloc(); "{mode:?} {node:?} {parent:?}")?;
     assert_eq!(rt;
         text.as_str(),
-        "Mode(keyed_hash) Top { counter: 0, block_len: 3, flags: 19 } Top { counter: 0, block_len: 64, flags: 20 }"
+        "Mode(keyed_hash) Top { counter: 0, block_len: 3, flags: 19 } Top { counter: 0, block_len: 64, flags: 20 }",
     );
     Ok(())
 }

@@ -115,7 +115,7 @@ fn the_end_is_an_error(rt: HostRuntime) -> Result<(), Fail> {
     let text = format!(in rt.alloc(); "{end}, {} of {reader:?}", end.code())?;
     assert_eq!(rt;
         text.as_str(),
-        "H1: the output ends at 2^64-1 bytes, H1 of OutputReader { position: 18446744073709551615 }"
+        "H1: the output ends at 2^64-1 bytes, H1 of OutputReader { position: 18446744073709551615 }",
     );
     Ok(())
 }

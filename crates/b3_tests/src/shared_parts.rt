@@ -82,12 +82,12 @@ fn shared_parts_are_as_made_ones(rt: HostRuntime) -> Result<(), Fail> {
         let made = made(alloc, offset, len, &mut work)?;
         assert_eq!(rt;
             shared(alloc, offset, len, &mut work)?.as_str(),
-            made.as_str()
+            made.as_str(),
         );
         for stretch_len in [1usize, 1000, 1024, 2048, 4096] {
             assert_eq!(rt;
                 prepared(alloc, stretch_len, offset, len, &mut work)?.as_str(),
-                made.as_str()
+                made.as_str(),
             );
         }
     }
@@ -112,13 +112,13 @@ fn stretches_are_shared_where_they_are_parts(rt: HostRuntime) -> Result<(), Fail
                 .prepare(alloc, &plan, offset, len, &mut work)
                 .ok()
                 .ok_or("refused")?;
-            assert_eq!(rt; part.into_bytes().is_err(), is_shared);
+            assert!(rt; part.into_bytes().is_err() == is_shared);
         }
         let part = borrowed
             .prepare(alloc, &plan, 2048, 1, &mut work)
             .ok()
             .ok_or("refused")?;
-        assert_eq!(rt; part.into_bytes().is_err(), stretch_len != 1000);
+        assert!(rt; part.into_bytes().is_err() == (stretch_len != 1000));
     }
     Ok(())
 }

@@ -34,7 +34,7 @@ fn a_sum_is_checked(rt: HostRuntime) -> Result<(), Fail> {
     };
     let verdict = check(alloc, options, &mut names, &mut list, &mut report)?;
     let wanted: &[u8] = b"missing notes.txt\ngood 0 bad 0 missing 1 unreadable 0 faults 0\n";
-    assert_eq!(rt; verdict, Verdict::Refused);
+    assert!(rt; verdict == Verdict::Refused);
     assert!(rt; report.as_slice() == wanted);
     Ok(())
 }
@@ -73,8 +73,8 @@ fn a_name_without_memory_is_the_last(rt: HostRuntime) -> Result<(), Fail> {
         ignores_missing: false,
     };
     let ended = check(rt.alloc(), options, &mut names, &mut reader, &mut writer);
-    assert_eq!(rt; ended, Err(Cause::OutOfMemory));
-    assert_eq!(rt; names.calls, 1);
+    assert!(rt; ended == Err(Cause::OutOfMemory));
+    assert!(rt; names.calls == 1);
     assert!(rt; writer.is_empty());
     Ok(())
 }

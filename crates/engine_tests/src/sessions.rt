@@ -83,10 +83,7 @@ fn serve_side_by_side<
         move || is_answered(rt, both, other, other_front, OTHER, OTHER_ANSWERS),
     );
     let (share, front, is_paged) = is_answered(rt, both, share, front, PAGES, PAGES_ANSWERS);
-    assert_eq!(rt;
-        (is_begun, is_put, is_put_too, is_paged),
-        (true, true, true, true)
-    );
+    assert!(rt; is_begun && is_put && is_put_too && is_paged);
     let mut share = share;
     let mut locked = shared.close();
     let seen = locked.longer(one_front, other_front);
@@ -95,7 +92,7 @@ fn serve_side_by_side<
     locked.join(&mut share, own);
     locked.join(&mut share, other);
     let all = Accepted { bytes: 8, calls: 3 };
-    assert_eq!(rt; locked.settle(&mut share), Ok(all));
+    assert!(rt; locked.settle(&mut share) == Ok(all));
 }
 
 #[test]

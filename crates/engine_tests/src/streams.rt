@@ -154,8 +154,8 @@ fn each_read_that_fails_is_reported(rt: HostRuntime) {
             let mut writer = ByteWriter::new(rt.alloc(), u64::MAX);
             let found = ended(&rt, engine, &mut names, &mut reader, &mut writer);
             assert_eq!(rt; found, Err(Cause::CannotRead), "{engine:?} {fails_at}");
-            assert_eq!(rt; names.calls, 0);
-            assert_eq!(rt; writer.taken.as_slice(), answered(engine, fails_at));
+            assert!(rt; names.calls == 0);
+            assert!(rt; writer.taken.as_slice() == answered(engine, fails_at));
         }
     }
 }
@@ -189,7 +189,7 @@ fn one_byte_a_call_and_interruptions_are_no_fault(rt: HostRuntime) {
                 Verdict::Good
             };
             assert_eq!(rt; found, Ok(verdict), "{engine:?} {is_interrupted}");
-            assert_eq!(rt; writer.taken.as_slice(), output(engine));
+            assert!(rt; writer.taken.as_slice() == output(engine));
         }
     }
 }
@@ -210,7 +210,7 @@ fn a_long_input_is_read_on_after_interruptions(rt: HostRuntime) -> Result<(), Fa
     let mut writer = ByteWriter::new(rt.alloc(), u64::MAX);
     let mut work = Work::new(&rt);
     let found = sum(&threads, &PLAIN, &mut reader, &mut writer, &mut work);
-    assert_eq!(rt; found, Ok(()));
-    assert_eq!(rt; writer.taken.as_slice(), LONG_LINE);
+    assert!(rt; found == Ok(()));
+    assert!(rt; writer.taken.as_slice() == LONG_LINE);
     Ok(())
 }

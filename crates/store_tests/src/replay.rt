@@ -81,7 +81,7 @@ fn all_that_a_journal_leaves_is_listed(rt: HostRuntime) -> Result<(), Fail> {
     let totals = replayed.totals();
     let mut copy = Vec::new(alloc);
     write_journal(entries.as_slice(), &mut copy)?;
-    assert_eq!(rt; copy.as_slice(), text);
+    assert!(rt; copy.as_slice() == text);
     let left = left_text(alloc, &replayed, totals)?;
     assert_eq!(rt; left.as_str(), LEFT);
     Ok(())

@@ -186,13 +186,10 @@ state > objects 0 bytes 0 uploads 0 held 0 parts 0 journal 10 [0 0]
 fn refusals_have_numbers(rt: HostRuntime) -> Result<(), Fail> {
     let (overlap, bad) = (Refusal::Overlap { at: 5 }, BadLimits);
     let text = format!(in rt.alloc(); "{overlap}; {bad}")?;
-    assert_eq!(rt;
-        (text.as_str(), overlap.code(), bad.code()),
-        (
-            "S9 at 5; S0: a limit is zero, or more than a store takes",
-            "S9",
-            "S0"
-        )
+    assert!(rt;
+        text.as_str() == "S9 at 5; S0: a limit is zero, or more than a store takes"
+            && overlap.code() == "S9"
+            && bad.code() == "S0"
     );
     Ok(())
 }

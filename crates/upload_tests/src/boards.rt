@@ -62,9 +62,9 @@ fn seats_draw_in_turn(rt: HostRuntime) -> Result<(), Fail> {
     let drawn = drawn_in_turn(&board, &mut first, &mut second);
     let seen = seen_and_drawn(&board, &mut first, &mut second);
     let end = board.close(vec![in rt.alloc(); first, second]?);
-    assert_eq!(rt; drawn, [Some(0), Some(1), Some(2), None, None, None]);
-    assert_eq!(rt; seen, (false, true, None));
-    assert_eq!(rt; (end.handed, end.spent), (3, true));
+    assert!(rt; drawn == [Some(0), Some(1), Some(2), None, None, None]);
+    assert!(rt; seen == (false, true, None));
+    assert!(rt; end.handed == 3 && end.spent);
     Ok(())
 }
 
@@ -76,8 +76,8 @@ fn a_stopped_board_draws_on(rt: HostRuntime) -> Result<(), Fail> {
     let drawn = claimed(&board, &mut first);
     let seen = seen_and_drawn(&board, &mut second, &mut first);
     let end = board.close(vec![in rt.alloc(); first, second]?);
-    assert_eq!(rt; (drawn, seen), (Some(0), (false, true, Some(1))));
-    assert_eq!(rt; (end.handed, end.spent), (2, false));
+    assert!(rt; drawn == Some(0) && seen == (false, true, Some(1)));
+    assert!(rt; end.handed == 2 && !end.spent);
     Ok(())
 }
 
@@ -85,9 +85,9 @@ fn a_stopped_board_draws_on(rt: HostRuntime) -> Result<(), Fail> {
 fn an_empty_board_is_spent(rt: HostRuntime) -> Result<(), Fail> {
     let (board, mut seats) = Board::new(rt.alloc(), 0, 1)?;
     let mut seat = seats.pop().expect(&rt, "one seat");
-    assert_eq!(rt; claimed(&board, &mut seat), None);
+    assert!(rt; claimed(&board, &mut seat) == None);
     let drawn = board.close(vec![in rt.alloc(); seat]?);
-    assert_eq!(rt; (drawn.handed, drawn.spent), (0, true));
+    assert!(rt; drawn.handed == 0 && drawn.spent);
     Ok(())
 }
 
@@ -101,14 +101,11 @@ fn seats_of(rt: &impl AllocGlobal, parts: u64, seats: u64) -> Result<usize, Boar
 
 #[test]
 fn counts_are_limited(rt: HostRuntime) {
-    assert_eq!(rt; seats_of(&rt, 17_179_869_184, 1), Ok(1));
-    assert_eq!(rt;
-        seats_of(&rt, 17_179_869_185, 0),
-        Err(BoardRefusal::TooManyParts)
-    );
-    assert_eq!(rt; seats_of(&rt, 1, 16), Ok(16));
-    assert_eq!(rt; seats_of(&rt, 1, 17), Err(BoardRefusal::BadSeats));
-    assert_eq!(rt; seats_of(&rt, 1, 0), Err(BoardRefusal::BadSeats));
+    assert!(rt; seats_of(&rt, 17_179_869_184, 1) == Ok(1));
+    assert!(rt; seats_of(&rt, 17_179_869_185, 0) == Err(BoardRefusal::TooManyParts));
+    assert!(rt; seats_of(&rt, 1, 16) == Ok(16));
+    assert!(rt; seats_of(&rt, 1, 17) == Err(BoardRefusal::BadSeats));
+    assert!(rt; seats_of(&rt, 1, 0) == Err(BoardRefusal::BadSeats));
 }
 
 // Draws until nothing is left, and counts each number that was drawn.

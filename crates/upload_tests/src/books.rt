@@ -17,21 +17,18 @@ fn share_and_book<L: Ledgers, R: Abort>(rt: &R, bytes: Blank, calls: Blank)
     let split = (share.parts(), other.parts());
     let is_recorded = book.record(&mut other, 5).is_ok();
     let recorded = (other.bytes(), other.calls());
-    assert_eq!(rt;
-        (split, is_recorded, recorded),
-        ((ALL_PARTS - 3, 3), true, (5, 1))
-    );
+    assert!(rt; split == (ALL_PARTS - 3, 3) && is_recorded && recorded == (5, 1));
     let missing = NotWhole { bytes: 5, calls: 1 };
-    assert_eq!(rt; book.settle(&mut share), Err(missing));
+    assert!(rt; book.settle(&mut share) == Err(missing));
     share.join(other);
     let accepted = Accepted { bytes: 5, calls: 1 };
-    assert_eq!(rt; book.settle(&mut share), Ok(accepted));
+    assert!(rt; book.settle(&mut share) == Ok(accepted));
     // Far too many bytes, and one byte too many.
     let far = book.record(&mut share, u64::MAX);
     let near = book.record(&mut share, u64::MAX - 4);
-    assert_eq!(rt; (far, near), (Err(BookFull), Err(BookFull)));
-    assert_eq!(rt; (share.bytes(), share.calls()), (5, 1));
-    assert_eq!(rt; book.accepted(&mut share), accepted);
+    assert!(rt; far == Err(BookFull) && near == Err(BookFull));
+    assert!(rt; share.bytes() == 5 && share.calls() == 1);
+    assert!(rt; book.accepted(&mut share) == accepted);
 }
 
 #[test]
@@ -49,13 +46,10 @@ fn joined_at_the_book<L: Ledgers, R: Abort>(rt: &R, bytes: Blank, calls: Blank)
     let is_filled = book.record(&mut share, 7).is_ok();
     book.join(&mut share, other);
     let is_called = book.record(&mut share, 0).is_ok();
-    assert_eq!(rt; (is_recorded, is_filled, is_called), (true, true, true));
-    assert_eq!(rt; book.record(&mut share, 1), Err(BookFull));
-    assert_eq!(rt; (book.bytes(), book.calls()), (u64::MAX, 3));
-    assert_eq!(rt;
-        (share.parts(), share.bytes(), share.calls()),
-        (ALL_PARTS, u64::MAX, 3)
-    );
+    assert!(rt; is_recorded && is_filled && is_called);
+    assert!(rt; book.record(&mut share, 1) == Err(BookFull));
+    assert!(rt; book.bytes() == u64::MAX && book.calls() == 3);
+    assert!(rt; share.parts() == ALL_PARTS && share.bytes() == u64::MAX && share.calls() == 3);
 }
 
 #[test]
@@ -67,13 +61,11 @@ fn a_book_joins_its_shares_up_to_its_limit(rt: HostRuntime) {
 fn refusals_have_texts(rt: HostRuntime) -> Result<(), Fail> {
     let (missing, full) = (NotWhole { bytes: 5, calls: 1 }, BookFull);
     let text = format!(in rt.alloc(); "{missing}; {full}")?;
-    assert_eq!(rt;
-        (text.as_str(), missing.code(), full.code()),
-        (
-            "L1: the share is not whole: missing bytes 5, calls 1; L2: the book is full",
-            "L1",
-            "L2"
-        )
+    assert!(rt;
+        text.as_str()
+            == "L1: the share is not whole: missing bytes 5, calls 1; L2: the book is full"
+            && missing.code() == "L1"
+            && full.code() == "L2"
     );
     Ok(())
 }

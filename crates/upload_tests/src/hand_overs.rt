@@ -68,10 +68,10 @@ fn give_beside<R: Wait + AllocGlobal + Runtime + Abort>(
     let back = given(rt, hand_over, pass, number)?;
     let offset = number.wrapping_mul(1024);
     if list.len() < capacity {
-        assert_eq!(rt; back, None);
+        assert!(rt; back == None);
         list.push_back((giver, offset))?;
     } else {
-        assert_eq!(rt; back, Some(offset));
+        assert!(rt; back == Some(offset));
     }
     Ok(())
 }
@@ -108,7 +108,7 @@ fn give_and_take<R: Wait + AllocGlobal + Runtime + Abort>(
             0 => give_beside(rt, hand_over, first, 0, number, &mut list, capacity)?,
             1 => give_beside(rt, hand_over, second, 1, number, &mut list, capacity)?,
             2 => give_beside(rt, hand_over, third, 2, number, &mut list, capacity)?,
-            _ => assert_eq!(rt; taken(rt, hand_over, taker), list.pop_front()),
+            _ => assert!(rt; taken(rt, hand_over, taker) == list.pop_front()),
         }
     }
     Ok(())
@@ -188,18 +188,15 @@ fn give_four<R: Wait + AllocGlobal + Runtime + Abort>(
     let one = given(rt, hand_over, first, 1)?;
     let two = given(rt, hand_over, second, 2)?;
     let full = given(rt, hand_over, first, 3)?;
-    assert_eq!(rt; (one, two, full), (None, None, Some(3072)));
+    assert!(rt; one == None && two == None && full == Some(3072));
     let taken_one = taken(rt, hand_over, taker);
     let three = given(rt, hand_over, first, 3)?;
-    assert_eq!(rt; (taken_one, three), (Some((0, 1024)), None));
+    assert!(rt; taken_one == Some((0, 1024)) && three == None);
     let taken_two = taken(rt, hand_over, taker);
     let taken_three = taken(rt, hand_over, taker);
     let nothing = taken(rt, hand_over, taker);
-    assert_eq!(rt;
-        (taken_two, taken_three, nothing),
-        (Some((1, 2048)), Some((0, 3072)), None)
-    );
-    assert_eq!(rt; given(rt, hand_over, second, 4)?, None);
+    assert!(rt; taken_two == Some((1, 2048)) && taken_three == Some((0, 3072)) && nothing == None);
+    assert!(rt; given(rt, hand_over, second, 4)? == None);
     Ok(())
 }
 
@@ -211,7 +208,7 @@ fn parts_come_in_the_order_in_which_they_were_given(rt: HostRuntime) -> Result<(
     let given = give_four(&rt, &hand_over, &mut first, &mut second, &mut taker);
     let moved = hand_over.close(&rt, vec![in rt.alloc(); first, second]?, taker);
     given?;
-    assert_eq!(rt; (moved.given, moved.taken), (4, 3));
+    assert!(rt; moved.given == 4 && moved.taken == 3);
     Ok(())
 }
 
@@ -222,8 +219,8 @@ fn refused(rt: &impl AllocGlobal, capacity: usize, givers: u64) -> Option<HandOv
 
 #[test]
 fn a_hand_over_needs_room_and_a_giver(rt: HostRuntime) {
-    assert_eq!(rt; refused(&rt, 0, 1), Some(HandOverRefusal::BadCapacity));
-    assert_eq!(rt; refused(&rt, 1, 0), Some(HandOverRefusal::BadCapacity));
+    assert!(rt; refused(&rt, 0, 1) == Some(HandOverRefusal::BadCapacity));
+    assert!(rt; refused(&rt, 1, 0) == Some(HandOverRefusal::BadCapacity));
 }
 
 // Gives one part, waiting while the queue is full.
@@ -370,8 +367,8 @@ fn four_givers_hand_over_four_hundred_parts(rt: HostRuntime) -> Result<(), Fail>
         givers,
         taker,
     );
-    assert_eq!(rt; in_order, 400);
+    assert!(rt; in_order == 400);
     let moved = hand_over.close(&rt, givers, taker);
-    assert_eq!(rt; (moved.given, moved.taken), (400, 400));
+    assert!(rt; moved.given == 400 && moved.taken == 400);
     Ok(())
 }

@@ -91,14 +91,14 @@ fn two_halves<L: Ledgers + Send + Sync, R: Threads + Wait + Sync + AllocGlobal +
     assert!(rt; done_one && done_two);
     sealed_and_forgotten(rt, &shared, &mut share);
     let mut locked = shared.close();
-    assert_eq!(rt; locked.store().journal().len(), 7);
+    assert!(rt; locked.store().journal().len() == 7);
     let missing = NotWhole {
         bytes: 1024,
         calls: 1,
     };
-    assert_eq!(rt; locked.settle(&mut share), Err(missing));
+    assert!(rt; locked.settle(&mut share) == Err(missing));
     share.join(other);
-    assert_eq!(rt; locked.settle(&mut share), Ok(BOTH));
+    assert!(rt; locked.settle(&mut share) == Ok(BOTH));
     Ok(())
 }
 
@@ -171,16 +171,16 @@ fn sealed_and_forgotten<L: Ledgers, R: Wait + Runtime + Abort>(
     assert!(rt; sealed.is_some_and(|sealed| sealed.new && sealed.address == address));
     assert!(rt; is_filed(shared.lock(rt).store(), tenant));
     let used = usage_of(2048, 0, 2048);
-    assert_eq!(rt; shared.lock(rt).store().usage(tenant), Ok(used));
+    assert!(rt; shared.lock(rt).store().usage(tenant) == Ok(used));
     assert!(rt; lent_set_limit(&mut *shared.lock(rt), tenant, 4096).is_ok());
     let widened = usage_of(2048, 0, 4096);
-    assert_eq!(rt; shared.lock(rt).store().usage(tenant), Ok(widened));
-    assert_eq!(rt; shared.lock(rt).accepted(share), BOTH);
+    assert!(rt; shared.lock(rt).store().usage(tenant) == Ok(widened));
+    assert!(rt; shared.lock(rt).accepted(share) == BOTH);
     let forgotten = lent_forget(&mut *shared.lock(rt), tenant, address);
     assert!(rt; forgotten.is_ok_and(is_back));
     let fetched = shared.lock(rt).store().fetch(tenant, address).err();
-    assert_eq!(rt; fetched, Some(Refusal::NotHeld));
-    assert_eq!(rt; shared.lock(rt).store().totals(), NOTHING);
+    assert!(rt; fetched == Some(Refusal::NotHeld));
+    assert!(rt; shared.lock(rt).store().totals() == NOTHING);
 }
 
 /// The usage with these numbers.
@@ -226,9 +226,9 @@ fn give_up<L: Ledgers, R: Wait + Abort>(
     assert!(rt; lent_begin(&mut *shared.lock(rt), tenant, 2048).is_ok());
     assert!(rt; lent_put(&mut *shared.lock(rt), share, upload, part, work).is_ok());
     let not_sealed = lent_seal_as(&mut *shared.lock(rt), upload, address, work).err();
-    assert_eq!(rt; not_sealed, Some(Refusal::Incomplete { missing: 0 }));
+    assert!(rt; not_sealed == Some(Refusal::Incomplete { missing: 0 }));
     assert!(rt; lent_abort(&mut *shared.lock(rt), upload).is_ok());
-    assert_eq!(rt; shared.lock(rt).store().totals(), NOTHING);
+    assert!(rt; shared.lock(rt).store().totals() == NOTHING);
 }
 
 // Begins upload 1, whose length is fixed later, puts both its parts, fixes its length, after which only that is reserved, and seals it. The
@@ -249,9 +249,9 @@ fn fix_and_seal<L: Ledgers, R: Wait + Abort>(
     assert!(rt; lent_begin_open(&mut *shared.lock(rt), tenant, 4096).is_ok());
     assert!(rt; lent_put(&mut *shared.lock(rt), share, upload, second, work).is_ok());
     assert!(rt; lent_put(&mut *shared.lock(rt), share, upload, first, work).is_ok());
-    assert_eq!(rt; lent_fix(&mut *shared.lock(rt), upload, 2048), Ok(()));
+    assert!(rt; lent_fix(&mut *shared.lock(rt), upload, 2048) == Ok(()));
     let fixed = usage_of(0, 2048, 8192);
-    assert_eq!(rt; shared.lock(rt).store().usage(tenant), Ok(fixed));
+    assert!(rt; shared.lock(rt).store().usage(tenant) == Ok(fixed));
     let sealed = lent_seal_as(&mut *shared.lock(rt), upload, address, work);
     assert!(rt; sealed.is_ok_and(|sealed| sealed.released.parts() == 2));
 }
@@ -278,8 +278,8 @@ fn one_after_another<L: Ledgers, R: Wait + AllocGlobal + Runtime + Abort>(
         calls: 3,
     };
     let mut locked = shared.close();
-    assert_eq!(rt; locked.store().journal().len(), 9);
-    assert_eq!(rt; locked.settle(&mut share), Ok(all));
+    assert!(rt; locked.store().journal().len() == 9);
+    assert!(rt; locked.settle(&mut share) == Ok(all));
     Ok(())
 }
 

@@ -286,7 +286,7 @@ fn an_upload_that_was_aborted_is_refused(rt: HostRuntime) -> Result<(), Fail> {
         let left = left_by(&rt, Rule::HoldFrom(0), &signal, Deed::Abort, cut)?;
         assert_eq!(rt;
             left.as_str(),
-            "U1 S7 0 0, accepted 1 1, objects 0 bytes 0 uploads 1 held 1 parts 1, entries 5: tenant 0 6147 / begin 0 0 2049 / put 0 2048 1 / begin 1 0 2049 / abort 1"
+            "U1 S7 0 0, accepted 1 1, objects 0 bytes 0 uploads 1 held 1 parts 1, entries 5: tenant 0 6147 / begin 0 0 2049 / put 0 2048 1 / begin 1 0 2049 / abort 1",
         );
     }
     Ok(())
