@@ -16,8 +16,6 @@ mod hand_overs;
 #[cfg(test)]
 mod hashes;
 #[cfg(test)]
-mod long_journals;
-#[cfg(test)]
 mod parts;
 #[cfg(test)]
 mod reports;

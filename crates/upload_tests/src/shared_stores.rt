@@ -15,8 +15,8 @@ use std::thread::Threads;
 use store_core::{Address, Limits, Object, Refusal, Store, TenantId, Totals, UploadId, Usage};
 use store_ledger::{Accepted, Ledgers, NotWhole, Share};
 use store_shared::{
-    Shared, UnnamedLedgers, lent_abort, lent_begin, lent_begin_open, lent_fix, lent_forget,
-    lent_open_tenant, lent_put, lent_seal, lent_seal_as, lent_set_limit,
+    Shared, SharedOf, UnnamedLedgers, lent_abort, lent_begin, lent_begin_open, lent_fix,
+    lent_forget, lent_open_tenant, lent_put, lent_seal, lent_seal_as, lent_set_limit,
 };
 
 // One chunk of a pattern, as a part.
@@ -124,16 +124,16 @@ fn is_back(removed: Option<Arc<Object>>) -> bool {
     }
 }
 
-/// Whether the store has an upload of 2048 bytes.
-pub(crate) fn is_planned(store: &Store, upload: UploadId) -> bool {
+// Whether the store has an upload of 2048 bytes.
+fn is_planned(store: &Store, upload: UploadId) -> bool {
     let Ok(plan) = store.plan(upload) else {
         return false;
     };
     plan.bound() == 2048
 }
 
-/// Whether the tenant holds the bytes of the pattern of 2048, and nothing else.
-pub(crate) fn is_filed(store: &Store, tenant: TenantId) -> bool {
+// Whether the tenant holds the bytes of the pattern of 2048, and nothing else.
+fn is_filed(store: &Store, tenant: TenantId) -> bool {
     let address = Address::new(PATTERN_2048);
     let Ok(object) = store.fetch(tenant, address) else {
         return false;
@@ -183,8 +183,8 @@ fn sealed_and_forgotten<L: Ledgers, R: Wait + Runtime + Abort>(
     assert!(rt; shared.lock(rt).store().totals() == NOTHING);
 }
 
-/// The usage with these numbers.
-pub(crate) fn usage_of(used: u64, reserved: u64, limit: u64) -> Usage {
+// The usage with these numbers.
+fn usage_of(used: u64, reserved: u64, limit: u64) -> Usage {
     Usage {
         used,
         reserved,
@@ -287,4 +287,13 @@ fn one_after_another<L: Ledgers, R: Wait + AllocGlobal + Runtime + Abort>(
 fn one_upload_is_aborted_and_the_next_is_fixed(rt: HostRuntime) -> Result<(), Fail> {
     let ledgers = UnnamedLedgers::new(rt.alloc())?;
     one_after_another::<Brand, _>(&rt, ledgers)
+}
+
+// The lock works for any value, so that it can't change a store.
+#[test]
+fn a_lock_is_generic_over_what_it_protects(rt: HostRuntime) {
+    let shared = SharedOf::of(7u64, 1);
+    let seen = *shared.lock(&rt);
+    assert!(rt; shared.workers() == 1 && seen == 7);
+    assert!(rt; shared.close() == 7);
 }
