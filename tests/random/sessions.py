@@ -1,4 +1,5 @@
 """Random sessions: the lines of random scripts, and lines with raw bytes after them, of which some are spoilt or cut off."""
+from questions import QUESTIONS
 from scripts import LENGTHS, NUMBERS, Writer, spoilt
 from script import pattern
 from session import session_of
@@ -34,16 +35,16 @@ class Session:
             pass
 
     def question(self):
+        """One of a session's own lines without bytes after it, with values in place of the names of its fields."""
         chance, writer = self.chance, self.writer
-        numbers = list(map(str, range(7))) + list(NUMBERS)
-        counted = f" {chance.choice(numbers)}" if chance.random() < 0.6 else ""
-        ranged = f" {chance.choice(LENGTHS)} {chance.choice(LENGTHS + (1 << 63,))}" if chance.random() < 0.6 else ""
-        line = chance.choice((
-            f"fetchb {writer.tenant()} {writer.address()}{ranged}", f"has {writer.tenant()} {writer.address()}",
-            f"uploads {writer.tenant()}", "tenants", f"entries {chance.choice(numbers)}{counted}",
-        ))
+        values = {"T": writer.tenant, "U": writer.upload, "ADDRESS": writer.address}
+        fields = chance.choice(["fetchb T ADDRESS", "fetchb T ADDRESS FROM LEN", *QUESTIONS]).split(" ")
+        line = " ".join(str(values.get(field, self.number)()) if field.isupper() else field for field in fields)
         line = spoilt(chance, line) if chance.random() < 0.06 else line
         self.data += line.encode() + b"\n"
+
+    def number(self):
+        return self.chance.choice(self.chance.choice((range(7), LENGTHS, LENGTHS, NUMBERS)))
 
     def step(self):
         kind = self.chance.random()

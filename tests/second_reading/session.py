@@ -1,28 +1,35 @@
 """Reads a session's input as docs/FORMATS.md has it, and answers it by the model."""
 import re
 
+from questions import QUESTIONS
 from script import ADDRESS, NUMBER, call_of
 from store import Refused, Store
 
-FORMS = {
-    "putb": f"putb {NUMBER} {NUMBER} {NUMBER}",
-    "fetchb": f"fetchb {NUMBER} {ADDRESS}(?: {NUMBER} {NUMBER})?",
-    "has": f"has {NUMBER} {ADDRESS}",
-    "uploads": f"uploads {NUMBER}",
-    "tenants": "tenants",
-    "entries": f"entries {NUMBER}(?: {NUMBER})?",
-}
+LINES = ["putb U OFFSET LEN", "fetchb T ADDRESS", "fetchb T ADDRESS FROM LEN", *QUESTIONS]
+
+
+def pattern_of(line):
+    """What a line has to match: its word, an address for each ADDRESS, and a number for each other name in capitals."""
+    return re.compile(" ".join(ADDRESS if field == "ADDRESS" else NUMBER if field.isupper() else field for field in line.split(" ")))
+
+
+PATTERNS = {line: pattern_of(line) for line in LINES}
 
 
 def request_of(line):
-    """The word of a session's own line and its values, or None where it is none of these."""
-    word = line.split(" ")[0]
-    found = re.fullmatch(FORMS[word], line) if word in FORMS else None
-    if not found:
-        return None
-    is_address = [len(field or "") == 64 for field in found.groups()]
-    values = [field.lower() if its else field and int(field) for field, its in zip(found.groups(), is_address)]
-    return (word, values) if all(isinstance(value, (str, type(None))) or value < 1 << 64 for value in values) else None
+    """A session's own line and its values, or None where it is none of these."""
+    for form, pattern in PATTERNS.items():
+        found = pattern.fullmatch(line)
+        if found:
+            values = [field.lower() if name == "ADDRESS" else int(field) for name, field in zip(form.split(" ")[1:], found.groups())]
+            return (form, values) if all(isinstance(value, str) or value < 1 << 64 for value in values) else None
+    return None
+
+
+def bytes_after(line):
+    """How many raw bytes follow a line."""
+    form, values = request_of(line) or ("", [])
+    return values[2] if form.startswith("putb ") else 0
 
 
 def text_of(lines):
@@ -36,8 +43,7 @@ def requests_with_ends(data):
         end = data.find(b"\n", at)
         end = len(data) if end < 0 else end
         line, at = data[at:end].decode("latin-1"), end + 1
-        request = request_of(line)
-        length = request[1][2] if request and request[0] == "putb" else 0
+        length = bytes_after(line)
         taken, at = data[at : at + length], at + length
         if line:
             yield line, taken if len(taken) == length else None, at
@@ -48,22 +54,21 @@ def requests_of(data):
     return ((line, taken) for line, taken, _ in requests_with_ends(data))
 
 
-def content_answer(store, tenant, address, first, length):
+def content_answer(store, tenant, address, first=0, length=None):
     content = store.object_of(tenant, address)[0]
-    content = content if first is None else content[first : first + length]
+    content = content[first:] if length is None else content[first : first + length]
     return b"bytes %d\n" % len(content) + content
 
 
 def answer_to(store, line, taken):
     """The answer to a line with the bytes after it, unless it is refused."""
-    word, values = request_of(line) or (None, None)
-    if word == "putb":
+    form, values = request_of(line) or ("", [])
+    if form.startswith("putb "):
         return text_of(store.put(values[0], values[1], taken))
-    if word == "fetchb":
+    if form.startswith("fetchb "):
         return content_answer(store, *values)
-    calls = {"has": store.has, "uploads": store.uploads_of, "tenants": store.tenants, "entries": store.entries_from}
-    if word:
-        return text_of(calls[word](*values))
+    if form:
+        return text_of(QUESTIONS[form](store, *values))
     call = call_of(line)
     return text_of(getattr(store, call[0])(*call[1]) if call else ["bad"])
 

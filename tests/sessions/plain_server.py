@@ -26,11 +26,13 @@ sys.dont_write_bytecode = True
 TESTS = os.path.dirname(os.path.dirname(os.path.abspath(__file__)))
 sys.path[1:1] = [os.path.join(TESTS, "second_reading")]
 from journal import audit_answer
-from session import answer_of, request_of
+from questions import QUESTIONS
+from session import answer_of, bytes_after
 from store import Store
 
 WRONG = ("older", "loses", "doubles", "swaps", "shares", "reorders", "forgets", "half", "lags", "waits", "trips")
-QUESTIONS = ("usage", "list", "stat", "has", "uploads", "tenants", "entries", "fetch", "fetchb")
+ASKING = {"usage", "list", "stat", "fetch", "fetchb", *(line.split(" ")[0] for line in QUESTIONS)}
+"""The words of the lines that change nothing."""
 AGE = 12
 """How many entries older a state is that a wrong server answers from."""
 LONGEST = 1 << 26
@@ -60,7 +62,7 @@ class Answers:
             self.store.journal[-2:] = self.store.journal[:-3:-1]
         if self.wrong == "older" and len(self.store.journal) % AGE == 0:
             self.older = [*self.older[-1:], copy.deepcopy(self.store)]
-        if word in QUESTIONS:
+        if word in ASKING:
             self.asked = (session, given)
         return given
 
@@ -69,7 +71,7 @@ class Answers:
         return self.count % EVERY == 0
 
     def from_older(self, _, word, line, taken):
-        if word in QUESTIONS and len(self.older) == 2 and self.is_due():
+        if word in ASKING and len(self.older) == 2 and self.is_due():
             return answer_of(self.older[0], line, taken)
         return None
 
@@ -79,7 +81,7 @@ class Answers:
         return None
 
     def swapped(self, session, word, *_):
-        if word in QUESTIONS and self.asked[0] not in (None, session) and self.is_due():
+        if word in ASKING and self.asked[0] not in (None, session) and self.is_due():
             return self.asked[1]
         return None
 
@@ -113,8 +115,7 @@ def requests(reader, takes_half):
         if not line.endswith(b"\n") and not takes_half:
             return
         line = line.rstrip(b"\n").decode("latin-1")
-        request = request_of(line)
-        length = request[1][2] if request and request[0] == "putb" else 0
+        length = bytes_after(line)
         taken = reader.read(length if length <= LONGEST else -1)
         if len(taken) < length:
             raise Cut
