@@ -19,7 +19,7 @@ class AsyncStore:
             tenant = await store.tenant()
             rows = await asyncio.gather(*(store.upload(content, tenant) for content in contents))
 
-    It has most methods of `Store`, and each raises the same errors. A command whose coroutine is cancelled still runs to its end."""
+    It has most methods of `Store`, and `run` runs any other. Each raises the same errors. A command whose coroutine is cancelled still runs to its end."""
 
     def __init__(self, store: Transfers, threads: int = 4) -> None:
         self.store = store
@@ -31,61 +31,62 @@ class AsyncStore:
     async def __aexit__(self, kind: Optional[Type[BaseException]], fault: Optional[BaseException], trace: Optional[TracebackType]) -> None:
         await self.close()
 
-    async def _run(self, call: Callable[..., Value], *words: Any, **options: Any) -> Value:
+    async def run(self, call: Callable[..., Value], *words: Any, **options: Any) -> Value:
+        """Runs a method of the store in a thread, and returns its result: `await store.run(store.store.size, tenant, address)`."""
         return await asyncio.get_running_loop().run_in_executor(self._threads, functools.partial(call, *words, **options))
 
     async def close(self) -> None:
         """Closes the store, once its commands are done."""
-        await self._run(self.store.close)
+        await self.run(self.store.close)
         self._threads.shutdown()
 
     async def tenant(self, limit: int = MAX_LIMIT) -> int:
         """See `Store.tenant`."""
-        return await self._run(self.store.tenant, limit)
+        return await self.run(self.store.tenant, limit)
 
     async def limit(self, tenant: int, limit: int) -> None:
         """See `Store.limit`."""
-        await self._run(self.store.limit, tenant, limit)
+        await self.run(self.store.limit, tenant, limit)
 
     async def begin(self, tenant: int, length: int) -> int:
         """See `Store.begin`."""
-        return await self._run(self.store.begin, tenant, length)
+        return await self.run(self.store.begin, tenant, length)
 
     async def begin_open(self, tenant: int, max_len: int) -> int:
         """See `Store.begin_open`."""
-        return await self._run(self.store.begin_open, tenant, max_len)
+        return await self.run(self.store.begin_open, tenant, max_len)
 
     async def fix(self, upload: int, length: int) -> None:
         """See `Store.fix`."""
-        await self._run(self.store.fix, upload, length)
+        await self.run(self.store.fix, upload, length)
 
     async def put(self, upload: int, offset: int, part: Buffer) -> Held:
         """See `Store.put`."""
-        return await self._run(self.store.put, upload, offset, part)
+        return await self.run(self.store.put, upload, offset, part)
 
     async def seal(self, upload: int, address: Optional[str] = None) -> Filed:
         """See `Store.seal` and `Store.seal_as`."""
-        return await (self._run(self.store.seal, upload) if address is None else self._run(self.store.seal_as, upload, address))
+        return await (self.run(self.store.seal, upload) if address is None else self.run(self.store.seal_as, upload, address))
 
     async def abort(self, upload: int) -> None:
         """See `Store.abort`."""
-        await self._run(self.store.abort, upload)
+        await self.run(self.store.abort, upload)
 
     async def upload(self, content: Union[Buffer, BinaryIO], tenant: int, length: Optional[int] = None, *, address: Optional[str] = None) -> Filed:
         """See `Store.upload`. A file is read in the command's thread."""
-        return await self._run(self.store.upload, content, tenant, length, address=address)
+        return await self.run(self.store.upload, content, tenant, length, address=address)
 
     async def forget(self, tenant: int, address: str) -> None:
         """See `Store.forget`."""
-        await self._run(self.store.forget, tenant, address)
+        await self.run(self.store.forget, tenant, address)
 
     async def has(self, tenant: int, address: str) -> Optional[int]:
         """See `Store.has`."""
-        return await self._run(self.store.has, tenant, address)
+        return await self.run(self.store.has, tenant, address)
 
     async def fetch(self, tenant: int, address: str, offset: int = 0, length: int = MAX_UPLOAD_LEN) -> bytes:
         """See `Store.fetch`."""
-        return await self._run(self.store.fetch, tenant, address, offset, length)
+        return await self.run(self.store.fetch, tenant, address, offset, length)
 
     async def ranges(self, tenant: int, address: str, length: int = RANGE_LEN) -> AsyncIterator[bytes]:
         """See `Store.ranges`."""
@@ -98,24 +99,24 @@ class AsyncStore:
 
     async def usage(self, tenant: int) -> Usage:
         """See `Store.usage`."""
-        return await self._run(self.store.usage, tenant)
+        return await self.run(self.store.usage, tenant)
 
     async def list(self, tenant: int) -> Dict[str, int]:
         """See `Store.list`."""
-        return await self._run(self.store.list, tenant)
+        return await self.run(self.store.list, tenant)
 
     async def uploads(self, tenant: int) -> List[OpenUpload]:
         """See `Store.uploads`."""
-        return await self._run(self.store.uploads, tenant)
+        return await self.run(self.store.uploads, tenant)
 
     async def tenants(self) -> Dict[int, Usage]:
         """See `Store.tenants`."""
-        return await self._run(self.store.tenants)
+        return await self.run(self.store.tenants)
 
     async def stat(self) -> Totals:
         """See `Store.stat`."""
-        return await self._run(self.store.stat)
+        return await self.run(self.store.stat)
 
     async def entries(self, start: int = 0, count: Optional[int] = None) -> List[str]:
         """See `Store.entries`."""
-        return await self._run(self.store.entries, start, count)
+        return await self.run(self.store.entries, start, count)

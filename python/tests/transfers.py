@@ -265,6 +265,7 @@ def by_asyncio():
         upload = await store.begin_open(tenant, 4096)
         held = await store.put(upload, 0, b"abc")
         found = differences((fetched == contents, True), (b"".join(pieces) == contents[-1], True), (held, Held(3, None)), (await store.seal(upload, ABC), Filed(True, ABC, 3)))
+        found += differences((await store.run(store.store.size, tenant, ABC), 3))
         found += differences((await store.has(tenant, FOUR), None), ((await store.usage(tenant)).reserved, 0), (len(await store.list(tenant)), len(LENGTHS) + 1))
         found += differences(((await store.stat()).uploads, 0), (await store.forget(tenant, ABC), None), (await store.entries(0, 1), [f"tenant 0 {LIMIT}"]))
         try:
