@@ -12,7 +12,7 @@ use Rattle.store_core.specs.Commands.{Acceptance, StepsAs, address_in, address_r
 use Rattle.store_core.specs.Model.{ModelObject, ModelStoreBooks, ModelStore}
 use Rattle.store_core.specs.inner.Model.{ModelStoreUpload}
 use Rattle.store_core.specs.Runs.{Call, FitsItsPlan, Run, RunsCarry, Step, ask, change, put, replied}
-use Rattle.store_core.specs.declared.reply.Reply.{Reply}
+use Rattle.store_core.specs.declared.store.questions.Reply.{Reply}
 use Rattle.store_core.specs.declared.command.Command.TheVariants as commands
 use Rattle.store_core.proofs.Carried.{abort_carried, begun_carried, fix_carried, forget_carried, known_carried, limit_carried, new_carried, put_carried, tenant_carried}
 use Rattle.store_core.proofs.Contents.{long_found}

@@ -1,22 +1,18 @@
--- Commands on the store, and questions. A command is refused as the books refuse it, or is accepted: it has a reply, changes the books, and
--- adds an entry to the journal. A refused command and a question change nothing.
+-- Commands on the store. A command is refused as the books refuse it, or is accepted: it has a reply, changes the books, and adds an entry
+-- to the journal. A refused command changes nothing.
 use Rattle.std.specs.Prelude.{◌≡◌, ◌+◌, ◌-◌, ◌*◌, ◌==◌, ℕ, Bool, true, false, List, [], ◌∷◌, ◌++◌, Option, Some, None, Result, Ok, Err, length, if◌then◌else◌, nat_le}
 use Rattle.std.specs.Option.{option_map_or}
 use Rattle.std.specs.Str.{bytes_eq}
 use Rattle.b3_core.specs.Modes.{hash_of}
 use Rattle.b3_forest.specs.Parts.{ModelPrepared}
 use Rattle.b3_forest.specs.Uploads.{content_of, pieces_held, put_work}
-use Rattle.store_books.specs.declared.books.UploadStatus.{UploadStatus}
-use Rattle.store_books.specs.declared.books.Usage.{Usage}
 use Rattle.store_books.specs.declared.refusal.Refusal.{Refusal}
-use Rattle.store_books.specs.declared.refusal.Refusal.TheVariants.{NoMemory, NoTenant, NoUpload, WrongAddress, WrongPlan}
-use Rattle.store_books.specs.Books.{is_absent, object_at, upload_at}
-use Rattle.store_books.specs.Commands.{abort_refusal, begin_refusal, fix_refusal, file_refusal, forget_refusal, holding_refusal, limit_refusal, put_refusal, ready_refusal, tenant_refusal, with_begun, with_filed, with_fixed, with_forgotten, with_joined, with_limit, with_put, with_tenant, without_upload}
-use Rattle.store_books.specs.Questions as books
+use Rattle.store_books.specs.declared.refusal.Refusal.TheVariants.{NoMemory, NoUpload, WrongAddress, WrongPlan}
+use Rattle.store_books.specs.Books.{object_at, upload_at}
+use Rattle.store_books.specs.Commands.{abort_refusal, begin_refusal, fix_refusal, file_refusal, forget_refusal, limit_refusal, put_refusal, ready_refusal, tenant_refusal, with_begun, with_filed, with_fixed, with_forgotten, with_joined, with_limit, with_put, with_tenant, without_upload}
 use Rattle.store_upload.specs.declared.refused.Refused.{Refused}
 use Rattle.store_core.specs.declared.store.Held.{Held}
 use Rattle.store_core.specs.Model.{ModelObject, ModelStoreBooks, ModelStore}
-use Rattle.store_core.specs.inner.Model.{content}
 use Rattle.store_journal.specs.declared.entry.Entry.{Entry}
 use Rattle.store_journal.specs.declared.entry.Entry.TheVariants as entry
 use Rattle.store_upload.specs.Uploads.{ModelUpload, UploadPlan, closed_plan, first_missing, held_bytes, new_upload, open_plan, same_plan}
@@ -59,13 +55,6 @@ put_result (Err refused) = Err refused.reason
 -- a reply viewed as it is
 abbrev pub as_is : {R : Type 0} → R → R
 as_is reply = reply
-
--- a question's answer, as viewed, is the model's; or it ran out of memory
-abbrev pub AnswersAs : {R M : Type 0} → (R → M) → Result M Refusal → Result R Refusal → Type 0
-AnswersAs seen (Ok reported) (Ok reply) = seen reply ≡ reported
-AnswersAs seen (Ok reported) (Err refusal) = refusal ≡ NoMemory
-AnswersAs seen (Err first) (Err refusal) = refusal ≡ first
-AnswersAs seen (Err first) (Ok reply) = ⊥
 
 -- ---- tenants
 
@@ -198,32 +187,6 @@ forget_in s tenant address = unless (forget_refusal hash_of s tenant address) (r
   state = with_forgotten hash_of s tenant address;
   entry = entry.Forget tenant address;
 })
-
--- ---- questions
-
--- the plan of an open upload; it never changes
-abbrev pub plan_in : ModelStoreBooks → ℕ → Result UploadPlan Refusal
-plan_in s number = option_map_or (λ u. Ok u.upload.plan) (upload_at s number) (Err NoUpload)
-
--- the bytes of the object
-abbrev pub fetch_in : ModelStoreBooks → ℕ → List ℕ → Result (List ℕ) Refusal
-fetch_in s tenant address = unless (holding_refusal hash_of s tenant address) (option_map_or (λ o. o.content) (object_at hash_of s address) [])
-
--- addresses and lengths of the objects that the tenant holds, in their order
-abbrev pub list_in : ModelStoreBooks → ℕ → Result (List (List ℕ × ℕ)) Refusal
-list_in s tenant = if is_absent s tenant then Err NoTenant else Ok (books.listed length hash_of tenant s.objects)
-
--- the length of the object
-abbrev pub holds_in : ModelStoreBooks → ℕ → List ℕ → Result ℕ Refusal
-holds_in s tenant address = unless (holding_refusal hash_of s tenant address) (option_map_or (λ o. length o.content) (object_at hash_of s address) 0)
-
--- the tenant's open uploads, by number
-abbrev pub uploads_in : ModelStoreBooks → ℕ → Result (List UploadStatus) Refusal
-uploads_in s tenant = if is_absent s tenant then Err NoTenant else Ok (books.open_uploads length tenant s.uploads)
-
--- use, reservation and limit of each tenant, by number
-abbrev pub tenants_in : ModelStoreBooks → List Usage
-tenants_in s = books.usages_of length s
 
 -- ---- compressions
 

@@ -1,6 +1,7 @@
 -- The definitions that a reader has to trust, each file after those it uses; inner has those that only proofs and private functions use.
 pub mod Model
 pub mod Commands
+pub mod Questions
 pub mod Carried
 pub mod Runs
 pub mod Seen

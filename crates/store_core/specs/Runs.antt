@@ -2,16 +2,14 @@
 use Rattle.std.specs.Prelude.{◌≡◌, ℕ, List, [], ◌∷◌, Result, Ok, Err, length}
 use Rattle.b3_forest.specs.Parts.{ModelPrepared}
 use Rattle.store_books.specs.declared.refusal.Refusal.{Refusal}
-use Rattle.store_books.specs.Books.{totals_of}
-use Rattle.store_books.specs.Questions.{usage_in}
 use Rattle.store_core.specs.declared.command.Command.{Command}
 use Rattle.store_core.specs.declared.command.Command.TheVariants as commands
-use Rattle.store_core.specs.declared.command.Question.{Question}
-use Rattle.store_core.specs.declared.command.Question.TheVariants as questions
-use Rattle.store_core.specs.declared.reply.Reply.{Reply}
-use Rattle.store_core.specs.declared.reply.Reply.TheVariants as replies
+use Rattle.store_core.specs.declared.store.questions.Question.{Question}
+use Rattle.store_core.specs.declared.store.questions.Reply.{Reply}
+use Rattle.store_core.specs.declared.store.questions.Reply.TheVariants as replies
 use Rattle.store_core.specs.Carried.{HasTotals, IsCarried}
-use Rattle.store_core.specs.Commands.{Acceptance, StepsAs, AnswersAs, abort_in, as_is, begin_in, begin_open_in, fetch_in, fix_in, forget_in, holds_in, list_in, open_tenant_in, put_in, seal_as_in, seal_in, seal_work_in, set_limit_in, tenants_in, uploads_in}
+use Rattle.store_core.specs.Commands.{Acceptance, StepsAs, abort_in, as_is, begin_in, begin_open_in, fix_in, forget_in, open_tenant_in, put_in, seal_as_in, seal_in, seal_work_in, set_limit_in}
+use Rattle.store_core.specs.Questions.{Answers}
 use Rattle.store_core.specs.Model.{ModelStoreBooks, ModelStore}
 use Rattle.store_upload.specs.Uploads.{Fits}
 
@@ -26,24 +24,9 @@ abbrev pub replied : {M : Type 0} → (M → Reply) → Result (Acceptance M) Re
 replied reply (Ok a) = Ok (record { reply = reply a.reply; state = a.state; entry = a.entry })
 replied reply (Err refusal) = Err refusal
 
--- an answer as a Reply
-abbrev pub as_reply : {M : Type 0} → (M → Reply) → Result M Refusal → Result Reply Refusal
-as_reply reply (Ok answer) = Ok (reply answer)
-as_reply reply (Err refusal) = Err refusal
-
 -- a given part fits the plan that it was made for
 abbrev pub FitsItsPlan : ModelPrepared → Type 0
 FitsItsPlan p = Fits p.plan p.part.offset (length p.part.bytes)
-
--- The answer to a question; if it allocates, it may run out of memory.
-abbrev pub Answers : ModelStore → Question → Result Reply Refusal → Type 0
-Answers store (questions.Fetch tenant address) reply = AnswersAs as_is (as_reply replies.Object (fetch_in store.state tenant address)) reply
-Answers store (questions.Usage tenant) reply = reply ≡ as_reply replies.Usage (usage_in length store.state tenant)
-Answers store (questions.List tenant) reply = AnswersAs as_is (as_reply replies.List (list_in store.state tenant)) reply
-Answers store (questions.Holds tenant address) reply = reply ≡ as_reply replies.Length (holds_in store.state tenant address)
-Answers store (questions.Uploads tenant) reply = AnswersAs as_is (as_reply replies.Uploads (uploads_in store.state tenant)) reply
-Answers store questions.Tenants reply = AnswersAs as_is (Ok (replies.Tenants (tenants_in store.state))) reply
-Answers store questions.Totals reply = reply ≡ Ok (replies.Totals (totals_of length length store.state))
 
 -- One step: the reply and the effect are the model's. An accepted command adds its entry to the journal; a refused command and a question
 -- leave store and journal unchanged. A step that allocates may run out of memory.

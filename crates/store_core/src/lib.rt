@@ -16,7 +16,7 @@
 //!   objects with bytes, and a journal. Each command is refused with the books' first refusal, or changes the books as they define and adds
 //!   an entry (`specs/Commands.antt`). The facts about every store, whichever commands led to it, are in `specs/Carried.antt`.
 //! - `Command` and `Question` are these as values: `Store::step` executes a command, `Store::ask` answers a question, and both return a
-//!   `Reply`.
+//!   `Reply`. What belongs to a question is in `src/store/questions.rt` and `specs/Questions.antt`.
 //! - `Object` is what a seal files: in contracts it is its bytes. It is stored under their hash.
 //! - `run_laws` states that this invariant holds along every list of commands and questions.
 //! - Names, limits and refusals come from `store_books`; the journal's entries, text and replay come from `store_journal`. All can be named
@@ -27,16 +27,13 @@ mod address_map;
 mod command;
 mod laws;
 mod object;
-mod reply;
 mod segments;
-mod stepping;
 mod store;
 
-pub use command::{Command, Question};
+pub use command::{Command, SealReply};
 pub use laws::run_laws;
 pub use object::{Object, SharedObject};
-pub use reply::{Listing, Reply, SealReply};
-pub use store::{Held, Sealed, Store};
+pub use store::{Held, Listing, Question, Reply, Sealed, Store};
 pub use store_books::{
     Address, BadLimits, Limits, MAX_ENTRIES, MAX_LIMIT, MAX_TENANTS, Refusal, TenantId, Totals,
     UploadId, UploadStatus, Usage,

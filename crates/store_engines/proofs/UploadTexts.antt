@@ -12,7 +12,8 @@ use Rattle.store_books.specs.Forgetting.{bare_object}
 use Rattle.store_books.proofs.Commands.{passed}
 use Rattle.store_books.proofs.Forgets.{object_same}
 use Rattle.store_core.specs.Carried.{replayed_of}
-use Rattle.store_core.specs.Commands.{Acceptance, StepsAs, AnswersAs, fetch_in, unless}
+use Rattle.store_core.specs.Commands.{Acceptance, StepsAs, unless}
+use Rattle.store_core.specs.Questions.{AnswersAs, fetch_in}
 use Rattle.store_core.specs.Model.{ModelObject, ModelStoreBooks, ModelStore}
 use Rattle.store_upload.proofs.Places.{not_some}
 use Rattle.store_ledger.specs.declared.amounts.ShareAmounts.{ShareAmounts}

@@ -8,8 +8,8 @@ use Rattle.store_books.specs.declared.refusal.Refusal.{Refusal}
 use Rattle.store_core.specs.Commands.{Acceptance, ModelSealed, StepsAs, address_in, and_then, as_is, filed_in, seal_in, sealed_by, unless}
 use Rattle.store_core.specs.Model.{ModelObject, ModelStoreBooks, ModelStore}
 use Rattle.store_core.specs.Runs.{replied}
-use Rattle.store_core.specs.declared.reply.Reply.{Reply}
-use Rattle.store_core.specs.declared.reply.Reply.TheVariants as replies
+use Rattle.store_core.specs.declared.store.questions.Reply.{Reply}
+use Rattle.store_core.specs.declared.store.questions.Reply.TheVariants as replies
 use Rattle.store_journal.specs.declared.entry.Entry.{Entry}
 use Rattle.store_journal.specs.declared.entry.Entry.TheVariants.{Seal}
 use Rattle.store_lease.specs.Laws.{ReportedIsHeld}

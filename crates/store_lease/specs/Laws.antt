@@ -9,7 +9,7 @@ use Rattle.store_core.specs.Carried.{IsCarried}
 use Rattle.store_core.specs.Commands.{ModelSealed}
 use Rattle.store_core.specs.Model.{ModelStore}
 use Rattle.store_core.specs.Runs.{change}
-use Rattle.store_core.specs.declared.reply.Reply.TheVariants as replies
+use Rattle.store_core.specs.declared.store.questions.Reply.TheVariants as replies
 use Rattle.store_core.specs.declared.command.Command.TheVariants as commands
 use Rattle.store_history.specs.Histories.{ModelFront}
 use Rattle.store_journal.specs.declared.entry.Entry.{Entry}

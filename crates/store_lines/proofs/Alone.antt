@@ -6,10 +6,10 @@ use Rattle.std.specs.Io.BufRead.{drop_through, strip_last, take_through}
 use Rattle.edge.specs.declared.outcome.Verdict.{Verdict}
 use Rattle.edge.specs.declared.outcome.Verdict.TheVariants as verdicts
 use Rattle.store_books.specs.Books.{max_entries, max_tenants, max_workers}
-use Rattle.store_core.specs.Commands.{plan_in}
+use Rattle.store_core.specs.Questions.{plan_in}
 use Rattle.store_core.specs.Model.{ModelStore}
 use Rattle.store_core.specs.Runs.{Run, ask, change}
-use Rattle.store_core.specs.declared.command.Question.TheVariants as questions
+use Rattle.store_core.specs.declared.store.questions.Question.TheVariants as questions
 use Rattle.store_core.proofs.Runs.{runs_carry}
 use Rattle.store_core.proofs.Carried.{empty_carried}
 use Rattle.store_lines.specs.Script.{widest_start}

@@ -5,7 +5,7 @@ use Rattle.b3_forest.specs.declared.segment.Segment.{Segment}
 use Rattle.b3_forest.specs.Uploads.{content_of, part_of}
 use Rattle.edge.proofs.Encoding.{digits_append}
 use Rattle.store_lines.specs.inner.Digits.{digits_of}
-use Rattle.store_lines.specs.Texts.{digits_text}
+use Rattle.store_lines.specs.Questions.{digits_text}
 use Rattle.hex.specs.Hex.{encode_lower, encode_with, lower_digits}
 
 abbrev pub segment_digits : Segment → List ℕ

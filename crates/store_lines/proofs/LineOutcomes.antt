@@ -6,12 +6,12 @@ use Rattle.std.proofs.lemmas.List.{length-take, take_all}
 use Rattle.edge.specs.Fields.{split_at, space}
 use Rattle.edge.proofs.FieldTexts.{split_found}
 use Rattle.store_books.specs.declared.refusal.Refusal.{Refusal}
-use Rattle.store_core.specs.Commands.{plan_in}
+use Rattle.store_core.specs.Questions.{Answers, plan_in}
 use Rattle.store_core.specs.Model.{ModelStore}
-use Rattle.store_core.specs.declared.reply.Reply.{Reply}
+use Rattle.store_core.specs.declared.store.questions.Reply.{Reply}
 use Rattle.store_core.specs.declared.command.Command.{Command}
-use Rattle.store_core.specs.declared.command.Question.{Question}
-use Rattle.store_core.specs.Runs.{Answers, Step, ask, change}
+use Rattle.store_core.specs.declared.store.questions.Question.{Question}
+use Rattle.store_core.specs.Runs.{Step, ask, change}
 use Rattle.store_lines.specs.Grammar.{command_at}
 use Rattle.store_lines.specs.declared.request.EntryRange.{EntryRange}
 use Rattle.store_lines.specs.declared.request.Part.{Part}
@@ -25,7 +25,8 @@ use Rattle.store_lines.specs.inner.Reporting.{AnsweredOver}
 use Rattle.store_lines.proofs.Turns.{of_put}
 use Rattle.store_lines.proofs.Lengths.{long_is_none}
 use Rattle.store_lines.specs.Script.{IsTurnOfCommand, IsTurnOf, IsTurnOfPut, Turn, bad, listed, range_entries, reply_ending, skipped, took}
-use Rattle.store_lines.specs.Texts.{answer_text, entries_text}
+use Rattle.store_lines.specs.Texts.{entries_text}
+use Rattle.store_lines.specs.Questions.{answer_text}
 use Rattle.store_lines.specs.declared.answer.Answer.{Answer}
 use Rattle.store_lines.specs.declared.answer.Answer.TheVariants as answers
 use Rattle.store_lines.specs.declared.ending.Ending.{Ending}

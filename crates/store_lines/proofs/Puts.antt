@@ -4,11 +4,11 @@ use Rattle.std.specs.Prelude.{IfOk, IfSome, unwrap_or}
 use Rattle.b3_forest.specs.Parts.{ModelPrepared, planned}
 use Rattle.store_books.specs.declared.refusal.Refusal.{Refusal}
 use Rattle.store_core.specs.Runs.{put}
-use Rattle.store_core.specs.declared.reply.Reply.{Reply}
+use Rattle.store_core.specs.declared.store.questions.Reply.{Reply}
 use Rattle.store_journal.specs.declared.entry.Entry.{Entry}
 use Rattle.store_lines.specs.inner.Answers.{reported_ending, reported_text}
 use Rattle.store_lines.specs.Script.{reply_ending, took, unmade, unplanned}
-use Rattle.store_lines.specs.Texts.{answer_text}
+use Rattle.store_lines.specs.Questions.{answer_text}
 use Rattle.store_lines.specs.declared.answer.Answer.{Answer}
 use Rattle.store_lines.specs.declared.answer.Answer.TheVariants as answers
 use Rattle.store_lines.specs.inner.Reads.{Copied, Dropped}

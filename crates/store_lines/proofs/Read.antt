@@ -10,8 +10,8 @@ use Rattle.hex.specs.declared.error.FromHexError.{FromHexError}
 use Rattle.edge.specs.Fields.{split_at, number_at, space, three_fields, two_fields, two_numbers_at}
 use Rattle.store_core.specs.declared.command.Command.{Command}
 use Rattle.store_core.specs.declared.command.Command.TheVariants as commands
-use Rattle.store_core.specs.declared.command.Question.{Question}
-use Rattle.store_core.specs.declared.command.Question.TheVariants as questions
+use Rattle.store_core.specs.declared.store.questions.Question.{Question}
+use Rattle.store_core.specs.declared.store.questions.Question.TheVariants as questions
 use Rattle.edge.proofs.FieldTexts.{split_again, split_found, decimal_spaceless, number_again, two_again, two_found}
 use Rattle.edge.proofs.Steps.{bind_is, bind_some, chosen, none_some, some_is}
 use Rattle.edge.proofs.Numbers.{read_back}

@@ -5,16 +5,17 @@ use Rattle.store_books.specs.Refusals.{refusal_text}
 use Rattle.store_books.specs.declared.refusal.Refusal.{Refusal}
 use Rattle.store_books.specs.declared.refusal.Refusal.TheVariants as refusals
 use Rattle.store_core.specs.Runs.{Call, ask}
-use Rattle.store_core.specs.declared.reply.Reply.{Reply}
-use Rattle.store_core.specs.declared.reply.Reply.TheVariants as replies
-use Rattle.store_core.specs.declared.command.Question.TheVariants as questions
+use Rattle.store_core.specs.declared.store.questions.Reply.{Reply}
+use Rattle.store_core.specs.declared.store.questions.Reply.TheVariants as replies
+use Rattle.store_core.specs.declared.store.questions.Question.TheVariants as questions
 use Rattle.store_journal.specs.declared.entry.Entry.{Entry}
 use Rattle.store_lines.specs.Grammar.{command_at}
 use Rattle.store_lines.specs.inner.Answers.{reported_text}
 use Rattle.store_lines.specs.Script.{Turn, listed, range_entries, took}
 use Rattle.store_lines.specs.Spelling.{IsSpelled}
 use Rattle.store_lines.specs.declared.answer.Answer.{Answer}
-use Rattle.store_lines.specs.Texts.{answer_text, entries_text, refused_text}
+use Rattle.store_lines.specs.Texts.{entries_text, refused_text}
+use Rattle.store_lines.specs.Questions.{answer_text}
 use Rattle.store_lines.proofs.Read.{found}
 use Rattle.store_lines.specs.Session.{SessionTurn, as_range, as_script, no_memory, ranged, raw_text, reported_as}
 use Rattle.store_lines.specs.declared.request.EntryRange.{EntryRange}

@@ -12,7 +12,7 @@ use Rattle.store_upload.specs.declared.refusal.PartFault.{PartFault}
 use Rattle.store_books.specs.declared.refusal.Refusal.{Refusal}
 use Rattle.store_books.specs.declared.limits.Limits.{Limits}
 use Rattle.store_books.specs.Books.{empty_books, max_entries, max_tenants, max_workers}
-use Rattle.store_core.specs.Commands.{plan_in}
+use Rattle.store_core.specs.Questions.{plan_in}
 use Rattle.edge.specs.Lines.{lines_of}
 use Rattle.edge.proofs.FirstLines.{lines_next, none_left, nothing_is}
 use Rattle.edge.specs.Output.{WroteSome}

@@ -3,11 +3,11 @@ use Rattle.std.specs.Prelude.{ℕ, List, Option, Some, None, if◌then◌else◌
 use Rattle.std.specs.Io.BufRead.{strip_last}
 use Rattle.std.specs.Str.{bytes_eq}
 use Rattle.edge.specs.Fields.{◌>>=◌, split_at, number_at, space, three_numbers_at, two_numbers_at}
-use Rattle.store_lines.specs.Grammar.{address_of_digits, held_at}
-use Rattle.store_core.specs.declared.command.Question.TheVariants.{Holds, Tenants, Uploads}
+use Rattle.store_lines.specs.Grammar.{address_of_digits}
+use Rattle.store_lines.specs.Questions.{question_of_kind, question_of_word}
 use Rattle.store_lines.specs.Lines.{max_request}
 use Rattle.store_lines.specs.declared.request.Request.{Request}
-use Rattle.store_lines.specs.declared.request.Request.TheVariants.{Asks, Entries, Fetch, PutRaw}
+use Rattle.store_lines.specs.declared.request.Request.TheVariants.{Entries, Fetch, PutRaw}
 
 abbrev pub raw_put_at : List ℕ → Option Request
 raw_put_at fields = do
@@ -30,16 +30,6 @@ fetch_at fields = do
   tenant ← number_at cut.0
   fetch_of tenant cut.1 (split_at space cut.1)
 
-abbrev pub holds_at : List ℕ → Option Request
-holds_at fields = do
-  held ← held_at fields
-  Some (Asks (Holds held.0 held.1))
-
-abbrev pub uploads_at : List ℕ → Option Request
-uploads_at fields = do
-  tenant ← number_at fields
-  Some (Asks (Uploads tenant))
-
 -- the number of an entry, or that and a maximum number of entries
 abbrev pub entries_of : List ℕ → Option (List ℕ × List ℕ) → Option Request
 entries_of fields None = do
@@ -58,14 +48,12 @@ unfoldable pub request_of_kind : List ℕ → List ℕ → Option Request
 request_of_kind kind fields =
     if bytes_eq kind (codes "putb") then raw_put_at fields
     else if bytes_eq kind (codes "fetchb") then fetch_at fields
-    else if bytes_eq kind (codes "has") then holds_at fields
-    else if bytes_eq kind (codes "uploads") then uploads_at fields
     else if bytes_eq kind (codes "entries") then entries_at fields
-    else None
+    else question_of_kind kind fields
 
 -- the request of a line that is split after its first word
 abbrev pub split_request_at : List ℕ → Option (List ℕ × List ℕ) → Option Request
-split_request_at line None = if bytes_eq line (codes "tenants") then Some (Asks Tenants) else None
+split_request_at line None = question_of_word line
 split_request_at line (Some cut) = request_of_kind cut.0 cut.1
 
 -- the request of a line without its newline

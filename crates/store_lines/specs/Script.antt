@@ -9,12 +9,12 @@ use Rattle.store_upload.specs.declared.refusal.PartFault.TheVariants as faults
 use Rattle.store_books.specs.declared.refusal.Refusal.{Refusal}
 use Rattle.store_books.specs.declared.refusal.Refusal.TheVariants as refusals
 use Rattle.store_core.specs.Carried.{IsCarried}
-use Rattle.store_core.specs.Commands.{plan_in}
+use Rattle.store_core.specs.Questions.{plan_in}
 use Rattle.edge.specs.Lines.{lines_of}
 use Rattle.edge.specs.Output.{WroteSome}
 use Rattle.store_books.specs.Books.{empty_books, max_entries, max_tenants, max_workers}
 use Rattle.store_core.specs.Model.{ModelStore}
-use Rattle.store_core.specs.declared.reply.Reply.{Reply}
+use Rattle.store_core.specs.declared.store.questions.Reply.{Reply}
 use Rattle.store_core.specs.Runs.{Call, Run, Step, ask, change, put}
 use Rattle.store_lines.specs.Grammar.{command_at}
 use Rattle.store_lines.specs.declared.request.EntryRange.{EntryRange}
@@ -22,7 +22,8 @@ use Rattle.store_lines.specs.declared.request.Request.{Request}
 use Rattle.store_lines.specs.declared.request.Request.TheVariants.{Asks, Does, Entries, Put}
 use Rattle.store_books.specs.Refusals.{refusal_text}
 use Rattle.store_journal.specs.declared.entry.Entry.{Entry}
-use Rattle.store_lines.specs.Texts.{answer_text, entries_text, refused_text, unmade_text}
+use Rattle.store_lines.specs.Texts.{entries_text, refused_text, unmade_text}
+use Rattle.store_lines.specs.Questions.{answer_text}
 use Rattle.store_lines.specs.declared.ending.Ending.{Ending}
 use Rattle.store_lines.specs.declared.ending.Ending.TheVariants as endings
 use Rattle.edge.specs.declared.outcome.Verdict.{Verdict}

@@ -11,16 +11,17 @@ use Rattle.store_books.specs.Refusals.{refusal_text}
 use Rattle.store_books.specs.declared.refusal.Refusal.{Refusal}
 use Rattle.store_books.specs.declared.refusal.Refusal.TheVariants as refusals
 use Rattle.store_core.specs.Carried.{IsCarried}
-use Rattle.store_core.specs.Commands.{plan_in}
+use Rattle.store_core.specs.Questions.{plan_in}
 use Rattle.store_core.specs.Model.{ModelStore}
 use Rattle.store_core.specs.Runs.{Call, Run, ask, change}
-use Rattle.store_core.specs.declared.reply.Reply.{Reply}
-use Rattle.store_core.specs.declared.reply.Reply.TheVariants as replies
-use Rattle.store_core.specs.declared.command.Question.TheVariants as questions
+use Rattle.store_core.specs.declared.store.questions.Reply.{Reply}
+use Rattle.store_core.specs.declared.store.questions.Reply.TheVariants as replies
+use Rattle.store_core.specs.declared.store.questions.Question.TheVariants as questions
 use Rattle.store_lines.specs.Lines.{IsPutLine}
 use Rattle.store_lines.specs.Script.{IsTurnOfPut, range_entries, widest_start}
 use Rattle.store_lines.specs.Script as script
-use Rattle.store_lines.specs.Texts.{refused_text, reply_text}
+use Rattle.store_lines.specs.Texts.{refused_text}
+use Rattle.store_lines.specs.Questions.{reply_text}
 use Rattle.store_lines.specs.Lines.{max_request}
 use Rattle.store_lines.specs.Requests.{request_in}
 use Rattle.store_lines.specs.declared.request.EntryRange.{EntryRange}

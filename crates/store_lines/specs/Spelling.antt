@@ -5,8 +5,8 @@ use Rattle.hex.specs.Hex.{decode_of, decode_sized}
 use Rattle.edge.specs.Fields.{three_fields, two_fields}
 use Rattle.store_core.specs.declared.command.Command.{Command}
 use Rattle.store_core.specs.declared.command.Command.TheVariants as commands
-use Rattle.store_core.specs.declared.command.Question.{Question}
-use Rattle.store_core.specs.declared.command.Question.TheVariants as questions
+use Rattle.store_core.specs.declared.store.questions.Question.{Question}
+use Rattle.store_core.specs.declared.store.questions.Question.TheVariants as questions
 use Rattle.store_lines.specs.Lines.{max_line}
 use Rattle.store_lines.specs.Grammar.{command_at, max_digits, max_pattern, pattern_of, whole_journal}
 use Rattle.store_lines.specs.declared.request.Request.{Request}

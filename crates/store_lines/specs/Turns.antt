@@ -7,10 +7,10 @@ use Rattle.b3_forest.specs.Parts.{ModelPrepared, planned}
 use Rattle.edge.specs.declared.outcome.Verdict.{Verdict}
 use Rattle.edge.specs.declared.outcome.Verdict.TheVariants as verdicts
 use Rattle.store_books.specs.declared.refusal.Refusal.{Refusal}
-use Rattle.store_core.specs.Commands.{plan_in}
+use Rattle.store_core.specs.Questions.{plan_in}
 use Rattle.store_core.specs.Model.{ModelStore}
 use Rattle.store_core.specs.Runs.{Call, ask, change, put}
-use Rattle.store_core.specs.declared.command.Question.TheVariants as questions
+use Rattle.store_core.specs.declared.store.questions.Question.TheVariants as questions
 use Rattle.store_lines.specs.Grammar.{command_at, whole_journal}
 use Rattle.store_lines.specs.declared.request.Request.{Request}
 use Rattle.store_lines.specs.declared.request.Request.TheVariants.{Asks, Does, Entries, Fetch, Put, PutRaw}

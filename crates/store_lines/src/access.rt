@@ -5,8 +5,8 @@ ghost use Rattle.std.specs.Arc.{arc_value};
 ghost use Rattle.edge.specs.Output.{WroteSome};
 ghost use Rattle.store_core.specs.Commands.{put_result, reply_seen};
 ghost use Rattle.store_core.specs.Runs.{ask, change, put};
-ghost use Rattle.store_core.specs.declared.command.Question.TheVariants as questions;
-ghost use Rattle.store_core.specs.declared.reply.Reply.TheVariants as replies;
+ghost use Rattle.store_core.specs.declared.store.questions.Question.TheVariants as questions;
+ghost use Rattle.store_core.specs.declared.store.questions.Reply.TheVariants as replies;
 ghost use Rattle.store_lines.specs.Access.{Reach, SessionState, ReportedEntries, ReportedThese, Took, TookPlan};
 
 use crate::request::EntryRange;

@@ -3,7 +3,7 @@
 ghost use Rattle.std.specs.Prelude.{◌≡◌, [], IfErr, OnErr, OnOk};
 ghost use Rattle.std.specs.Io.KnownBytes.{Appends};
 ghost use Rattle.edge.specs.Output.{WroteSome};
-ghost use Rattle.store_core.specs.declared.command.Question.TheVariants as questions;
+ghost use Rattle.store_core.specs.declared.store.questions.Question.TheVariants as questions;
 ghost use Rattle.store_lines.specs.inner.Answers.{reported_text};
 ghost use Rattle.store_core.specs.Runs.{ask};
 ghost use Rattle.store_lines.specs.Session.{as_range};

@@ -2,12 +2,12 @@
 
 ghost use Rattle.std.specs.Prelude.{◌≡◌};
 ghost use Rattle.edge.specs.Fields.{split_at};
-ghost use Rattle.store_lines.specs.Grammar.{held_at};
-ghost use Rattle.store_lines.specs.Requests.{entries_at, fetch_at, fetch_of, holds_at, raw_put_at, request_at, request_of_kind, uploads_at};
+ghost use Rattle.store_lines.specs.Requests.{entries_at, fetch_at, fetch_of, raw_put_at, request_at, request_of_kind};
 ghost use Rattle.store_lines.specs.inner.Requests.{AsksFor};
 
 use crate::answer::without_end;
-use crate::parsing::{address, number_and_address};
+use crate::parsing::address;
+use crate::questions::{question_of_kind, question_of_word};
 use edge::{LineRead, number, split_at, three_numbers, two_numbers};
 use std::marker::Model;
 use store_core::{Address, Command, Question, TenantId, UploadId};
@@ -116,8 +116,7 @@ fn read_request(line: &[u8]) -> Option<Request>
 {
     match split_at(line, b' ') {
         Some((kind, fields)) => request_of_kind(kind, fields),
-        None if line == b"tenants".as_slice() => Some(Request::Asks(Question::Tenants)),
-        None => None,
+        None => question_of_word(line),
     }
 }
 
@@ -131,16 +130,10 @@ fn request_of_kind(kind: &[u8], fields: &[u8]) -> Option<Request>
     if kind == b"fetchb".as_slice() {
         return fetch(fields);
     }
-    if kind == b"has".as_slice() {
-        return holds(fields);
-    }
-    if kind == b"uploads".as_slice() {
-        return uploads(fields);
-    }
     if kind == b"entries".as_slice() {
         return entries(fields);
     }
-    None
+    question_of_kind(kind, fields)
 }
 
 fn put(fields: &[u8]) -> Option<Request>
@@ -185,21 +178,6 @@ fn fetch_of(tenant: u64, field: &[u8]) -> Option<Request>
             }))
         }
     }
-}
-
-fn holds(fields: &[u8]) -> Option<Request>
-    ensures { result ≡ holds_at fields.now }
-{
-    let (tenant, address) = number_and_address(fields)?;
-    let tenant = TenantId::new(tenant);
-    Some(Request::Asks(Question::Holds { tenant, address }))
-}
-
-fn uploads(fields: &[u8]) -> Option<Request>
-    ensures { result ≡ uploads_at fields.now }
-{
-    let tenant = TenantId::new(number(fields)?);
-    Some(Request::Asks(Question::Uploads { tenant }))
 }
 
 fn entries(fields: &[u8]) -> Option<Request>

@@ -6,7 +6,8 @@ use Rattle.store_core.specs.Model.{ModelStore}
 use Rattle.store_journal.specs.declared.entry.Entry.{Entry}
 use Rattle.store_lines.specs.Lines.{IsPutLine}
 use Rattle.store_lines.specs.Script.{IsTurnOf, Turn, fault_ending, range_entries, reply_ending, turn_ending, turn_text}
-use Rattle.store_lines.specs.Texts.{answer_text, entries_text, refused_text, unmade_text}
+use Rattle.store_lines.specs.Texts.{entries_text, refused_text, unmade_text}
+use Rattle.store_lines.specs.Questions.{answer_text}
 use Rattle.store_lines.specs.declared.answer.Answer.{Answer}
 use Rattle.store_lines.specs.declared.answer.Answer.TheVariants as answers
 use Rattle.store_lines.specs.declared.ending.Ending.{Ending}

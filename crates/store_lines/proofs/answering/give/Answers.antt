@@ -4,8 +4,8 @@ use Rattle.std.specs.Io.KnownBytes.{Appends}
 use Rattle.std.proofs.lemmas.Result.{on_err_weaker, on_ok_weaker}
 use Rattle.edge.specs.Output.{WroteSome}
 use Rattle.store_core.specs.Runs.{ask}
-use Rattle.store_core.specs.declared.reply.Reply.TheVariants as replies
-use Rattle.store_core.specs.declared.command.Question.TheVariants as questions
+use Rattle.store_core.specs.declared.store.questions.Reply.TheVariants as replies
+use Rattle.store_core.specs.declared.store.questions.Question.TheVariants as questions
 use Rattle.store_lines.specs.Access.{Took}
 use Rattle.store_lines.proofs.Reports.{fetched, unfetched}
 use Rattle.store_lines.proofs.answering.give.Goals as goal

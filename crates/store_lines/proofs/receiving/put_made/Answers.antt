@@ -1,6 +1,6 @@
 use Rattle.std.proofs.Common.{rules, ◌≡◌, Err, List, None, Ok, length, refl, subst, ℕ}
 use Rattle.b3_forest.specs.Parts.{planned}
-use Rattle.store_core.specs.declared.reply.Reply.TheVariants as replies
+use Rattle.store_core.specs.declared.store.questions.Reply.TheVariants as replies
 use Rattle.store_upload.specs.Uploads.{part_fault}
 use Rattle.store_lines.specs.declared.answer.Answer.TheVariants as answers
 use Rattle.store_lines.proofs.Puts.{made, no_part}
