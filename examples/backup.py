@@ -28,16 +28,22 @@ the oldest objects.
 The status is 0 if all was saved, restored or correct; 1 if something was not, which is reported; 2 for a usage error; 3 if the store has ended; 130 after
 Ctrl-C.
 """
-import argparse
-import collections
-import fcntl
 import os
-import re
-import signal
-import stat
 import sys
 
 sys.path.insert(0, os.path.join(os.path.dirname(os.path.dirname(os.path.abspath(__file__))), "python"))
+from b3store.programs import end_at_once, raise_again
+
+if __name__ == "__main__":
+    end_at_once()
+
+import argparse
+import collections
+import fcntl
+import re
+import signal
+import stat
+
 from b3store import MAX_LIMIT, Ended, Refused, Store
 from b3store.console import drop_output, error_text, fault_text, open_standard_files
 from backup_check import check
@@ -276,6 +282,7 @@ def main():
     sys.stdout.reconfigure(errors="surrogateescape")
     options = read_options()
     try:
+        raise_again()
         return run(options)
     except (Refused, OSError, Damaged, WriteFailed) as fault:
         status, text = 1, fault_text(fault)
@@ -283,6 +290,8 @@ def main():
         status, text = 3, str(fault)
     except KeyboardInterrupt:
         status, text = 128 + signal.SIGINT, "interrupted"
+    finally:
+        end_at_once()
     print(f"backup: {text}", file=sys.stderr)
     drop_output()
     return status

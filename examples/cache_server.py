@@ -40,18 +40,24 @@ token. All other paths are keys.
 | 400, 411, 413 | the request is malformed, or its body is truncated or isn't what `--compare` wants; it has no length; it is longer than `--most` |
 | 503, 507 | the store is out of memory, or has ended; the user's quota, or the store, is full |
 """
+import os
+import sys
+
+sys.path.insert(0, os.path.join(os.path.dirname(os.path.dirname(os.path.abspath(__file__))), "python"))
+from b3store.programs import end_at_once
+
+if __name__ == "__main__":
+    end_at_once()
+
 import argparse
 import base64
 import contextlib
 import hmac
-import os
 import re
 import signal
-import sys
 import threading
 import time
 
-sys.path.insert(0, os.path.join(os.path.dirname(os.path.dirname(os.path.abspath(__file__))), "python"))
 from b3store import MAX_LIMIT, MAX_SESSIONS, Ended, Refused, Store
 from b3store.console import count_text, fault_text
 from b3store.files import FolderInUse
@@ -71,7 +77,7 @@ STATUSES = {"S2": 507, "S5": 413, "S6": 507, "S11": 400, "S12": 404, "S13": 507,
 ADDRESS_KEY = re.compile("/(?:.*/)?cas/(?:blake3/)?([0-9a-f]{64})")
 """The keys that `--compare` is for."""
 JOURNAL_LIMIT = 4000000
-"""The default of `--journal-limit`: an entry takes 56 bytes of the store's memory."""
+"""The default of `--journal-limit`: an entry takes 48 bytes of the store's memory."""
 EXAMPLE = """\
 example:
   $ cache_server.py /var/cache/builds --port 8080 &

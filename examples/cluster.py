@@ -7,10 +7,17 @@ Server K keeps its content in FOLDER/K. If a server ends, nginx asks the next on
 other keys stay where they are. The first line of output has the port of nginx, the second the process id of each server. On SIGTERM, SIGINT or SIGHUP it
 ends, and each server saves its content first.
 """
-import argparse
 import os
-import subprocess
 import sys
+
+sys.path.insert(0, os.path.join(os.path.dirname(os.path.dirname(os.path.abspath(__file__))), "python"))
+from b3store.programs import end_at_once
+
+if __name__ == "__main__":
+    end_at_once()
+
+import argparse
+import subprocess
 
 from cache_server import SECONDS_BETWEEN_LOOKS, number, stop_signals
 from b3store.console import fault_text

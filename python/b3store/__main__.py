@@ -1,4 +1,9 @@
 """`python -m b3store`, also installed as `b3store-client`: uses a server's store from a shell (docs/LIBRARY.md)."""
+from .programs import end_at_once
+
+if __name__ == "__main__":
+    end_at_once()
+
 import argparse
 import contextlib
 import errno

@@ -5,6 +5,7 @@ import sys
 import time
 from typing import Callable, Optional
 
+from .programs import end_at_once, raise_again
 from .values import StoreError
 
 SECONDS_TO_PROGRESS = 1
@@ -57,6 +58,7 @@ def finish(run: Callable[[], int]) -> int:
         return FAILED
     if hasattr(sys.stdout, "reconfigure"):
         sys.stdout.reconfigure(errors="surrogateescape")
+    is_program = raise_again()
     try:
         status = run()
         sys.stdout.flush()
@@ -70,6 +72,9 @@ def finish(run: Callable[[], int]) -> int:
         report(f"{fault.filename or 'cannot write'}: {error_text(fault)}")
     except (StoreError, MemoryError, ValueError) as fault:
         report("out of memory" if isinstance(fault, MemoryError) else error_text(fault))
+    finally:
+        if is_program:
+            end_at_once()
     drop_output()
     return FAILED
 

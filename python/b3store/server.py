@@ -20,6 +20,11 @@ which speaks the lines of `b3store serve` and nothing else. A separate process m
 
 Exit status: 0 after a signal, 1 if it can't start, 2 for wrong arguments, 3 if the store's process ended, 4 if the store can't be saved.
 """
+from .programs import end_at_once
+
+if __name__ == "__main__":
+    end_at_once()
+
 import argparse
 import contextlib
 import hmac

@@ -116,6 +116,22 @@ def ends_on_an_interrupt():
         return differences((put.returncode, 130), (out, b""), (err, b""), (run(["--socket", server.path, "ls"]), (0, b"", "")))
 
 
+def ends_while_it_starts():
+    """Ctrl-C while modules are imported ends each program without a traceback. A module that each of them imports sends it."""
+    programs = [["-m", "b3store"], ["-m", "b3store.server"], ["-m", "b3store.hashing"]]
+    programs += [["-c", f"from b3store.programs import {name}; {name}()"] for name in ("client", "server")]
+    programs += [[os.path.join(TOP, "examples", name + ".py")] for name in ("backup", "cache_server", "cluster")]
+    found = []
+    with tempfile.TemporaryDirectory() as place:
+        with open(os.path.join(place, "argparse.py"), "w", encoding="ascii") as file:
+            file.write("import os, signal\nos.kill(os.getpid(), signal.SIGINT)\n")
+        environment = {**os.environ, "PYTHONPATH": f"{place}:{PACKAGE}", "PYTHONDONTWRITEBYTECODE": "1"}
+        for words in programs:
+            ran = subprocess.run([sys.executable, *words], capture_output=True, timeout=SECONDS, env=environment, preexec_fn=lambda: signal.signal(signal.SIGINT, signal.SIG_DFL))
+            found += differences(((words, ran.returncode, ran.stdout, ran.stderr), (words, -signal.SIGINT, b"", b"")))
+    return found
+
+
 def shows_progress():
     """On a terminal, once a second has gone by, and not elsewhere."""
     with Bridge() as server:
