@@ -10,8 +10,8 @@ Files are split into pieces by their content, and a piece is kept once, however 
 new piece. A backup is a list of names and pieces, which is kept in pieces too. A repository of an older version, with a file objects/AA/ADDRESS for each
 object, is read too, and its new objects are kept in packs.
 
-A file is not read again if its length, mode, owner and time are those in the last backup of its folder and its pieces are there, unless `--all` is given,
-which also compares the objects that are there. All files are written under other names, synced, and then renamed; a backup is recorded last. So a save that
+A file is not read again if its length, mode, owner and time are those in the last backup of its folder and its pieces are there. With `--all`, every file
+is read, and the objects that are there are compared with it. All files are written under other names, synced, and then renamed; a backup is recorded last. So a save that
 is killed changes no earlier backup. The next save uses or removes what it left. Only one save can use a repository at a time.
 
 `check` reads everything. It prints each object that is missing, truncated or altered, with its pack, and each file that a backup can't restore. If only an
@@ -139,8 +139,8 @@ def lines_of_folder(repository, options, known):
         if words is not None:
             found.append(words)
         else:
-            fault = fault or "is no file, folder or link"
-            print(f"left out: {os.path.relpath(path, options.folder)} {fault}")
+            fault = fault or "not a file, folder or link"
+            print(f"left out: {os.path.relpath(path, options.folder)}: {fault}")
             is_whole = False
     repository.keep_waiting()
     return [" ".join([*words, *addresses]) for words, addresses in found], is_whole
@@ -212,7 +212,7 @@ class Restoring:
         try:
             work(*words, line)
         except (Refused, OSError) as fault:
-            print(f"not restored: {unquoted(line[2])} {error_text(fault)}")
+            print(f"not restored: {unquoted(line[2])}: {error_text(fault)}")
             self.is_whole = False
 
 
@@ -226,13 +226,13 @@ def restore(repository, options):
     for place, line in reversed(restoring.folders):
         restoring.try_to(restoring.finish, line, place)
     if restoring.unowned:
-        print(f"owners not restored: {restoring.unowned}, which have no setuid and setgid bits")
+        print(f"owners not restored: {restoring.unowned}; no setuid or setgid bits are set there")
     return restoring.is_whole and not restoring.unowned
 
 
 def an_address(text):
     if not ADDRESS.fullmatch(text):
-        raise argparse.ArgumentTypeError(f"{text!r} is no address, which has 64 digits")
+        raise argparse.ArgumentTypeError(f"{text!r} is not an address, which has 64 hexadecimal digits")
     return text
 
 

@@ -180,7 +180,7 @@ class Files:
             for start in range(0, place.length, COPIED):
                 piece = file.read(min(COPIED, place.length - start))
                 if len(piece) < min(COPIED, place.length - start):
-                    raise OSError("its object is cut off")
+                    raise OSError("its object is truncated")
                 yield piece
 
     def put_aside(self, address):

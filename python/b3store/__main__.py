@@ -197,14 +197,14 @@ def number_argument(text: str) -> int:
     try:
         return check_number("a number", int(text) if text.isdigit() and len(text) < 21 else text, 0, MAX_NUMBER)
     except (TypeError, ValueError):
-        raise argparse.ArgumentTypeError(f"{text!r} is no number below 2^64") from None
+        raise argparse.ArgumentTypeError(f"{text!r} is not a number below 2^64") from None
 
 
 def range_argument(text: str) -> Tuple[int, int]:
     """An argument that is a range."""
     start, colon, length = text.partition(":")
     if not colon:
-        raise argparse.ArgumentTypeError(f"{text!r} is no FROM:LEN")
+        raise argparse.ArgumentTypeError(f"{text!r} is not FROM:LEN")
     return number_argument(start or "0"), number_argument(length) if length else MAX_UPLOAD_LEN
 
 

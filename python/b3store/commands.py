@@ -129,8 +129,8 @@ class Commands(Sessions):
         self, tenant: int, address: str, target: int, offset: int = 0, length: int = MAX_UPLOAD_LEN, seconds: Optional[float] = None
     ) -> int:
         """Writes up to `length` bytes of an object, starting at `offset`, to the descriptor of a file, a pipe or a socket, and returns how many. The system
-        moves them if it can, so that Python copies none. Other commands can run meanwhile: what the descriptor has no room for is read before it is waited
-        for. Raises OSError if it can't be written to, TimeoutError if it has no room for `seconds`. Refusals: S1, S12."""
+        moves them if it can, so that Python copies none. Bytes that the descriptor has no room for are read into memory before this waits for room, so
+        other commands can run meanwhile. Raises OSError if it can't be written to, TimeoutError if it has no room for `seconds`. Refusals: S1, S12."""
         first, left = check_number("offset", offset), check_number("length", length)
         is_blocking = os.get_blocking(target)
         os.set_blocking(target, False)

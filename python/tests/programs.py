@@ -67,7 +67,7 @@ def says_what_is_wrong():
             (3, "connection refused", ["--tcp", "127.0.0.1:1", "ls"]), (3, none + ": no such file", ["--tcp", "127.0.0.1:1", "--token-file", none, "ls"]),
             (3, "a token has", ["--tcp", "127.0.0.1:1", "--token-file", PROGRAM, "ls"]), (2, "B3STORE_SOCKET", ["ls"]), (2, "COMMAND", []), (2, "frob", [*socket, "frob"]),
             (2, "64 hexadecimal digits", [*socket, "get", "abc"]), (2, "64 hexadecimal digits", [*socket, "has", ABC + "\nforget 0 " + ABC]), (2, "FROM:LEN", [*socket, "get", ABC, "--range", "5"]),
-            (2, "no number", [*socket, "get", ABC, "--range", "x:1"]), (2, "no number", [*socket, "ls", "--tenant", "x"]), (2, "HOST:PORT", ["--tcp", "localhost", "ls"]),
+            (2, "not a number", [*socket, "get", ABC, "--range", "x:1"]), (2, "not a number", [*socket, "ls", "--tenant", "x"]), (2, "HOST:PORT", ["--tcp", "localhost", "ls"]),
             (2, "HOST:PORT", ["--tcp", "localhost:99999", "ls"]), (2, "--token-file", [*socket, "--token-file", none, "ls"]), (2, "required", [*socket, "put"]),
         )
         found = []

@@ -130,7 +130,7 @@ def sessions_side_by_side():
 
 
 def sessions_that_fail():
-    """A program that opens no sessions, or none that fits, is no store; and behind one odd answer nothing is sent on any session."""
+    """A program that opens no sessions, or wrong ones, is not a store; and after one wrong answer nothing is sent on any session."""
     found = []
     told = {"gone": ("the store has ended", 3, "no more memory\n"), "odd": ("the store answers 'frob'", None, "")}
     for kind, wanted in told.items():

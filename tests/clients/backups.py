@@ -81,7 +81,7 @@ def backs_up():
             file.write(b"abcdef" + content)
         os.mkfifo(os.path.join(folder, "pipe"))
         status, lines = backup("--memory", str(1 << 23), "save", folder, repository)
-        found += differences((status, 1), (lines[0], "left out: pipe is no file, folder or link"))
+        found += differences((status, 1), (lines[0], "left out: pipe: not a file, folder or link"))
         return found if 0 < new_bytes(lines) < 300000 else [*found, f"{new_bytes(lines)} bytes are new"]
 
 
@@ -190,7 +190,7 @@ def restores_nothing_elsewhere():
         status, said = backup("restore", repository, address, inside)
         found = differences((status, 1), (len(said), 6), (os.listdir(outside), []), (sorted(os.listdir(inside)), ["d", "f"]))
         mode = stat.S_IMODE(os.stat(os.path.join(inside, "f")).st_mode)
-        return found + differences((said[-1], "owners not restored: 2, which have no setuid and setgid bits"), (mode, 0o755))
+        return found + differences((said[-1], "owners not restored: 2; no setuid or setgid bits are set there"), (mode, 0o755))
 
 
 def keeps_owners_and_links():

@@ -198,7 +198,7 @@ def reads_to_the_last_whole_record():
         with Cache(folder) as cache:
             found += differences((cache.begun.split(", ", 1)[1], "has 2 keys, 2 objects\n"), (cache.ask("GET", "/c")[0], 404))
             found += differences((cache.ask("PUT", "/c", b"c" * 5000)[0], 201))
-            found += differences((cache.stop()[1], "cache_server: 1 key left out: its object is cut off\n"))
+            found += differences((cache.stop()[1], "cache_server: 1 key left out: its object is truncated\n"))
         with Cache(folder) as cache:
             return found + differences((cache.begun.split(", ", 1)[1], "has 3 keys, 3 objects\n"), (cache.ask("GET", "/c") == (200, b"c" * 5000), True))
 

@@ -1,4 +1,4 @@
-"""Caches by examples/cache_server.py, and what stands on them."""
+"""Caches by examples/cache_server.py, and the programs that use them: examples/cluster.py and bench/ccache."""
 import http.client
 import os
 import re

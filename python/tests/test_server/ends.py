@@ -1,4 +1,4 @@
-"""How a server begins and ends, what it is refused, and what it refuses."""
+"""How a server starts and ends, when it doesn't start, and which connections it refuses."""
 import contextlib
 import os
 import signal

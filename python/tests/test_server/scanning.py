@@ -1,4 +1,4 @@
-"""What a server finds in the answers of a session, however they are cut into pieces; and parts of the server alone."""
+"""What a server finds in the answers of a session, however they are split into pieces; and parts of the server alone."""
 import random
 import socket
 import subprocess
