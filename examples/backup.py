@@ -45,7 +45,7 @@ import signal
 import stat
 
 from b3store import MAX_LIMIT, Ended, Refused, Store
-from b3store.console import drop_output, error_text, fault_text, open_standard_files
+from b3store.console import drop_output, error_text, fault_text, one_line, open_standard_files
 from backup_check import check
 from backup_packs import WriteFailed
 from backup_repository import ADDRESS, Damaged, Repository, quoted, unquoted
@@ -140,7 +140,7 @@ def lines_of_folder(repository, options, known):
             found.append(words)
         else:
             fault = fault or "not a file, folder or link"
-            print(f"left out: {os.path.relpath(path, options.folder)}: {fault}")
+            print(one_line(f"left out: {os.path.relpath(path, options.folder)}: {fault}"))
             is_whole = False
     repository.keep_waiting()
     return [" ".join([*words, *addresses]) for words, addresses in found], is_whole
@@ -212,7 +212,7 @@ class Restoring:
         try:
             work(*words, line)
         except (Refused, OSError) as fault:
-            print(f"not restored: {unquoted(line[2])}: {error_text(fault)}")
+            print(one_line(f"not restored: {unquoted(line[2])}: {error_text(fault)}"))
             self.is_whole = False
 
 
@@ -292,7 +292,7 @@ def main():
         status, text = 128 + signal.SIGINT, "interrupted"
     finally:
         end_at_once()
-    print(f"backup: {text}", file=sys.stderr)
+    print(f"backup: {one_line(text)}", file=sys.stderr)
     drop_output()
     return status
 

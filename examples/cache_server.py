@@ -59,7 +59,7 @@ import threading
 import time
 
 from b3store import MAX_LIMIT, MAX_SESSIONS, Ended, Refused, Store
-from b3store.console import count_text, fault_text
+from b3store.console import count_text, fault_text, one_line, open_standard_files
 from b3store.files import FolderInUse
 from cache_files import Files, Loader
 from cache_http import SECONDS_OF_SILENCE, WRITTEN_AT_ONCE, Connection, Cut, Server
@@ -312,6 +312,8 @@ def users_of(options):
             if not found or "\ufffd" in line or int(found[3]) > MAX_LIMIT:
                 raise ValueError(f"{options.users}, line {number}: {line.strip()[:60]!r} is not NAME TOKEN LIMIT, with a limit of up to {MAX_LIMIT} bytes")
             users.append(User(found[1], found[2], int(found[3])))
+    if not users:
+        raise ValueError(f"{options.users} has no user")
     if len({user.name for user in users}) < len(users):
         raise ValueError(f"{options.users} has a name twice")
     return users
@@ -389,6 +391,7 @@ def answer_until(stopping, server, begun):
 
 
 def main():
+    open_standard_files()
     options = read_options()
     stopping = stop_signals()
     try:
@@ -398,7 +401,7 @@ def main():
         print(f"cache_server: {fault}", file=sys.stderr)
         return 3
     except (FolderInUse, OSError, Refused, ValueError) as fault:
-        print(f"cache_server: {fault_text(fault)}", file=sys.stderr)
+        print(f"cache_server: {one_line(fault_text(fault))}", file=sys.stderr)
         return 1
 
 

@@ -20,7 +20,7 @@ import argparse
 import subprocess
 
 from cache_server import SECONDS_BETWEEN_LOOKS, number, stop_signals
-from b3store.console import fault_text
+from b3store.console import fault_text, one_line, open_standard_files
 
 NGINX = """\
 daemon off;
@@ -89,6 +89,7 @@ def start_all(options, processes):
 
 
 def main():
+    open_standard_files()
     options = read_options()
     stopping, processes, status = stop_signals(), [], 0
     try:
@@ -97,7 +98,7 @@ def main():
             if processes[-1].poll() is not None:
                 raise ValueError("nginx has ended")
     except (OSError, ValueError) as fault:
-        print(f"cluster: {fault_text(fault)}", file=sys.stderr)
+        print(f"cluster: {one_line(fault_text(fault))}", file=sys.stderr)
         status = 1
     for process in reversed(processes):
         process.terminate()

@@ -152,11 +152,13 @@ def connect_to_path(path: Union[str, bytes]) -> socket.socket:
 
 
 def connect_to_port(host: str, port: int) -> socket.socket:
-    """Connects to a TCP port. Raises OSError, with the host and the port."""
+    """Connects to a TCP port. Raises OSError, with the host and the port, or ValueError for a host whose name can't be looked up."""
     try:
         connection = socket.create_connection((host, port), timeout=SECONDS_TO_CONNECT)
     except OSError as fault:
         raise OSError(fault.errno, fault.strerror or str(fault), f"{host}:{port}") from None
+    except UnicodeError:
+        raise ValueError(f"{host!r} is not the name of a host") from None
     connection.setsockopt(socket.IPPROTO_TCP, socket.TCP_NODELAY, 1)
     connection.settimeout(None)
     return connection

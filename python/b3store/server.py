@@ -40,6 +40,7 @@ import time
 import warnings
 from typing import Callable, List, NamedTuple, Optional, Set, TextIO
 
+from .console import one_line, open_standard_files
 from .listening import Listener, ListenError, inherited, listen_at, listen_tcp, more_time, notify, read_token
 from .relay import serve_connection
 from .saved import SavedStore, SaveError
@@ -84,7 +85,7 @@ def write_line(stream: Optional[TextIO], message: str) -> None:
     """Writes a line to a standard stream, if it is open."""
     if stream is not None:
         with contextlib.suppress(OSError):
-            os.write(stream.fileno(), f"{NAME}: {message}\n".encode(errors="surrogateescape"))
+            os.write(stream.fileno(), f"{NAME}: {one_line(message)}\n".encode(errors="surrogateescape"))
 
 
 class Connections:
@@ -379,6 +380,7 @@ def serve(words: argparse.Namespace) -> int:
 
 
 def main() -> int:
+    open_standard_files()
     words = read_words()
     try:
         return serve(words)

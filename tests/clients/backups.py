@@ -79,9 +79,10 @@ def backs_up():
             content = file.read()
         with open(large, "wb") as file:
             file.write(b"abcdef" + content)
-        os.mkfifo(os.path.join(folder, "pipe"))
+        for name in "pipe", "a\nbackup pipe":
+            os.mkfifo(os.path.join(folder, name))
         status, lines = backup("--memory", str(1 << 23), "save", folder, repository)
-        found += differences((status, 1), (lines[0], "left out: pipe: not a file, folder or link"))
+        found += differences((status, 1), (lines[:2], [f"left out: {name}: not a file, folder or link" for name in ("a\\nbackup pipe", "pipe")]))
         return found if 0 < new_bytes(lines) < 300000 else [*found, f"{new_bytes(lines)} bytes are new"]
 
 

@@ -195,7 +195,7 @@ def token_files(program: str) -> List[str]:
         told = fails("--tcp", "127.0.0.1:0", "--token-file", f"{folder}/none")
         found += differences((told, (1, f"b3store.server: cannot read {folder}/none: No such file or directory\n")))
         path = _token_file(folder)
-        for address in "127.0.0.1", "127.0.0.1:", ":5", "127.0.0.1:99999", "a b:1", "::1:5", "127.0.0.1:x", "host.invalid:80", "256.1.1.1:5":
+        for address in "127.0.0.1", "127.0.0.1:", ":5", "127.0.0.1:99999", "a b:1", "::1:5", "127.0.0.1:x", "host.invalid:80", "256.1.1.1:5", "a" * 64 + ".b:5":
             status, told = fails("--tcp", address, "--token-file", path, variables={"RES_OPTIONS": "timeout:1 attempts:1"})
             found += differences((status, 1), (told.startswith("b3store.server: ") and address in told and told.count("\n") == 1, True))
         with socket.socket() as taken:

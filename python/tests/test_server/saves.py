@@ -295,6 +295,12 @@ def folders_that_are_none(program: str) -> List[str]:
         found += differences((fails(*words, f"{folder}/notes"), (1, f"b3store.server: cannot open the folder {folder}/notes: File exists\n")))
         found += differences((fails(*words, f"{folder}/notes/a"), (1, f"b3store.server: cannot open the folder {folder}/notes/a: Not a directory\n")))
         found += differences((fails(*words, "")[0], 1), (_files(folder), before))
+        for make in os.mkfifo, os.mkdir:
+            with _folder() as other:
+                os.mkdir(other)
+                make(os.path.join(other, "index"))
+                status, told = fails(*words, other)
+                found += differences((status, 1), (told.startswith(f"b3store.server: {other}/index is not a file; "), True))
         found += differences((fails("--program", f"{folder}/none", "--socket", f"{folder}-socket", "--save", f"{folder}-new")[0], 1))
         return found + differences((_state_at(program, f"{folder}-new"), {}))
 
