@@ -62,6 +62,8 @@ example:
   objects 143 wrong 0
   backups 1 broken 0
   $ backup.py restore /mnt/disk/repository 6437b3ac38465133ffb63b75273a8db548c558465d79db03fd359c6cd5bd9d85 ~/restored
+
+exit status: 0 all was saved, restored or correct; 1 something was not; 2 usage error; 3 the store has ended
 """
 
 def entries_of(folder):

@@ -86,6 +86,8 @@ example:
   $ curl http://127.0.0.1:8080/file.o -o copy.o
   $ CCACHE_REMOTE_STORAGE=http://127.0.0.1:8080 ccache gcc -c file.c
   $ curl -s http://127.0.0.1:8080/metrics | grep hits_total
+
+exit status: 0 after a signal; 1 it can't start, or can't write to FOLDER; 2 usage error; 3 the store has ended
 """
 
 

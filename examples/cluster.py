@@ -22,6 +22,15 @@ import subprocess
 from cache_server import SECONDS_BETWEEN_LOOKS, number, stop_signals
 from b3store.console import fault_text, one_line, open_standard_files
 
+EXAMPLE = """\
+example:
+  $ cluster.py /var/cache/builds --servers 2 &
+  cluster: port 8080
+  cluster: servers 4001 4002
+  $ CCACHE_REMOTE_STORAGE=http://127.0.0.1:8080 ccache gcc -c file.c
+
+exit status: 0 after a signal; 1 a server or nginx can't start, or nginx has ended; 2 usage error
+"""
 NGINX = """\
 daemon off;
 pid {folder}/nginx.pid;
@@ -63,7 +72,10 @@ class Server:
 
 
 def read_options():
-    parser = argparse.ArgumentParser(description="Run several cache servers, with nginx in front of them.")
+    parser = argparse.ArgumentParser(
+        description="Run several cache servers, with nginx in front of them. The program nginx must be installed.", epilog=EXAMPLE,
+        formatter_class=argparse.RawDescriptionHelpFormatter,
+    )
     parser.add_argument("folder", metavar="FOLDER", help="keep the content of server K in FOLDER/K")
     parser.add_argument("--servers", type=number(1, 64), default=4, metavar="N", help="run N cache servers (default: 4)")
     parser.add_argument("--port", type=number(1, 65535), default=8080, metavar="N", help="let nginx listen on this port (default: 8080)")

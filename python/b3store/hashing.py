@@ -29,12 +29,22 @@ SMALL_LEN = 1 << 12
 HASH_LEN = 32
 KEY_LEN = 32
 HASH, KEYED_HASH, DERIVE_KEY = range(3)
+EPILOG = """\
+example:
+  $ printf abc | python -m b3store.hashing
+  6437b3ac38465133ffb63b75273a8db548c558465d79db03fd359c6cd5bd9d85  -
+
+exit status: 0 done; 1 a file can't be read; 2 usage error; 3 writing failed, or there is no libb3
+"""
 FAULTS = {1: "the output has the wrong length", 2: "the key has the wrong length", 3: "the bytes are past the output's end", 4: "no subtree", 5: "no hasher"}
 
 
 def read_words() -> argparse.Namespace:
     """The words of the command line."""
-    parser = argparse.ArgumentParser("b3store.hashing", description="Print the BLAKE3 hash of each file, or of standard input.")
+    parser = argparse.ArgumentParser(
+        "b3store.hashing", description="Print the BLAKE3 hash of each file, or of standard input.", epilog=EPILOG,
+        formatter_class=argparse.RawDescriptionHelpFormatter,
+    )
     parser.add_argument("--threads", type=int, default=1, metavar="N", help="hash each file with N threads (default 1)")
     parser.add_argument("files", nargs="*", default=["-"], metavar="FILE", help="a file; - is standard input")
     words = parser.parse_args()

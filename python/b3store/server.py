@@ -64,6 +64,14 @@ STACK = 1 << 18
 FILES = 64
 """How many descriptors the server itself uses, at most."""
 FILES_PER_SESSION = 8
+EPILOG = """\
+example:
+  $ python -m b3store.server --socket /tmp/store --save /tmp/saved &
+  b3store.server: listening on /tmp/store
+  $ python -m b3store --socket /tmp/store put FILE
+
+exit status: 0 after a signal; 1 it can't start; 2 usage error; 3 the store's process ended; 4 the store can't be saved
+"""
 
 
 class Options(NamedTuple):
@@ -302,7 +310,10 @@ def number(least: float, most: float, kind: Callable[[str], float]) -> Callable[
 
 def read_words() -> argparse.Namespace:
     usage = "python -m b3store.server --socket PATH [OPTION..]"
-    parser = argparse.ArgumentParser(prog=NAME, usage=usage, description="Serve one store to many processes, over a socket.", allow_abbrev=False)
+    parser = argparse.ArgumentParser(
+        prog=NAME, usage=usage, description="Serve one store to many processes, over a socket.", epilog=EPILOG,
+        formatter_class=argparse.RawDescriptionHelpFormatter, allow_abbrev=False,
+    )
     add = parser.add_argument
     add("--socket", metavar="PATH", help="listen on this Unix-domain socket, created with mode 0600")
     add("--tcp", metavar="HOST:PORT", help="listen on a TCP port, in addition to --socket or instead; requires --token-file")
