@@ -26,7 +26,7 @@ def to_files(store, content, address):
 
 
 def to_a_slow_socket(store, content, address):
-    """Another thread's commands go on, though there is one session and nobody reads the socket."""
+    """Another thread's commands are run although there is one session and no one reads the socket."""
     ours, theirs = socket.socketpair()
     with ours, theirs:
         found = differences((raised(lambda: store.fetch_to(0, address, ours.fileno(), seconds=0.2)), TimeoutError), (os.get_blocking(ours.fileno()), True))

@@ -80,7 +80,7 @@ def says_what_is_wrong():
 
 
 def fails_to_write(server, place):
-    """An output that is full, one that nobody reads, and a server that ends."""
+    """An output that is full, one that is closed by its reader, and a server that ends."""
     large = os.path.join(place, "large")
     with open(large, "wb") as file:
         file.write(content_of(4 * PART_LEN))

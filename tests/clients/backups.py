@@ -243,7 +243,7 @@ def keeps_deep_folders():
 
 
 def ends_with_a_sentence():
-    """Output that can't be written, and an interrupt, are told in one line."""
+    """Output that can't be written, and an interrupt, are reported in one line."""
     with tempfile.TemporaryDirectory() as place:
         folder, repository = os.path.join(place, "folder"), os.path.join(place, "repository")
         os.mkdir(folder)

@@ -14,7 +14,7 @@ from servers import USERS, Cache, ask, wait_until
 
 
 def begins_again():
-    """It has what it saved; and it tells an object that was changed, and a user who is gone."""
+    """It loads what it saved, and reports an object that was changed, and a user who was removed."""
     with tempfile.TemporaryDirectory() as place:
         folder = os.path.join(place, "cache")
         with Cache(folder, USERS) as cache:

@@ -62,7 +62,7 @@ def gives_ranges():
 
 
 def gives_what_is_new():
-    """A client that has the content is told so."""
+    """A client that has the content gets no second copy."""
     with tempfile.TemporaryDirectory() as place, Cache(os.path.join(place, "cache")) as cache:
         cache.ask("PUT", "/k", b"abc")
         found = []

@@ -128,7 +128,7 @@ def _is_listening(path: str) -> bool:
 
 
 def closed_streams(program: str) -> List[str]:
-    """A server without standard streams, or whose output nobody reads, serves all the same."""
+    """A server without standard streams, or whose output is full, serves its clients."""
     found = []
     for redirections in "<&- >&- 2>&-", ">&-", ">/dev/full 2>/dev/full":
         with tempfile.TemporaryDirectory() as folder:
@@ -348,7 +348,7 @@ def ends_in_time(program: str) -> List[str]:
 
 
 def ends_by_force(program: str) -> List[str]:
-    """Who doesn't finish within the grace is cut; a second signal ends it; an interrupt is a signal like the other."""
+    """A connection that is open after the grace is ended; a second signal ends the wait; SIGINT has the same effect as SIGTERM."""
     found = []
     for numbers, grace, wanted in (
         ([signal.SIGTERM], "1", 1.0), ([signal.SIGTERM] * 2, "60", 0.0), ([signal.SIGINT] * 2, "60", 0.0), ([signal.SIGTERM], "0", 0.0)
@@ -376,7 +376,7 @@ def _notified(listening: socket.socket) -> bytes:
 
 
 def notifications(program: str) -> List[str]:
-    """systemd is told when the server is ready and when it stops, by a path and by an abstract name."""
+    """The server reports to systemd when it is ready and when it stops, at a path and at an abstract name."""
     found = []
     with tempfile.TemporaryDirectory() as folder:
         for name, address in (f"{folder}/notify", f"{folder}/notify"), (f"@b3store-test-{os.getpid()}", f"\0b3store-test-{os.getpid()}"):

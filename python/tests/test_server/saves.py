@@ -138,7 +138,7 @@ def restores_all(program: str) -> List[str]:
 
 
 def saves_what_was_answered(program: str) -> List[str]:
-    """A client that doesn't finish in time is cut: what was answered is saved, its open uploads are not, and a half of a command isn't done."""
+    """The connection of a client that doesn't finish in time is ended: what was answered is saved, its open uploads are not, and an incomplete command isn't run."""
     with _folder() as folder, Running(program, "--save", folder, "--grace", "0") as server, server.client() as client, server.client() as silent:
         client.ask("tenant 100000000")
         address = client.file(bytes(1000))

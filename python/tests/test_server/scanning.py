@@ -135,7 +135,7 @@ def turns_by_arrival(program: str) -> List[str]:
     return differences((served == [one for one, _ in pairs], True), (connections.count(), 0))
 
 
-def ends_that_nobody_saw(program: str) -> List[str]:
+def ends_without_a_signal(program: str) -> List[str]:
     """A store whose process has ended is not usable, also before the main thread has asked for the status."""
     del program
     store = Store.__new__(Store)
@@ -153,5 +153,5 @@ SCANNING = (
     ("answers cut at every byte", every_cut),
     ("turns", turns),
     ("turns by arrival", turns_by_arrival),
-    ("ends that nobody saw", ends_that_nobody_saw),
+    ("ends without a signal", ends_without_a_signal),
 )
