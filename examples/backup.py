@@ -10,8 +10,8 @@ Files are split into pieces by their content, and a piece is kept once, however 
 new piece. A backup is a list of names and pieces, which is kept in pieces too. A repository of an older version, with a file objects/AA/ADDRESS for each
 object, is read too, and its new objects are kept in packs.
 
-A file is not read again if its length, mode, owner and time are those in the last backup of its folder and its pieces are there, unless `--all` is given,
-which also compares the objects that are there. All files are written under other names, synced, and then renamed; a backup is recorded last. So a save that
+A file is not read again if its length, mode, owner and time are those in the last backup of its folder and its pieces are there. With `--all`, every file
+is read, and the objects that are there are compared with it. All files are written under other names, synced, and then renamed; a backup is recorded last. So a save that
 is killed changes no earlier backup. The next save uses or removes what it left. Only one save can use a repository at a time.
 
 `check` reads everything. It prints each object that is missing, truncated or altered, with its pack, and each file that a backup can't restore. If only an
@@ -28,18 +28,24 @@ the oldest objects.
 The status is 0 if all was saved, restored or correct; 1 if something was not, which is reported; 2 for a usage error; 3 if the store has ended; 130 after
 Ctrl-C.
 """
-import argparse
-import collections
-import fcntl
 import os
-import re
-import signal
-import stat
 import sys
 
 sys.path.insert(0, os.path.join(os.path.dirname(os.path.dirname(os.path.abspath(__file__))), "python"))
+from b3store.programs import end_at_once, raise_again
+
+if __name__ == "__main__":
+    end_at_once()
+
+import argparse
+import collections
+import fcntl
+import re
+import signal
+import stat
+
 from b3store import MAX_LIMIT, Ended, Refused, Store
-from b3store.console import drop_output, error_text, fault_text, open_standard_files
+from b3store.console import drop_output, error_text, fault_text, one_line, open_standard_files
 from backup_check import check
 from backup_packs import WriteFailed
 from backup_repository import ADDRESS, Damaged, Repository, quoted, unquoted
@@ -56,6 +62,8 @@ example:
   objects 143 wrong 0
   backups 1 broken 0
   $ backup.py restore /mnt/disk/repository 6437b3ac38465133ffb63b75273a8db548c558465d79db03fd359c6cd5bd9d85 ~/restored
+
+exit status: 0 all was saved, restored or correct; 1 something was not; 2 usage error; 3 the store has ended
 """
 
 def entries_of(folder):
@@ -133,8 +141,8 @@ def lines_of_folder(repository, options, known):
         if words is not None:
             found.append(words)
         else:
-            fault = fault or "is no file, folder or link"
-            print(f"left out: {os.path.relpath(path, options.folder)} {fault}")
+            fault = fault or "not a file, folder or link"
+            print(one_line(f"left out: {os.path.relpath(path, options.folder)}: {fault}"))
             is_whole = False
     repository.keep_waiting()
     return [" ".join([*words, *addresses]) for words, addresses in found], is_whole
@@ -206,7 +214,7 @@ class Restoring:
         try:
             work(*words, line)
         except (Refused, OSError) as fault:
-            print(f"not restored: {unquoted(line[2])} {error_text(fault)}")
+            print(one_line(f"not restored: {unquoted(line[2])}: {error_text(fault)}"))
             self.is_whole = False
 
 
@@ -220,13 +228,13 @@ def restore(repository, options):
     for place, line in reversed(restoring.folders):
         restoring.try_to(restoring.finish, line, place)
     if restoring.unowned:
-        print(f"owners not restored: {restoring.unowned}, which have no setuid and setgid bits")
+        print(f"owners not restored: {restoring.unowned}; no setuid or setgid bits are set there")
     return restoring.is_whole and not restoring.unowned
 
 
 def an_address(text):
     if not ADDRESS.fullmatch(text):
-        raise argparse.ArgumentTypeError(f"{text!r} is no address, which has 64 digits")
+        raise argparse.ArgumentTypeError(f"{text!r} is not an address, which has 64 hexadecimal digits")
     return text
 
 
@@ -276,6 +284,7 @@ def main():
     sys.stdout.reconfigure(errors="surrogateescape")
     options = read_options()
     try:
+        raise_again()
         return run(options)
     except (Refused, OSError, Damaged, WriteFailed) as fault:
         status, text = 1, fault_text(fault)
@@ -283,7 +292,9 @@ def main():
         status, text = 3, str(fault)
     except KeyboardInterrupt:
         status, text = 128 + signal.SIGINT, "interrupted"
-    print(f"backup: {text}", file=sys.stderr)
+    finally:
+        end_at_once()
+    print(f"backup: {one_line(text)}", file=sys.stderr)
     drop_output()
     return status
 

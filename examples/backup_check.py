@@ -3,7 +3,7 @@ import fcntl
 import os
 
 from b3store import Refused
-from b3store.console import count_text, error_text
+from b3store.console import count_text, error_text, one_line
 from backup_repository import ADDRESS, Damaged, unquoted
 
 
@@ -48,14 +48,14 @@ class Checking:
                 self.report_pack(pack, pack.path, f"before object {address} is a wrong row")
 
     def report_pack(self, pack, path, fault):
-        print(f"wrong: {self.relative(path)}: {fault}")
+        print(one_line(f"wrong: {self.relative(path)}: {fault}"))
         self.wrong_packs.add(pack)
 
     def check_objects(self):
         """Checks all objects, and reports those that are wrong. Returns their addresses."""
         packs = self.repository.packs
         for name in packs.names()[1]:
-            print(f"no object: {self.relative(os.path.join(packs.folder, name))}")
+            print(one_line(f"no object: {self.relative(os.path.join(packs.folder, name))}"))
         for pack in packs.packs:
             self.check_pack(pack)
         for folder, name in self.repository.files():
@@ -63,7 +63,7 @@ class Checking:
             if ADDRESS.fullmatch(name) and path == self.repository.place(name):
                 self.check_copy(name, path, lambda: self.repository.read_file(path))
             else:
-                print(f"no object: {self.relative(path)}")
+                print(one_line(f"no object: {self.relative(path)}"))
         for address, path, fault in self.faults:
             more = "; another copy is right" if address in self.right else ""
             print(f"wrong: {address} in {path}: {fault}{more}")
@@ -82,7 +82,7 @@ class Checking:
             pieces = line[7].split()[1:] if line[1] == "file" else []
             self.used.update(pieces)
             if not self.right.keys() >= set(pieces):
-                print(f"backup {backup} can't restore {unquoted(line[2])}")
+                print(one_line(f"backup {backup} can't restore {unquoted(line[2])}"))
                 is_whole = False
         return is_whole
 

@@ -44,7 +44,7 @@ def open_file(path):
     opened = os.open(path, os.O_RDONLY | os.O_NONBLOCK)
     if not stat.S_ISREG(os.fstat(opened).st_mode):
         os.close(opened)
-        raise OSError(errno.EINVAL, "it is no regular file", path)
+        raise OSError(errno.EINVAL, "not a regular file", path)
     return opened
 
 
@@ -142,7 +142,7 @@ def read_index(path):
     with open(open_file(path), "rb") as file:
         rows = file.read(MAX_PIECES * MAX_ROW_LEN + 1)
     if not ROWS.fullmatch(rows):
-        raise OSError(errno.EINVAL, "it is no index", path)
+        raise OSError(errno.EINVAL, "not an index", path)
     return rows
 
 

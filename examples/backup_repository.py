@@ -55,7 +55,7 @@ class Repository:
         """Reads where objects are."""
         if not any(os.path.lexists(os.path.join(self.path, name)) for name in ("packs", "objects", "backups")):
             os.stat(self.path)
-            raise Damaged(f"{self.path} is no repository")
+            raise Damaged(f"{self.path} is not a repository")
         self.packs.load()
 
     @contextlib.contextmanager
@@ -189,7 +189,7 @@ class Repository:
         """The addresses of the pieces of a backup's list."""
         addresses = self.read(backup).decode("ascii", "replace").split()
         if not all(map(ADDRESS.fullmatch, addresses)):
-            raise Damaged(f"{backup} is no backup")
+            raise Damaged(f"{backup} is not a backup")
         return addresses
 
     def lines_of(self, backup):
@@ -197,10 +197,10 @@ class Repository:
         try:
             lines = b"".join(map(self.read, self.pieces_of_backup(backup))).decode("ascii").splitlines()
         except UnicodeDecodeError:
-            raise Damaged(f"{backup} is no backup") from None
+            raise Damaged(f"{backup} is not a backup") from None
         found = [LINE.fullmatch(line) for line in lines]
         if not all(found):
-            raise Damaged(f"{backup} is no backup")
+            raise Damaged(f"{backup} is not a backup")
         return found
 
     def backups(self):

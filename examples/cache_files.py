@@ -13,6 +13,7 @@ segment. If many lines of the log are undone by later ones, it writes the log ag
 """
 import collections
 import contextlib
+import errno
 import os
 import re
 import sys
@@ -103,6 +104,8 @@ class Files:
         """Reads the log, drops what follows its last complete line, and returns how many bytes that were."""
         if os.path.exists(self.at(OLD_KEYS)) and not os.path.exists(self.at(LOG)):
             self.begin_log()
+        if os.path.lexists(self.at(LOG)) and not os.path.isfile(self.at(LOG)):
+            raise OSError(errno.EINVAL, "not a regular file", self.at(LOG))
         with open(self.at(LOG), "ab+") as log:
             log.seek(0)
             content = log.read()
@@ -122,6 +125,8 @@ class Files:
         """Writes the log of a folder of an older version, which has a file for each object and one with all keys."""
         with open(self.at(OLD_KEYS), encoding="latin-1", newline="\n") as lines:
             rows = [line.rstrip("\n").split(" ", 2) for line in lines]
+        if any(len(row) < 3 for row in rows):
+            raise ValueError(f"{self.at(OLD_KEYS)} has a line that isn't USER ADDRESS KEY")
         names = {address: os.path.join("objects", address) for _, address, _ in rows}
         there = {address: name for address, name in names.items() if os.path.exists(self.at(name))}
         texts = [f"object {address} {name} 0 {os.path.getsize(self.at(name))}" for address, name in there.items()]
@@ -180,7 +185,7 @@ class Files:
             for start in range(0, place.length, COPIED):
                 piece = file.read(min(COPIED, place.length - start))
                 if len(piece) < min(COPIED, place.length - start):
-                    raise OSError("its object is cut off")
+                    raise OSError("its object is truncated")
                 yield piece
 
     def put_aside(self, address):

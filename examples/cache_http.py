@@ -1,7 +1,7 @@
 """HTTP/1.1 of one connection: reads requests and their bodies, and writes the heads of answers (cache_server.py).
 
-`http.server` reads headers as those of a mail, which takes most of the time of a small answer, and splits a request's first line at any white space, so that
-keys of raw bytes become others. Here a key is what is between the two spaces of the first line, and headers are kept by names in lower case.
+`http.server` parses headers as those of a mail message, which takes most of the time of a small answer. It also splits the first line of a request at any
+white space, which would change keys of raw bytes. Here a key is what is between the two spaces of the first line, and headers are kept by names in lower case.
 """
 import email.utils
 import http
@@ -94,7 +94,7 @@ class Connection(http.server.BaseHTTPRequestHandler):
         raise Malformed(431)
 
     def begin_body(self, is_old):
-        """Finds out whether the connection is kept after the request, and how long its body is: `length` is None for chunks, or if it isn't told."""
+        """Finds out whether the connection is kept after the request, and how long its body is: `length` is None for chunks, or if no length is given."""
         words = self.headers.get("connection", "").lower()
         coding, length = self.headers.get("transfer-encoding"), self.headers.get("content-length")
         if coding is not None and (length is not None or coding.lower() != "chunked"):

@@ -40,20 +40,26 @@ token. All other paths are keys.
 | 400, 411, 413 | the request is malformed, or its body is truncated or isn't what `--compare` wants; it has no length; it is longer than `--most` |
 | 503, 507 | the store is out of memory, or has ended; the user's quota, or the store, is full |
 """
+import os
+import sys
+
+sys.path.insert(0, os.path.join(os.path.dirname(os.path.dirname(os.path.abspath(__file__))), "python"))
+from b3store.programs import end_at_once
+
+if __name__ == "__main__":
+    end_at_once()
+
 import argparse
 import base64
 import contextlib
 import hmac
-import os
 import re
 import signal
-import sys
 import threading
 import time
 
-sys.path.insert(0, os.path.join(os.path.dirname(os.path.dirname(os.path.abspath(__file__))), "python"))
 from b3store import MAX_LIMIT, MAX_SESSIONS, Ended, Refused, Store
-from b3store.console import count_text, fault_text
+from b3store.console import count_text, fault_text, one_line, open_standard_files
 from b3store.files import FolderInUse
 from cache_files import Files, Loader
 from cache_http import SECONDS_OF_SILENCE, WRITTEN_AT_ONCE, Connection, Cut, Server
@@ -71,7 +77,7 @@ STATUSES = {"S2": 507, "S5": 413, "S6": 507, "S11": 400, "S12": 404, "S13": 507,
 ADDRESS_KEY = re.compile("/(?:.*/)?cas/(?:blake3/)?([0-9a-f]{64})")
 """The keys that `--compare` is for."""
 JOURNAL_LIMIT = 4000000
-"""The default of `--journal-limit`: an entry takes 56 bytes of the store's memory."""
+"""The default of `--journal-limit`: an entry takes 48 bytes of the store's memory."""
 EXAMPLE = """\
 example:
   $ cache_server.py /var/cache/builds --port 8080 &
@@ -80,6 +86,8 @@ example:
   $ curl http://127.0.0.1:8080/file.o -o copy.o
   $ CCACHE_REMOTE_STORAGE=http://127.0.0.1:8080 ccache gcc -c file.c
   $ curl -s http://127.0.0.1:8080/metrics | grep hits_total
+
+exit status: 0 after a signal; 1 it can't start, or can't write to FOLDER; 2 usage error; 3 the store has ended
 """
 
 
@@ -306,6 +314,8 @@ def users_of(options):
             if not found or "\ufffd" in line or int(found[3]) > MAX_LIMIT:
                 raise ValueError(f"{options.users}, line {number}: {line.strip()[:60]!r} is not NAME TOKEN LIMIT, with a limit of up to {MAX_LIMIT} bytes")
             users.append(User(found[1], found[2], int(found[3])))
+    if not users:
+        raise ValueError(f"{options.users} has no user")
     if len({user.name for user in users}) < len(users):
         raise ValueError(f"{options.users} has a name twice")
     return users
@@ -383,6 +393,7 @@ def answer_until(stopping, server, begun):
 
 
 def main():
+    open_standard_files()
     options = read_options()
     stopping = stop_signals()
     try:
@@ -392,7 +403,7 @@ def main():
         print(f"cache_server: {fault}", file=sys.stderr)
         return 3
     except (FolderInUse, OSError, Refused, ValueError) as fault:
-        print(f"cache_server: {fault_text(fault)}", file=sys.stderr)
+        print(f"cache_server: {one_line(fault_text(fault))}", file=sys.stderr)
         return 1
 
 

@@ -2,12 +2,12 @@
 
 A store keeps a journal of its commands in memory, which only grows. When it has more entries than a limit, the cache starts a second store, and moves
 there what keys lead to, a batch of objects at a time, while requests are answered. From then on, new content is stored in the second store. What has begun
-on the first one ends there: an upload is sealed there and then moved, and an object that is being read is kept until it was read. The first store ends
+on the first one ends there: an upload is sealed there and then moved, and an object that is being read is kept until the read ends. The first store ends
 once nothing uses it.
 
-While there are two stores, a user's quota holds for both together. The tenant in the new store may use what the one in the old store leaves. An object that
+While there are two stores, a user's quota holds for both together. The tenant in the new store may use what the tenant in the old store leaves of the quota. An object that
 is in both counts once, and the uploads that copy objects to the new store don't count. Bytes are reserved under the lock under which the tenant's limit
-changes, so what the copies need isn't free for other uploads.
+changes, so no other upload can reserve the bytes that the copies need.
 """
 import collections
 import contextlib

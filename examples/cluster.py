@@ -7,14 +7,30 @@ Server K keeps its content in FOLDER/K. If a server ends, nginx asks the next on
 other keys stay where they are. The first line of output has the port of nginx, the second the process id of each server. On SIGTERM, SIGINT or SIGHUP it
 ends, and each server saves its content first.
 """
-import argparse
 import os
-import subprocess
 import sys
 
-from cache_server import SECONDS_BETWEEN_LOOKS, number, stop_signals
-from b3store.console import fault_text
+sys.path.insert(0, os.path.join(os.path.dirname(os.path.dirname(os.path.abspath(__file__))), "python"))
+from b3store.programs import end_at_once
 
+if __name__ == "__main__":
+    end_at_once()
+
+import argparse
+import subprocess
+
+from cache_server import SECONDS_BETWEEN_LOOKS, number, stop_signals
+from b3store.console import fault_text, one_line, open_standard_files
+
+EXAMPLE = """\
+example:
+  $ cluster.py /var/cache/builds --servers 2 &
+  cluster: port 8080
+  cluster: servers 4001 4002
+  $ CCACHE_REMOTE_STORAGE=http://127.0.0.1:8080 ccache gcc -c file.c
+
+exit status: 0 after a signal; 1 a server or nginx can't start, or nginx has ended; 2 usage error
+"""
 NGINX = """\
 daemon off;
 pid {folder}/nginx.pid;
@@ -56,7 +72,10 @@ class Server:
 
 
 def read_options():
-    parser = argparse.ArgumentParser(description="Run several cache servers, with nginx in front of them.")
+    parser = argparse.ArgumentParser(
+        description="Run several cache servers, with nginx in front of them. The program nginx must be installed.", epilog=EXAMPLE,
+        formatter_class=argparse.RawDescriptionHelpFormatter,
+    )
     parser.add_argument("folder", metavar="FOLDER", help="keep the content of server K in FOLDER/K")
     parser.add_argument("--servers", type=number(1, 64), default=4, metavar="N", help="run N cache servers (default: 4)")
     parser.add_argument("--port", type=number(1, 65535), default=8080, metavar="N", help="let nginx listen on this port (default: 8080)")
@@ -82,6 +101,7 @@ def start_all(options, processes):
 
 
 def main():
+    open_standard_files()
     options = read_options()
     stopping, processes, status = stop_signals(), [], 0
     try:
@@ -90,7 +110,7 @@ def main():
             if processes[-1].poll() is not None:
                 raise ValueError("nginx has ended")
     except (OSError, ValueError) as fault:
-        print(f"cluster: {fault_text(fault)}", file=sys.stderr)
+        print(f"cluster: {one_line(fault_text(fault))}", file=sys.stderr)
         status = 1
     for process in reversed(processes):
         process.terminate()

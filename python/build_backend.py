@@ -23,7 +23,7 @@ Classifier: Programming Language :: Python :: 3
 Classifier: Typing :: Typed
 """
 WHEEL = f"Wheel-Version: 1.0\nGenerator: {NAME}\nRoot-Is-Purelib: true\nTag: py3-none-any\n"
-ENTRY_POINTS = "[console_scripts]\nb3store-client = b3store.__main__:main\nb3store-server = b3store.server:main\n"
+ENTRY_POINTS = "[console_scripts]\nb3store-client = b3store.programs:client\nb3store-server = b3store.programs:server\n"
 TIME = (1980, 1, 1, 0, 0, 0)
 """The time of every file, so that a wheel depends only on what is in it."""
 

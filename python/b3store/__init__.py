@@ -13,16 +13,15 @@
 """
 import typing
 
-from .client import Client
-from .store import Store
-from .transfers import StoredObject, Upload
-from .values import (
-    CHUNK_LEN, MAX_LIMIT, MAX_NUMBER, MAX_PART_LEN, MAX_SESSIONS, MAX_UPLOAD_LEN, PART_LEN, RANGE_LEN, REFUSALS, Ended, Filed, Held, ObjectRow,
-    OpenUpload, Refused, StoreError, Totals, Usage,
-)
-
 if typing.TYPE_CHECKING:
     from .asynchronous import AsyncStore
+    from .client import Client
+    from .store import Store
+    from .transfers import StoredObject, Upload
+    from .values import (
+        CHUNK_LEN, MAX_LIMIT, MAX_NUMBER, MAX_PART_LEN, MAX_SESSIONS, MAX_UPLOAD_LEN, PART_LEN, RANGE_LEN, REFUSALS, Ended, Filed, Held, ObjectRow,
+        OpenUpload, Refused, StoreError, Totals, Usage,
+    )
 
 __all__ = [
     "CHUNK_LEN", "MAX_LIMIT", "MAX_NUMBER", "MAX_PART_LEN", "MAX_SESSIONS", "MAX_UPLOAD_LEN", "PART_LEN", "RANGE_LEN", "REFUSALS",
@@ -30,12 +29,21 @@ __all__ = [
     "Upload", "Usage",
 ]
 __version__ = "1.0"
+_MODULES = {"AsyncStore": "asynchronous", "Client": "client", "Store": "store", "StoredObject": "transfers", "Upload": "transfers"}
+"""Where a name is defined, unless that is `values`."""
 
 
 def __getattr__(name: str) -> typing.Any:
-    """Imports asyncio only for a program that uses it."""
-    if name == "AsyncStore":
-        from .asynchronous import AsyncStore
+    """Imports a module when a name of it is used first. So a program of this package can begin before they are imported (programs.py), and asyncio is
+    imported only if it is used."""
+    if name not in __all__:
+        raise AttributeError(f"module {__name__!r} has no attribute {name!r}")
+    import importlib
 
-        return AsyncStore
-    raise AttributeError(f"module {__name__!r} has no attribute {name!r}")
+    value = getattr(importlib.import_module("." + _MODULES.get(name, "values"), __name__), name)
+    globals()[name] = value
+    return value
+
+
+def __dir__() -> typing.List[str]:
+    return sorted({*globals(), *__all__})

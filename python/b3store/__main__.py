@@ -1,8 +1,14 @@
 """`python -m b3store`, also installed as `b3store-client`: uses a server's store from a shell (docs/LIBRARY.md)."""
+from .programs import end_at_once
+
+if __name__ == "__main__":
+    end_at_once()
+
 import argparse
 import contextlib
 import errno
 import os
+import re
 import stat
 import sys
 from typing import Any, BinaryIO, Callable, Iterator, List, Optional, Tuple
@@ -39,7 +45,7 @@ def put_file(store: Client, tenant: int, name: str) -> int:
             with contextlib.closing(progress):
                 filed = store.upload(file, tenant, progress=progress)
     except (Refused, OSError) as fault:
-        return miss(f"{name}: {error_text(fault)}")
+        return miss(f"{name or repr(name)}: {error_text(fault)}")
     print(check_line(filed.address, name), flush=True)
     return 0
 
@@ -74,16 +80,29 @@ def output_to(path: Optional[str]) -> Iterator[Callable[[memoryview], None]]:
     try:
         file = open(aside, "wb" if is_special else "xb", buffering=0)
     except OSError as fault:
-        raise type(fault)(fault.errno, fault.strerror, path) from None
+        raise named(fault, path) from None
     with file:
         try:
             yield writer(file.fileno(), path)
             if not is_special:
-                os.replace(aside, path)
+                rename(aside, path)
         except BaseException:
             if not is_special:
                 os.unlink(aside)
             raise
+
+
+def rename(source: str, target: str) -> None:
+    """Renames a file. Raises OSError with the new name."""
+    try:
+        os.replace(source, target)
+    except OSError as fault:
+        raise named(fault, target) from None
+
+
+def named(fault: OSError, name: str) -> OSError:
+    """The same error, with another name."""
+    return type(fault)(fault.errno, fault.strerror, name)
 
 
 def writer(number: int, name: str) -> Callable[[memoryview], None]:
@@ -93,7 +112,7 @@ def writer(number: int, name: str) -> Callable[[memoryview], None]:
             while view:
                 view = view[os.write(number, view) :]
         except OSError as fault:
-            raise type(fault)(fault.errno, fault.strerror, name) from None
+            raise named(fault, name) from None
 
     return write
 
@@ -192,14 +211,14 @@ def number_argument(text: str) -> int:
     try:
         return check_number("a number", int(text) if text.isdigit() and len(text) < 21 else text, 0, MAX_NUMBER)
     except (TypeError, ValueError):
-        raise argparse.ArgumentTypeError(f"{text!r} is no number below 2^64") from None
+        raise argparse.ArgumentTypeError(f"{text!r} is not a number below 2^64") from None
 
 
 def range_argument(text: str) -> Tuple[int, int]:
     """An argument that is a range."""
     start, colon, length = text.partition(":")
     if not colon:
-        raise argparse.ArgumentTypeError(f"{text!r} is no FROM:LEN")
+        raise argparse.ArgumentTypeError(f"{text!r} is not FROM:LEN")
     return number_argument(start or "0"), number_argument(length) if length else MAX_UPLOAD_LEN
 
 
@@ -262,7 +281,7 @@ def connect(parser: argparse.ArgumentParser, words: Any) -> Client:
             parser.error("--token-file belongs to --tcp")
         return Client(path)
     host, _, port = tcp.rpartition(":")
-    if path is not None or not host or not port.isdigit() or not 1 <= int(port[:6]) <= 65535:
+    if path is not None or not host or not re.fullmatch("[0-9]{1,5}", port) or not 1 <= int(port) <= 65535:
         parser.error("--tcp is HOST:PORT, and excludes --socket")
     return Client(host=host.strip("[]"), port=int(port), token=None if token_file is None else read_token(token_file))
 

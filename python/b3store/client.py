@@ -25,8 +25,8 @@ class Client(Transfers):
             filed = store.upload(b"abc", store.tenant(1 << 30))
 
     It connects to a Unix-domain socket or, with `host`, `port` and `token`, to a TCP port; `token` is the server's token, a str of hexadecimal digits.
-    Each connection is one session. A client has `sessions` of them, which must not be more than the server has, and threads that share the client wait for
-    a free one. When a connection ends, the server aborts the uploads that were begun over it, unless it was started with `--keep-uploads`."""
+    Each connection is one session. A client opens `sessions` of them, at most as many as the server has; threads that share the client wait for a free
+    one. When a connection ends, the server aborts the uploads that were begun over it, unless it was started with `--keep-uploads`."""
 
     def __init__(
         self, path: Optional[Place] = None, *, host: Optional[str] = None, port: Optional[int] = None, token: Optional[str] = None, sessions: int = 1
@@ -152,11 +152,13 @@ def connect_to_path(path: Union[str, bytes]) -> socket.socket:
 
 
 def connect_to_port(host: str, port: int) -> socket.socket:
-    """Connects to a TCP port. Raises OSError, with the host and the port."""
+    """Connects to a TCP port. Raises OSError, with the host and the port, or ValueError for a host whose name can't be looked up."""
     try:
         connection = socket.create_connection((host, port), timeout=SECONDS_TO_CONNECT)
     except OSError as fault:
         raise OSError(fault.errno, fault.strerror or str(fault), f"{host}:{port}") from None
+    except UnicodeError:
+        raise ValueError(f"{host!r} is not the name of a host") from None
     connection.setsockopt(socket.IPPROTO_TCP, socket.TCP_NODELAY, 1)
     connection.settimeout(None)
     return connection

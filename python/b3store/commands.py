@@ -10,6 +10,9 @@ from .values import (
 
 Value = TypeVar("Value")
 
+MAX_DESCRIPTOR = (1 << 31) - 1
+"""The maximum number of a descriptor: those of the system are signed."""
+
 
 class Commands(Sessions):
     """A method for each command. Arguments are checked before anything is sent: TypeError for a wrong type, ValueError for a value that no command
@@ -129,9 +132,10 @@ class Commands(Sessions):
         self, tenant: int, address: str, target: int, offset: int = 0, length: int = MAX_UPLOAD_LEN, seconds: Optional[float] = None
     ) -> int:
         """Writes up to `length` bytes of an object, starting at `offset`, to the descriptor of a file, a pipe or a socket, and returns how many. The system
-        moves them if it can, so that Python copies none. Other commands can run meanwhile: what the descriptor has no room for is read before it is waited
-        for. Raises OSError if it can't be written to, TimeoutError if it has no room for `seconds`. Refusals: S1, S12."""
+        moves them if it can, so that Python copies none. Bytes that the descriptor has no room for are read into memory before this waits for room, so
+        other commands can run meanwhile. Raises OSError if it can't be written to, TimeoutError if it has no room for `seconds`. Refusals: S1, S12."""
         first, left = check_number("offset", offset), check_number("length", length)
+        target = check_number("target", target, 0, MAX_DESCRIPTOR)
         is_blocking = os.get_blocking(target)
         os.set_blocking(target, False)
         try:

@@ -1,16 +1,19 @@
 """What the programs of this package share: lines, messages, progress, and endings without a traceback."""
 import os
+import re
 import signal
 import sys
 import time
 from typing import Callable, Optional
 
+from .programs import end_at_once, raise_again
 from .values import StoreError
 
 SECONDS_TO_PROGRESS = 1
 """Progress is shown after this time,"""
 SECONDS_BETWEEN = 0.2
 """and then at these intervals."""
+CONTROLS = re.compile(r"[\x00-\x1f\x7f-\x9f]")
 ESCAPES = {"\\": "\\\\", "\n": "\\n", "\r": "\\r"}
 FAILED = 3
 """The exit status when reading, writing or the connection fails."""
@@ -22,9 +25,14 @@ def check_line(address: str, name: str) -> str:
     return ("\\" if escaped != name else "") + f"{address}  {escaped}"
 
 
+def one_line(text: str) -> str:
+    """A text in which control characters, such as the newlines of a file's name, are escaped."""
+    return CONTROLS.sub(lambda found: repr(found[0])[1:-1], text)
+
+
 def report(text: str) -> None:
-    """Writes a message to standard error. Bytes of names that are not text are escaped."""
-    line = f"b3store: {text}\n".encode("utf-8", "backslashreplace").decode("utf-8")
+    """Writes a message of one line to standard error. Bytes of names that are not text are escaped."""
+    line = f"b3store: {one_line(text)}\n".encode("utf-8", "backslashreplace").decode("utf-8")
     try:
         sys.stderr.write(line)
         sys.stderr.flush()
@@ -42,7 +50,7 @@ def error_text(fault: BaseException) -> str:
 def fault_text(fault: BaseException) -> str:
     """An error in a few words, after the file that it is about."""
     name = getattr(fault, "filename", None)
-    return error_text(fault) if name is None else f"{os.fsdecode(name) if isinstance(name, bytes) else name}: {error_text(fault)}"
+    return error_text(fault) if name is None else f"{os.fsdecode(name) if isinstance(name, bytes) else name or repr(name)}: {error_text(fault)}"
 
 
 def count_text(count: int, noun: str) -> str:
@@ -57,6 +65,7 @@ def finish(run: Callable[[], int]) -> int:
         return FAILED
     if hasattr(sys.stdout, "reconfigure"):
         sys.stdout.reconfigure(errors="surrogateescape")
+    is_program = raise_again()
     try:
         status = run()
         sys.stdout.flush()
@@ -67,9 +76,12 @@ def finish(run: Callable[[], int]) -> int:
         drop_output()
         return 128 + signal.SIGINT
     except OSError as fault:
-        report(f"{fault.filename or 'cannot write'}: {error_text(fault)}")
+        report("cannot write: " + error_text(fault) if fault.filename is None else fault_text(fault))
     except (StoreError, MemoryError, ValueError) as fault:
         report("out of memory" if isinstance(fault, MemoryError) else error_text(fault))
+    finally:
+        if is_program:
+            end_at_once()
     drop_output()
     return FAILED
 

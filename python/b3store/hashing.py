@@ -7,6 +7,11 @@
 `python -m b3store.hashing [--threads N] [FILE ..]` prints a line for each file, as b3sum does. `./install --library` installs the library; the
 environment variable B3_LIBRARY names one elsewhere. Without it, importing this module raises ImportError. Hashing more than 4 KiB lets other threads run.
 """
+from .programs import end_at_once
+
+if __name__ == "__main__":
+    end_at_once()
+
 import argparse
 import concurrent.futures
 import ctypes
@@ -14,7 +19,7 @@ import os
 import sys
 from typing import Any, BinaryIO, Callable, List, Optional, Union
 
-from .console import check_line, error_text, finish, report
+from .console import FAILED, check_line, error_text, finish, report
 from .values import CHUNK_LEN, Buffer, check_bytes, check_number
 
 SPAN_LEN = 1 << 20
@@ -24,17 +29,45 @@ SMALL_LEN = 1 << 12
 HASH_LEN = 32
 KEY_LEN = 32
 HASH, KEYED_HASH, DERIVE_KEY = range(3)
+EPILOG = """\
+example:
+  $ printf abc | python -m b3store.hashing
+  6437b3ac38465133ffb63b75273a8db548c558465d79db03fd359c6cd5bd9d85  -
+
+exit status: 0 done; 1 a file can't be read; 2 usage error; 3 writing failed, or there is no libb3
+"""
 FAULTS = {1: "the output has the wrong length", 2: "the key has the wrong length", 3: "the bytes are past the output's end", 4: "no subtree", 5: "no hasher"}
 
 
+def read_words() -> argparse.Namespace:
+    """The words of the command line."""
+    parser = argparse.ArgumentParser(
+        "b3store.hashing", description="Print the BLAKE3 hash of each file, or of standard input.", epilog=EPILOG,
+        formatter_class=argparse.RawDescriptionHelpFormatter,
+    )
+    parser.add_argument("--threads", type=int, default=1, metavar="N", help="hash each file with N threads (default 1)")
+    parser.add_argument("files", nargs="*", default=["-"], metavar="FILE", help="a file; - is standard input")
+    words = parser.parse_args()
+    if not 1 <= words.threads <= 1024:
+        parser.error("--threads is from 1 to 1024")
+    return words
+
+
 def load(kind: Callable[[str], Any]) -> Any:
-    """Loads the library."""
+    """Loads the library. If there is none, the program ends with a message, and an import raises ImportError."""
     name = os.environ.get("B3_LIBRARY", "libb3.so.1")
     try:
         return kind(name)
     except OSError as fault:
-        raise ImportError(f"{fault}: install libb3 by `./install --library`, or set B3_LIBRARY to the path of libb3.so.1") from None
+        text = f"{fault}: install libb3 by `./install --library`, or set B3_LIBRARY to the path of libb3.so.1"
+    if __name__ == "__main__":
+        report(text)
+        sys.exit(FAILED)
+    raise ImportError(text)
 
+
+if __name__ == "__main__":
+    read_words()  # `--help` needs no library
 
 library = load(ctypes.CDLL)
 small_library = load(ctypes.PyDLL)
@@ -289,13 +322,8 @@ def print_hash(name: str, threads: int) -> bool:
 
 
 def run() -> int:
-    """The program `python -m b3store.hashing`, without what it catches."""
-    parser = argparse.ArgumentParser("b3store.hashing", description="Print the BLAKE3 hash of each file, or of standard input.")
-    parser.add_argument("--threads", type=int, default=1, metavar="N", help="hash each file with N threads (default 1)")
-    parser.add_argument("files", nargs="*", default=["-"], metavar="FILE", help="a file; - is standard input")
-    words = parser.parse_args()
-    if not 1 <= words.threads <= 1024:
-        parser.error("--threads is from 1 to 1024")
+    """Runs the program `python -m b3store.hashing`, and lets exceptions pass."""
+    words = read_words()
     return 0 if all([print_hash(name, words.threads) for name in words.files]) else 1
 
 

@@ -131,8 +131,8 @@ def listen_tcp(text: str) -> Listener:
     try:
         family, kind, protocol, _, address = socket.getaddrinfo(found.group(1) or found.group(2), int(found.group(3)), type=socket.SOCK_STREAM)[0]
         listening = socket.socket(family, kind, protocol)
-    except OSError as error:
-        raise ListenError(f"cannot listen on {text}: {error.strerror or error}") from None
+    except (OSError, UnicodeError) as error:  # a name that is no host's may not be encodable
+        raise ListenError(f"cannot listen on {text}: {getattr(error, 'strerror', None) or error}") from None
     try:
         listening.setsockopt(socket.SOL_SOCKET, socket.SO_REUSEADDR, 1)
         listening.bind(address)

@@ -241,6 +241,8 @@ def index_texts(saved: Saved) -> Iterator[str]:
 def read_index(path: str) -> Saved:
     """Reads an index. Raises SaveError if it isn't one, or is damaged."""
     saved, is_whole = Saved([], {}), False
+    if not os.path.isfile(path):
+        raise SaveError(f"{path} is not a file; {ADVICE}")
     with open(path, "rb") as file:
         if file.readline() != checked_line(HEADER):
             raise SaveError(f"{path} is damaged, or not the index of a saved store; {ADVICE}")

@@ -20,6 +20,11 @@ which speaks the lines of `b3store serve` and nothing else. A separate process m
 
 Exit status: 0 after a signal, 1 if it can't start, 2 for wrong arguments, 3 if the store's process ended, 4 if the store can't be saved.
 """
+from .programs import end_at_once
+
+if __name__ == "__main__":
+    end_at_once()
+
 import argparse
 import contextlib
 import hmac
@@ -35,6 +40,7 @@ import time
 import warnings
 from typing import Callable, List, NamedTuple, Optional, Set, TextIO
 
+from .console import one_line, open_standard_files
 from .listening import Listener, ListenError, inherited, listen_at, listen_tcp, more_time, notify, read_token
 from .relay import serve_connection
 from .saved import SavedStore, SaveError
@@ -58,6 +64,14 @@ STACK = 1 << 18
 FILES = 64
 """How many descriptors the server itself uses, at most."""
 FILES_PER_SESSION = 8
+EPILOG = """\
+example:
+  $ python -m b3store.server --socket /tmp/store --save /tmp/saved &
+  b3store.server: listening on /tmp/store
+  $ python -m b3store --socket /tmp/store put FILE
+
+exit status: 0 after a signal; 1 it can't start; 2 usage error; 3 the store's process ended; 4 the store can't be saved
+"""
 
 
 class Options(NamedTuple):
@@ -79,7 +93,7 @@ def write_line(stream: Optional[TextIO], message: str) -> None:
     """Writes a line to a standard stream, if it is open."""
     if stream is not None:
         with contextlib.suppress(OSError):
-            os.write(stream.fileno(), f"{NAME}: {message}\n".encode(errors="surrogateescape"))
+            os.write(stream.fileno(), f"{NAME}: {one_line(message)}\n".encode(errors="surrogateescape"))
 
 
 class Connections:
@@ -296,7 +310,10 @@ def number(least: float, most: float, kind: Callable[[str], float]) -> Callable[
 
 def read_words() -> argparse.Namespace:
     usage = "python -m b3store.server --socket PATH [OPTION..]"
-    parser = argparse.ArgumentParser(prog=NAME, usage=usage, description="Serve one store to many processes, over a socket.", allow_abbrev=False)
+    parser = argparse.ArgumentParser(
+        prog=NAME, usage=usage, description="Serve one store to many processes, over a socket.", epilog=EPILOG,
+        formatter_class=argparse.RawDescriptionHelpFormatter, allow_abbrev=False,
+    )
     add = parser.add_argument
     add("--socket", metavar="PATH", help="listen on this Unix-domain socket, created with mode 0600")
     add("--tcp", metavar="HOST:PORT", help="listen on a TCP port, in addition to --socket or instead; requires --token-file")
@@ -374,6 +391,7 @@ def serve(words: argparse.Namespace) -> int:
 
 
 def main() -> int:
+    open_standard_files()
     words = read_words()
     try:
         return serve(words)

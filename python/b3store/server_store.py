@@ -78,7 +78,7 @@ class OwnSession(Transfers):
 
 @contextlib.contextmanager
 def _signals_held() -> Iterator[None]:
-    """Holds back the signals that end the server: one that came while a temporary folder is made would leave it behind."""
+    """Holds back the signals that end the server: one that arrives while a temporary folder is made would leave the folder."""
     held = signal.pthread_sigmask(signal.SIG_BLOCK, (signal.SIGTERM, signal.SIGINT))
     try:
         yield

@@ -181,7 +181,8 @@ class Session:
 
     def move(self, line: str, max_len: int, target: int) -> Tuple[int, bytes, Optional[OSError]]:
         """Sends a command that is answered by up to `max_len` raw bytes, and moves them to a descriptor that doesn't block. Returns how many the answer
-        has, the last of them if the descriptor has had no room for a moment, and the fault if it can't be written to: the answer is read to its end."""
+        has; those that are read but not written, because the descriptor had no room for a moment; and the error if it can't be written to. The answer is
+        always read to its end."""
         self.write(line.encode("ascii") + b"\n")
         got = self._read_some(len(b"bytes %d\n" % max_len))
         while b"\n" not in got:

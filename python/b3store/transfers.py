@@ -1,6 +1,7 @@
 """Whole objects: uploads of any length, and objects as file objects."""
 import io
 import itertools
+import sys
 from types import TracebackType
 from typing import Any, BinaryIO, Callable, Iterator, List, Optional, Type, Union
 
@@ -207,7 +208,7 @@ class Transfers(Commands):
 
     def open(self, tenant: int, address: str, buffering: int = RANGE_LEN) -> Union[io.BufferedReader, StoredObject]:
         """Opens an object as a file object for reading bytes, which can seek. `buffering` is the length of its buffer, 0 for none. Refusals: S1, S12."""
-        check_number("buffering", buffering)
+        check_number("buffering", buffering, 0, sys.maxsize)
         raw = StoredObject(self, tenant, check_address(address))
         return io.BufferedReader(raw, buffering) if buffering else raw
 

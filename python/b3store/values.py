@@ -75,7 +75,7 @@ class Refused(StoreError):
 
 class Ended(StoreError):
     """The connection can't be used any more, and every later call raises the same error. Either the store's process or its server has ended,
-    or it sent something that is no answer, or an exception interrupted a command."""
+    or it sent something that is not an answer, or an exception interrupted a command."""
 
     def __init__(self, reason: str, status: Optional[int] = None, stderr: str = "") -> None:
         super().__init__(reason, status, stderr)
@@ -183,7 +183,7 @@ def check_bytes(content: Any) -> memoryview:
 def parse_digits(text: str) -> int:
     """The number that decimal digits are. Raises ValueError for anything else, also for what `int` would accept."""
     if not (text.isdigit() and text.isascii() and len(text) <= MAX_DIGITS):
-        raise ValueError(f"{text[:30]!r} is no number")
+        raise ValueError(f"{text[:30]!r} is not a number")
     return int(text)
 
 

@@ -49,6 +49,7 @@ CASES = (
     ("the command line", programs.puts_and_gets),
     ("messages of the command line", programs.says_what_is_wrong),
     ("an interrupt of the command line", programs.ends_on_an_interrupt),
+    ("an interrupt while a program starts", programs.ends_while_it_starts),
     ("progress of the command line", programs.shows_progress),
     ("the package installed", installing.installs),
     ("the names of the package", installing.names),

@@ -43,4 +43,8 @@ def without_library():
         ran = subprocess.run([sys.executable, "-c", *words], capture_output=True, timeout=SECONDS, env=environment)
         if not ran.stderr.endswith(wanted) or bool(ran.returncode) != bool(wanted):
             return [ran.stderr.decode()]
-    return []
+    found = []
+    for words, status, line in (["--help"], 0, b""), ([], 3, b"B3_LIBRARY to the path of libb3.so.1\n"), (["--threads", "0"], 2, b"is from 1 to 1024\n"):
+        ran = subprocess.run([sys.executable, "-m", "b3store.hashing", *words], capture_output=True, timeout=SECONDS, env=environment)
+        found += differences((ran.returncode, status), (ran.stderr.endswith(line), True), (b"Traceback" in ran.stderr, False))
+    return found

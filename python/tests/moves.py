@@ -26,7 +26,7 @@ def to_files(store, content, address):
 
 
 def to_a_slow_socket(store, content, address):
-    """Another thread's commands go on, though there is one session and nobody reads the socket."""
+    """Another thread's commands are run although there is one session and no one reads the socket."""
     ours, theirs = socket.socketpair()
     with ours, theirs:
         found = differences((raised(lambda: store.fetch_to(0, address, ours.fileno(), seconds=0.2)), TimeoutError), (os.get_blocking(ours.fileno()), True))
@@ -54,7 +54,7 @@ def writes_to_descriptors():
                 for target, fault in (full.fileno(), OSError), (readable.fileno(), OSError), (broken, BrokenPipeError), (1 << 20, OSError), ("1", TypeError):
                     found += differences((raised(store.fetch_to, 0, address, target), fault))
                 os.close(broken)
-                found += differences((raised(store.fetch_to, 0, address, 1, -1), ValueError), (refusal(store.fetch_to, 0, FOUR, 1), ("S12", None)))
+                found += differences((raised(store.fetch_to, 0, address, 1, -1), ValueError), (raised(store.fetch_to, 0, address, 1 << 64), ValueError), (raised(store.open, 0, address, 1 << 63), ValueError), (refusal(store.fetch_to, 0, FOUR, 1), ("S12", None)))
                 found += differences((raised(store.fetch_to, 1, address, 1), Refused), (store.fetch(0, address) == content, True))
         finally:
             sessions._splice = splice

@@ -44,6 +44,7 @@ def puts_and_gets():
         found += differences((client("get", ABC, "--output", copy), (0, b"", "")), (open(copy, "rb").read(), b"abc"), (client("get", ABC, "-o", "/dev/null"), (0, b"", "")), (client("get", ABC, "-o", "-"), (0, b"abc", "")))
         nowhere = os.path.join(place, "none", "copy")
         found += differences((client("get", ABC, "-o", nowhere), (3, b"", f"b3store: {nowhere}: no such file or directory\n")))
+        found += differences((client("get", ABC, "-o", ""), (3, b"", "b3store: '': no such file or directory\n")))
         found += differences((client("has", ABC), (0, f"{ABC} 3\n".encode(), "")), (client("has", "0" * 64, ABC), (1, f"{ABC} 3\n".encode(), "")))
         rows = f"{ABC} 3\n{address} {len(content)}\n{FOUR} 4\n{EMPTY} 0\n"
         found += differences((client("ls"), (0, rows.encode(), "")), (client("rm", FOUR, EMPTY), (0, b"", "")), (client("ls", "--tenant", "0"), (0, rows[: -67 - 67].encode(), "")))
@@ -61,14 +62,14 @@ def says_what_is_wrong():
         none, gone = os.path.join(place, "none"), "0" * 64
         socket = ["--socket", server.path]
         cases = (
-            (1, "no such file or directory", [*socket, "put", none]), (1, "is a directory", [*socket, "put", place]), (1, f"b3store: {gone}: S12: ", [*socket, "get", gone]),
+            (1, "no such file or directory", [*socket, "put", none]), (1, "is a directory", [*socket, "put", place]), (1, "/no\\nsuch: no such file or directory\n", [*socket, "put", place + "/no\nsuch"]), (1, f"b3store: {gone}: S12: ", [*socket, "get", gone]),
             (1, f"b3store: {gone}: S12: ", [*socket, "get", gone, "-o", none]), (1, "S12", [*socket, "rm", gone]), (1, "S1: there is no such tenant", [*socket, "ls", "--tenant", "7"]),
             (1, "S1", [*socket, "put", "-", "--tenant", "7"]), (3, none + ": no such file or directory", ["--socket", none, "ls"]),
             (3, "connection refused", ["--tcp", "127.0.0.1:1", "ls"]), (3, none + ": no such file", ["--tcp", "127.0.0.1:1", "--token-file", none, "ls"]),
             (3, "a token has", ["--tcp", "127.0.0.1:1", "--token-file", PROGRAM, "ls"]), (2, "B3STORE_SOCKET", ["ls"]), (2, "COMMAND", []), (2, "frob", [*socket, "frob"]),
             (2, "64 hexadecimal digits", [*socket, "get", "abc"]), (2, "64 hexadecimal digits", [*socket, "has", ABC + "\nforget 0 " + ABC]), (2, "FROM:LEN", [*socket, "get", ABC, "--range", "5"]),
-            (2, "no number", [*socket, "get", ABC, "--range", "x:1"]), (2, "no number", [*socket, "ls", "--tenant", "x"]), (2, "HOST:PORT", ["--tcp", "localhost", "ls"]),
-            (2, "HOST:PORT", ["--tcp", "localhost:99999", "ls"]), (2, "--token-file", [*socket, "--token-file", none, "ls"]), (2, "required", [*socket, "put"]),
+            (2, "not a number", [*socket, "get", ABC, "--range", "x:1"]), (2, "not a number", [*socket, "ls", "--tenant", "x"]), (2, "HOST:PORT", ["--tcp", "localhost", "ls"]),
+            (2, "HOST:PORT", ["--tcp", "localhost:99999", "ls"]), (2, "HOST:PORT", ["--tcp", "localhost:²", "ls"]), (3, f"{'a' * 64}.b", ["--tcp", f"{'a' * 64}.b:5", "ls"]), (2, "--token-file", [*socket, "--token-file", none, "ls"]), (2, "required", [*socket, "put"]),
         )
         found = []
         for status, text, words in cases:
@@ -79,7 +80,7 @@ def says_what_is_wrong():
 
 
 def fails_to_write(server, place):
-    """An output that is full, one that nobody reads, and a server that ends."""
+    """An output that is full, one that is closed by its reader, and a server that ends."""
     large = os.path.join(place, "large")
     with open(large, "wb") as file:
         file.write(content_of(4 * PART_LEN))
@@ -114,6 +115,22 @@ def ends_on_an_interrupt():
             put.send_signal(signal.SIGINT)
             out, err = put.communicate(timeout=SECONDS)
         return differences((put.returncode, 130), (out, b""), (err, b""), (run(["--socket", server.path, "ls"]), (0, b"", "")))
+
+
+def ends_while_it_starts():
+    """Ctrl-C while modules are imported ends each program without a traceback. A module that each of them imports sends it."""
+    programs = [["-m", "b3store"], ["-m", "b3store.server"], ["-m", "b3store.hashing"]]
+    programs += [["-c", f"from b3store.programs import {name}; {name}()"] for name in ("client", "server")]
+    programs += [[os.path.join(TOP, "examples", name + ".py")] for name in ("backup", "cache_server", "cluster")]
+    found = []
+    with tempfile.TemporaryDirectory() as place:
+        with open(os.path.join(place, "argparse.py"), "w", encoding="ascii") as file:
+            file.write("import os, signal\nos.kill(os.getpid(), signal.SIGINT)\n")
+        environment = {**os.environ, "PYTHONPATH": f"{place}:{PACKAGE}", "PYTHONDONTWRITEBYTECODE": "1"}
+        for words in programs:
+            ran = subprocess.run([sys.executable, *words], capture_output=True, timeout=SECONDS, env=environment, preexec_fn=lambda: signal.signal(signal.SIGINT, signal.SIG_DFL))
+            found += differences(((words, ran.returncode, ran.stdout, ran.stderr), (words, -signal.SIGINT, b"", b"")))
+    return found
 
 
 def shows_progress():

@@ -13,7 +13,7 @@ SESSIONS = 4
 
 
 def by_sessions():
-    """Threads on sessions of their own: each finds what the others were told, and no upload is another's."""
+    """Threads on sessions of their own: each finds what the others stored, and no two have the same upload."""
     with Store(PROGRAM, sessions=SESSIONS) as store:
         tenant, found, contents = store.tenant(), [], [bytes([number]) * (1000 * number + 1) for number in range(8)]
 
@@ -87,7 +87,7 @@ serve(sys.stdin.buffer, sys.stdout.buffer)
 sys.stdout.flush()
 os._exit(0)
 """
-"""A program of sessions by a door that knows `usage` and `stat`. It tells what it was called with and the modes of the door's folder and of the door."""
+"""A program of sessions by a door that knows `usage` and `stat`. It reports its arguments, and the modes of the door's folder and of the door."""
 
 
 def door_of(place, kind):
@@ -98,7 +98,7 @@ def door_of(place, kind):
 
 
 def in_threads(call, count):
-    """What a call gives or raises, called by so many threads at once."""
+    """What a call returns or raises in each of several threads that make it at once."""
     found = []
 
     def work(number):
@@ -116,7 +116,7 @@ def in_threads(call, count):
 
 
 def sessions_side_by_side():
-    """The commands of as many threads as there are sessions go on at once; the folder of the door is nobody else's, and is removed."""
+    """The commands of as many threads as there are sessions go on at once; no other user can enter the folder of the door, and it is removed."""
     with tempfile.TemporaryDirectory() as place, tempfile.TemporaryDirectory() as temporary:
         before, tempfile.tempdir = tempfile.tempdir, temporary
         try:
@@ -130,7 +130,7 @@ def sessions_side_by_side():
 
 
 def sessions_that_fail():
-    """A program that opens no sessions, or none that fits, is no store; and behind one odd answer nothing is sent on any session."""
+    """A program that opens no sessions, or wrong ones, is not a store; and after one wrong answer nothing is sent on any session."""
     found = []
     told = {"gone": ("the store has ended", 3, "no more memory\n"), "odd": ("the store answers 'frob'", None, "")}
     for kind, wanted in told.items():
@@ -151,7 +151,7 @@ def sessions_that_fail():
 
 
 def sessions_of_a_killed_store():
-    """Every thread is told, also one that waits for its answer."""
+    """Every thread gets the error, also one that waits for its answer."""
     with tempfile.TemporaryDirectory() as place, Store(door_of(place, "together"), sessions=SESSIONS) as store:
         threading.Timer(0.3, os.kill, (store.pid, signal.SIGKILL)).start()
         found = differences((in_threads(lambda _: store.usage(0), SESSIONS - 1), [Ended] * (SESSIONS - 1)), (store.alive, False))

@@ -79,9 +79,10 @@ def backs_up():
             content = file.read()
         with open(large, "wb") as file:
             file.write(b"abcdef" + content)
-        os.mkfifo(os.path.join(folder, "pipe"))
+        for name in "pipe", "a\nbackup pipe":
+            os.mkfifo(os.path.join(folder, name))
         status, lines = backup("--memory", str(1 << 23), "save", folder, repository)
-        found += differences((status, 1), (lines[0], "left out: pipe is no file, folder or link"))
+        found += differences((status, 1), (lines[:2], [f"left out: {name}: not a file, folder or link" for name in ("a\\nbackup pipe", "pipe")]))
         return found if 0 < new_bytes(lines) < 300000 else [*found, f"{new_bytes(lines)} bytes are new"]
 
 
@@ -190,7 +191,7 @@ def restores_nothing_elsewhere():
         status, said = backup("restore", repository, address, inside)
         found = differences((status, 1), (len(said), 6), (os.listdir(outside), []), (sorted(os.listdir(inside)), ["d", "f"]))
         mode = stat.S_IMODE(os.stat(os.path.join(inside, "f")).st_mode)
-        return found + differences((said[-1], "owners not restored: 2, which have no setuid and setgid bits"), (mode, 0o755))
+        return found + differences((said[-1], "owners not restored: 2; no setuid or setgid bits are set there"), (mode, 0o755))
 
 
 def keeps_owners_and_links():
@@ -242,7 +243,7 @@ def keeps_deep_folders():
 
 
 def ends_with_a_sentence():
-    """Output that can't be written, and an interrupt, are told in one line."""
+    """Output that can't be written, and an interrupt, are reported in one line."""
     with tempfile.TemporaryDirectory() as place:
         folder, repository = os.path.join(place, "folder"), os.path.join(place, "repository")
         os.mkdir(folder)

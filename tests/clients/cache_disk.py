@@ -14,7 +14,7 @@ from servers import USERS, Cache, ask, wait_until
 
 
 def begins_again():
-    """It has what it saved; and it tells an object that was changed, and a user who is gone."""
+    """It loads what it saved, and reports an object that was changed, and a user who was removed."""
     with tempfile.TemporaryDirectory() as place:
         folder = os.path.join(place, "cache")
         with Cache(folder, USERS) as cache:
@@ -198,7 +198,7 @@ def reads_to_the_last_whole_record():
         with Cache(folder) as cache:
             found += differences((cache.begun.split(", ", 1)[1], "has 2 keys, 2 objects\n"), (cache.ask("GET", "/c")[0], 404))
             found += differences((cache.ask("PUT", "/c", b"c" * 5000)[0], 201))
-            found += differences((cache.stop()[1], "cache_server: 1 key left out: its object is cut off\n"))
+            found += differences((cache.stop()[1], "cache_server: 1 key left out: its object is truncated\n"))
         with Cache(folder) as cache:
             return found + differences((cache.begun.split(", ", 1)[1], "has 3 keys, 3 objects\n"), (cache.ask("GET", "/c") == (200, b"c" * 5000), True))
 

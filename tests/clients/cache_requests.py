@@ -1,4 +1,4 @@
-"""Requests to examples/cache_server.py as a client writes them that makes mistakes, or has a reason to."""
+"""Requests to examples/cache_server.py that are wrong, by mistake or on purpose."""
 import os
 import socket
 import tempfile

@@ -1,4 +1,4 @@
-"""Caches by examples/cache_server.py, and what stands on them."""
+"""Caches by examples/cache_server.py, and the programs that use them: examples/cluster.py and bench/ccache."""
 import http.client
 import os
 import re
@@ -62,7 +62,7 @@ def gives_ranges():
 
 
 def gives_what_is_new():
-    """A client that has the content is told so."""
+    """A client that has the content gets no second copy."""
     with tempfile.TemporaryDirectory() as place, Cache(os.path.join(place, "cache")) as cache:
         cache.ask("PUT", "/k", b"abc")
         found = []
@@ -191,12 +191,12 @@ def refuses_wrong_words():
     """Wrong arguments and users end the server at once, with one line that has what is wrong."""
     with tempfile.TemporaryDirectory() as place, socket.create_server(("127.0.0.1", 0)) as taken:
         found, port = [], str(taken.getsockname()[1])
-        users = {"short": b"ann token\n", "digits": b"ann token 5x\n", "high": b"ann token 99999999999999\n", "twice": b"a t 5\na u 6\n", "bytes": b"a t 5\n\xff t 5\n"}
+        users = {"short": b"ann token\n", "digits": b"ann token 5x\n", "high": b"ann token 99999999999999\n", "twice": b"a t 5\na u 6\n", "bytes": b"a t 5\n\xff t 5\n", "empty": b""}
         for name, content in users.items():
             with open(os.path.join(place, name), "wb") as file:
                 file.write(content)
         cases = [(["--users", os.path.join(place, name)], 1, line) for name, line in (
-            ("short", "line 1"), ("digits", "line 1"), ("high", "line 1"), ("twice", "a name twice"), ("bytes", "line 2"), ("none", "none"),
+            ("short", "line 1"), ("digits", "line 1"), ("high", "line 1"), ("twice", "a name twice"), ("bytes", "line 2"), ("none", "none"), ("empty", "has no user"),
         )]
         cases += [([word, value], 2, repr(value)) for word, value in (
             ("--port", "70000"), ("--port", "x"), ("--limit", "-1"), ("--most", "5x"), ("--sessions", "0"), ("--sessions", "65"), ("--journal-limit", "-1"),

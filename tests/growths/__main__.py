@@ -133,7 +133,7 @@ def main():
     parser = argparse.ArgumentParser(description=__doc__.split("\n\n")[0])
     parser.add_argument("program", metavar="PROGRAM")
     parser.add_argument("--program-alone", action="store_true", help="leave the tests in modules growths out")
-    parser.add_argument("--crates", default=CRATES, metavar="FOLDER", help="where NAME/out/NAME_tests stand")
+    parser.add_argument("--crates", default=CRATES, metavar="FOLDER", help="use the test programs FOLDER/NAME/out/NAME_tests")
     options = parser.parse_args()
     tally = Tally()
     with tempfile.TemporaryDirectory() as folder:

@@ -92,7 +92,7 @@ def address_of_pattern(length):
 
 
 def sealed(number, word, part):
-    """The lines that put an upload of so many parts of this length and seal it, and their answers."""
+    """The lines that put an upload of a number of parts of one length and seal it, and their answers."""
     length = PARTS * part
     lines = [f"begin 0 {length}"] + [f"put {number} {at * part} p:{part}" for at in range(PARTS)] + [f"seal {number}"]
     held = [f"held {at * part} missing {at * part}" for at in range(1, PARTS)]
@@ -230,7 +230,7 @@ def main():
     parser = argparse.ArgumentParser(description=__doc__.split("\n\n")[0])
     parser.add_argument("program", metavar="PROGRAM", type=os.path.abspath)
     parser.add_argument("--program-alone", action="store_true", help="leave the test program out")
-    parser.add_argument("--crates", default=CRATES, metavar="FOLDER", help="where NAME/out/NAME_tests stand")
+    parser.add_argument("--crates", default=CRATES, metavar="FOLDER", help="use the test programs FOLDER/NAME/out/NAME_tests")
     options, passed, failed = parser.parse_args(), 0, 0
     tests = [
         a_seal_shares_bytes, a_seal_of_what_is_known_copies_no_bytes, a_forget_copies_no_bytes, a_fetch_asks_for_no_digits,

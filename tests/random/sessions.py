@@ -1,4 +1,4 @@
-"""Random sessions: the lines of random scripts, and lines with raw bytes after them, of which some are spoilt or cut off."""
+"""Random sessions: the lines of random scripts, and lines with raw bytes after them, some of which are malformed or truncated."""
 from questions import QUESTIONS
 from scripts import LENGTHS, NUMBERS, Writer, spoilt
 from script import pattern

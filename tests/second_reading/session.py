@@ -1,4 +1,4 @@
-"""Reads a session's input as docs/FORMATS.md has it, and answers it by the model."""
+"""Reads a session's input as docs/FORMATS.md and docs/COMMANDS.md define it, and answers it by the model."""
 import re
 
 from questions import QUESTIONS

@@ -36,7 +36,7 @@ TENANTS = 3
 
 
 def storm(program, clients, commands, seed, sessions=None):
-    """What is wrong with the answers of so many clients who send so many commands together."""
+    """What is wrong with the answers to a number of clients that send a number of commands at the same time."""
     with Server(program, sessions or clients) as server:
         first = [asked(server, "tenant 30000") for _ in range(TENANTS)]
         started = start_clients(server, seed, clients, commands)

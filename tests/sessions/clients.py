@@ -120,7 +120,7 @@ class Chooser:
         return f"entries {max(0, self.entries - self.chance.randrange(9))} {self.chance.choice((0, 1, 2, 5, 1000))}"
 
     def see(self, line, answer):
-        """Remembers what an answer tells of uploads, addresses and the journal."""
+        """Remembers what an answer says about uploads, addresses and the journal."""
         words, asked = answer.split(b"\n", 1)[0].split(), line.split(" ")
         if words[:1] == [b"upload"]:
             self.latest = max(self.latest, int(words[1]))
@@ -155,7 +155,7 @@ class Log:
 
 
 def read_log(path, client):
-    """The commands and answers of a client's log, which may be cut off."""
+    """The commands and answers of a client's log, which may be truncated."""
     found, waiting = [], collections.deque()
     with open(path, "rb") as file:
         while True:
@@ -172,7 +172,7 @@ def read_log(path, client):
 
 
 def talk(session, chooser, log, count, ahead=1):
-    """Sends so many commands, up to some of them before their answers are read."""
+    """Sends a number of commands, several at a time before their answers are read."""
     waiting = []
     for number in range(count):
         line, (fill, length) = chooser.command()

@@ -1,7 +1,7 @@
 """Histories of clients, and whether the journal explains them.
 
-A history has each client's commands in order, with when they were sent and answered. Accepted commands stand in the one journal, once each, in each
-client's order, and no entry is nobody's. Every answer is the model's at one moment, a number of entries, between the sending of its command and the
+A history has each client's commands in order, with when they were sent and answered. Accepted commands are in the one journal, once each, in each
+client's order, and each entry is some client's. Every answer is the model's at one moment, a number of entries, between the sending of its command and the
 answer; and moments follow each other as the answers did. The model is tests/second_reading.
 """
 import bisect

@@ -1,4 +1,4 @@
-"""How a server begins and ends, what it is refused, and what it refuses."""
+"""How a server starts and ends, when it doesn't start, and which connections it refuses."""
 import contextlib
 import os
 import signal
@@ -128,7 +128,7 @@ def _is_listening(path: str) -> bool:
 
 
 def closed_streams(program: str) -> List[str]:
-    """A server without standard streams, or whose output nobody reads, serves all the same."""
+    """A server without standard streams, or whose output is full, serves its clients."""
     found = []
     for redirections in "<&- >&- 2>&-", ">&-", ">/dev/full 2>/dev/full":
         with tempfile.TemporaryDirectory() as folder:
@@ -195,7 +195,7 @@ def token_files(program: str) -> List[str]:
         told = fails("--tcp", "127.0.0.1:0", "--token-file", f"{folder}/none")
         found += differences((told, (1, f"b3store.server: cannot read {folder}/none: No such file or directory\n")))
         path = _token_file(folder)
-        for address in "127.0.0.1", "127.0.0.1:", ":5", "127.0.0.1:99999", "a b:1", "::1:5", "127.0.0.1:x", "host.invalid:80", "256.1.1.1:5":
+        for address in "127.0.0.1", "127.0.0.1:", ":5", "127.0.0.1:99999", "a b:1", "::1:5", "127.0.0.1:x", "host.invalid:80", "256.1.1.1:5", "a" * 64 + ".b:5":
             status, told = fails("--tcp", address, "--token-file", path, variables={"RES_OPTIONS": "timeout:1 attempts:1"})
             found += differences((status, 1), (told.startswith("b3store.server: ") and address in told and told.count("\n") == 1, True))
         with socket.socket() as taken:
@@ -348,7 +348,7 @@ def ends_in_time(program: str) -> List[str]:
 
 
 def ends_by_force(program: str) -> List[str]:
-    """Who doesn't finish within the grace is cut; a second signal ends it; an interrupt is a signal like the other."""
+    """A connection that is open after the grace is ended; a second signal ends the wait; SIGINT has the same effect as SIGTERM."""
     found = []
     for numbers, grace, wanted in (
         ([signal.SIGTERM], "1", 1.0), ([signal.SIGTERM] * 2, "60", 0.0), ([signal.SIGINT] * 2, "60", 0.0), ([signal.SIGTERM], "0", 0.0)
@@ -376,7 +376,7 @@ def _notified(listening: socket.socket) -> bytes:
 
 
 def notifications(program: str) -> List[str]:
-    """systemd is told when the server is ready and when it stops, by a path and by an abstract name."""
+    """The server reports to systemd when it is ready and when it stops, at a path and at an abstract name."""
     found = []
     with tempfile.TemporaryDirectory() as folder:
         for name, address in (f"{folder}/notify", f"{folder}/notify"), (f"@b3store-test-{os.getpid()}", f"\0b3store-test-{os.getpid()}"):

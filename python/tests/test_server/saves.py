@@ -138,7 +138,7 @@ def restores_all(program: str) -> List[str]:
 
 
 def saves_what_was_answered(program: str) -> List[str]:
-    """A client that doesn't finish in time is cut: what was answered is saved, its open uploads are not, and a half of a command isn't done."""
+    """The connection of a client that doesn't finish in time is ended: what was answered is saved, its open uploads are not, and an incomplete command isn't run."""
     with _folder() as folder, Running(program, "--save", folder, "--grace", "0") as server, server.client() as client, server.client() as silent:
         client.ask("tenant 100000000")
         address = client.file(bytes(1000))
@@ -295,6 +295,12 @@ def folders_that_are_none(program: str) -> List[str]:
         found += differences((fails(*words, f"{folder}/notes"), (1, f"b3store.server: cannot open the folder {folder}/notes: File exists\n")))
         found += differences((fails(*words, f"{folder}/notes/a"), (1, f"b3store.server: cannot open the folder {folder}/notes/a: Not a directory\n")))
         found += differences((fails(*words, "")[0], 1), (_files(folder), before))
+        for make in os.mkfifo, os.mkdir:
+            with _folder() as other:
+                os.mkdir(other)
+                make(os.path.join(other, "index"))
+                status, told = fails(*words, other)
+                found += differences((status, 1), (told.startswith(f"b3store.server: {other}/index is not a file; "), True))
         found += differences((fails("--program", f"{folder}/none", "--socket", f"{folder}-socket", "--save", f"{folder}-new")[0], 1))
         return found + differences((_state_at(program, f"{folder}-new"), {}))
 

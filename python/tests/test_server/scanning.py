@@ -1,4 +1,4 @@
-"""What a server finds in the answers of a session, however they are cut into pieces; and parts of the server alone."""
+"""What a server finds in the answers of a session, however they are split into pieces; and parts of the server alone."""
 import random
 import socket
 import subprocess
@@ -135,7 +135,7 @@ def turns_by_arrival(program: str) -> List[str]:
     return differences((served == [one for one, _ in pairs], True), (connections.count(), 0))
 
 
-def ends_that_nobody_saw(program: str) -> List[str]:
+def ends_without_a_signal(program: str) -> List[str]:
     """A store whose process has ended is not usable, also before the main thread has asked for the status."""
     del program
     store = Store.__new__(Store)
@@ -153,5 +153,5 @@ SCANNING = (
     ("answers cut at every byte", every_cut),
     ("turns", turns),
     ("turns by arrival", turns_by_arrival),
-    ("ends that nobody saw", ends_that_nobody_saw),
+    ("ends without a signal", ends_without_a_signal),
 )

@@ -66,7 +66,7 @@ def _aborts_of_server(modules: Any, journal: List[str], histories: List[List[Any
 
 
 def _early(aborts: List[Any], histories: List[List[Any]]) -> List[str]:
-    """The server's aborts that stand before an entry of the session that began the upload."""
+    """The server's aborts that come before an entry of the session that began the upload."""
     last_places, sessions = {}, {}
     for client, history in enumerate(histories):
         for number, op in enumerate(history):
