@@ -108,7 +108,7 @@ fn with_mode<'a>(alloc: Global, command: Command<'a>) -> Result<Command<'a>, All
     ensures shape { IfOk result (λ c. app_of c ≡ with_mode (app_of command.entry)) }
     ensures local { IfOk result (λ c. (fields_of c).has_globals ≡ false) }
 {
-    let context = "Derive a key from the input, with this context; excludes the keys";
+    let context = "Derive a key from the input, with this context; not with a key";
     with_keys(alloc, command)?.arg(value_argument(alloc, "context", "TEXT", context))
 }
 
@@ -146,9 +146,13 @@ fn bare_sum<'a>(alloc: Global) -> Command<'a>
     ensures shape { app_of result ≡ new_app (codes "sum") }
     ensures local { (fields_of result).has_globals ≡ false }
 {
-    Command::new(alloc, "sum").about(
-        "Write the check line of each file, or of standard input: its BLAKE3 hash and its name",
-    )
+    Command::new(alloc, "sum")
+        .about(
+            "Write the check line of each file, or of standard input: its BLAKE3 hash and its name",
+        )
+        .after_help(
+            "Examples:\n  b3store sum *.iso > SUMS\n  tar c src | b3store sum --name src.tar",
+        )
 }
 
 fn sum_command<'a>(alloc: Global) -> Result<Command<'a>, AllocError>
@@ -175,7 +179,7 @@ macro_rules! listed_lines {
             "  put U OFFSET DATA   a part of upload U: x: and digits, or p:LEN for a pattern\n",
             "  seal U              file its bytes as an object\n",
             "  sealas U ADDRESS    the same, if that is its address\n",
-            "  abort U             drop the upload\n",
+            "  abort U             remove the upload and its parts\n",
             "  forget T ADDRESS    stop holding the object\n",
             "  fetch T ADDRESS     the object's bytes, as digits\n",
             "  usage T             what the tenant uses\n",
@@ -189,7 +193,9 @@ macro_rules! listed_lines {
 
 // The end of the help of `run`: the lines of a script.
 fn script_lines() -> &'static str {
-    listed_lines!()
+    listed_lines!(
+        "\n\nExample:\n  printf 'tenant 4096\\nbegin 0 3\\nput 0 0 x:616263\\nseal 0\\n' | b3store run"
+    )
 }
 
 // The end of the help of `serve`: the lines of a script, followed by those of a session.
@@ -200,7 +206,8 @@ fn session_lines() -> &'static str {
         "\n  has T ADDRESS       the object's length",
         "\n  uploads T           the tenant's open uploads",
         "\n  tenants             what each tenant uses",
-        "\n  entries FROM        the journal's entries from number FROM on; with COUNT, at most COUNT of them"
+        "\n  entries FROM        the journal's entries from number FROM on; with COUNT, at most COUNT of them",
+        "\n\nExample:\n  b3store serve --at /tmp/door --sessions 4"
     )
 }
 
@@ -299,9 +306,11 @@ fn bare_upload<'a>(alloc: Global) -> Command<'a>
     ensures shape { app_of result ≡ new_app (codes "upload") }
     ensures local { (fields_of result).has_globals ≡ false }
 {
-    Command::new(alloc, "upload").about(
-        "Upload standard input in parts to a store that lasts as long as the command, and write its check line",
-    )
+    Command::new(alloc, "upload")
+        .about(
+            "Upload standard input in parts to a store that lasts as long as the command, and write its check line",
+        )
+        .after_help("Example:\n  b3store upload --journal < disk.img")
 }
 
 fn upload_command<'a>(alloc: Global) -> Result<Command<'a>, AllocError>
@@ -315,7 +324,7 @@ fn upload_command<'a>(alloc: Global) -> Result<Command<'a>, AllocError>
 
 // The end of the help of `check`.
 fn check_codes() -> &'static str {
-    "Faults of a line, of which the first is reported:\n  C1  a tagged line\n  C2  too short\n  C3  not a hexadecimal digit\n  C4  not two spaces\n  C5  no name\n  C6  a wrong escape\n  C7  a byte 0 in the name"
+    "Faults of a line, of which the first is reported:\n  C1  a tagged line\n  C2  too short\n  C3  not a hexadecimal digit\n  C4  not two spaces\n  C5  no name\n  C6  a wrong escape\n  C7  a byte 0 in the name\n\nExample:\n  b3store check SUMS"
 }
 
 // `check` without its options.
@@ -371,9 +380,28 @@ fn check_command<'a>(alloc: Global) -> Result<Command<'a>, AllocError>
     with_work(alloc, command)
 }
 
-// The end of the help of subcommands that read a journal.
-fn journal_codes() -> &'static str {
-    "Refusals of a journal:\n  J2 N  line N is outside the grammar\n  J1 N  otherwise: entry N is not legal"
+// The end of the help of a subcommand that reads a journal, with an example.
+macro_rules! journal_codes {
+    ($example:literal) => {
+        concat!(
+            "Refusals of a journal:\n",
+            "  J2 N  line N is outside the grammar\n",
+            "  J1 N  otherwise: entry N is not legal\n",
+            "\n",
+            "Example:\n  ",
+            $example
+        )
+    };
+}
+
+// The end of the help of `audit`.
+fn audit_codes() -> &'static str {
+    journal_codes!("b3store audit < journal")
+}
+
+// The end of the help of `migrate`.
+fn migrate_codes() -> &'static str {
+    journal_codes!("b3store migrate < old > new")
 }
 
 fn audit_command<'a>(alloc: Global) -> Command<'a>
@@ -382,7 +410,7 @@ fn audit_command<'a>(alloc: Global) -> Command<'a>
 {
     Command::new(alloc, "audit")
         .about("Replay a journal, and write its totals and how many bytes and parts were accepted")
-        .after_help(journal_codes())
+        .after_help(audit_codes())
 }
 
 fn migrate_command<'a>(alloc: Global) -> Command<'a>
@@ -391,7 +419,7 @@ fn migrate_command<'a>(alloc: Global) -> Command<'a>
 {
     Command::new(alloc, "migrate")
         .about("Read a journal of either version, and write it in version 2")
-        .after_help(journal_codes())
+        .after_help(migrate_codes())
 }
 
 // The program's version, and that of the logic that it is proved with.
