@@ -57,6 +57,8 @@ with open(place + "/told", "w") as told:
 together = threading.Barrier(count + 1)
 def serve(reader, writer):
     for line in reader:
+        with open(place + "/lines", "ab") as lines:
+            lines.write(line)
         if line.startswith(b"usage"):
             if kind == "together":
                 together.wait(30)
@@ -66,8 +68,6 @@ def serve(reader, writer):
                 writer.write(b"used 1 reserved 2 limit 3\n")
         else:
             writer.write(b"objects 0 bytes 0 uploads 0 held 0 parts 0\n" if kind != "odd" else b"frob\n")
-        with open(place + "/lines", "ab") as lines:
-            lines.write(line)
         writer.flush()
 def meet(number):
     ends = [os.open(at + "." + number + end, os.O_RDWR) for end in (".in", ".out")]
