@@ -3,6 +3,7 @@
 `http.server` parses headers as those of a mail message, which takes most of the time of a small answer. It also splits the first line of a request at any
 white space, which would change keys of raw bytes. Here a key is what is between the two spaces of the first line, and headers are kept by names in lower case.
 """
+import contextlib
 import email.utils
 import http
 import http.server
@@ -10,6 +11,7 @@ import re
 import socket
 import struct
 import sys
+import threading
 import time
 
 REQUEST_LINE = re.compile(r"([!-~]+) ([^ ]+) HTTP/([0-9])\.([0-9])")
@@ -19,6 +21,9 @@ CHUNK_LINE = re.compile(rb"([0-9a-fA-F]{1,15})[ \t]*(?:;[^\n]*)?\r?\n")
 MAX_LINE = 1 << 16
 MAX_HEADERS = 100
 SECONDS_OF_SILENCE = 60
+SECONDS_BETWEEN_TRIES = 0.05
+MAX_WAITING = 16
+"""How many threads may wait for a connection."""
 WRITTEN_AT_ONCE = 1 << 16
 """Headers and a small content are sent by one write."""
 PHRASES = {status.value: status.phrase for status in http.HTTPStatus}
@@ -140,11 +145,68 @@ class Connection(http.server.BaseHTTPRequestHandler):
         pass
 
 
-class Server(http.server.ThreadingHTTPServer):
-    """Answers each connection in a thread."""
+class Server(http.server.HTTPServer):
+    """Answers each connection in a thread. A thread that has answered one waits for the next, so that few have to be started."""
 
-    daemon_threads = True
     request_queue_size = 128
+
+    def __init__(self, address, handler):
+        super().__init__(address, handler)
+        self.waiting, self.lock, self.has_stopped = 0, threading.Lock(), False
+        """How many threads wait for a connection."""
+
+    def start_thread(self):
+        """Starts a thread that waits for connections."""
+        threading.Thread(target=self.answer_on, daemon=True).start()
+
+    def stop_accepting(self):
+        """Takes no more connections."""
+        self.has_stopped = True
+        with contextlib.suppress(OSError):
+            self.socket.shutdown(socket.SHUT_RDWR)
+
+    def answer_on(self):
+        """Answers connections, one after another. If no other thread waits for the next one, it starts one first."""
+        while self.begin_waiting():
+            found = self.next_connection()
+            if self.end_waiting() == 0 and found is not None:
+                # without one, connections wait until this thread has answered
+                with contextlib.suppress(RuntimeError):
+                    self.start_thread()
+            if found is None:
+                return
+            self.answer(*found)
+
+    def begin_waiting(self):
+        """Whether this thread waits for a connection, because few others do."""
+        with self.lock:
+            is_needed = self.waiting < MAX_WAITING
+            self.waiting += is_needed
+            return is_needed
+
+    def end_waiting(self):
+        """Returns how many threads still wait."""
+        with self.lock:
+            self.waiting -= 1
+            return self.waiting
+
+    def next_connection(self):
+        """Waits for a connection. None if no more are taken."""
+        while not self.has_stopped:
+            try:
+                return self.socket.accept()
+            except OSError:
+                # the client has gone, or the process has too many open files
+                time.sleep(SECONDS_BETWEEN_TRIES)
+        return None
+
+    def answer(self, connection, address):
+        try:
+            self.finish_request(connection, address)
+        except Exception:
+            self.handle_error(connection, address)
+        finally:
+            self.shutdown_request(connection)
 
     def handle_error(self, request, client_address):
         """Reports what ended a connection, unless the client or its silence did."""

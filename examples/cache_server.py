@@ -70,7 +70,6 @@ MAX_DROPPED = 1 << 26
 """How many bytes of a refused body are read before the connection is closed."""
 SECONDS_TO_ANSWER = 2
 """How long requests are answered by 503, once the store has ended."""
-SECONDS_BETWEEN_POLLS = 0.05
 SECONDS_BETWEEN_LOOKS = 0.2
 """How often the server checks whether the store has ended, or the journal is too long."""
 STATUSES = {"S2": 507, "S5": 413, "S6": 507, "S11": 400, "S12": 404, "S13": 507, "S14": 503, "F4": 413}
@@ -203,7 +202,9 @@ class Handler(Connection):
 
     def has_it(self, entry):
         """Whether the client already has the content."""
-        tags = [tag.strip() for tag in self.headers.get("if-none-match", "").split(",")]
+        if "if-none-match" not in self.headers:
+            return False
+        tags = [tag.strip() for tag in self.headers["if-none-match"].split(",")]
         return "*" in tags or any(tag[2 * tag.startswith("W/") :] == f'"{entry.address}"' for tag in tags)
 
     def asked_range(self, entry):
@@ -384,12 +385,12 @@ def serve(options, files, stopping):
 
 def answer_until(stopping, server, begun):
     """Answers requests until a signal arrives, or the store ends."""
-    threading.Thread(target=server.serve_forever, args=(SECONDS_BETWEEN_POLLS,), daemon=True).start()
+    server.start_thread()
     print(f"cache_server: port {server.server_port}, {begun}", flush=True)
     while not stopping.wait(SECONDS_BETWEEN_LOOKS):
         server.look()
     time.sleep(SECONDS_TO_ANSWER if server.fault else 0)
-    server.shutdown()
+    server.stop_accepting()
 
 
 def main():
