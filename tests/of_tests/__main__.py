@@ -4,11 +4,13 @@ without a C compiler or a test program. Each must end with status 1 and a last l
 tests pass than this file says.
 
 A stand-in program (stand_in.c) gives the answers that tests/growths expects, and its memory grows once. With it tests/growths passes, unless it
-is linked statically, so that this growth can't be made to fail. The last line is `N passed, M failed`, which counts these trials. A C compiler,
+is linked statically, so that this growth can't be made to fail. The part `server` of tests/soak passes with tests/sessions/plain_server.py, and
+fails with each mistake of it that is tried. The last line is `N passed, M failed`, which counts these trials. A C compiler,
 `cc`, is needed.
 """
 import os
 import re
+import shlex
 import shutil
 import subprocess
 import sys
@@ -25,6 +27,12 @@ from test_programs import PASSED, tests_in_sources
 
 SECONDS = 1200
 STAND_IN = os.path.join(TESTS, "of_tests", "stand_in.c")
+PLAIN_SERVER = os.path.join(TESTS, "sessions", "plain_server.py")
+WRONG_SERVERS = {
+    "drops": "is no client's", "alters": "whose hash is", "mixes": "whose hash is", "clears": "audit reports", "half": "is no client's",
+    "keeps": "bytes more are resident",
+}
+"""Mistakes of that server, and what tests/soak reports of each."""
 NOT_THE_STORE = ("true", "cat")
 FEW_CASES = 50
 MAX_OF_A_HUNDRED = 4
@@ -151,13 +159,34 @@ def try_program(trials, name):
     trials.fails(f"soak over {name}", [os.path.join(TESTS, "soak"), program, *few])
 
 
+def script(folder, name, *words):
+    """A program that is these words with its own after them."""
+    path = os.path.join(folder, name)
+    with open(path, "w", encoding="utf-8") as file:
+        file.write(f'#!/bin/sh\nexec {shlex.join(words)} "$@"\n')
+    os.chmod(path, 0o755)
+    return path
+
+
+def try_soak(trials, folder, mistake=None):
+    words = [sys.executable, PLAIN_SERVER, *(["--wrong", mistake] if mistake else [])]
+    name = f"soak of the plain server{' that ' + mistake if mistake else ''}"
+    soak = [os.path.join(TESTS, "soak"), script(folder, f"server-{mistake}", *words), "server", "--minutes", "0.25"]
+    if mistake:
+        trials.fails(name, soak, WRONG_SERVERS[mistake])
+    else:
+        trials.passes(name, soak)
+
+
 def main():
     end_where_older()
     trials = Trials()
-    with tempfile.TemporaryDirectory() as folder:
+    with tempfile.TemporaryDirectory() as folder, ThreadPoolExecutor() as pool:
         try_growths(trials, folder)
-    with ThreadPoolExecutor() as pool:
-        list(pool.map(lambda name: try_program(trials, name), NOT_THE_STORE))
+        runs = [pool.submit(try_program, trials, name) for name in NOT_THE_STORE]
+        runs += [pool.submit(try_soak, trials, folder, mistake) for mistake in (None, *WRONG_SERVERS)]
+        for run in runs:
+            run.result()
     print(f"{trials.passed} passed, {trials.failed} failed")
     return 1 if trials.failed else 0
 

@@ -8,7 +8,7 @@ import sys
 import time
 
 from door import NoAnswer, Session
-from history import LONG, Op, digest
+from history import Op, shortened
 
 LENGTHS = (5, 1000, 1024, 2048, 2049, 3072, 3072)
 FILLS = 3
@@ -151,10 +151,14 @@ class Log:
         self.file.write(pickle.dumps((time.monotonic_ns(), line, taken)))
 
     def answered(self, answer):
-        self.file.write(pickle.dumps((time.monotonic_ns(), answer if len(answer) <= LONG else digest(answer))))
+        self.file.write(pickle.dumps((time.monotonic_ns(), shortened(answer))))
+
+    def cut(self):
+        """Notes that what was sent is answered no more."""
+        self.file.write(pickle.dumps((time.monotonic_ns(),)))
 
 
-def read_log(path, client):
+def read_log(path, client, kind=Op):
     """The commands and answers of a client's log, which may be truncated."""
     found, waiting = [], collections.deque()
     with open(path, "rb") as file:
@@ -164,8 +168,10 @@ def read_log(path, client):
             except (EOFError, pickle.UnpicklingError):
                 return found
             if len(record) == 3:
-                found.append(Op(client, *record))
+                found.append(kind(client, *record))
                 waiting.append(found[-1])
+            elif len(record) == 1:
+                waiting.clear()
             else:
                 op = waiting.popleft()
                 op.ended, op.answer = record

@@ -31,6 +31,11 @@ def digest(answer):
     return b"#" + hashlib.blake2b(answer, digest_size=16).digest()
 
 
+def shortened(answer):
+    """What is kept of an answer."""
+    return answer if len(answer) <= LONG else digest(answer)
+
+
 class Op:
     """A command of a client's: when it was sent and answered, the line, the byte that follows it and how often, and the answer, if there was one."""
 

@@ -1,11 +1,14 @@
 #!/usr/bin/env python3
 """plain_server.py [--wrong KIND] serve [--at PATH --sessions N]: a slow `b3store serve --at` by the second reading, for tests/sessions; `audit`, too.
 
-With --wrong it breaks a promise, once in a while, so that the tests have something to find:
+With --wrong it breaks a promise, once in a while, so that tests/sessions and tests/soak have something to find:
 
   older       a question is answered from the state of some entries before
   loses       a command is accepted, and neither done nor in the journal
+  drops       an accepted command is done, and not in the journal
   doubles     an accepted command is twice in the journal
+  alters      an object is answered with another last byte
+  mixes       the bytes of two objects are exchanged
   swaps       a client's question is answered to another client
   shares      two clients that begin the same are both given one upload, by one entry
   reorders    an accepted command changes places with the entry before it
@@ -14,6 +17,8 @@ With --wrong it breaks a promise, once in a while, so that the tests have someth
   lags        answers are kept back until there are many
   waits       no client is answered while one doesn't read its answers
   trips       a bad line at the door ends the server
+  clears      the uploads that a client began are removed when its session ends
+  keeps       memory is never freed, which tests/soak alone finds
 """
 import contextlib
 import copy
@@ -30,13 +35,15 @@ from questions import QUESTIONS
 from session import answer_of, bytes_after
 from store import Store
 
-WRONG = ("older", "loses", "doubles", "swaps", "shares", "reorders", "forgets", "half", "lags", "waits", "trips")
+WRONG = ("older", "loses", "drops", "doubles", "alters", "mixes", "swaps", "shares", "reorders", "forgets", "half", "lags", "waits", "trips", "clears")
 ASKING = {"usage", "list", "stat", "fetch", "fetchb", *(line.split(" ")[0] for line in QUESTIONS)}
 """The words of the lines that change nothing."""
 AGE = 12
 """How many entries older a state is that a wrong server answers from."""
 LONGEST = 1 << 26
 """The bytes of a longer part are read to the end of the input."""
+KEPT = 100
+"""How many times the length of a part a wrong server keeps."""
 EVERY = 15
 """Each such question or command is answered wrongly."""
 
@@ -46,7 +53,7 @@ class Answers:
 
     def __init__(self, wrong):
         self.wrong, self.store, self.lock = wrong, Store(), threading.Lock()
-        self.count, self.older, self.begun, self.asked = 0, [], {}, (None, b"")
+        self.count, self.older, self.begun, self.asked, self.kept, self.uploads = 0, [], {}, (None, b""), [], {}
 
     def answer(self, session, line, taken):
         word = line.split(" ")[0]
@@ -56,12 +63,14 @@ class Answers:
             if given is not None:
                 return given
         given = answer_of(self.store, line, taken)
-        if self.wrong == "doubles" and len(self.store.journal) > before and self.is_due():
-            self.store.journal.append(self.store.journal[-1])
-        if self.wrong == "reorders" and len(self.store.journal) > before > 0 and self.is_due():
-            self.store.journal[-2:] = self.store.journal[:-3:-1]
         if self.wrong == "older" and len(self.store.journal) % AGE == 0:
             self.older = [*self.older[-1:], copy.deepcopy(self.store)]
+        if self.wrong in OF_ENTRIES and len(self.store.journal) > before > 0 and self.is_due():
+            OF_ENTRIES[self.wrong](self.store.journal)
+        if self.wrong == "alters" and re.match(rb"bytes [1-9]", given) and self.is_due():
+            given = given[:-1] + bytes([given[-1] ^ 1])
+        if given.startswith(b"upload "):
+            self.uploads.setdefault(session, []).append(int(given.split()[1]))
         if word in ASKING:
             self.asked = (session, given)
         return given
@@ -90,6 +99,19 @@ class Answers:
         if len(self.store.journal) >= 64 and held and self.is_due():
             self.store.forget(*held[0])
 
+    def mixed(self, *_):
+        if len(self.store.objects) > 1 and self.is_due():
+            (one, (content, holders)), (other, (other_content, other_holders)) = list(self.store.objects.items())[-2:]
+            self.store.objects.update({one: (other_content, holders), other: (content, other_holders)})
+
+    def kept_on(self, _session, _word, _line, taken):
+        self.kept.append(KEPT * taken)
+
+    def end(self, session):
+        """What the end of a session changes."""
+        for number in self.uploads.pop(session, ()) if self.wrong == "clears" else ():
+            self.store.uploads.pop(number, None)
+
     def shared(self, session, word, line, taken):
         if word not in ("begin", "open"):
             return None
@@ -102,7 +124,16 @@ class Answers:
         return given
 
 
-MISTAKES = {"older": Answers.from_older, "loses": Answers.lost, "swaps": Answers.swapped, "shares": Answers.shared, "forgets": Answers.forgotten}
+MISTAKES = {
+    "older": Answers.from_older, "loses": Answers.lost, "swaps": Answers.swapped, "shares": Answers.shared, "forgets": Answers.forgotten,
+    "mixes": Answers.mixed, "keeps": Answers.kept_on,
+}
+OF_ENTRIES = {
+    "doubles": lambda journal: journal.append(journal[-1]),
+    "reorders": lambda journal: journal.append(journal.pop(-2)),
+    "drops": lambda journal: journal.pop(),
+}
+"""What is done to a journal after an accepted command."""
 
 
 class Cut(Exception):
@@ -166,11 +197,14 @@ def serve_door(answers, at, door, lock):
             reader = open_end(f"{at}.{number}.in", os.O_RDONLY, "rb")
             writer = open_end(f"{at}.{number}.out", os.O_WRONLY, "wb")
         except (ValueError, OSError) as fault:
-            print(f"b3store: {text!r} at the door: {fault}", file=sys.stderr, flush=True)
+            reason = f"{at}: a line is not a client's number" if isinstance(fault, ValueError) else f"{fault.filename}: no such file"
+            print(f"b3store: {reason}", file=sys.stderr, flush=True)
             if answers.wrong == "trips":
                 os._exit(3)
             continue
         serve(answers, number, reader, writer)
+        with answers.lock:
+            answers.end(number)
         for end in reader, writer:
             try:
                 end.close()
@@ -180,11 +214,11 @@ def serve_door(answers, at, door, lock):
 
 def main():
     words, wrong = sys.argv[1:], None
+    if words[:1] == ["--wrong"]:
+        wrong, words = words[1], words[2:]
     if words == ["audit"]:
         sys.stdout.buffer.write(audit_answer(sys.stdin.buffer.read())[0])
         return
-    if words[:1] == ["--wrong"]:
-        wrong, words = words[1], words[2:]
     answers, lock = Answers("half" if words == ["serve"] else wrong), threading.Lock()
     if words != ["serve"]:
         _, _, at, _, sessions = words
