@@ -9,7 +9,8 @@
 - What is forgotten is freed, and so are the parts of an upload that was aborted or sealed as known: thousands of rounds of each take no more
   memory than hundreds, except for the entries of the journal.
 
-Each script's answers are compared too. The last line is `N passed, M failed`. A C compiler, `cc`, is needed.
+Each script's answers are compared too. So that it is the store's memory that is measured, the bytes that are allocated and the memory that is
+resident must be at least what is held. The last line is `N passed, M failed`. A C compiler, `cc`, is needed.
 """
 import argparse
 import functools
@@ -24,6 +25,7 @@ HERE = os.path.dirname(os.path.abspath(__file__))
 sys.path[1:1] = [os.path.join(os.path.dirname(HERE), name) for name in ("common", "second_reading")]
 from blake3 import address_of
 from python_needed import end_where_older
+from resident import ENTRY_BYTES, resident
 from script import pattern
 
 SECONDS = 120
@@ -33,8 +35,9 @@ FEW_ROUNDS, MANY_ROUNDS = 200, 4000
 PART = 65536
 MAX_LINE = 33554481
 """The most bytes of a command's line with its line feed."""
-ENTRY_BYTES = 256
-"""The most that an entry of the journal may take, which grows by doubling."""
+HELD_PARTS = 256
+TOLERANCE = 1 << 20
+"""How much less than the bytes of many parts may be resident, as some memory is used again."""
 NOTHING_LEFT = "objects 0 bytes 0 uploads 0 held 0 parts 0"
 
 
@@ -62,7 +65,7 @@ def counted(words, library, data=b""):
     return run.stdout.decode(errors="replace"), int(count)
 
 
-def resident(program, folder, lines):
+def answered(program, folder, lines):
     """The answers to a script, a line for each of its lines, and the most memory that was resident until then, in bytes. The system is asked while the
     program runs: what it reports of an ended process includes the memory of this one, from before the program was loaded."""
     path = os.path.join(folder, "answers")
@@ -74,9 +77,10 @@ def resident(program, folder, lines):
         end = time.monotonic() + SECONDS
         while lines_in(path) < len(lines) and child.poll() is None and time.monotonic() < end:
             time.sleep(0.01)
-        with open(f"/proc/{child.pid}/status", encoding="ascii") as status:
-            most = next((int(line.split()[1]) << 10 for line in status if line.startswith("VmHWM:")), 0)
+        most = resident(child.pid, "VmHWM")
     child.wait(SECONDS)
+    if most == 0:
+        raise ValueError("it ended before its input")
     with open(path, encoding="utf-8", errors="replace") as answers:
         return answers.read().splitlines(), most
 
@@ -108,21 +112,28 @@ def scripts(part):
         yield lines, answers
 
 
-def asked_by_last(program, library, lines, answers):
-    """How many bytes the last line of a script asks memory for."""
+def asked_by_last(program, library, lines, answers, held):
+    """How many bytes the last line of a script asks memory for, whose other lines put so many bytes."""
     counts = []
     for end in (len(lines) - 1, len(lines)):
         found, count = counted([program, "run"], library, "".join(f"{line}\n" for line in lines[:end]).encode())
         if found.splitlines() != answers[:end]:
             raise ValueError(f"it answered {found[-200:]!r}")
-        counts.append(count)
+        counts.append(at_least(held, count))
     return counts[1] - counts[0]
+
+
+def at_least(held, count):
+    """The count, which must not be less than the bytes that are held."""
+    if count < held:
+        raise ValueError(f"it asks for {count} bytes, and holds {held}")
+    return count
 
 
 def more_for_long_parts(options, folder, step):
     """How much more the last line of this one of the scripts asks for where parts are long, and how much that may be."""
     library = counting(folder)
-    counts = [asked_by_last(options.program, library, *list(scripts(part))[step]) for part in (PART, 1024)]
+    counts = [asked_by_last(options.program, library, *list(scripts(part))[step], PARTS * part) for part in (PART, 1024)]
     return counts[0] - counts[1], 1024
 
 
@@ -158,7 +169,7 @@ def a_fetch_asks_for_no_digits(options, folder):
         lines, answers = sealed(0, "new", part)
         lines = [f"tenant {length}", *lines, f"fetch 0 {address_of_pattern(length)}"]
         answers = ["tenant 0", *answers, f"object {length} {pattern(0, length).hex()}"]
-        counts.append(asked_by_last(options.program, library, lines, answers))
+        counts.append(asked_by_last(options.program, library, lines, answers, length))
     return counts[0] - counts[1], 1024
 
 
@@ -180,7 +191,7 @@ def an_upload_takes_its_input_once(options, folder):
     found, count = counted([options.program, "upload"], counting(folder), pattern(0, length))
     if found != f"{address_of_pattern(length)}  -\naccepted {length} {PARTS}\n":
         raise ValueError(f"it answered {found[:200]!r}")
-    return count, length * 3 // 2
+    return at_least(length, count), length * 3 // 2
 
 
 def growth_of_rounds(program, folder, lines_of, answers_of, left=NOTHING_LEFT):
@@ -191,7 +202,7 @@ def growth_of_rounds(program, folder, lines_of, answers_of, left=NOTHING_LEFT):
         for upload in range(rounds):
             lines += lines_of(upload)
             answers += answers_of(upload)
-        found, bytes_seen = resident(program, folder, lines + ["stat"])
+        found, bytes_seen = answered(program, folder, lines + ["stat"])
         if found != answers + [left]:
             raise ValueError(f"it answered {found[-3:]!r}")
         most.append(bytes_seen)
@@ -225,6 +236,19 @@ def what_is_aborted_is_given_back(options, folder):
     )
 
 
+def what_is_held_is_measured(options, folder):
+    """How much less memory many held parts take than they have bytes, and how much less that may be."""
+    most = []
+    for count in (1, HELD_PARTS):
+        length = count * PART
+        lines = [f"tenant {length}", f"begin 0 {length}"] + [f"put 0 {at * PART} p:{PART}" for at in range(count)]
+        found, bytes_seen = answered(options.program, folder, lines)
+        if found[-1:] != [f"held {length} all"]:
+            raise ValueError(f"it answered {found[-1:]!r}")
+        most.append(bytes_seen)
+    return (HELD_PARTS - 1) * PART - (most[1] - most[0]), TOLERANCE
+
+
 def main():
     end_where_older()
     parser = argparse.ArgumentParser(description=__doc__.split("\n\n")[0])
@@ -235,7 +259,7 @@ def main():
     tests = [
         a_seal_shares_bytes, a_seal_of_what_is_known_copies_no_bytes, a_forget_copies_no_bytes, a_fetch_asks_for_no_digits,
         a_line_that_is_too_long_is_not_kept, an_upload_takes_its_input_once,
-        what_is_forgotten_is_given_back, what_is_known_is_given_back, what_is_aborted_is_given_back,
+        what_is_held_is_measured, what_is_forgotten_is_given_back, what_is_known_is_given_back, what_is_aborted_is_given_back,
     ]
     for test in tests if options.program_alone else [*tests, a_fetch_shares_bytes]:
         name = test.__name__.replace("_", " ")

@@ -327,7 +327,8 @@ def more_memory(server, before, journal, stat, slack):
     most = int(filed) + int(held) + ENTRY_BYTES * len(journal) + slack
     more = resident(server.process.pid) - before
     print(f"server: {more} bytes more resident, of at most {most}", flush=True)
-    return [f"{more} bytes more are resident, of at most {most}"] if more > most else []
+    found = [f"{more} bytes more are resident, of at most {most}"] if more > most else []
+    return found + ([f"{more} bytes more are resident, and what it holds is more"] if more < int(filed) + int(held) else [])
 
 
 def long_server(program, minutes, pause, slack):
