@@ -1,6 +1,6 @@
 """Random inputs of `sum` in its three modes, as long as whole blocks, chunks, subtrees and reads of the program, or about so long."""
 from blake3 import HASH, derived, keyed, output_of
-from check_files import escaped
+from check_files import check_line
 from checks import FILES
 from script import pattern
 
@@ -30,9 +30,7 @@ def threads_of(chance):
 
 def line_of(name, data, mode):
     """The check line of a name and its content."""
-    text = escaped(name)
-    mark = b"\\" if text != name else b""
-    return mark + output_of(data, 32, mode).hex().encode() + b"  " + text + b"\n"
+    return check_line(output_of(data, 32, mode).hex().encode(), name)
 
 
 def case_of_files(chance):

@@ -41,9 +41,18 @@ def escaped(name):
     return name.replace(b"\\", b"\\\\").replace(b"\n", b"\\n").replace(b"\r", b"\\r")
 
 
-def report_line(verdict, name):
+def line_of(first, name):
+    """A line that ends with a name."""
     text = escaped(name)
-    return (b"" if text == name else b"\\") + verdict.encode() + b" " + text + b"\n"
+    return (b"" if text == name else b"\\") + first + text + b"\n"
+
+
+def report_line(verdict, name):
+    return line_of(verdict.encode() + b" ", name)
+
+
+def check_line(digest, name):
+    return line_of(digest + b"  ", name)
 
 
 def check_answer(text, files, is_quiet=False, ignores_missing=False):
