@@ -19,6 +19,17 @@ RANDOM = {
 }
 """Those of `random_bytes`, by their lengths."""
 
+PATTERNS = {
+    16385: b"1dabe216be2578830263b049de1639f39f05a4da616b9b78c7a5e4e41662fd1f",
+    65536: b"68d647e619a930e7b1082f74f334b0c65a315725569bdc123f0ee11881717bfe",
+    65537: b"7c99f9840a73dfcb6e5bfe4ff6d1558acab7e015640790c26411818bdbe17eca",
+    100000: b"d93c23eedaf165a7e0be908ba86f1a7a520d568d2d13cde787c8580c5c72cc54",
+    131072: b"306baba93b1a393cbd35172837c98b0f59a41f64e1b2682ae102d8b2534b9e1c",
+    1000000: b"5e82c663d164c54e4fcdfcd70e3ca464662228bdbad45cce2e0c2bff999064ef",
+    3000000: b"4713babaefbc2271db70eee8ec588829c0e5aa250951e9a401d11db249256fa8",
+}
+"""Those of the input of the official test vectors, by its length."""
+
 
 def random_bytes(length):
     """The same bytes for the same length."""

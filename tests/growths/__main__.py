@@ -4,7 +4,8 @@ memory fail each time: the first, the second, and so on, until a run has no grow
 If no growth fails, the answer must be that of the second implementation. Otherwise each run must end by itself, with the same
 answer, or with status 3 and `b3store: out of memory`. In the latter case, an engine that writes at its end must have written nothing,
 except that `upload` may have reported its refusal; and `run` must have answered as the model does, except for commands that it refused
-with S14, which changed nothing. `serve` must continue like this to the end, unless there was no memory to begin.
+with S14, which changed nothing. `serve` must continue like this to the end, unless there was no memory to begin. Some run of `run`, of
+`serve` and of `upload` must report such a refusal.
 
 Then the same is done to each test in a module `growths` of the crates' sources, by the test program crates/NAME/out/NAME_tests that
 `rt ci` or `rt test` has built: each run must pass. `--crates` names another folder instead of `crates`, and `--program-alone` omits
@@ -71,7 +72,7 @@ def growths_of(refusing, case):
     whole = ending(undisturbed)
     if not is_answer(undisturbed, case.answer):
         return 0, 0, [f"where no growth is refused it ended {whole!r}, not {tuple(case.answer)!r}"]
-    passed, ended, failed = 0, 0, []
+    passed, ended, failed, is_refused = 0, 0, [], not case.refusal
     for growth in range(1, MAX_GROWTHS):
         try:
             run, met = refusing.run(case.words, case.data, GROWTH=str(growth))
@@ -80,13 +81,14 @@ def growths_of(refusing, case):
             continue
         if growth == 1 and not met:
             return 0, 0, ["no growth was refused, as of a program that is linked statically"]
+        is_refused = is_refused or case.refusal in run.stdout
         if may_end(run, whole, case):
             passed += 1
             ended += run.returncode == 3
         else:
             failed.append(f"growth {growth}: ended {ending(run)!r}")
         if not met:
-            return passed, ended, failed
+            return passed, ended, failed if is_refused else [*failed, f"no run reports {case.refusal!r}"]
     failed.append(f"it grows more than {MAX_GROWTHS} times")
     return passed, ended, failed
 

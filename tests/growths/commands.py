@@ -70,13 +70,14 @@ class Answer(typing.NamedTuple):
 
 class Case(typing.NamedTuple):
     """A run: its words and its input, its answer where no growth is refused, what may stand on standard output where the run
-    ended when out of memory, and what else where it went on."""
+    ended when out of memory, and what else where it went on; and how a refusal begins that one of the runs at least must report."""
 
     words: list
     data: bytes
     answer: Answer
     may_have_written: typing.Callable
     may_answer: typing.Callable = lambda answer: False
+    refusal: bytes = b""
 
 
 def is_beginning_by_the_model(answer):
@@ -163,8 +164,8 @@ def cases(program):
     yield Case([program, "sum", "--key-file", "key", "--length", "4", "object"], b"", good(f"{digits}\n"), wrote_nothing)
     yield Case([program, "audit"], journal, read(ANSWERS["audit"](journal)), wrote_nothing)
     yield Case([program, "migrate"], journal, read(ANSWERS["migrate"](journal)), wrote_nothing)
-    yield Case([program, "run"], SCRIPT.encode(), script, is_beginning_by_the_model)
-    yield Case([program, "serve"], SESSION, read(session_of(SESSION)), wrote_nothing, is_by_the_model)
+    yield Case([program, "run"], SCRIPT.encode(), script, is_beginning_by_the_model, refusal=b"refused S14\n")
+    yield Case([program, "serve"], SESSION, read(session_of(SESSION)), wrote_nothing, is_by_the_model, b"refused S14\n")
     for words, parts in (["--workers", "1"], 1), (["--workers", "3", "--part-chunks", "1"], 3):
         accounts = good(f"{ADDRESS}  -\naccepted {len(OBJECT)} {parts}\n")
-        yield Case([program, "upload", *words], OBJECT, accounts, reported_a_refusal)
+        yield Case([program, "upload", *words], OBJECT, accounts, reported_a_refusal, refusal=b"refused U")

@@ -23,6 +23,8 @@ TESTS = os.path.dirname(os.path.dirname(os.path.abspath(__file__)))
 sys.path[1:1] = [os.path.join(TESTS, name) for name in ("common", "growths", "second_reading")]
 from commands import Answer, cases
 from python_needed import end_where_older
+from session import answer_of, requests_of
+from store import Store
 from test_programs import PASSED, tests_in_sources
 
 SECONDS = 1200
@@ -42,22 +44,33 @@ repository, and one wants no output of no lines."""
 MAX_OF_PAGES = 35
 """The same of tests/pages: many cases compare the pages with each other, and with the crates."""
 
+OF_GROWTHS_THAT_END = 100
+"""The same of tests/growths, if the stand-in ends where it is to refuse a command."""
+
 MAX_OF_CLIENTS = 35
 """The same of tests/clients: a quarter of its cases need no store, such as those of arguments and of servers that end."""
 
 
-def row_of(words, answer, is_test):
+def row_of(words, answer, is_test, refusal=Answer(3, b"", b"")):
     """A row of the stand-in's table."""
     said = "".join(f"{word} " for word in words).encode()
-    texts = ['"' + "".join(f"\\{byte:03o}" for byte in text) + '"' for text in (said, answer.stdout, answer.stderr)]
+    texts = ['"' + "".join(f"\\{byte:03o}" for byte in text) + '"' for text in (said, answer.stdout, answer.stderr, refusal.stdout)]
     numbers = f"{answer.status}, {int(is_test)}, {len(answer.stdout)}, {len(answer.stderr)}"
-    return f"{{{texts[0]}, {numbers}, {texts[1]}, {texts[2]}}},\n"
+    return f"{{{texts[0]}, {numbers}, {texts[1]}, {texts[2]}, {refusal.status}, {len(refusal.stdout)}, {texts[3]}}},\n"
+
+
+def refusal_of(case):
+    """What the stand-in answers a command whose growth is refused: of `serve` its first line is refused, and the session goes on."""
+    if case.words[1] != "serve":
+        return Answer(3, case.refusal if case.refusal.endswith(b"\n") else case.refusal and b"refused U5\n", b"")
+    store = Store()
+    return Answer(0, case.refusal + b"".join(answer_of(store, *request) for request in list(requests_of(case.data))[1:]), b"")
 
 
 def build_stand_in(path, tests, *flags):
     """Whether a stand-in could be built that is the program, and a test program that has these tests."""
     listed = Answer(0, "".join(f"{name}: test\n" for name in tests).encode(), b"")
-    rows = [row_of(case.words[1:], case.answer, False) for case in cases("")]
+    rows = [row_of(case.words[1:], case.answer, False, refusal_of(case)) for case in cases("")]
     rows += [row_of(["--list"], listed, True)] + [row_of([name], PASSED, True) for name in tests]
     with open(path + ".table", "w", encoding="utf-8") as table:
         table.writelines(rows)
@@ -124,10 +137,10 @@ class Trials:
 def try_growths(trials, folder):
     growths = os.path.join(TESTS, "growths")
     tests = [name for _, names in tests_in_sources() for name in names]
-    right, unlisted, linked = (os.path.join(folder, name) for name in ("right", "unlisted", "linked"))
+    right, unlisted, linked, ending = (os.path.join(folder, name) for name in ("right", "unlisted", "linked", "ending"))
     is_static = build_stand_in(linked, tests, "-static")
     is_built = is_static or build_stand_in(linked, tests, "-DGROW=alloca")
-    if not is_built or not build_stand_in(right, tests) or not build_stand_in(unlisted, tests[1:]):
+    if not is_built or not build_stand_in(right, tests) or not build_stand_in(unlisted, tests[1:]) or not build_stand_in(ending, tests, "-DENDS=1"):
         trials.note("growths", (1, 0, 1, ""), ["no C compiler builds the stand-in"])
         return
     crates = {path: put_test_programs(path + ".crates", path) for path in (right, unlisted, linked)}
@@ -135,6 +148,7 @@ def try_growths(trials, folder):
     os.mkdir(empty)
     trials.passes("growths over the stand-in", [growths, right, "--crates", crates[right]])
     trials.passes("growths over the stand-in alone", [growths, right, "--program-alone"])
+    trials.fails("growths over a stand-in that refuses no command", [growths, ending, "--program-alone"], "no run reports", 4, OF_GROWTHS_THAT_END)
     count = len(tests)
     trials.fails("growths without test programs", [growths, right, "--crates", empty], "can't be run", count)
     trials.fails("growths and a test that is not listed", [growths, right, "--crates", crates[unlisted]], "does not list it", 1)

@@ -1,10 +1,13 @@
-/* Answers the words of a table, ANSWERS, as the program does, or as a test program does. It grows once, and reports out of memory
-   where that is refused; of a test it passes then too. */
+/* Answers the words of a table, ANSWERS, as the program does, or as a test program does. It grows once, and where that is refused it
+   reports a refusal, if the table has one for the words, or else out of memory; of a test it passes then too. With ENDS it refuses nothing. */
 #include <alloca.h>
 #include <stdlib.h>
 #include <string.h>
 #include <unistd.h>
 
+#ifndef ENDS
+#define ENDS 0
+#endif
 #ifndef GROW
 #define GROW malloc
 #endif
@@ -14,6 +17,9 @@ struct answer {
     int status, is_test;
     size_t output_bytes, fault_bytes;
     const char *output, *fault;
+    int status_of_refusal;
+    size_t refusal_bytes;
+    const char *refusal;
 };
 
 static const struct answer answers[] = {
@@ -38,7 +44,9 @@ int main(int count, char **words) {
             continue;
         }
         if (grown == NULL && !found->is_test) {
-            return report(3, "", 0, no_memory, sizeof no_memory - 1);
+            int is_going_on = !ENDS && found->status_of_refusal != 3;
+            return report(ENDS ? 3 : found->status_of_refusal, found->refusal, ENDS ? 0 : found->refusal_bytes, no_memory,
+                          is_going_on ? 0 : sizeof no_memory - 1);
         }
         return report(found->status, found->output, found->output_bytes, found->fault, found->fault_bytes);
     }
