@@ -19,8 +19,11 @@ index is missing or wrong, everything can be restored, and the next save writes 
 that has the same content.
 
 It keeps files, folders, links and hard links, with times, modes, owners and groups. If an owner can't be restored, for example by a user other than root,
-that is reported, and no setuid or setgid bit is set. It doesn't keep extended attributes, access lists and holes in files. Anything else (a pipe, a device,
-a socket) is reported and left out. It doesn't compress or encrypt, and removes no backups.
+that is reported, and no setuid or setgid bit is set. If the folder to restore into is already there, it keeps its own owner, mode and time. It doesn't keep
+extended attributes, access lists and holes in files. Anything else (a pipe, a device, a socket) is reported and left out. It doesn't compress or encrypt, and
+removes no backups.
+
+What it writes is readable only by the user who runs it: the files of a repository, and each restored file and folder until it has its owner and mode.
 
 The store computes the address of each piece, and compares what is read from the repository with it. It holds up to `--memory` bytes; beyond that it forgets
 the oldest objects.
@@ -52,6 +55,10 @@ from backup_repository import ADDRESS, Damaged, Repository, quoted, unquoted
 
 MIN_MEMORY = 1 << 23
 """The least `--memory`."""
+ITSELF = "."
+"""The name of the folder itself in a backup of it."""
+PRIVATE = 0o077
+"""The umask: other users can't read what is written."""
 EXAMPLE = """\
 example:
   $ backup.py save ~/papers /mnt/disk/repository
@@ -93,11 +100,16 @@ def place_in(folder, path):
     return os.path.join(folder, path)
 
 
+def words_of_all(name, status):
+    """The words that the lines of files, folders and links have in common."""
+    return [name, f"{stat.S_IMODE(status.st_mode):o}:{status.st_uid}:{status.st_gid}", str(status.st_mtime_ns)]
+
+
 def words_of(repository, folder, path, known, linked):
     """The words of the backup's line for a path, and a list of addresses that follow them; None for what is left out. `known` has the lines of the last
     backup; `linked` the first path of each file that has several."""
     status, name = os.lstat(path), quoted(os.path.relpath(path, folder))
-    words = [name, f"{stat.S_IMODE(status.st_mode):o}:{status.st_uid}:{status.st_gid}", str(status.st_mtime_ns)]
+    words = words_of_all(name, status)
     if stat.S_ISDIR(status.st_mode):
         return ["folder", *words], []
     if stat.S_ISLNK(status.st_mode):
@@ -131,8 +143,8 @@ def known_files(repository, folder):
 
 
 def lines_of_folder(repository, options, known):
-    """The lines for the paths in a folder, and whether none was left out."""
-    found, is_whole, linked = [], True, {}
+    """The lines for a folder and the paths in it, and whether none was left out."""
+    found, is_whole, linked = [(["folder", *words_of_all(ITSELF, os.stat(options.folder))], [])], True, {}
     for path, fault in entries_of(options.folder):
         try:
             words = None if fault else words_of(repository, options.folder, path, known, linked)
@@ -156,7 +168,7 @@ def save(repository, options):
         repository.compares = options.all
         lines, is_whole = lines_of_folder(repository, options, {} if options.all else known_files(repository, options.folder))
         backup = repository.keep_backup(options.folder, lines)
-    kinds, counts = collections.Counter(line.split(" ")[0] for line in lines), repository.counts
+    kinds, counts = collections.Counter(line.split(" ")[0] for line in lines[1:]), repository.counts
     print(f"files {kinds['file'] + kinds['same']} folders {kinds['folder']} links {kinds['link']}")
     print(f"new objects {counts['new']} bytes {counts['new bytes']} known objects {counts['known']} bytes {counts['known bytes']}")
     print(f"backup {backup}")
@@ -221,10 +233,12 @@ class Restoring:
 def restore(repository, options):
     repository.load()
     lines = repository.lines_of(options.address)
+    is_new = not os.path.isdir(options.folder)
     os.makedirs(options.folder, exist_ok=True)
     restoring = Restoring(repository, options.folder)
     for line in lines:
-        restoring.try_to(restoring.restore, line)
+        if is_new or line[2] != ITSELF:
+            restoring.try_to(restoring.restore, line)
     for place, line in reversed(restoring.folders):
         restoring.try_to(restoring.finish, line, place)
     if restoring.unowned:
@@ -283,6 +297,7 @@ def main():
         return 1
     sys.stdout.reconfigure(errors="surrogateescape")
     options = read_options()
+    os.umask(PRIVATE)
     try:
         raise_again()
         return run(options)

@@ -19,8 +19,8 @@ recently used keys are evicted, as many as needed; with `--no-evict` none are, a
 
 Content is written to FOLDER as it arrives, at least twice a second: if the server is killed, at most the last second is lost; after a signal above, nothing is.
 The server starts with what is in FOLDER, and compares each object with its address. A key that can't be loaded, such as one of a user who isn't in FILE, is
-reported, and stays in FOLDER with its object for a later start; an object that has another address is moved to FOLDER/aside. One server at a time uses a
-folder. If the store ends, the server answers 503 and exits with status 3.
+reported, and stays in FOLDER with its object for a later start; an object that has another address is moved to FOLDER/aside. Only the server's user can read
+what it writes there. One server at a time uses a folder. If the store ends, the server answers 503 and exits with status 3.
 
 A store keeps a journal of its commands in memory. When it has more than `--journal-limit` entries, the content moves into a second store, to which the
 server switches while it answers requests (cache_stores.py). A limit that is less than twice what the content needs is raised to that.
@@ -75,6 +75,8 @@ SECONDS_BETWEEN_LOOKS = 0.2
 STATUSES = {"S2": 507, "S5": 413, "S6": 507, "S11": 400, "S12": 404, "S13": 507, "S14": 503, "F4": 413}
 ADDRESS_KEY = re.compile("/(?:.*/)?cas/(?:blake3/)?([0-9a-f]{64})")
 """The keys that `--compare` is for."""
+PRIVATE = 0o077
+"""The umask: other users can't read what is in FOLDER, which needs no token."""
 JOURNAL_LIMIT = 4000000
 """The default of `--journal-limit`: an entry takes 48 bytes of the store's memory."""
 EXAMPLE = """\
@@ -396,6 +398,7 @@ def answer_until(stopping, server, begun):
 def main():
     open_standard_files()
     options = read_options()
+    os.umask(PRIVATE)
     stopping = stop_signals()
     try:
         serve(options, Files(options.folder), stopping)

@@ -19,6 +19,12 @@ def differences(*pairs):
     return [f"{found!r}, not {wanted!r}" for found, wanted in pairs if found != wanted]
 
 
+def readable_by_others(folder):
+    """The paths of a folder, and of what is in it, that other users may read, write or enter."""
+    paths = [folder] + [os.path.join(place, name) for place, folders, names in os.walk(folder) for name in folders + names]
+    return [path for path in paths if os.stat(path).st_mode & 0o077]
+
+
 def refusal(call, *words):
     """The name and the value of a call's refusal, or what it returns."""
     try:

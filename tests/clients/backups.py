@@ -13,7 +13,7 @@ import sys
 import tempfile
 import time
 
-from shared import ABC, EMPTY, PROGRAM, SECONDS, TOP, differences, script_of
+from shared import ABC, EMPTY, PROGRAM, SECONDS, TOP, differences, readable_by_others, script_of
 from b3store import Store
 import backup_pieces
 from backup_repository import Repository
@@ -195,7 +195,8 @@ def restores_nothing_elsewhere():
 
 
 def keeps_owners_and_links():
-    """Hard links are links again, and who may give files away gets owners, and setuid bits with them."""
+    """Hard links are links again, and who may give files away gets owners, and setuid bits with them. The folder itself is restored too, unless it was
+    there; and other users can read nothing in the repository."""
     with tempfile.TemporaryDirectory() as place:
         folder, repository, restored = (os.path.join(place, name) for name in ("folder", "repository", "restored"))
         os.mkdir(folder)
@@ -209,10 +210,15 @@ def keeps_owners_and_links():
             os.chown(first, 1234, 4321)
             os.chown(link, 1234, 4321, follow_symlinks=False)
         os.chmod(first, 0o4755)
+        os.chmod(folder, 0o750)
+        os.utime(folder, ns=(5, 1234567890))
         status, lines = backup("save", folder, repository)
-        found = differences((status, 0), (lines[0], "files 2 folders 0 links 1"))
+        found = differences((status, 0), (lines[0], "files 2 folders 0 links 1"), (readable_by_others(repository), []))
         found += differences((backup("restore", repository, lines[-1].split()[1], restored), (0, [])))
-        for name in os.listdir(folder):
+        there = os.path.join(place, "there")
+        os.mkdir(there, 0o711)
+        found += differences((backup("restore", repository, lines[-1].split()[1], there), (0, [])), (stat.S_IMODE(os.stat(there).st_mode), 0o711))
+        for name in [".", *os.listdir(folder)]:
             was, now = (os.lstat(os.path.join(at, name)) for at in (folder, restored))
             found += differences(((now.st_mode, now.st_uid, now.st_gid, now.st_mtime_ns, now.st_nlink), (was.st_mode, was.st_uid, was.st_gid, was.st_mtime_ns, was.st_nlink)))
         return found + differences((os.path.samefile(os.path.join(restored, "a"), os.path.join(restored, "b")), True))

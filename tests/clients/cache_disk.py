@@ -9,7 +9,7 @@ import tempfile
 import threading
 import time
 
-from shared import ABC, EMPTY, FOUR, PROGRAM, SECONDS, TOP, differences
+from shared import ABC, EMPTY, FOUR, PROGRAM, SECONDS, TOP, differences, readable_by_others
 from servers import USERS, Cache, ask, wait_until
 
 
@@ -21,7 +21,7 @@ def begins_again():
             for key, content, token in ("/a%20b", b"abc", "token-a"), ("/again", b"abc", "token-a"), ("/b", b"abc", "token-b"), ("/four", b"four", "token-a"):
                 cache.ask("PUT", key, content, token)
             told = cache.stop()
-        found = differences((told, ("cache_server: saved 4 keys, 2 objects\n", "")), (sorted(places_of(folder)), [FOUR, ABC]))
+        found = differences((told, ("cache_server: saved 4 keys, 2 objects\n", "")), (sorted(places_of(folder)), [FOUR, ABC]), (readable_by_others(folder), []))
         with Cache(folder, USERS) as cache:
             found += differences((cache.begun.split(", ", 1)[1], "has 4 keys, 2 objects\n"), (cache.ask("GET", "/b", token="token-b"), (200, b"abc")))
             cache.ask("DELETE", "/four", token="token-a")
