@@ -129,12 +129,14 @@ def check_place(path: Optional[Place], host: Optional[str], port: Optional[int],
             raise ValueError("a port and a token belong to a host, and not to the path of a socket")
         place = os.fspath(path)
         return os.fsdecode(place), lambda: connect_to_path(place)
+    if not isinstance(host, str):
+        raise TypeError(f"a host must be a str, not {type(host).__name__}")
     number = check_number("port", port, 1, 65535)
     if token is not None and not isinstance(token, str):
         raise TypeError(f"a token must be a str, not {type(token).__name__}")
     if token is not None and not re.fullmatch("[0-9a-fA-F]{1,1024}", token):
         raise ValueError("a token has 1 to 1024 hexadecimal digits")
-    return f"{host}:{number}", lambda: connect_to_port(str(host), number)
+    return f"{host}:{number}", lambda: connect_to_port(host, number)
 
 
 def connect_to_path(path: Union[str, bytes]) -> socket.socket:

@@ -291,7 +291,8 @@ def read_into(file: Any, view: memoryview) -> Optional[int]:
     if piece is None:
         return None
     got = check_bytes(piece)
-    view[: got.nbytes] = got
+    if got.nbytes <= view.nbytes:
+        view[: got.nbytes] = got
     return got.nbytes
 
 
