@@ -252,6 +252,12 @@ def an_address(text):
     return text
 
 
+def a_path(text):
+    if not text:
+        raise argparse.ArgumentTypeError("a path must not be empty")
+    return text
+
+
 def a_memory(text):
     if not re.fullmatch("[0-9]{1,14}", text) or not MIN_MEMORY <= int(text) <= MAX_LIMIT:
         raise argparse.ArgumentTypeError(f"{text!r} is not a number of bytes from {MIN_MEMORY} to {MAX_LIMIT}")
@@ -276,7 +282,7 @@ def read_options():
         command = commands.add_parser(name, help=purpose, description=purpose[0].upper() + purpose[1:] + ".")
         command.set_defaults(work=work)
         for word in words:
-            command.add_argument(word, metavar=word.upper(), type=an_address if word == "address" else str)
+            command.add_argument(word, metavar=word.upper(), type=an_address if word == "address" else a_path)
         if work is save:
             extent = "also read files that haven't changed since the last backup, and compare the objects that are already there"
             command.add_argument("--all", action="store_true", help=extent)

@@ -160,6 +160,7 @@ def refuses_wrong_words():
             (["check", file], 1, file), (["check", place + "/none"], 1, place + "/none"), (["restore", place + "/none", ABC, folder], 1, place + "/none"),
             (["restore", repository, "zz", folder], 2, "'zz'"), (["--memory", "x", "check", folder], 2, "'x'"), (["--memory", "5", "check", folder], 2, "'5'"),
             (["--program", "/no/program", "check", folder], 1, "/no/program"), (["--program", "true", "check", folder], 3, "the store has ended"), (["save"], 2, "FOLDER"),
+            (["save", folder, ""], 2, "REPOSITORY: a path must not be empty"),
         )
         found = []
         for words, status, part in cases:
