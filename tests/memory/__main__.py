@@ -6,6 +6,7 @@
 - An upload allocates at most 1.5 times as many bytes as its input has.
 - A fetch of an object that is 64 times as long allocates no more memory, and of a line that is too long for a command no more bytes are kept
   than of the longest command.
+- `sum` and `check` of a long file use the buffers of as many threads as `--threads` says, and no more than docs/COMMANDS.md says.
 - What is forgotten is freed, and so are the parts of an upload that was aborted or sealed as known: thousands of rounds of each take no more
   memory than hundreds, except for the entries of the journal.
 
@@ -24,6 +25,7 @@ sys.dont_write_bytecode = True
 HERE = os.path.dirname(os.path.abspath(__file__))
 sys.path[1:1] = [os.path.join(os.path.dirname(HERE), name) for name in ("common", "second_reading")]
 from blake3 import address_of
+from digests import RANDOM, random_bytes
 from python_needed import end_where_older
 from resident import ENTRY_BYTES, resident
 from script import pattern
@@ -35,6 +37,9 @@ FEW_ROUNDS, MANY_ROUNDS = 200, 4000
 PART = 65536
 MAX_LINE = 33554481
 """The most bytes of a command's line with its line feed."""
+MANY_THREADS = 16
+LEAST_BUFFER, MAX_BUFFERS = 1 << 18, 22 << 20
+"""The least that each thread's buffer has, and the most that all have together."""
 HELD_PARTS = 256
 TOLERANCE = 1 << 20
 """How much less than the bytes of many parts may be resident, as some memory is used again."""
@@ -194,6 +199,24 @@ def an_upload_takes_its_input_once(options, folder):
     return at_least(length, count), length * 3 // 2
 
 
+def threads_are_as_many_as_asked_for(options, folder):
+    """How much one thread asks for that hashes a long file, and how much that may be. Many threads ask for a buffer each."""
+    library, path, most = counting(folder), os.path.join(folder, "long"), 0
+    with open(path, "wb") as file:
+        file.write(random_bytes(1 << 25))
+    line = f"{RANDOM[1 << 25].decode()}  {path}\n"
+    report = f"good {path}\ngood 1 bad 0 missing 0 unreadable 0 faults 0\n"
+    for words, data, wanted in (["sum", path], "", line), (["check"], line, report):
+        for threads in (1, MANY_THREADS):
+            found, count = counted([options.program, *words, "--threads", str(threads)], library, data.encode())
+            if found != wanted:
+                raise ValueError(f"it answered {found[:200]!r}")
+            if threads > 1 and not threads * LEAST_BUFFER <= count <= MAX_BUFFERS:
+                raise ValueError(f"{words[0]} by {threads} threads asks for {count} bytes")
+            most = most if threads > 1 else max(most, count)
+    return most, LEAST_BUFFER
+
+
 def growth_of_rounds(program, folder, lines_of, answers_of, left=NOTHING_LEFT):
     """How much more memory many rounds take than few, and how much that may be."""
     most = []
@@ -258,7 +281,7 @@ def main():
     options, passed, failed = parser.parse_args(), 0, 0
     tests = [
         a_seal_shares_bytes, a_seal_of_what_is_known_copies_no_bytes, a_forget_copies_no_bytes, a_fetch_asks_for_no_digits,
-        a_line_that_is_too_long_is_not_kept, an_upload_takes_its_input_once,
+        a_line_that_is_too_long_is_not_kept, an_upload_takes_its_input_once, threads_are_as_many_as_asked_for,
         what_is_held_is_measured, what_is_forgotten_is_given_back, what_is_known_is_given_back, what_is_aborted_is_given_back,
     ]
     for test in tests if options.program_alone else [*tests, a_fetch_shares_bytes]:
