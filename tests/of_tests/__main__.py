@@ -1,6 +1,6 @@
 """python3 tests/of_tests: tests that tests/growths, tests/failures, tests/random, tests/sessions, tests/memory, tests/program, tests/pages,
-tests/clients and tests/soak fail when they must: with `true` or `cat` instead of the program, if no growth of memory can be made to fail, and
-without a C compiler or a test program. Each must end with status 1 and a last line `N passed, M failed`, where M is not 0, and where no more
+tests/clients, tests/install, tests/b3sum, tests/c and tests/soak fail when they must: with `true` or `cat` instead of the program, with a library
+that does nothing, if no growth of memory can be made to fail, and without a C compiler or a test program. Each must end with status 1 and a last line `N passed, M failed`, where M is not 0, and where no more
 tests pass than this file says.
 
 A stand-in program (stand_in.c) gives the answers that tests/growths expects, and its memory grows once. With it tests/growths passes, unless it
@@ -35,6 +35,7 @@ WRONG_SERVERS = {
     "keeps": "bytes more are resident",
 }
 """Mistakes of that server, and what tests/soak reports of each."""
+INSTALL, B3SUM = OF_BASH = tuple(os.path.join(TESTS, name) for name in ("install", "b3sum"))
 NOT_THE_STORE = ("true", "cat")
 FEW_CASES = 50
 MAX_OF_A_HUNDRED = 4
@@ -46,6 +47,15 @@ MAX_OF_PAGES = 35
 
 OF_GROWTHS_THAT_END = 100
 """The same of tests/growths, if the stand-in ends where it is to refuse a command."""
+
+MAX_OF_INSTALL = 99
+"""The same of tests/install, of which one case runs the program."""
+
+MAX_OF_B3SUM = 15
+"""The same of tests/b3sum: b3sum finds a changed file, and some of its answers are compared with nothing."""
+
+MAX_OF_C = 2
+"""The same of tests/c: the header is compiled, and has the names that the library exports."""
 
 MAX_OF_CLIENTS = 35
 """The same of tests/clients: a quarter of its cases need no store, such as those of arguments and of servers that end."""
@@ -90,7 +100,7 @@ def run_tests(words, path):
     """The status of a program of tests, the two numbers of its last line, and all that it reported."""
     try:
         run = subprocess.run(
-            [sys.executable, *words], stdin=subprocess.DEVNULL, stdout=subprocess.PIPE, stderr=subprocess.STDOUT, timeout=SECONDS,
+            ["bash" if words[0] in OF_BASH else sys.executable, *words], stdin=subprocess.DEVNULL, stdout=subprocess.PIPE, stderr=subprocess.STDOUT, timeout=SECONDS,
             env={**os.environ, "PATH": path},
         )
     except subprocess.TimeoutExpired:
@@ -169,6 +179,9 @@ def try_program(trials, name):
     trials.fails(f"program over {name}", [os.path.join(TESTS, "program"), program], most=MAX_OF_A_HUNDRED)
     trials.fails(f"pages over {name}", [os.path.join(TESTS, "pages"), program], most=MAX_OF_PAGES)
     trials.fails(f"clients over {name}", [os.path.join(TESTS, "clients"), program], most=MAX_OF_CLIENTS)
+    trials.fails(f"install over {name}", [INSTALL, program], "the program answers", 1, MAX_OF_INSTALL)
+    if shutil.which("b3sum"):
+        trials.fails(f"b3sum over {name}", [B3SUM, program], most=MAX_OF_B3SUM)
     few = ["--cases", "8", "--commands", "400", "--uploads", "4", "--minutes", "0.01"]
     trials.fails(f"soak over {name}", [os.path.join(TESTS, "soak"), program, *few])
 
@@ -180,6 +193,18 @@ def script(folder, name, *words):
         file.write(f'#!/bin/sh\nexec {shlex.join(words)} "$@"\n')
     os.chmod(path, 0o755)
     return path
+
+
+def try_library(trials, folder):
+    """A library whose functions do nothing, and report that all is well."""
+    source, made, archive = (os.path.join(folder, f"nothing.{end}") for end in ("c", "o", "a"))
+    with open(os.path.join(os.path.dirname(TESTS), "include", "b3.h"), encoding="utf-8") as header:
+        names = re.findall(r"(?m)^uint32_t (b3_\w+)\(", header.read())
+    with open(source, "w", encoding="utf-8") as file:
+        file.writelines(f"unsigned {name}(void) {{ return 0; }}\n" for name in names)
+    subprocess.run(["cc", "-fPIC", "-c", source, "-o", made], check=True)
+    subprocess.run(["ar", "rc", archive, made], check=True)
+    trials.fails("c over a library that does nothing", [os.path.join(TESTS, "c", "run"), archive], most=MAX_OF_C)
 
 
 def try_soak(trials, folder, mistake=None):
@@ -198,6 +223,7 @@ def main():
     with tempfile.TemporaryDirectory() as folder, ThreadPoolExecutor() as pool:
         try_growths(trials, folder)
         runs = [pool.submit(try_program, trials, name) for name in NOT_THE_STORE]
+        runs.append(pool.submit(try_library, trials, folder))
         runs += [pool.submit(try_soak, trials, folder, mistake) for mistake in (None, *WRONG_SERVERS)]
         for run in runs:
             run.result()
