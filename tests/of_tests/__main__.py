@@ -209,7 +209,7 @@ def try_library(trials, folder):
 
 def try_soak(trials, folder, mistake=None):
     words = [sys.executable, PLAIN_SERVER, *(["--wrong", mistake] if mistake else [])]
-    name = f"soak of the plain server{' that ' + mistake if mistake else ''}"
+    name = f"soak over the plain server, {mistake or 'which makes no mistake'}"
     soak = [os.path.join(TESTS, "soak"), script(folder, f"server-{mistake}", *words), "server", "--minutes", "0.25"]
     if mistake:
         trials.fails(name, soak, WRONG_SERVERS[mistake])
