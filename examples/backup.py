@@ -19,9 +19,9 @@ index is missing or wrong, everything can be restored, and the next save writes 
 that has the same content.
 
 It keeps files, folders, links and hard links, with times, modes, owners and groups. If an owner can't be restored, for example by a user other than root,
-that is reported, and no setuid or setgid bit is set. If the folder to restore into is already there, it keeps its own owner, mode and time. It doesn't keep
-extended attributes, access lists and holes in files. Anything else (a pipe, a device, a socket) is reported and left out. It doesn't compress or encrypt, and
-removes no backups.
+that is reported, and no setuid or setgid bit is set. A file that can't be restored whole is reported, and isn't left there in part. If the folder to restore
+into is already there, it keeps its own owner, mode and time. It doesn't keep extended attributes, access lists and holes in files. Anything else (a pipe, a
+device, a socket) is reported and left out. It doesn't compress or encrypt, and removes no backups.
 
 What it writes is readable only by the user who runs it: the files of a repository, and each restored file and folder until it has its owner and mode.
 
@@ -203,9 +203,18 @@ class Restoring:
         if kind == "link":
             os.symlink(unquoted(words[0]), place)
         else:
-            with open(place, "xb") as file:
-                file.writelines(self.repository.read(address) for address in words[1:])
+            self.write(place, words[1:])
         self.finish(place, line)
+
+    def write(self, place, addresses):
+        """Writes a file of these pieces, or leaves none if one of them can't be read or written."""
+        file = open(place, "xb")
+        try:
+            with file:
+                file.writelines(map(self.repository.read, addresses))
+        except (Refused, OSError):
+            os.remove(place)
+            raise
 
     def finish(self, place, line):
         """Sets the owner, mode and time of what was restored."""
