@@ -16,6 +16,7 @@ resident must be at least what is held. The last line is `N passed, M failed`. A
 import argparse
 import functools
 import os
+import re
 import subprocess
 import sys
 import tempfile
@@ -65,7 +66,7 @@ def counted(words, library, data=b""):
         os.close(reports)
     with os.fdopen(reported, "rb") as pipe:
         count = pipe.read()
-    if not count.isdigit():
+    if not re.fullmatch(rb"\d+\n", count):
         raise ValueError(f"it reported {count[:20]!r} for a count")
     return run.stdout.decode(errors="replace"), int(count)
 

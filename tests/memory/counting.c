@@ -1,5 +1,5 @@
-/* Counts the bytes that the process that it is preloaded into asks memory for, and writes the sum in decimal digits, when the
-   process ends by `exit` or `_exit`, to the file descriptor in COUNTED_TOLD. */
+/* Counts the bytes that the process that it is preloaded into asks memory for, and writes the sum in decimal digits and a newline,
+   when the process ends by `exit` or `_exit`, to the file descriptor in COUNTED_TOLD. */
 #include <stdatomic.h>
 #include <stddef.h>
 #include <stdio.h>
@@ -17,7 +17,7 @@ static atomic_ulong counted;
 static int is_reported(void) {
     const char *descriptor = getenv("COUNTED_TOLD");
     char digits[32];
-    int length = snprintf(digits, sizeof digits, "%lu", atomic_load(&counted));
+    int length = snprintf(digits, sizeof digits, "%lu\n", atomic_load(&counted));
     return descriptor != NULL && write(atoi(descriptor), digits, length) == length;
 }
 
