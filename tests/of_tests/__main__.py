@@ -222,8 +222,8 @@ def main():
     trials = Trials()
     with tempfile.TemporaryDirectory() as folder, ThreadPoolExecutor() as pool:
         try_growths(trials, folder)
+        try_library(trials, folder)
         runs = [pool.submit(try_program, trials, name) for name in NOT_THE_STORE]
-        runs.append(pool.submit(try_library, trials, folder))
         runs += [pool.submit(try_soak, trials, folder, mistake) for mistake in (None, *WRONG_SERVERS)]
         for run in runs:
             run.result()
