@@ -302,6 +302,12 @@ def follow(server, clients, end):
     return first
 
 
+def separated(history):
+    """A client's answered commands, and each of the others by itself: what a connection sent before it was cut may be done after the first commands of the
+    client's next one."""
+    return [[op for op in history if op.answer is not None], *([op] for op in history if op.answer is None)]
+
+
 def wrong_objects(server):
     """The objects that tenants hold whose bytes don't have their address."""
     found = []
@@ -345,7 +351,7 @@ def long_server(program, minutes, pause, slack):
         found = join_clients(clients, SECONDS_TO_END)
         if found:
             return found + [server.reported()[-300:]]
-        histories = [first] + [read_log(path, number, Slice) for number, path in enumerate(paths, 1)]
+        histories = [first] + [part for number, path in enumerate(paths, 1) for part in separated(read_log(path, number, Slice))]
         stat = asked(server, "stat")
         journal = server.ask("journal").decode().splitlines()[1:]
         found = more_memory(server, before, journal, stat, slack) + wrong_objects(server)
