@@ -3,6 +3,7 @@ examples/backup.py, examples/cache_server.py, and, if nginx and ccache are insta
 """
 import os
 import shutil
+import signal
 import sys
 
 sys.dont_write_bytecode = True
@@ -80,4 +81,6 @@ def cases():
 
 if __name__ == "__main__":
     end_where_older()
+    # a shell starts what it doesn't wait for with SIGINT ignored, and the programs tried here would inherit that
+    signal.signal(signal.SIGINT, signal.default_int_handler)
     sys.exit(judged(cases()))
