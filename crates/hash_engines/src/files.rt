@@ -1,6 +1,6 @@
 //! Files of the file system, by name.
 
-ghost use Rattle.std.specs.Prelude.{◌≡◌, ◌↔◌, ℕ, List, Err, Ok, IfNone, IfOk, IfSome, OnOk};
+ghost use Rattle.std.specs.Prelude.{◌≡◌, ◌≢◌, ◌↔◌, ℕ, List, Err, Ok, IfNone, IfOk, IfSome, OnOk};
 ghost use Rattle.std.specs.Io.KnownBytes.{IsAtEnd};
 ghost use Rattle.std.specs.IoError.{error_kind};
 ghost use Rattle.b3_core.specs.Tree.{tree_top};
@@ -8,7 +8,7 @@ ghost use Rattle.b3_parallel.specs.Sources.{known_from};
 ghost use Rattle.hash_engines.specs.Files.{IsRootAt, IsRootOf};
 ghost use Rattle.hash_engines.specs.Sums.{IsRootOfFile, IsRootOfLeft, IsRootOfSome, sum_mode};
 ghost use Rattle.hash_engines.specs.declared.sources.FileFault.TheVariants.{Failed, NoMemory};
-ghost use Rattle.hash_engines.specs.declared.sources.Reason.TheVariants.{IsFolder, Missing, NoPermission, NotUtf8};
+ghost use Rattle.hash_engines.specs.declared.sources.Reason.TheVariants.{IsFolder, Missing, NoPermission, NotUtf8, Unreadable};
 
 use crate::ahead::{NamedRoot, hash_groups, is_small, names_of_lines, next_names, root_at_once};
 use crate::file_system::{FileSystem, SourceFile};
@@ -65,6 +65,8 @@ pub fn fault_of(error: &io::Error) -> FileFault
     ensures missing { (result ≡ Failed Missing) ↔ (error_kind error.now ≡ ErrorKind.NotFound) }
     ensures folder { (result ≡ Failed IsFolder) ↔ (error_kind error.now ≡ ErrorKind.IsADirectory) }
     ensures permission { (result ≡ Failed NoPermission) ↔ (error_kind error.now ≡ ErrorKind.PermissionDenied) }
+    ensures other { error_kind error.now ≢ ErrorKind.OutOfMemory → error_kind error.now ≢ ErrorKind.NotFound → error_kind error.now ≢ ErrorKind.IsADirectory
+        → error_kind error.now ≢ ErrorKind.PermissionDenied → result ≡ Failed Unreadable }
     ensures read { result ≡ Failed NotUtf8 → ⊥ }
 {
     match error.kind() {
