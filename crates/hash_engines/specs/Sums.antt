@@ -1,5 +1,5 @@
 -- What `sum` writes.
-use Rattle.std.specs.Prelude.{◌≡◌, ◌≢◌, ◌⊎◌, ℕ, Bool, true, false, List, [], ◌∷◌, ◌++◌, Option, Some, None, Result, Ok, Err, codes, OnOk, if◌then◌else◌}
+use Rattle.std.specs.Prelude.{◌≡◌, ◌≢◌, ◌⊎◌, ℕ, Bool, true, false, List, [], ◌∷◌, ◌++◌, Option, Some, None, Result, Ok, Err, codes, IfErr, OnOk, if◌then◌else◌}
 use Rattle.std.specs.List.{list_all}
 use Rattle.std.specs.Io.KnownBytes.{Appends, IsAtEnd}
 use Rattle.std.specs.Str.{IsUtf8}
@@ -102,9 +102,13 @@ pub record IsSumStopped {S : Type 0} (gives : S → List ℕ → Result ModelTop
   pub wrote : Appends before grown (root_answers_text length front answers)
   pub stopped : IsStoppedAt gives length cause mid name new grown after
 
+-- why an open or a read may fail: not for the name's bytes, and not for what standard input is
+abbrev pub IsReadFault : FileFault → Type 0
+IsReadFault fault = (fault ≢ Failed NotUtf8) × (fault ≢ Failed InputTaken)
+
 -- the possible results for a file's name: the fault for a name that is not UTF-8 is returned if and only if the name is not UTF-8
 abbrev pub IsRootOfFile : List ℕ → Result ModelTop FileFault → Type 0
-IsRootOfFile name answer = (IsUtf8 name × (answer ≢ Err (Failed NotUtf8))) ⊎ ((IsUtf8 name → ⊥) × (answer ≡ Err (Failed NotUtf8)))
+IsRootOfFile name answer = (IsUtf8 name × IfErr answer IsReadFault) ⊎ ((IsUtf8 name → ⊥) × (answer ≡ Err (Failed NotUtf8)))
 
 -- the possible results in a mode, of the system's files or another source of some bytes: a root is that of some bytes
 abbrev pub IsRootOfSome : ModelMode → Result ModelTop FileFault → Type 0
@@ -121,4 +125,4 @@ IsRootOfLeft (Some left) mode (Err fault) = Unit {0}
 abbrev pub IsRootOfInput : {I : Type 0} → (I → Option (List ℕ)) → ModelMode → Option I → Result ModelTop FileFault → Option I → Type 0
 IsRootOfInput remaining mode None answer new = (answer ≡ Err (Failed InputTaken)) × (new ≡ None)
 IsRootOfInput remaining mode (Some old) answer None = ⊥
-IsRootOfInput remaining mode (Some old) answer (Some new) = OnOk answer (IsAtEnd (remaining new)) × (answer ≢ Err (Failed NotUtf8)) × IsRootOfLeft (remaining old) mode answer
+IsRootOfInput remaining mode (Some old) answer (Some new) = OnOk answer (IsAtEnd (remaining new)) × IfErr answer IsReadFault × IsRootOfLeft (remaining old) mode answer

@@ -1,14 +1,14 @@
 //! Files of the file system, by name.
 
-ghost use Rattle.std.specs.Prelude.{◌≡◌, ◌≢◌, ◌↔◌, ℕ, List, Err, Ok, IfNone, IfOk, IfSome, OnOk};
+ghost use Rattle.std.specs.Prelude.{◌≡◌, ◌≢◌, ◌↔◌, ℕ, List, Ok, IfErr, IfNone, IfOk, IfSome, OnOk};
 ghost use Rattle.std.specs.Io.KnownBytes.{IsAtEnd};
 ghost use Rattle.std.specs.IoError.{error_kind};
 ghost use Rattle.b3_core.specs.Tree.{tree_top};
 ghost use Rattle.b3_parallel.specs.Sources.{known_from};
 ghost use Rattle.hash_engines.specs.Files.{IsRootAt, IsRootOf};
-ghost use Rattle.hash_engines.specs.Sums.{IsRootOfFile, IsRootOfLeft, IsRootOfSome, sum_mode};
+ghost use Rattle.hash_engines.specs.Sums.{IsReadFault, IsRootOfFile, IsRootOfLeft, IsRootOfSome, sum_mode};
 ghost use Rattle.hash_engines.specs.declared.sources.FileFault.TheVariants.{Failed, NoMemory};
-ghost use Rattle.hash_engines.specs.declared.sources.Reason.TheVariants.{IsFolder, Missing, NoPermission, NotUtf8, Unreadable};
+ghost use Rattle.hash_engines.specs.declared.sources.Reason.TheVariants.{IsFolder, Missing, NoPermission, Unreadable};
 
 use crate::ahead::{NamedRoot, hash_groups, is_small, names_of_lines, next_names, root_at_once};
 use crate::file_system::{FileSystem, SourceFile};
@@ -67,7 +67,6 @@ pub fn fault_of(error: &io::Error) -> FileFault
     ensures permission { (result ≡ Failed NoPermission) ↔ (error_kind error.now ≡ ErrorKind.PermissionDenied) }
     ensures other { error_kind error.now ≢ ErrorKind.OutOfMemory → error_kind error.now ≢ ErrorKind.NotFound → error_kind error.now ≢ ErrorKind.IsADirectory
         → error_kind error.now ≢ ErrorKind.PermissionDenied → result ≡ Failed Unreadable }
-    ensures read { result ≡ Failed NotUtf8 → ⊥ }
 {
     match error.kind() {
         ErrorKind::OutOfMemory => FileFault::NoMemory,
@@ -85,7 +84,7 @@ impl<T: Threads + Runtime, F: FileSystem> FileHasher<'_, T, F> {
         ensures same { (self.new.mode ≡ self.old.mode) × (self.new.file_system ≡ self.old.file_system) }
         ensures end { OnOk result (IsAtEnd (I.remaining input.new)) }
         ensures left { IsRootOfLeft (I.remaining input.old) self.old.mode result }
-        ensures read { result ≡ Err (Failed NotUtf8) → ⊥ }
+        ensures read { IfErr result IsReadFault }
     {
         let mode = self.mode;
         match hash_all(self.threads, &mode, input, &mut self.work) {
@@ -98,7 +97,7 @@ impl<T: Threads + Runtime, F: FileSystem> FileHasher<'_, T, F> {
     fn open_file(&self, path: &str) -> Result<F::File, FileFault>
         ensures bytes { IfOk result (λ file. F.File.bytes file ≡ F.bytes_at self.now.file_system path.now) }
         ensures remaining { IfOk result (λ file. F.File.remaining file ≡ F.bytes_at self.now.file_system path.now) }
-        ensures read { result ≡ Err (Failed NotUtf8) → ⊥ }
+        ensures read { IfErr result IsReadFault }
     {
         match self.file_system.open(path) {
             Ok(file) => Ok(file),
@@ -126,7 +125,7 @@ impl<T: Threads + Runtime, F: FileSystem> FileHasher<'_, T, F> {
         ensures root { IsRootOfSome self.old.mode result }
         ensures same { (self.new.mode ≡ self.old.mode) × (self.new.file_system ≡ self.old.file_system) }
         ensures left { IsRootOfLeft (F.File.bytes file) self.old.mode result }
-        ensures read { result ≡ Err (Failed NotUtf8) → ⊥ }
+        ensures read { IfErr result IsReadFault }
     {
         let mut file = file;
         match self.source_root(&file, len) {
@@ -142,7 +141,7 @@ impl<T: Threads + Runtime, F: FileSystem> FileHasher<'_, T, F> {
         ensures root { IsRootOfSome self.old.mode result }
         ensures same { (self.new.mode ≡ self.old.mode) × (self.new.file_system ≡ self.old.file_system) }
         ensures left { IsRootOfLeft (F.bytes_at self.old.file_system path.now) self.old.mode result }
-        ensures read { result ≡ Err (Failed NotUtf8) → ⊥ }
+        ensures read { IfErr result IsReadFault }
     {
         let (mode, mut file) = (self.mode, file);
         if let Some(root) = root_at_once(&mut file, len, &mode, &mut self.room, &mut self.work) {
@@ -176,7 +175,7 @@ impl<T: Threads + Runtime, F: FileSystem> FileHasher<'_, T, F> {
         ensures same { (self.new.mode ≡ self.old.mode) × (self.new.file_system ≡ self.old.file_system) }
         ensures end { OnOk result (IsAtEnd (I.remaining input.new)) }
         ensures left { IsRootOfLeft (I.remaining input.old) self.old.mode result }
-        ensures read { result ≡ Err (Failed NotUtf8) → ⊥ }
+        ensures read { IfErr result IsReadFault }
     {
         match self.standing_root(input) {
             Some(root) => Ok(root),

@@ -83,7 +83,7 @@ of_ends verdicts.Refused rest (inr h) = absurd (let impossible = h.0 in cc)
 
 -- the state that a session of its own begins in
 abbrev first : SessionState
-first = record { store = widest_start; bytes = 0; calls = 0; own = [] }
+first = record { store = widest_start; parts = 0; bytes = 0; calls = 0; own = [] }
 
 answered_alone : (store : ModelStore) (left : SessionState → Type 0) (input output rest : List ℕ) → store ≡ widest_start → ServedOver alone_reach (alone_stands store) left input output rest → AreServed input output rest
 answered_alone store left input output rest is h =
@@ -96,10 +96,10 @@ all_served (Err e) old w1 w2 store left is h = tt
 all_served (Ok verdict) None w1 w2 store left is h = tt
 all_served (Ok verdict) (Some input) w1 w2 store left is h = record { output = h.output; rest = h.rest; answered = answered_alone store left input h.output h.rest is h.answered; ends = of_ends verdict h.rest h.ends; wrote = h.wrote }
 
-pub some_served : (old w1 w2 : Option (List ℕ)) (store : ModelStore) → store ≡ widest_start → IfSome old (λ input. ServedSomeOver alone_reach (alone_stands store) input w1 w2) → IfSome old (λ input. ServedSome input w1 w2)
-some_served None w1 w2 store is h = tt
-some_served (Some input) w1 w2 store is h = record { output = h.output; rest = h.rest; answered = answered_alone store (λ _. Unit {0}) input h.output h.rest is h.answered; wrote = h.wrote }
+pub some_served : (old w1 w2 : Option (List ℕ)) (store : ModelStore) (left : SessionState → Type 0) → store ≡ widest_start → IfSome old (λ input. ServedSomeOver alone_reach (alone_stands store) left input w1 w2) → IfSome old (λ input. ServedSome input w1 w2)
+some_served None w1 w2 store left is h = tt
+some_served (Some input) w1 w2 store left is h = record { output = h.output; rest = h.rest; answered = answered_alone store left input h.output h.rest is h.answered; wrote = h.wrote }
 
-pub cut_served : (old w1 w2 : Option (List ℕ)) (store : ModelStore) → store ≡ widest_start → IfSome old (λ input. ServedCutOver alone_reach (alone_stands store) input w1 w2) → IfSome old (λ input. ServedCut input w1 w2)
-cut_served None w1 w2 store is h = tt
-cut_served (Some input) w1 w2 store is h = record { output = h.output; rest = h.rest; answered = answered_alone store (λ _. Unit {0}) input h.output h.rest is h.answered; wrote = h.wrote }
+pub cut_served : (old w1 w2 : Option (List ℕ)) (store : ModelStore) (left : SessionState → Type 0) → store ≡ widest_start → IfSome old (λ input. ServedCutOver alone_reach (alone_stands store) left input w1 w2) → IfSome old (λ input. ServedCut input w1 w2)
+cut_served None w1 w2 store left is h = tt
+cut_served (Some input) w1 w2 store left is h = record { output = h.output; rest = h.rest; answered = answered_alone store left input h.output h.rest is h.answered; wrote = h.wrote }

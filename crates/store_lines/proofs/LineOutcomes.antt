@@ -51,7 +51,7 @@ PutTurn old upload offset bytes new turn = IsTurnOfPut old upload offset bytes (
 pub put_alone : (old new : ModelStore) (upload offset : ℕ) (bytes : List ℕ) (answer : Answer) → AnsweredOver (alone_stands old) (alone_stands new) (λ before turn after. IsLinkedPut alone_reach before upload offset bytes turn after) answer
     → Answered (PutTurn old upload offset bytes new) (reported_text new.journal answer) (reported_ending answer)
 put_alone old new upload offset bytes answer h =
-    let before : SessionState = record { store = old; bytes = 0; calls = 0; own = [] } in
+    let before : SessionState = record { store = old; parts = 0; bytes = 0; calls = 0; own = [] } in
     let g = h.goes before refl in
     record {
       turn = h.turn;

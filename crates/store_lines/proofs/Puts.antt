@@ -39,7 +39,7 @@ made reach was is upload offset plan bytes part reply answer fits part_is took_i
         (
           t.stands before session,
           subst (λ (o : Option PartFault). IsLinkedMade reach before upload (planned plan offset bytes) o (took call reply) (advance before t.found call reply t.left)) (sym fits)
-              (t.found, (t.linked before session, ((refl, t.step), (refl, refl, refl)))),
+              (t.found, (t.linked before session, ((refl, t.step), (refl, refl, refl, refl)))),
         ),
       );
       text_is = text;

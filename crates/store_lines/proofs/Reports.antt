@@ -32,7 +32,7 @@ pub replied : (reach : Reach) (was is : SessionState → Type 0) (call : Call) (
     → ReportedOver was is (λ before turn after. IsLinkedCall reach as_script before call turn after) Wrote
 replied reach was is call reply Wrote t wrote = record {
   turn = reported_as as_script (took call reply);
-  goes = λ before session. (advance before t.found call reply t.left, (t.stands before session, (refl, (t.found, (t.linked before session, ((refl, t.step), (refl, refl, refl)))))));
+  goes = λ before session. (advance before t.found call reply t.left, (t.stands before session, (refl, (t.found, (t.linked before session, ((refl, t.step), (refl, refl, refl, refl)))))));
   wrote = wrote;
 }
 
@@ -48,7 +48,7 @@ pub fetched : (reach : Reach) (was is : SessionState → Type 0) (tenant : ℕ) 
     → ReportedOver was is (λ before turn after. IsLinkedCall reach (as_range range) before (ask (questions.Fetch tenant address)) turn after) Wrote
 fetched reach was is tenant address bytes range Wrote t wrote = record {
   turn = reported_as (as_range range) (took (ask (questions.Fetch tenant address)) (Ok (replies.Object bytes)));
-  goes = λ before session. (advance before t.found (ask (questions.Fetch tenant address)) (Ok (replies.Object bytes)) t.left, (t.stands before session, (refl, (t.found, (t.linked before session, ((refl, t.step), (refl, refl, refl)))))));
+  goes = λ before session. (advance before t.found (ask (questions.Fetch tenant address)) (Ok (replies.Object bytes)) t.left, (t.stands before session, (refl, (t.found, (t.linked before session, ((refl, t.step), (refl, refl, refl, refl)))))));
   wrote = wrote;
 }
 
@@ -56,7 +56,7 @@ pub unfetched : (reach : Reach) (was is : SessionState → Type 0) (tenant : ℕ
     → ReportedOver was is (λ before turn after. IsLinkedCall reach (as_range range) before (ask (questions.Fetch tenant address)) turn after) Wrote
 unfetched reach was is tenant address refusal range Wrote t wrote = record {
   turn = reported_as (as_range range) (took (ask (questions.Fetch tenant address)) (Err refusal));
-  goes = λ before session. (advance before t.found (ask (questions.Fetch tenant address)) (Err refusal) t.left, (t.stands before session, (refl, (t.found, (t.linked before session, ((refl, t.step), (refl, refl, refl)))))));
+  goes = λ before session. (advance before t.found (ask (questions.Fetch tenant address)) (Err refusal) t.left, (t.stands before session, (refl, (t.found, (t.linked before session, ((refl, t.step), (refl, refl, refl, refl)))))));
   wrote = wrote;
 }
 

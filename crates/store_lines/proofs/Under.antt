@@ -37,6 +37,10 @@ more_play reach old mid new input following rest (t ∷ turns) turn h p = (h.0, 
 text_more : (turns : List SessionTurn) (turn : SessionTurn) → flat_map session_turn_text (turns ++ turn ∷ []) ≡ flat_map session_turn_text turns ++ session_turn_text turn
 text_more turns turn = flat_map-append session_turn_text turns (turn ∷ []) ∙ ap (λ xs. flat_map session_turn_text turns ++ xs) (append-nil (session_turn_text turn))
 
+-- nothing is done between two lines
+pub rests : (is : SessionState → Type 0) → Leaves is is
+rests is = record { leaves = λ before session. (before.store, session) }
+
 pub begun : (reach : Reach) (was : SessionState → Type 0) (old w : Option (List ℕ)) → IfSome old (IsUnder reach was was old w w)
 begun reach was None w = tt
 begun reach was (Some input) w = record { rest = input; left = refl; turns = []; plays = λ start session. (start, (session, (refl, refl))); wrote = Appends-nil w }
@@ -48,13 +52,6 @@ answered reach was is now w1 w2 input h = record {
   text_is = refl;
 }
 
-answered_so_far : (reach : Reach) (was is : SessionState → Type 0) (now w1 w2 : Option (List ℕ)) (input : List ℕ) (h : IsUnder reach was is now w1 w2 input) → ServedOver reach was (λ _. Unit {0}) input (flat_map session_turn_text h.turns) h.rest
-answered_so_far reach was is now w1 w2 input h = record {
-  turns = h.turns;
-  plays = λ start session. let p = h.plays start session in (p.0, (p.1.1, (p.0.store, tt)));
-  text_is = refl;
-}
-
 answered_cut : (reach : Reach) (was mid is : SessionState → Type 0) (now w1 w2 : Option (List ℕ)) (input : List ℕ) (h : IsUnder reach was mid now w1 w2 input) → Leaves mid is → ServedOver reach was is input (flat_map session_turn_text h.turns) h.rest
 answered_cut reach was mid is now w1 w2 input h l = record {
   turns = h.turns;
@@ -62,9 +59,9 @@ answered_cut reach was mid is now w1 w2 input h l = record {
   text_is = refl;
 }
 
-pub stopped : (reach : Reach) (was is : SessionState → Type 0) (old now w1 w2 : Option (List ℕ)) → IfSome old (IsUnder reach was is now w1 w2) → IfSome old (λ input. ServedSomeOver reach was input w1 w2)
-stopped reach was is None now w1 w2 h = tt
-stopped reach was is (Some input) now w1 w2 h = record { output = flat_map session_turn_text h.turns; rest = h.rest; answered = answered_so_far reach was is now w1 w2 input h; wrote = h.wrote }
+pub stopped : (reach : Reach) (was mid is : SessionState → Type 0) (old now w1 w2 : Option (List ℕ)) → IfSome old (IsUnder reach was mid now w1 w2) → Leaves mid is → IfSome old (λ input. ServedSomeOver reach was is input w1 w2)
+stopped reach was mid is None now w1 w2 h l = tt
+stopped reach was mid is (Some input) now w1 w2 h l = record { output = flat_map session_turn_text h.turns; rest = h.rest; answered = answered_cut reach was mid is now w1 w2 input h l; wrote = h.wrote }
 
 pub at_end : (reach : Reach) (was is : SessionState → Type 0) (old now w1 w2 : Option (List ℕ)) (read : LineRead) (kept : List ℕ) → IfSome old (IsUnder reach was is now w1 w2) → IfSome now (λ left. IsSessionLine (take_through 10 left) read kept) → read.count ≡ 0
     → IfSome old (λ input. ServedAllOver reach was is input w1 w2 verdicts.Good)
@@ -177,7 +174,7 @@ turned reach was mid is (Some input) now then left w1 w2 w3 read kept is_whole a
 
 -- a write failed in the answer to a line
 pub cut_off : (reach : Reach) (was mid is : SessionState → Type 0) (old now then left w1 w2 w3 : Option (List ℕ)) (read : LineRead) (kept : List ℕ) → (reach.needs_newline ≡ true → read.is_ended ≡ true) → IfSome old (IsUnder reach was mid now w1 w2)
-    → IfSome now (λ left. IsSessionLine (take_through 10 left) read kept) → 0 < read.count → DropsThrough now then 10 → IfSome then (λ following. ServesReadOver reach mid is true read kept following left (WroteSome w2 w3)) → IfSome old (λ input. ServedCutOver reach was input w1 w3)
+    → IfSome now (λ left. IsSessionLine (take_through 10 left) read kept) → 0 < read.count → DropsThrough now then 10 → IfSome then (λ following. ServesReadOver reach mid is true read kept following left (WroteSome w2 w3)) → IfSome old (λ input. ServedCutOver reach was is input w1 w3)
 cut_off reach was mid is None now then left w1 w2 w3 read kept ended h r some drops served = tt
 cut_off reach was mid is (Some input) now then left w1 w2 w3 read kept ended h r some drops served =
     let read2 : IsSessionLine (take_through 10 h.rest) read kept = subst (λ (o : Option (List ℕ)). IfSome o (λ l. IsSessionLine (take_through 10 l) read kept)) h.left r in
@@ -191,7 +188,7 @@ cut_off reach was mid is (Some input) now then left w1 w2 w3 read kept ended h r
         plays = λ start session.
             let p = h.plays start session in
             let g = t.goes p.0 p.1.0 in
-            (g.0, (more_play reach start p.0 g.0 input h.rest served1.0 h.turns t.turn p.1.1 (some_left h.rest read kept read2 some, (λ needs. read2.ended (ended needs)), g.1.1), (g.0.store, tt)));
+            (g.0, (more_play reach start p.0 g.0 input h.rest served1.0 h.turns t.turn p.1.1 (some_left h.rest read kept read2 some, (λ needs. read2.ended (ended needs)), g.1.1), (g.0.store, g.1.0)));
         text_is = refl;
       };
       wrote = subst (λ (x : List ℕ). WroteSome w1 w3 x) (sym (text_more h.turns t.turn)) (some_after w1 w2 w3 (flat_map session_turn_text h.turns) (session_turn_text t.turn) h.wrote t.wrote);

@@ -19,17 +19,18 @@ pub record Reach : Type 1 where
   pub lacks : Type 0
   pub needs_newline : Bool
 
--- A state that a session may have left: the view of the store, the numbers of accepted bytes and calls of the session's own parts, and the
--- numbers that the entries of its own accepted commands have in the journal.
+-- A state that a session may have left: the view of the store; how many parts of the store's book the session has, and the bytes and calls
+-- that were accepted from it; and the numbers that the entries of its own accepted commands have in the journal.
 pub record SessionState : Type 0 where
   pub store : ModelStore
+  pub parts : ℕ
   pub bytes : ℕ
   pub calls : ℕ
   pub own : List ℕ
 
 -- the same account with another state of the store
 abbrev pub at : SessionState → ModelStore → SessionState
-at session found = record { store = found; bytes = session.bytes; calls = session.calls; own = session.own }
+at session found = record { store = found; parts = session.parts; bytes = session.bytes; calls = session.calls; own = session.own }
 
 -- what a step adds to the account: the bytes of an accepted part, and one call
 abbrev pub took_bytes : Call → Result Reply Refusal → ℕ
@@ -55,6 +56,7 @@ took_numbers found (put upload part) (Err refusal) = []
 abbrev pub advance : SessionState → ModelStore → Call → Result Reply Refusal → ModelStore → SessionState
 advance before found call reply left = record {
   store = left;
+  parts = before.parts;
   bytes = before.bytes + took_bytes call reply;
   calls = before.calls + took_calls call reply;
   own = before.own ++ took_numbers found call reply;

@@ -29,7 +29,7 @@ use Rattle.store_lines.specs.Access.{Reach, SessionState, at, took_bytes, took_c
 
 -- ---- one line: its turn after a state that was left, and its effect
 
--- the account grows by the turn's accepted part
+-- the account grows by the bytes of the turn's accepted part; the parts of the book stay
 abbrev pub turn_bytes : Turn → ℕ
 turn_bytes (took call reply) = took_bytes call reply
 turn_bytes _ = 0
@@ -44,7 +44,7 @@ turn_numbers found (took call reply) = took_numbers found call reply
 turn_numbers found _ = []
 
 abbrev pub IsCountedTurn : SessionState → ModelStore → Turn → SessionState → Type 0
-IsCountedTurn old found turn new = (new.bytes ≡ old.bytes + turn_bytes turn) × (new.calls ≡ old.calls + turn_calls turn) × (new.own ≡ old.own ++ turn_numbers found turn)
+IsCountedTurn old found turn new = (new.parts ≡ old.parts) × (new.bytes ≡ old.bytes + turn_bytes turn) × (new.calls ≡ old.calls + turn_calls turn) × (new.own ≡ old.own ++ turn_numbers found turn)
 
 -- one step from a state that is linked to what was left before
 abbrev pub IsLinkedStep : Reach → SessionState → Call → Turn → SessionState → Type 0
@@ -137,10 +137,10 @@ pub record ServedOver (reach : Reach) (was is : SessionState → Type 0) (input 
   pub text_is : output ≡ flat_map session_turn_text turns
 
 -- the writer grew by the answers to the lines of a prefix of the input
-pub record ServedSomeOver (reach : Reach) (was : SessionState → Type 0) (input : List ℕ) (old new : Option (List ℕ)) : Type 0 where
+pub record ServedSomeOver (reach : Reach) (was is : SessionState → Type 0) (input : List ℕ) (old new : Option (List ℕ)) : Type 0 where
   pub output : List ℕ
   pub rest : List ℕ
-  pub answered : ServedOver reach was (λ _. Unit {0}) input output rest
+  pub answered : ServedOver reach was is input output rest
   pub wrote : Appends old new output
 
 -- and the session reached its end
@@ -152,8 +152,8 @@ pub record ServedAllOver (reach : Reach) (was is : SessionState → Type 0) (inp
   pub wrote : Appends old new output
 
 -- A write failed: the writer grew by a prefix of the answers to the lines of a prefix of the input, the last of which was being written.
-pub record ServedCutOver (reach : Reach) (was : SessionState → Type 0) (input : List ℕ) (old new : Option (List ℕ)) : Type 0 where
+pub record ServedCutOver (reach : Reach) (was is : SessionState → Type 0) (input : List ℕ) (old new : Option (List ℕ)) : Type 0 where
   pub output : List ℕ
   pub rest : List ℕ
-  pub answered : ServedOver reach was (λ _. Unit {0}) input output rest
+  pub answered : ServedOver reach was is input output rest
   pub wrote : WroteSome old new output

@@ -1,10 +1,10 @@
 //! Putting parts.
 
-ghost use Rattle.std.specs.Prelude.{◌≡◌, IfErr, IfOk, IfSome, length};
+ghost use Rattle.std.specs.Prelude.{◌≡◌, IfErr, IfOk, IfSome, OnErr, length};
 ghost use Rattle.b3_forest.specs.Parts.{planned};
 ghost use Rattle.store_lines.specs.inner.Reads.{Dropped};
 ghost use Rattle.store_upload.specs.Uploads.{part_fault};
-ghost use Rattle.store_lines.specs.inner.Reporting.{AnsweredOver, ReceivesOver};
+ghost use Rattle.store_lines.specs.inner.Reporting.{AnsweredOver, Leaves, ReceivesOver};
 ghost use Rattle.store_lines.specs.Turns.{IsLinkedMade, IsLinkedPut};
 
 use crate::access::Access;
@@ -72,6 +72,7 @@ pub(crate) fn receive<A: Access, R: BufRead>(
     ensures received { IfOk result (λ answer. IfSome (R.Read.remaining reader.old)
         (λ following. ReceivesOver A.reach (A.stands access.old) (A.stands access.new) answer part.upload part.offset part.len following
         (R.Read.remaining reader.new))) }
+    ensures left { OnErr result (Leaves (A.stands access.old) (A.stands access.new)) }
     ensures cause { IfErr result (λ cause. cause ≡ Cause.CannotRead) }
 {
     let RawPart {

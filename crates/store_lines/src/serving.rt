@@ -8,7 +8,7 @@ ghost use Rattle.store_lines.specs.Lines.{max_request};
 ghost use Rattle.store_lines.specs.inner.Requests.{IsSessionLine};
 ghost use Rattle.store_lines.specs.Session.{ServedAll, ServedCut, ServedSome};
 ghost use Rattle.store_lines.specs.Turns.{ServedAllOver, ServedCutOver, ServedSomeOver};
-ghost use Rattle.store_lines.specs.inner.Reporting.{ServesLineOver, ServesRequestOver};
+ghost use Rattle.store_lines.specs.inner.Reporting.{Leaves, ServesLineOver, ServesRequestOver};
 
 use crate::access::Access;
 use crate::answer::{Answer, MAX_LINE};
@@ -68,12 +68,12 @@ pub fn serve_over<A: Access, R: BufRead, W: Write>(
         (λ input. ServedAllOver A.reach (A.stands access.old) (A.stands access.new) input (W.contents writer.old) (W.contents writer.new) verdict)) }
     ensures end { OnOk result (IfSome (R.Read.remaining reader.old) (λ _. IsAtEnd (R.Read.remaining reader.new))) }
     // After a failed read it grew by the answers to a prefix of the lines.
-    ensures read { result ≡ Err Cause.CannotRead → IfSome (R.Read.remaining reader.old) (λ input. ServedSomeOver A.reach (A.stands access.old) input (W.contents writer.old) (W.contents writer.new)) }
+    ensures read { result ≡ Err Cause.CannotRead → IfSome (R.Read.remaining reader.old) (λ input. ServedSomeOver A.reach (A.stands access.old) (A.stands access.new) input (W.contents writer.old) (W.contents writer.new)) }
     // After a failed write it grew by a prefix of such answers, the last of which was being written.
     ensures failed { result ≡ Err Cause.CannotWrite → IfSome (R.Read.remaining reader.old)
-        (λ input. ServedCutOver A.reach (A.stands access.old) input (W.contents writer.old) (W.contents writer.new)) }
+        (λ input. ServedCutOver A.reach (A.stands access.old) (A.stands access.new) input (W.contents writer.old) (W.contents writer.new)) }
     // Running out of memory stops no session that has begun.
-    ensures memory { result ≡ Err Cause.OutOfMemory → (reader.new ≡ reader.old) × (writer.new ≡ writer.old) }
+    ensures memory { result ≡ Err Cause.OutOfMemory → (access.new ≡ access.old) × (reader.new ≡ reader.old) × (writer.new ≡ writer.old) }
 {
     let mut line = Vec::with_capacity(alloc, MAX_REQUEST)?;
     for _ in 0..u64::MAX {
@@ -127,6 +127,7 @@ fn serve_line<A: Access, R: BufRead, W: Write>(
         (λ following. ServesLineOver A.reach (A.stands access.old) (A.stands access.new) true line following
         (R.Read.remaining reader.new) (WroteSome (W.contents writer.old) (W.contents writer.new))) }
     ensures unwritten { result ≡ Err Cause.CannotRead → writer.new ≡ writer.old }
+    ensures left { result ≡ Err Cause.CannotRead → Leaves (A.stands access.old) (A.stands access.new) }
     ensures cause { IfErr result (λ cause. cause ≢ Cause.OutOfMemory) }
 {
     match line {
@@ -154,6 +155,7 @@ fn serve_request<A: Access, R: BufRead, W: Write>(
         (λ following. ServesRequestOver A.reach (A.stands access.old) (A.stands access.new) true request following
         (R.Read.remaining reader.new) (WroteSome (W.contents writer.old) (W.contents writer.new))) }
     ensures unwritten { result ≡ Err Cause.CannotRead → writer.new ≡ writer.old }
+    ensures left { result ≡ Err Cause.CannotRead → Leaves (A.stands access.old) (A.stands access.new) }
     ensures cause { IfErr result (λ cause. cause ≢ Cause.OutOfMemory) }
 {
     match request {

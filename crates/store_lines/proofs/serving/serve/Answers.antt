@@ -12,9 +12,9 @@ returns-clause-written g c =
 pub returns-clause-read : goal.returns-clause-read
 returns-clause-read g c = λ failed.
     let is : c.new-store.result ≡ widest_start = search rules in
-    some_served (g.R.Read.remaining c.args.reader.now) (g.W.Write.contents c.args.writer.now) (g.W.Write.contents c.serve_over.new.writer) c.new-store.result is (c.serve_over.ensures.read failed)
+    some_served (g.R.Read.remaining c.args.reader.now) (g.W.Write.contents c.args.writer.now) (g.W.Write.contents c.serve_over.new.writer) c.new-store.result (alone_stands c.serve_over.new.access) is (c.serve_over.ensures.read failed)
 
 pub returns-clause-failed : goal.returns-clause-failed
 returns-clause-failed g c = λ failed.
     let is : c.new-store.result ≡ widest_start = search rules in
-    cut_served (g.R.Read.remaining c.args.reader.now) (g.W.Write.contents c.args.writer.now) (g.W.Write.contents c.serve_over.new.writer) c.new-store.result is (c.serve_over.ensures.failed failed)
+    cut_served (g.R.Read.remaining c.args.reader.now) (g.W.Write.contents c.args.writer.now) (g.W.Write.contents c.serve_over.new.writer) c.new-store.result (alone_stands c.serve_over.new.access) is (c.serve_over.ensures.failed failed)

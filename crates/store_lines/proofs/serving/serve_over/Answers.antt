@@ -7,7 +7,7 @@ use Rattle.store_lines.specs.Lines.{max_request}
 use Rattle.store_lines.specs.inner.Requests.{IsFound}
 use Rattle.store_lines.specs.Turns.{ServedSomeOver}
 use Rattle.store_lines.proofs.Serves.{served_read}
-use Rattle.store_lines.proofs.Under.{all_read, at_cut, at_end, begun, cut_off, truncated, stopped, turned, unended}
+use Rattle.store_lines.proofs.Under.{all_read, at_cut, at_end, begun, cut_off, rests, truncated, stopped, turned, unended}
 use Rattle.store_lines.proofs.serving.serve_over.Goals as goal
 
 pub loop-init : goal.loop-init
@@ -16,7 +16,7 @@ loop-init g c =
     (begun g.A.Access.reach (g.A.Access.stands c.args.access.now) (g.R.Read.remaining c.args.reader.now) (g.W.Write.contents c.args.writer.now), room)
 
 pub returns-in_err-read-clause-read : goal.returns-in_err-read-clause-read
-returns-in_err-read-clause-read g c = λ is. stopped g.A.Access.reach (g.A.Access.stands c.args.access.now) (g.A.Access.stands c.loop.access) (g.R.Read.remaining c.args.reader.now) (g.R.Read.remaining c.loop.reader) (g.W.Write.contents c.args.writer.now) (g.W.Write.contents c.loop.writer) c.loop.invariant.0
+returns-in_err-read-clause-read g c = λ is. stopped g.A.Access.reach (g.A.Access.stands c.args.access.now) (g.A.Access.stands c.loop.access) (g.A.Access.stands c.loop.access) (g.R.Read.remaining c.args.reader.now) (g.R.Read.remaining c.loop.reader) (g.W.Write.contents c.args.writer.now) (g.W.Write.contents c.loop.writer) c.loop.invariant.0 (rests (g.A.Access.stands c.loop.access))
 
 pub returns-then-read-eq0-clause-written : goal.returns-then-read-eq0-clause-written
 returns-then-read-eq0-clause-written g c =
@@ -33,8 +33,10 @@ returns-in_err-serve_line-clause-read g c = λ is.
     let same : c.serve_line.new.writer ≡ c.loop.writer = search rules in
     let reach = g.A.Access.reach in
     let was = g.A.Access.stands c.args.access.now in
-    let before = stopped reach was (g.A.Access.stands c.loop.access) (g.R.Read.remaining c.args.reader.now) (g.R.Read.remaining c.loop.reader) (g.W.Write.contents c.args.writer.now) (g.W.Write.contents c.loop.writer) c.loop.invariant.0 in
-    subst (λ w. IfSome (g.R.Read.remaining c.args.reader.now) (λ input. ServedSomeOver reach was input (g.W.Write.contents c.args.writer.now) (g.W.Write.contents w))) (sym same) before
+    let now = g.A.Access.stands c.serve_line.new.access in
+    let failed : c.serve_line.result ≡ Err causes.CannotRead = search rules in
+    let before = stopped reach was (g.A.Access.stands c.loop.access) now (g.R.Read.remaining c.args.reader.now) (g.R.Read.remaining c.loop.reader) (g.W.Write.contents c.args.writer.now) (g.W.Write.contents c.loop.writer) c.loop.invariant.0 (c.serve_line.ensures.left failed) in
+    subst (λ w. IfSome (g.R.Read.remaining c.args.reader.now) (λ input. ServedSomeOver reach was now input (g.W.Write.contents c.args.writer.now) (g.W.Write.contents w))) (sym same) before
 
 pub returns-in_err-serve_line-clause-failed : goal.returns-in_err-serve_line-clause-failed
 returns-in_err-serve_line-clause-failed g c = λ is.
@@ -102,4 +104,4 @@ loop-preserved g c =
     )
 
 pub returns-clause-read : goal.returns-clause-read
-returns-clause-read g c = λ is. stopped g.A.Access.reach (g.A.Access.stands c.args.access.now) (g.A.Access.stands c.loop.access) (g.R.Read.remaining c.args.reader.now) (g.R.Read.remaining c.loop.reader) (g.W.Write.contents c.args.writer.now) (g.W.Write.contents c.loop.writer) c.loop.invariant.0
+returns-clause-read g c = λ is. stopped g.A.Access.reach (g.A.Access.stands c.args.access.now) (g.A.Access.stands c.loop.access) (g.A.Access.stands c.loop.access) (g.R.Read.remaining c.args.reader.now) (g.R.Read.remaining c.loop.reader) (g.W.Write.contents c.args.writer.now) (g.W.Write.contents c.loop.writer) c.loop.invariant.0 (rests (g.A.Access.stands c.loop.access))
