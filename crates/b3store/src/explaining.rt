@@ -15,7 +15,7 @@ const MAX_EXPLAINED: u64 = 10;
 /// The refused lines of an input. The first ten are explained.
 #[derive(Drop)]
 pub(crate) struct Refusals<'a> {
-    rt: &'a HostRuntime,
+    errors: StandardError<'a>,
     input: Input<'a>,
     lines: AtomicU64,
     count: AtomicU64,
@@ -23,9 +23,9 @@ pub(crate) struct Refusals<'a> {
 
 impl<'a> Refusals<'a> {
     /// The refused lines of this input.
-    pub(crate) fn new(rt: &'a HostRuntime, input: Input<'a>) -> Refusals<'a> {
+    pub(crate) fn new(errors: StandardError<'a>, input: Input<'a>) -> Refusals<'a> {
         Refusals {
-            rt,
+            errors,
             input,
             lines: AtomicU64::new(0),
             count: AtomicU64::new(0),
@@ -45,9 +45,9 @@ impl<'a> Refusals<'a> {
         matches!(self.input, Input::Standard)
     }
 
-    /// The runtime that it was given.
-    pub(crate) fn runtime(&self) -> &'a HostRuntime {
-        self.rt
+    /// Where they are explained.
+    pub(crate) fn errors(&self) -> StandardError<'a> {
+        self.errors
     }
 
     // Explains a line or an entry, unless ten were explained already.
@@ -55,17 +55,15 @@ impl<'a> Refusals<'a> {
         if self.count.fetch_add(1, Ordering::Relaxed) >= MAX_EXPLAINED {
             return;
         }
-        let mut errors = StandardError::new(self.rt);
         let input = self.name();
-        let _ = write!(errors, "b3store: {input}: {kind} {number}: {reason}\n");
+        let _ = eprintln!(self.errors.cleared(); "b3store: {input}: {kind} {number}: {reason}");
     }
 
     /// Reports that a list has no line at all.
     pub(crate) fn finish_list(&self) {
         if self.lines.load(Ordering::Relaxed) == 0 {
-            let mut errors = StandardError::new(self.rt);
             let input = self.name();
-            let _ = write!(errors, "b3store: {input}: it has no check line\n");
+            let _ = eprintln!(self.errors.cleared(); "b3store: {input}: it has no check line");
         }
         self.finish();
     }
@@ -76,9 +74,8 @@ impl<'a> Refusals<'a> {
         if count <= MAX_EXPLAINED {
             return;
         }
-        let mut errors = StandardError::new(self.rt);
         let (input, more) = (self.name(), count - MAX_EXPLAINED);
-        let _ = write!(errors, "b3store: {input}: {more} more lines with faults\n");
+        let _ = eprintln!(self.errors.cleared(); "b3store: {input}: {more} more lines with faults");
     }
 }
 

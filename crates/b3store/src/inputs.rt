@@ -7,7 +7,7 @@ ghost use Rattle.store_command_line.specs.Ranges.{IsSumInRange};
 use crate::explaining::{ExplainedNames, Refusals};
 use crate::extent::{Extent, Metered};
 use crate::reporting::{GOOD, misused, opened, status, stopped};
-use crate::standard::{StandardError, StandardInput, standard_output};
+use crate::standard::{StandardError, StandardInput, answer_output, standard_output};
 use crate::words::{Foreign, names_of_words};
 use b3_check::Name;
 use b3_core::{Runtime, Work};
@@ -21,41 +21,45 @@ use std::thread::Threads;
 use store_command_line::{AskedMode, CheckOptions, Input, NameList, SumInputs, SumOptions};
 
 // The requested mode, or the exit status if its key is not available.
-fn mode_of<'a>(rt: &HostRuntime, asked: AskedMode<'a>) -> Result<SumMode<'a>, u8> {
+fn mode_of<'a>(errors: StandardError<'_>, asked: AskedMode<'a>) -> Result<SumMode<'a>, u8> {
     let path = match asked {
         AskedMode::Hash => return Ok(SumMode::Hash),
         AskedMode::Keyed(key) => return Ok(SumMode::Keyed(key)),
         AskedMode::Derive(context) => return Ok(SumMode::Derive(context)),
         AskedMode::KeyFile(path) => path,
     };
-    let mut file = opened(rt, path)?;
-    match read_key(rt.alloc(), &mut file) {
+    let mut file = opened(errors, path)?;
+    match read_key(errors.runtime().alloc(), &mut file) {
         Ok(Some(key)) => Ok(SumMode::Keyed(key)),
         Ok(None) => Err(misused(
-            rt,
+            errors,
             "--key-file takes a file of 32 bytes or of 64 hexadecimal digits; see b3store sum --help",
         )),
-        Err(cause) => Err(stopped(rt, cause)),
+        Err(cause) => Err(stopped(errors, cause)),
     }
 }
 
 // The names that a reader returns, or the exit status if they are not available.
-fn names_from<R: Read>(rt: &HostRuntime, reader: &mut R, has_nuls: bool) -> Result<Vec<Name>, u8> {
-    match read_names(rt.alloc(), reader, has_nuls) {
+fn names_from<R: Read>(
+    errors: StandardError<'_>,
+    reader: &mut R,
+    has_nuls: bool,
+) -> Result<Vec<Name>, u8> {
+    match read_names(errors.runtime().alloc(), reader, has_nuls) {
         Ok(Some(names)) => Ok(names),
         Ok(None) => Err(misused(
-            rt,
+            errors,
             "a name in the list has a byte 0; --null takes names that are ended by one",
         )),
-        Err(cause) => Err(stopped(rt, cause)),
+        Err(cause) => Err(stopped(errors, cause)),
     }
 }
 
 // The names in a list, or the exit status if they are not available.
-fn names_in(rt: &HostRuntime, names: &NameList<'_>) -> Result<Vec<Name>, u8> {
+fn names_in(errors: StandardError<'_>, names: &NameList<'_>) -> Result<Vec<Name>, u8> {
     match names.list {
-        Input::Standard => names_from(rt, &mut rt.stdin(), names.has_nuls),
-        Input::File(path) => names_from(rt, &mut opened(rt, path)?, names.has_nuls),
+        Input::Standard => names_from(errors, &mut errors.runtime().stdin(), names.has_nuls),
+        Input::File(path) => names_from(errors, &mut opened(errors, path)?, names.has_nuls),
     }
 }
 
@@ -72,15 +76,16 @@ fn names(alloc: Global, words: &[&str], foreign: &[Foreign]) -> Result<Vec<Name>
 
 // Writes the hash of standard input.
 fn sum_standard<T: Threads + Runtime>(
-    rt: &HostRuntime,
+    errors: StandardError<'_>,
     threads: &HashThreads<'_, T>,
     extent: &Extent,
     request: &SumRequest<'_>,
 ) -> Result<Verdict, Cause>
     requires { IsName request.now.line.name.now }
 {
+    let rt = errors.runtime();
     let mut work = Work::new(rt);
-    let (mut input, mut writer) = (StandardInput::new(rt), standard_output(rt));
+    let (mut input, mut writer) = (StandardInput::new(rt), answer_output(errors));
     extent.note_input(&input);
     let mut files = SystemFiles::new(*rt, threads, request.mode);
     match files.root_of_file_input(&mut input) {
@@ -92,18 +97,19 @@ fn sum_standard<T: Threads + Runtime>(
 
 // Writes the hash of each named file.
 fn sum_named<T: Threads + Runtime>(
-    rt: &HostRuntime,
+    errors: StandardError<'_>,
     threads: &HashThreads<'_, T>,
     extent: &Extent,
     mode: SumMode<'_>,
     lines: &SumLines<'_>,
 ) -> Result<Verdict, Cause> {
+    let rt = errors.runtime();
     let Ok(mut writer) = LineWriter::new(rt.alloc(), standard_output(rt)) else {
         return Err(Cause::OutOfMemory);
     };
     let files = SystemFiles::new(*rt, threads, mode);
     let input = Some(StandardInput::new(rt));
-    let inputs = SystemInputs::new(files, input, StandardError::new(rt));
+    let inputs = SystemInputs::new(files, input, errors);
     let mut inputs = Metered::new(rt, extent, inputs);
     let mut work = Work::new(rt);
     sum_files(rt.alloc(), lines, &mut inputs, &mut writer, &mut work)
@@ -111,7 +117,7 @@ fn sum_named<T: Threads + Runtime>(
 
 // The exit status of `sum`, or that of something it needs and cannot get.
 fn summed<T: Threads + Runtime>(
-    rt: &HostRuntime,
+    errors: StandardError<'_>,
     threads: &T,
     extent: &Extent,
     options: &SumOptions<'_>,
@@ -119,7 +125,8 @@ fn summed<T: Threads + Runtime>(
 ) -> Result<u8, u8>
     requires { IsSumInRange options.now }
 {
-    let mode = mode_of(rt, options.mode)?;
+    let rt = errors.runtime();
+    let mode = mode_of(errors, options.mode)?;
     let length = options.length;
     let threads = HashThreads {
         rt: threads,
@@ -131,22 +138,24 @@ fn summed<T: Threads + Runtime>(
             let name = name.as_bytes();
             let line = SumLine { name, length };
             let request = SumRequest { line, mode };
-            return Ok(status(rt, sum_standard(rt, &threads, extent, &request)));
+            let ended = sum_standard(errors, &threads, extent, &request);
+            return Ok(status(errors, ended));
         }
         SumInputs::Named(words) => match names(rt.alloc(), words.as_slice(), foreign) {
             Ok(names) => names,
-            Err(_) => return Err(stopped(rt, Cause::OutOfMemory)),
+            Err(_) => return Err(stopped(errors, Cause::OutOfMemory)),
         },
-        SumInputs::Listed(names) => names_in(rt, names)?,
+        SumInputs::Listed(names) => names_in(errors, names)?,
     };
     let names = names.as_slice();
     let lines = SumLines { names, length };
-    Ok(status(rt, sum_named(rt, &threads, extent, mode, &lines)))
+    let ended = sum_named(errors, &threads, extent, mode, &lines);
+    Ok(status(errors, ended))
 }
 
 /// The exit status of `sum`.
 pub(crate) fn sum_status<T: Threads + Runtime>(
-    rt: &HostRuntime,
+    errors: StandardError<'_>,
     threads: &T,
     extent: &Extent,
     options: &SumOptions<'_>,
@@ -154,7 +163,7 @@ pub(crate) fn sum_status<T: Threads + Runtime>(
 ) -> u8
     requires { IsSumInRange options.now }
 {
-    match summed(rt, threads, extent, options, foreign) {
+    match summed(errors, threads, extent, options, foreign) {
         Ok(status) => status,
         Err(status) => status,
     }
@@ -169,7 +178,8 @@ fn checked<T: Threads + Runtime, R: Read>(
     refusals: &Refusals<'_>,
     reader: &mut R,
 ) -> Result<Verdict, Cause> {
-    let rt = refusals.runtime();
+    let errors = refusals.errors();
+    let rt = errors.runtime();
     let Ok(mut writer) = LineWriter::new(rt.alloc(), standard_output(rt)) else {
         return Err(Cause::OutOfMemory);
     };
@@ -184,7 +194,7 @@ fn checked<T: Threads + Runtime, R: Read>(
         count: options.threads,
     };
     let files = SystemFiles::new(*rt, &threads, SumMode::Hash);
-    let inputs = SystemInputs::new(files, input, StandardError::new(rt));
+    let inputs = SystemInputs::new(files, input, errors);
     let digests = Digests::new(Metered::new(rt, extent, inputs), Work::new(rt));
     let mut names = ExplainedNames::new(refusals, digests);
     let verdict = check(rt.alloc(), options.report, &mut names, reader, &mut writer)?;
@@ -200,32 +210,35 @@ fn list_status<T: Threads + Runtime>(
     refusals: &Refusals<'_>,
     list: Input<'_>,
 ) -> u8 {
-    let rt = refusals.runtime();
+    let errors = refusals.errors();
     let ended = match list {
-        Input::Standard => checked(threads, extent, options, refusals, &mut rt.stdin()),
-        Input::File(path) => match opened(rt, path) {
+        Input::Standard => {
+            let mut reader = errors.runtime().stdin();
+            checked(threads, extent, options, refusals, &mut reader)
+        }
+        Input::File(path) => match opened(errors, path) {
             Ok(mut file) => checked(threads, extent, options, refusals, &mut file),
             Err(status) => return status,
         },
     };
-    status(rt, ended)
+    status(errors, ended)
 }
 
 /// The exit status of `check`: the highest among those of its lists.
 pub(crate) fn check_status<T: Threads + Runtime>(
-    rt: &HostRuntime,
+    errors: StandardError<'_>,
     threads: &T,
     extent: &Extent,
     options: &CheckOptions<'_>,
 ) -> u8 {
     if options.lists.is_empty() {
-        let refusals = Refusals::new(rt, Input::Standard);
+        let refusals = Refusals::new(errors, Input::Standard);
         return list_status(threads, extent, options, &refusals, Input::Standard);
     }
     let mut highest = GOOD;
     for text in options.lists.as_slice() {
         let list = Input::of(text);
-        let refusals = Refusals::new(rt, list);
+        let refusals = Refusals::new(errors, list);
         highest = highest.max(list_status(threads, extent, options, &refusals, list));
     }
     highest

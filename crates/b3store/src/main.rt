@@ -21,7 +21,7 @@ use progress::with_progress;
 use replies::Replies;
 use reporting::{GOOD, USAGE, status, stopped};
 use sessions::serve_status;
-use standard::{StandardInput, standard_output};
+use standard::{ProgressLine, StandardError, StandardInput, answer_output, standard_output};
 use std::io::{self, BufReader, BufWriter, IsTerminal};
 use std::marker::Brand;
 use std::process::ExitCode;
@@ -33,14 +33,15 @@ use store_lines::{run, serve};
 use words::{Foreign, are_among, no_files, words_of};
 
 // Answers a script.
-fn answered(rt: &HostRuntime) -> Result<Verdict, Cause> {
+fn answered(errors: StandardError<'_>) -> Result<Verdict, Cause> {
+    let rt = errors.runtime();
     let Ok(lines) = BufReader::new(rt.alloc(), rt.stdin()) else {
         return Err(Cause::OutOfMemory);
     };
     let Ok(answers) = BufWriter::new(rt.alloc(), standard_output(rt)) else {
         return Err(Cause::OutOfMemory);
     };
-    let (refusals, last) = (Refusals::new(rt, Input::Standard), LastLine::new());
+    let (refusals, last) = (Refusals::new(errors, Input::Standard), LastLine::new());
     let mut lines = NotedLines::new(&last, lines);
     let mut answers = ExplainedAnswers::new(&refusals, &last, answers);
     let mut work = Work::new(rt);
@@ -60,13 +61,14 @@ fn served(rt: &HostRuntime) -> Result<Verdict, Cause> {
 
 // Uploads standard input.
 fn uploaded<T: Threads + Wait + Sync + Runtime>(
-    rt: &HostRuntime,
+    errors: StandardError<'_>,
     threads: &T,
     extent: &Extent,
     asked: &AskedUpload,
 ) -> Result<Verdict, Cause> {
+    let rt = errors.runtime();
     extent.note_input(&StandardInput::new(rt));
-    let (mut reader, mut writer) = (rt.stdin(), standard_output(rt));
+    let (mut reader, mut writer) = (rt.stdin(), answer_output(errors));
     let ledgers = UnnamedLedgers::new(rt.alloc())?;
     let options = UploadOptions {
         workers: asked.workers,
@@ -85,7 +87,7 @@ fn uploaded<T: Threads + Wait + Sync + Runtime>(
 
 // Performs the subcommand, and returns the exit status.
 fn perform<T: Threads + Wait + Copy + Send + Sync + Runtime + 'static>(
-    rt: &HostRuntime,
+    errors: StandardError<'_>,
     threads: &T,
     extent: &Extent,
     options: &Options<'_>,
@@ -93,23 +95,33 @@ fn perform<T: Threads + Wait + Copy + Send + Sync + Runtime + 'static>(
 ) -> u8
     requires { InRange options.now }
 {
+    let rt = errors.runtime();
     let alloc = rt.alloc();
-    let refusals = Refusals::new(rt, Input::Standard);
+    let refusals = Refusals::new(errors, Input::Standard);
     let mut reader = rt.stdin();
     let mut writer = ExplainedJournal::new(&refusals, standard_output(rt));
     match options {
-        Options::Sum(options) => sum_status(rt, threads, extent, options, foreign),
-        Options::Run => status(rt, answered(rt)),
-        Options::Serve(None) => status(rt, served(rt)),
-        Options::Serve(Some(door)) => serve_status(rt, threads, door),
-        Options::Upload(asked) => status(rt, uploaded(rt, threads, extent, asked)),
-        Options::Check(options) => check_status(rt, threads, extent, options),
-        Options::Audit => status(rt, audit(alloc, &mut reader, &mut writer)),
-        Options::Migrate => status(rt, migrate(alloc, &mut reader, &mut writer)),
+        Options::Sum(options) => sum_status(errors, threads, extent, options, foreign),
+        Options::Run => status(errors, answered(errors)),
+        Options::Serve(None) => status(errors, served(rt)),
+        Options::Serve(Some(door)) => serve_status(errors, threads, door),
+        Options::Upload(asked) => status(errors, uploaded(errors, threads, extent, asked)),
+        Options::Check(options) => check_status(errors, threads, extent, options),
+        Options::Audit => status(errors, audit(alloc, &mut reader, &mut writer)),
+        Options::Migrate => status(errors, migrate(alloc, &mut reader, &mut writer)),
     }
 }
 
-// Whether progress is shown: if it is not turned off, standard error is a terminal, and no lines are written to a terminal meanwhile.
+// Whether standard error is a terminal on which a line can be erased.
+fn can_erase(rt: &HostRuntime) -> bool {
+    let is_dumb = match std::env::var(rt, "TERM") {
+        Ok(kind) => kind.as_str() == "dumb",
+        Err(_) => false,
+    };
+    !is_dumb && rt.stderr().is_terminal()
+}
+
+// Whether progress is shown: if it is not turned off, it can be erased, and no lines are written to a terminal meanwhile.
 fn reports_progress(rt: &HostRuntime, options: &Options<'_>) -> bool {
     let (is_unwanted, writes_lines) = match options {
         Options::Sum(options) => (
@@ -120,45 +132,45 @@ fn reports_progress(rt: &HostRuntime, options: &Options<'_>) -> bool {
         Options::Upload(asked) => (asked.no_progress, false),
         _ => return false,
     };
-    !is_unwanted && rt.stderr().is_terminal() && !(writes_lines && rt.stdout().is_terminal())
+    !is_unwanted && can_erase(rt) && !(writes_lines && rt.stdout().is_terminal())
 }
 
 // Performs the subcommand, with progress if it is wanted, and returns the exit status.
 fn perform_reporting<T: Threads + Wait + Copy + Send + Sync + Runtime + 'static>(
-    rt: &HostRuntime,
+    errors: StandardError<'_>,
     threads: &T,
     options: &Options<'_>,
     foreign: &[Foreign],
 ) -> u8
     requires { InRange options.now }
 {
-    let is_reported = reports_progress(rt, options);
+    let is_reported = reports_progress(errors.runtime(), options);
     let extent = &Extent::new(is_reported);
     if !is_reported {
-        return perform(rt, threads, extent, options, foreign);
+        return perform(errors, threads, extent, options, foreign);
     }
     with_progress(
-        rt,
+        errors,
         threads,
         extent,
         move || -> u8
             requires { InRange options.now }
-        { perform(rt, threads, extent, options, foreign) },
+        { perform(errors, threads, extent, options, foreign) },
     )
 }
 
 // Reports why there are no options, and returns the exit status.
-fn unusable(rt: &HostRuntime, fault: Fault) -> u8 {
+fn unusable(errors: StandardError<'_>, fault: Fault) -> u8 {
     match fault {
         Fault::Usage(text) => {
-            let _ = eprint!(rt; "{text}");
+            let _ = eprint!(errors.cleared(); "{text}");
             USAGE
         }
-        Fault::Version(text) => match print!(rt; "{text}") {
+        Fault::Version(text) => match print!(errors.runtime(); "{text}") {
             Ok(()) => GOOD,
-            Err(_) => stopped(rt, Cause::CannotWrite),
+            Err(_) => stopped(errors, Cause::CannotWrite),
         },
-        Fault::NoMemory => stopped(rt, Cause::OutOfMemory),
+        Fault::NoMemory => stopped(errors, Cause::OutOfMemory),
     }
 }
 
@@ -174,18 +186,20 @@ fn are_files(foreign: &[Foreign], options: &Options<'_>) -> bool {
 }
 
 fn main(rt: HostRuntime) -> ExitCode {
+    let progress = ProgressLine::new();
+    let errors = StandardError::new(&rt, &progress);
     let words = match words_of(&rt) {
         Ok(words) => words,
-        Err(fault) => return ExitCode::from(unusable(&rt, fault)),
+        Err(fault) => return ExitCode::from(unusable(errors, fault)),
     };
     let foreign = words.foreign.as_slice();
     let status = match options(rt.alloc(), words.texts.as_slice()) {
         Ok(options) if are_files(foreign, &options) => {
-            perform_reporting(&rt, &rt, &options, foreign)
+            perform_reporting(errors, &rt, &options, foreign)
         }
-        Ok(_) => unusable(&rt, no_files(rt.alloc())),
-        Err(Fault::Usage(_)) if !foreign.is_empty() => unusable(&rt, no_files(rt.alloc())),
-        Err(fault) => unusable(&rt, fault),
+        Ok(_) => unusable(errors, no_files(rt.alloc())),
+        Err(Fault::Usage(_)) if !foreign.is_empty() => unusable(errors, no_files(rt.alloc())),
+        Err(fault) => unusable(errors, fault),
     };
     ExitCode::from(status)
 }

@@ -1,19 +1,16 @@
 //! Shows the progress of work on standard error.
 
 use crate::extent::Extent;
+use crate::standard::StandardError;
 use std::alloc::Global;
-use std::io::{IsTerminal, Write};
 use std::sync::Wait;
 use std::sync::atomic::{AtomicBool, Ordering};
 use std::thread::{Parker, Threads};
 use std::time::{Duration, Instant};
-use std::{fs, io, thread};
+use std::{fs, thread};
 
 // The interval between two reports of progress, in milliseconds.
 const PAUSE: u64 = 200;
-
-// Erases the rest of a terminal's line, from the cursor on.
-const EMPTIED: &str = "\x1b[K";
 
 // Signals to the thread that reports progress that the work is done.
 #[derive(Drop)]
@@ -72,8 +69,9 @@ fn bytes_text(alloc: Global, extent: &Extent, mib: u64) -> Option<String> {
     text.ok()
 }
 
-// Shows a line with what was done since the work began. The cursor is left at the start of the line, so that the next output overwrites it.
-fn report(rt: &HostRuntime, extent: &Extent, start: Instant) -> Option<()> {
+// Shows what was done since the work began.
+fn report(errors: StandardError<'_>, extent: &Extent, start: Instant) -> Option<()> {
+    let rt = errors.runtime();
     let elapsed = start.elapsed(rt).ok()?;
     let seconds = elapsed.as_secs();
     if seconds == 0 {
@@ -83,27 +81,30 @@ fn report(rt: &HostRuntime, extent: &Extent, start: Instant) -> Option<()> {
     let rate = mib / seconds;
     let files = files_text(rt.alloc(), extent)?;
     let bytes = bytes_text(rt.alloc(), extent, mib)?;
-    eprint!(rt; "b3store: {files}{bytes} in {seconds} s, {rate} MiB/s{EMPTIED}\r").ok()
+    let text = format!(in rt.alloc(); "b3store: {files}{bytes} in {seconds} s, {rate} MiB/s").ok()?;
+    errors.show_progress(text.as_str());
+    Some(())
 }
 
 // Reports progress until the work is done, and leaves the line empty.
-fn report_on<T: Wait>(rt: &HostRuntime, waiter: &T, extent: &Extent, signal: &Signal) {
-    let Ok(start) = Instant::now(rt) else {
+fn report_on<T: Wait>(errors: StandardError<'_>, waiter: &T, extent: &Extent, signal: &Signal) {
+    let Ok(start) = Instant::now(errors.runtime()) else {
         return;
     };
     for _ in waiter.forever() {
         if !signal.wait(waiter) {
-            let _ = eprint!(rt; "{EMPTIED}");
+            errors.end_progress();
             return;
         }
-        let _ = report(rt, extent, start);
+        let _ = report(errors, extent, start);
     }
 }
 
 /// Does some work. Meanwhile another thread reports the numbers of files done and bytes read, and of how many if that is known: after the
-/// first second, five times a second. If no thread can be started, or the system does not report the bytes read, no progress is shown.
+/// first second, five times a second, until the answer is written. If no thread can be started, or the system does not report the bytes read,
+/// no progress is shown.
 pub(crate) fn with_progress<T: Threads + Wait + Sync, F: FnOnce() -> u8>(
-    rt: &HostRuntime,
+    errors: StandardError<'_>,
     threads: &T,
     extent: &Extent,
     work: F,
@@ -117,7 +118,7 @@ pub(crate) fn with_progress<T: Threads + Wait + Sync, F: FnOnce() -> u8>(
         move |scope| -> u8
             requires { F.pre work }
         {
-            let teller = scope.spawn(move || report_on(rt, threads, extent, signal));
+            let teller = scope.spawn(move || report_on(errors, threads, extent, signal));
             let status = work();
             signal.end();
             if let Ok(teller) = teller {

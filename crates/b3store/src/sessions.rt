@@ -6,6 +6,7 @@ ghost use Rattle.store_ledger.specs.Shares.{all_parts};
 
 use crate::replies::serve_streams;
 use crate::reporting::{misused, status, unopened};
+use crate::standard::{ProgressLine, StandardError};
 use edge::{Cause, Verdict, number, read_line};
 use std::alloc::{AllocError, Global};
 use std::fs::{File, OpenOptions};
@@ -99,22 +100,23 @@ fn pipe_path(alloc: Global, path: &str, number: u64, end: &str) -> Result<String
 
 // Serves the client whose pipes have these paths. A failure is reported with the path.
 fn serve_pipes<A: Access>(
-    rt: &HostRuntime,
+    errors: StandardError<'_>,
     access: &mut A,
     input_path: &str,
     output_path: &str,
 ) -> io::Result<()> {
+    let rt = errors.runtime();
     let input = match open_input(rt, input_path) {
         Ok(input) => input,
         Err(error) => {
-            let _status = unopened(rt, input_path, &error);
+            let _status = unopened(errors, input_path, &error);
             return Ok(());
         }
     };
     match open_output(rt, output_path) {
         Ok(output) => serve_files(rt, access, input, output),
         Err(error) => {
-            let _status = unopened(rt, output_path, &error);
+            let _status = unopened(errors, output_path, &error);
             Ok(())
         }
     }
@@ -122,36 +124,39 @@ fn serve_pipes<A: Access>(
 
 // Serves the client of this number.
 fn serve_client<A: Access>(
-    rt: &HostRuntime,
+    errors: StandardError<'_>,
     access: &mut A,
     path: &str,
     number: u64,
 ) -> io::Result<()> {
-    let input_path = pipe_path(rt.alloc(), path, number, "in")?;
-    let output_path = pipe_path(rt.alloc(), path, number, "out")?;
-    serve_pipes(rt, access, input_path.as_str(), output_path.as_str())
+    let alloc = errors.runtime().alloc();
+    let input_path = pipe_path(alloc, path, number, "in")?;
+    let output_path = pipe_path(alloc, path, number, "out")?;
+    serve_pipes(errors, access, input_path.as_str(), output_path.as_str())
 }
 
 // Serves the client whose number was read at the door. Failures are reported. Returns false if the door cannot be read.
 fn serve_next<A: Access>(
-    rt: &HostRuntime,
+    errors: StandardError<'_>,
     access: &mut A,
     path: &str,
     next: Result<Option<u64>, Cause>,
 ) -> bool {
     match next {
         Ok(Some(number)) => {
-            if serve_client(rt, access, path, number).is_err() {
-                let _ = eprintln!(rt; "b3store: {path}: out of memory for client {number}");
+            if serve_client(errors, access, path, number).is_err() {
+                let _ = eprintln!(errors.cleared();
+                    "b3store: {path}: out of memory for client {number}"
+                );
             }
             true
         }
         Ok(None) => {
-            let _ = eprintln!(rt; "b3store: {path}: a line is not a client's number");
+            let _ = eprintln!(errors.cleared(); "b3store: {path}: a line is not a client's number");
             true
         }
         Err(cause) => {
-            let _ = eprintln!(rt; "b3store: {path}: {cause}");
+            let _ = eprintln!(errors.cleared(); "b3store: {path}: {cause}");
             false
         }
     }
@@ -165,11 +170,13 @@ fn serve_clients<L: Ledgers, T: Wait>(
     share: Share<L>,
     front: Front<L>,
 ) {
+    let progress = ProgressLine::new();
+    let errors = StandardError::new(&rt, &progress);
     let path = server.path.as_str();
     let mut access = Lease::new(threads, &server.store, share, front);
     for _ in threads.forever() {
         let next = server.door.lock(threads).next_number();
-        if !serve_next(&rt, &mut access, path, next) {
+        if !serve_next(errors, &mut access, path, next) {
             return;
         }
     }
@@ -257,18 +264,19 @@ fn is_pipe(rt: &HostRuntime, path: &str) -> bool {
 
 /// Serves many clients, and returns the exit status.
 pub(crate) fn serve_status<T: Threads + Wait + Copy + Send + 'static>(
-    rt: &HostRuntime,
+    errors: StandardError<'_>,
     threads: &T,
     options: &DoorOptions<'_>,
 ) -> u8 {
+    let rt = errors.runtime();
     if !is_pipe(rt, options.path) {
         return misused(
-            rt,
+            errors,
             "--at takes a named pipe, which mkfifo makes; see b3store serve --help",
         );
     }
     match Door::open(rt, options.path) {
-        Ok(door) => status(rt, serve_named(*rt, *threads, door, options)),
-        Err(error) => unopened(rt, options.path, &error),
+        Ok(door) => status(errors, serve_named(*rt, *threads, door, options)),
+        Err(error) => unopened(errors, options.path, &error),
     }
 }

@@ -1,8 +1,9 @@
 //! The standard streams.
 
 use hash_engines::{FileSystem, Standing, SystemFile};
-use std::io::{ErrorKind, IsTerminal, Printer, Read, Write};
+use std::io::{ErrorKind, Printer, Read, Write};
 use std::rt::Stdin;
+use std::sync::atomic::{AtomicBool, Ordering};
 use std::{fs, io};
 
 // The name by which the system opens standard input as a file, and the file that contains its position.
@@ -111,28 +112,96 @@ pub(crate) fn standard_output(rt: &HostRuntime) -> StandardOutput<'_> {
     LastingFailure::new(io::writer(rt))
 }
 
-// Erases the rest of a terminal's line, from the cursor on.
-const EMPTIED: &[u8] = b"\x1b[K";
-
-/// Standard error, which may show a line of progress.
+/// A writer of the answer, before which the line of progress is erased.
 #[derive(Drop)]
+pub(crate) struct AnswerOutput<'a> {
+    errors: StandardError<'a>,
+    writer: StandardOutput<'a>,
+}
+
+/// Standard output, for an answer while progress is shown.
+pub(crate) fn answer_output(errors: StandardError<'_>) -> AnswerOutput<'_> {
+    AnswerOutput {
+        errors,
+        writer: standard_output(errors.runtime()),
+    }
+}
+
+impl Write for AnswerOutput<'_> {
+    fn write(&mut self, buf: &[u8]) -> io::Result<usize> {
+        self.errors.end_progress();
+        self.writer.write(buf)
+    }
+
+    fn flush(&mut self) -> io::Result<()> {
+        self.writer.flush()
+    }
+}
+
+// Erases the rest of a terminal's line, from the cursor on.
+const ERASE: &str = "\x1b[K";
+
+/// A line of progress on the terminal that standard error is.
+#[derive(Drop)]
+pub(crate) struct ProgressLine {
+    is_shown: AtomicBool,
+    is_over: AtomicBool,
+}
+
+impl ProgressLine {
+    /// A line that is not shown.
+    pub(crate) fn new() -> ProgressLine {
+        ProgressLine {
+            is_shown: AtomicBool::new(false),
+            is_over: AtomicBool::new(false),
+        }
+    }
+}
+
+/// Standard error, and the line of progress that it may show, which the next message erases.
+#[derive(Clone, Copy)]
 pub(crate) struct StandardError<'a> {
     rt: &'a HostRuntime,
+    progress: &'a ProgressLine,
 }
 
 impl<'a> StandardError<'a> {
-    pub(crate) fn new(rt: &'a HostRuntime) -> StandardError<'a> {
-        StandardError { rt }
+    pub(crate) fn new(rt: &'a HostRuntime, progress: &'a ProgressLine) -> StandardError<'a> {
+        StandardError { rt, progress }
+    }
+
+    /// The runtime that it was given.
+    pub(crate) fn runtime(self) -> &'a HostRuntime {
+        self.rt
+    }
+
+    /// Shows progress in place of what the line shows. The cursor is left at its start, so that the next output overwrites it.
+    pub(crate) fn show_progress(self, text: &str) {
+        if self.progress.is_over.load(Ordering::SeqCst) {
+            return;
+        }
+        let _ = eprint!(self.rt; "{text}{ERASE}\r");
+        self.progress.is_shown.store(true, Ordering::SeqCst);
+    }
+
+    /// Erases the line of progress, if it is shown. Returns the runtime, which then writes a message.
+    pub(crate) fn cleared(self) -> &'a HostRuntime {
+        if self.progress.is_shown.swap(false, Ordering::SeqCst) {
+            let _ = eprint!(self.rt; "{ERASE}");
+        }
+        self.rt
+    }
+
+    /// Erases the line of progress, and shows no more of it.
+    pub(crate) fn end_progress(self) {
+        self.progress.is_over.store(true, Ordering::SeqCst);
+        let _rt = self.cleared();
     }
 }
 
 impl Write for StandardError<'_> {
     fn write(&mut self, buf: &[u8]) -> io::Result<usize> {
-        let mut stderr = self.rt.stderr();
-        if stderr.is_terminal() {
-            stderr.write_all(EMPTIED)?;
-        }
-        stderr.write(buf)
+        self.cleared().stderr().write(buf)
     }
 
     fn flush(&mut self) -> io::Result<()> {
