@@ -35,14 +35,15 @@ pub trait Access {
     fn step(&mut self, command: Command, work: &mut Work) -> Result<Reply, Refusal>
         ensures { Took reach (stands self.old) (stands self.new) (change command) result };
 
-    /// Puts a prepared part.
+    /// Puts a prepared part. A refused one is returned.
     fn put(
         &mut self,
         upload: UploadId,
         part: Prepared,
         work: &mut Work,
     ) -> Result<Held, Refused<Refusal, Prepared>>
-        ensures { Took reach (stands self.old) (stands self.new) (put upload part) (reply_seen replies.Held (put_result result)) };
+        ensures took { Took reach (stands self.old) (stands self.new) (put upload part) (reply_seen replies.Held (put_result result)) }
+        ensures back { IfErr result (λ refused. refused.value ≡ part) };
 
     /// Answers a question.
     fn ask(&mut self, question: Question) -> Result<Reply, Refusal>

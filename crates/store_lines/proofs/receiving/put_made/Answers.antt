@@ -13,7 +13,7 @@ returns-in-Ok-put g c =
     let same : c.into_vec.result.items ≡ p.bytes = search rules in
     let fits : part_fault c.args.plan.now p.offset (length p.bytes) ≡ None = search rules in
     let part_is = subst (λ (b : List ℕ). c.in-Ok.part ≡ planned c.args.plan.now p.offset b) same c.in-Ok.ensures.made in
-    made g.A.Access.reach (g.A.Access.stands c.args.access.now) (g.A.Access.stands c.put.new.self) p.upload p.offset c.args.plan.now p.bytes c.in-Ok.part (Ok (replies.Held held)) (answers.Replied (Ok (replies.Held held))) fits part_is c.in-Ok-put.ensures (λ entries. refl) refl
+    made g.A.Access.reach (g.A.Access.stands c.args.access.now) (g.A.Access.stands c.put.new.self) p.upload p.offset c.args.plan.now p.bytes c.in-Ok.part (Ok (replies.Held held)) (answers.Replied (Ok (replies.Held held))) fits part_is c.in-Ok-put.ensures.took (λ entries. refl) refl
 
 pub returns-in-Err-put : goal.returns-in-Err-put
 returns-in-Err-put g c =
@@ -22,7 +22,7 @@ returns-in-Err-put g c =
     let same : c.into_vec.result.items ≡ p.bytes = search rules in
     let fits : part_fault c.args.plan.now p.offset (length p.bytes) ≡ None = search rules in
     let part_is = subst (λ (b : List ℕ). c.in-Ok.part ≡ planned c.args.plan.now p.offset b) same c.in-Ok.ensures.made in
-    made g.A.Access.reach (g.A.Access.stands c.args.access.now) (g.A.Access.stands c.put.new.self) p.upload p.offset c.args.plan.now p.bytes c.in-Ok.part (Err refusal) (answers.Replied (Err refusal)) fits part_is c.in-Err-put.ensures (λ entries. refl) refl
+    made g.A.Access.reach (g.A.Access.stands c.args.access.now) (g.A.Access.stands c.put.new.self) p.upload p.offset c.args.plan.now p.bytes c.in-Ok.part (Err refusal) (answers.Replied (Err refusal)) fits part_is c.in-Err-put.ensures.took (λ entries. refl) refl
 
 pub returns-in-Err : goal.returns-in-Err
 returns-in-Err g c =
