@@ -1,6 +1,6 @@
 //! The extended output as a reader of bytes.
 
-ghost use Rattle.std.specs.Prelude.{◌≡◌, ℕ, ◌+◌, ◌-◌, ◌^◌, IfOk, Ok, Some, length, min};
+ghost use Rattle.std.specs.Prelude.{◌≡◌, ℕ, ◌+◌, ◌-◌, ◌^◌, IfOk, Ok, Some, drop, length, min};
 ghost use Rattle.std.specs.Io.{ReadsAtMost};
 ghost use Rattle.std.specs.Io.KnownBytes.{ReadConsumes};
 ghost use Rattle.b3_core.specs.ExtendedOutput.{ModelOutputReader, blocks_touched, output_left};
@@ -48,6 +48,7 @@ impl Read for CountedOutput {
     fn read(&mut self, buf: &mut [u8]) -> io::Result<usize>
         ensures read { result ≡ Ok (min (length buf.old) (2 ^ 64 - 1 - self.old.0.position)) }
         ensures bound { ReadsAtMost result buf.new }
+        ensures rest { IfOk result (λ n. drop n buf.new ≡ drop n buf.old) }
         ensures bytes { ReadConsumes (Some (output_left self.old.0)) (Some (output_left self.new.0)) result buf.new }
         ensures moved { IfOk result (λ n. self.new.0 ≡ record self.old.0 { position = self.old.0.position + n }) }
         ensures count { IfOk result (λ n. self.new.1 ≡ counted self.old.1 (blocks_touched self.old.0.position n)) }

@@ -1,5 +1,5 @@
 -- The places of bytes that are kept in stretches of one length.
-use Rattle.std.proofs.Common.{◌≡◌, ℕ, zero, suc, ◌+◌, ◌-◌, ◌*◌, ◌/◌, ◌%◌, ◌<◌, ◌≤◌, ◌++◌, List, [], ◌∷◌, length, min, take, drop, arith, ap, ap₂, subst, sym, ◌∙◌}
+use Rattle.std.proofs.Common.{◌≡◌, ℕ, zero, suc, ◌+◌, ◌-◌, ◌*◌, ◌/◌, ◌%◌, ◌<◌, ◌≤◌, ◌++◌, List, [], ◌∷◌, length, min, take, drop, arith, ap, ap₂, lt_of_not-le, subst, sym, ◌∙◌}
 use Rattle.std.specs.Prelude.{All, flat_map, get_or, ◌↔◌}
 use Rattle.std.proofs.lemmas.List.{append_assoc, flat_map_more, drop-append-le, drop-drop, drop-take, length-append, length-drop, length-take-le, take-take}
 use Rattle.std.proofs.lemmas.List.Concat.{flat_map-cons}
@@ -135,6 +135,12 @@ all_before f n at xs last all short low =
     let following = before n at (length xs + 1) (omega (arith, low)) in
     let more : (length xs + 1) * n ≡ length xs * n + n = omega arith in
     omega (arith, sum, whole, following, more, short)
+
+-- an offset before the end, and after all full stretches, is in the last one
+pub number_of_last : {X : Type 0} (f : X → List ℕ) (n at : ℕ) (xs : List X) (last : List ℕ) → AreOf f n xs → length last ≤ n → at < length (flat_map f xs ++ last) → length xs ≤ at / n → at / n ≡ length xs
+number_of_last f n at xs last all short below low =
+    let not_more : suc (length xs) ≤ at / n → ⊥ = λ more. omega (arith, all_before f n at xs last all short more, below) in
+    omega (arith, lt_of_not-le not_more, low)
 
 -- ---- bytes joined
 

@@ -66,20 +66,17 @@ impl Stretches {
     pub fn begun_at(&self, offset: u64) -> Option<&Arc<Vec<u8>>>
         ensures stands { IfSome result (λ a. StandsAt self.now.bytes offset (stretch_bytes a.now)) }
         ensures whole { IfSome result (λ a. (offset % self.now.each ≡ 0) × (length (stretch_bytes a.now) ≡ left_of_stretch self.now offset)) }
+        ensures some { IfSome result (λ a. 0 < length (stretch_bytes a.now)) }
         ensures none { IfNone result (offset % self.now.each ≡ 0 → length self.now.bytes ≤ offset) }
     {
-        if offset % self.stretch_len as u64 != 0 {
+        if self.len <= offset || offset % self.stretch_len as u64 != 0 {
             return None;
         }
         let number = offset / self.stretch_len as u64;
-        let full = self.full.len() as u64;
-        if number < full {
-            return Some(&self.full[number as usize]);
-        }
-        if number == full {
-            Some(&self.last)
+        if number < self.full.len() as u64 {
+            Some(&self.full[number as usize])
         } else {
-            None
+            Some(&self.last)
         }
     }
 }
