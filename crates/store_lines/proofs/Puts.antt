@@ -1,5 +1,5 @@
 -- Parts that are put in two moments.
-use Rattle.std.proofs.Common.{◌≡◌, ◌∙◌, ℕ, Bool, true, false, List, Ok, Err, Some, None, Option, Result, ap, length, length-take-le, refl, subst, sym, take}
+use Rattle.std.proofs.Common.{◌≡◌, ◌∙◌, ℕ, Bool, true, false, List, Ok, Err, Some, None, Option, Result, ap, inr, length, length-take-le, refl, subst, sym, take}
 use Rattle.std.specs.Prelude.{IfOk, IfSome, unwrap_or}
 use Rattle.b3_forest.specs.Parts.{ModelPrepared, planned}
 use Rattle.store_books.specs.declared.refusal.Refusal.{Refusal}
@@ -86,14 +86,14 @@ no_plan reach was is upload offset bytes refusal p = record {
   ending_is = refl;
 }
 
-pub leaves : (reach : Reach) (was is : SessionState → Type 0) (upload : ℕ) (plan : Result UploadPlan Refusal) → TookPlan reach was is upload plan → Leaves was is
-leaves reach was is upload plan p = record { leaves = λ before session. (p.found, p.stands before session) }
+pub leaves : (reach : Reach) (was is : SessionState → Type 0) (upload : ℕ) (plan : Result UploadPlan Refusal) → TookPlan reach was is upload plan → Leaves reach was is
+leaves reach was is upload plan p = record { leaves = λ before session. (p.found, (inr (p.linked before session), p.stands before session)) }
 
 -- ---- the bytes after a line
 
 -- they are dropped after an answer that does not look at them
 pub dropped : {E : Type 0} (r : Result (Option Answer) E) (now left : Option (List ℕ)) (reach : Reach) (was is : SessionState → Type 0) (upload offset len : ℕ) (answer : Answer)
-    → ((bytes : List ℕ) → length bytes ≡ len → PutOver reach was is upload offset bytes answer) → Leaves was is → IfOk r (λ given. IfSome now (λ following. Dropped given answer len following left))
+    → ((bytes : List ℕ) → length bytes ≡ len → PutOver reach was is upload offset bytes answer) → Leaves reach was is → IfOk r (λ given. IfSome now (λ following. Dropped given answer len following left))
     → IfOk r (λ given. IfSome now (λ following. ReceivesOver reach was is given upload offset len following left))
 dropped (Err e) now left reach was is upload offset len answer f l h = tt
 dropped (Ok given) None left reach was is upload offset len answer f l h = tt
@@ -115,7 +115,7 @@ fault_reported made_for offset len n fault is same = ap (λ (o : Option PartFaul
 pub no_fault : (made_for : UploadPlan) (offset len n : ℕ) → None ≡ part_fault made_for offset len → n ≡ len → faults.NoMemory ≡ unwrap_or (part_fault made_for offset n) faults.NoMemory
 no_fault made_for offset len n is same = ap (λ (o : Option PartFault). unwrap_or o faults.NoMemory) (is ∙ ap (part_fault made_for offset) (sym same))
 
-pub truncated : (now left : Option (List ℕ)) (reach : Reach) (was is : SessionState → Type 0) (upload offset len : ℕ) (bytes : List ℕ) (is_whole : Bool) → is_whole ≡ false → IfSome now (λ following. Copied is_whole len following bytes left) → Leaves was is
+pub truncated : (now left : Option (List ℕ)) (reach : Reach) (was is : SessionState → Type 0) (upload offset len : ℕ) (bytes : List ℕ) (is_whole : Bool) → is_whole ≡ false → IfSome now (λ following. Copied is_whole len following bytes left) → Leaves reach was is
     → IfSome now (λ following. ReceivesOver reach was is None upload offset len following left)
 truncated None left reach was is upload offset len bytes is_whole cut h l = tt
 truncated (Some following) left reach was is upload offset len bytes true cut h l = absurd (cc)

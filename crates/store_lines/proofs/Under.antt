@@ -38,8 +38,8 @@ text_more : (turns : List SessionTurn) (turn : SessionTurn) → flat_map session
 text_more turns turn = flat_map-append session_turn_text turns (turn ∷ []) ∙ ap (λ xs. flat_map session_turn_text turns ++ xs) (append-nil (session_turn_text turn))
 
 -- nothing is done between two lines
-pub rests : (is : SessionState → Type 0) → Leaves is is
-rests is = record { leaves = λ before session. (before.store, session) }
+pub rests : (reach : Reach) (is : SessionState → Type 0) → Leaves reach is is
+rests reach is = record { leaves = λ before session. (before.store, (inl refl, session)) }
 
 pub begun : (reach : Reach) (was : SessionState → Type 0) (old w : Option (List ℕ)) → IfSome old (IsUnder reach was was old w w)
 begun reach was None w = tt
@@ -48,18 +48,18 @@ begun reach was (Some input) w = record { rest = input; left = refl; turns = [];
 answered : (reach : Reach) (was is : SessionState → Type 0) (now w1 w2 : Option (List ℕ)) (input : List ℕ) (h : IsUnder reach was is now w1 w2 input) → ServedOver reach was is input (flat_map session_turn_text h.turns) h.rest
 answered reach was is now w1 w2 input h = record {
   turns = h.turns;
-  plays = λ start session. let p = h.plays start session in (p.0, (p.1.1, (p.0.store, p.1.0)));
+  plays = λ start session. let p = h.plays start session in (p.0, (p.1.1, (p.0.store, (inl refl, p.1.0))));
   text_is = refl;
 }
 
-answered_cut : (reach : Reach) (was mid is : SessionState → Type 0) (now w1 w2 : Option (List ℕ)) (input : List ℕ) (h : IsUnder reach was mid now w1 w2 input) → Leaves mid is → ServedOver reach was is input (flat_map session_turn_text h.turns) h.rest
+answered_cut : (reach : Reach) (was mid is : SessionState → Type 0) (now w1 w2 : Option (List ℕ)) (input : List ℕ) (h : IsUnder reach was mid now w1 w2 input) → Leaves reach mid is → ServedOver reach was is input (flat_map session_turn_text h.turns) h.rest
 answered_cut reach was mid is now w1 w2 input h l = record {
   turns = h.turns;
   plays = λ start session. let p = h.plays start session in (p.0, (p.1.1, l.leaves p.0 p.1.0));
   text_is = refl;
 }
 
-pub stopped : (reach : Reach) (was mid is : SessionState → Type 0) (old now w1 w2 : Option (List ℕ)) → IfSome old (IsUnder reach was mid now w1 w2) → Leaves mid is → IfSome old (λ input. ServedSomeOver reach was is input w1 w2)
+pub stopped : (reach : Reach) (was mid is : SessionState → Type 0) (old now w1 w2 : Option (List ℕ)) → IfSome old (IsUnder reach was mid now w1 w2) → Leaves reach mid is → IfSome old (λ input. ServedSomeOver reach was is input w1 w2)
 stopped reach was mid is None now w1 w2 h l = tt
 stopped reach was mid is (Some input) now w1 w2 h l = record { output = flat_map session_turn_text h.turns; rest = h.rest; answered = answered_cut reach was mid is now w1 w2 input h l; wrote = h.wrote }
 
@@ -188,7 +188,7 @@ cut_off reach was mid is (Some input) now then left w1 w2 w3 read kept ended h r
         plays = λ start session.
             let p = h.plays start session in
             let g = t.goes p.0 p.1.0 in
-            (g.0, (more_play reach start p.0 g.0 input h.rest served1.0 h.turns t.turn p.1.1 (some_left h.rest read kept read2 some, (λ needs. read2.ended (ended needs)), g.1.1), (g.0.store, g.1.0)));
+            (g.0, (more_play reach start p.0 g.0 input h.rest served1.0 h.turns t.turn p.1.1 (some_left h.rest read kept read2 some, (λ needs. read2.ended (ended needs)), g.1.1), (g.0.store, (inl refl, g.1.0))));
         text_is = refl;
       };
       wrote = subst (λ (x : List ℕ). WroteSome w1 w3 x) (sym (text_more h.turns t.turn)) (some_after w1 w2 w3 (flat_map session_turn_text h.turns) (session_turn_text t.turn) h.wrote t.wrote);

@@ -1,5 +1,5 @@
 -- A session's access to a store, and what each of its calls says about that store.
-use Rattle.std.specs.Prelude.{◌≡◌, ◌+◌, ◌++◌, ◌∷◌, [], ℕ, Bool, true, false, List, Option, Result, Ok, Err, length}
+use Rattle.std.specs.Prelude.{◌≡◌, ◌+◌, ◌++◌, ◌∷◌, ◌⊎◌, [], ℕ, Bool, true, false, List, Option, Result, Ok, Err, length}
 use Rattle.std.specs.Io.KnownBytes.{Appends}
 use Rattle.store_books.specs.declared.refusal.Refusal.{Refusal}
 use Rattle.store_core.specs.Questions.{plan_in}
@@ -18,6 +18,10 @@ pub record Reach : Type 1 where
   pub links : ModelStore → ModelStore → Type 0
   pub lacks : Type 0
   pub needs_newline : Bool
+
+-- a store as a session's last call left it, or as one more call found it
+abbrev pub IsSince : Reach → ModelStore → ModelStore → Type 0
+IsSince reach left found = (found ≡ left) ⊎ reach.links left found
 
 -- A state that a session may have left: the view of the store; how many parts of the store's book the session has, and the bytes and calls
 -- that were accepted from it; and the numbers that the entries of its own accepted commands have in the journal.

@@ -25,7 +25,7 @@ use Rattle.store_lines.specs.declared.request.EntryRange.{EntryRange}
 use Rattle.store_upload.specs.Uploads.{UploadPlan, part_fault}
 use Rattle.store_upload.specs.declared.refusal.PartFault.{PartFault}
 use Rattle.store_upload.specs.declared.refusal.PartFault.TheVariants as faults
-use Rattle.store_lines.specs.Access.{Reach, SessionState, at, took_bytes, took_calls, took_numbers}
+use Rattle.store_lines.specs.Access.{IsSince, Reach, SessionState, at, took_bytes, took_calls, took_numbers}
 
 -- ---- one line: its turn after a state that was left, and its effect
 
@@ -133,7 +133,7 @@ AreLinkedTurns reach old input (turn ∷ turns) new rest = (mid : SessionState) 
 -- lines of a prefix of the input were answered in order, whatever was left before the session; the account is the session's own in the end
 pub record ServedOver (reach : Reach) (was is : SessionState → Type 0) (input output rest : List ℕ) : Type 0 where
   pub turns : List SessionTurn
-  pub plays : (start : SessionState) → was start → (end : SessionState) × (AreLinkedTurns reach start input turns end rest × ((left : ModelStore) × is (at end left)))
+  pub plays : (start : SessionState) → was start → (end : SessionState) × (AreLinkedTurns reach start input turns end rest × ((left : ModelStore) × (IsSince reach end.store left × is (at end left))))
   pub text_is : output ≡ flat_map session_turn_text turns
 
 -- the writer grew by the answers to the lines of a prefix of the input

@@ -72,7 +72,7 @@ pub(crate) fn receive<A: Access, R: BufRead>(
     ensures received { IfOk result (λ answer. IfSome (R.Read.remaining reader.old)
         (λ following. ReceivesOver A.reach (A.stands access.old) (A.stands access.new) answer part.upload part.offset part.len following
         (R.Read.remaining reader.new))) }
-    ensures left { OnErr result (Leaves (A.stands access.old) (A.stands access.new)) }
+    ensures left { OnErr result (Leaves A.reach (A.stands access.old) (A.stands access.new)) }
     ensures cause { IfErr result (λ cause. cause ≡ Cause.CannotRead) }
 {
     let RawPart {

@@ -127,7 +127,7 @@ fn serve_line<A: Access, R: BufRead, W: Write>(
         (λ following. ServesLineOver A.reach (A.stands access.old) (A.stands access.new) true line following
         (R.Read.remaining reader.new) (WroteSome (W.contents writer.old) (W.contents writer.new))) }
     ensures unwritten { result ≡ Err Cause.CannotRead → writer.new ≡ writer.old }
-    ensures left { result ≡ Err Cause.CannotRead → Leaves (A.stands access.old) (A.stands access.new) }
+    ensures left { result ≡ Err Cause.CannotRead → Leaves A.reach (A.stands access.old) (A.stands access.new) }
     ensures cause { IfErr result (λ cause. cause ≢ Cause.OutOfMemory) }
 {
     match line {
@@ -155,7 +155,7 @@ fn serve_request<A: Access, R: BufRead, W: Write>(
         (λ following. ServesRequestOver A.reach (A.stands access.old) (A.stands access.new) true request following
         (R.Read.remaining reader.new) (WroteSome (W.contents writer.old) (W.contents writer.new))) }
     ensures unwritten { result ≡ Err Cause.CannotRead → writer.new ≡ writer.old }
-    ensures left { result ≡ Err Cause.CannotRead → Leaves (A.stands access.old) (A.stands access.new) }
+    ensures left { result ≡ Err Cause.CannotRead → Leaves A.reach (A.stands access.old) (A.stands access.new) }
     ensures cause { IfErr result (λ cause. cause ≢ Cause.OutOfMemory) }
 {
     match request {

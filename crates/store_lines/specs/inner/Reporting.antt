@@ -12,12 +12,12 @@ use Rattle.store_lines.specs.Requests.{request_in}
 use Rattle.store_lines.specs.Session.{IsShort, SessionTurn, session_turn_text}
 use Rattle.edge.specs.declared.lines.LineRead.{LineRead}
 use Rattle.store_lines.specs.declared.request.Request.{Request}
-use Rattle.store_lines.specs.Access.{Reach, SessionState, at}
+use Rattle.store_lines.specs.Access.{IsSince, Reach, SessionState, at}
 use Rattle.store_lines.specs.Turns.{IsLinkedPut, IsLinkedRequest}
 
 -- nothing was added to the account
-pub record Leaves (was is : SessionState → Type 0) : Type 0 where
-  pub leaves : (before : SessionState) → was before → (left : ModelStore) × is (at before left)
+pub record Leaves (reach : Reach) (was is : SessionState → Type 0) : Type 0 where
+  pub leaves : (before : SessionState) → was before → (left : ModelStore) × (IsSince reach before.store left × is (at before left))
 
 -- a turn was answered: it is the turn for each state that may have been left before, and its text was written, or some of it
 pub record ReportedOver (was is : SessionState → Type 0) (Is : SessionState → SessionTurn → SessionState → Type 0) (Wrote : List ℕ → Type 0) : Type 0 where
@@ -35,7 +35,7 @@ pub record AnsweredOver (was is : SessionState → Type 0) (Is : SessionState �
 -- one line was served, or its bytes are truncated by the end of the input
 abbrev pub ServesOver : Reach → (SessionState → Type 0) → (SessionState → Type 0) → Bool → Option Request → List ℕ → List ℕ → Option (List ℕ) → (List ℕ → Type 0) → Type 0
 ServesOver reach was is true request whole following left Wrote = (rest : List ℕ) × ((left ≡ Some rest) × ReportedOver was is (λ before turn after. IsLinkedRequest reach before request whole following turn after rest) Wrote)
-ServesOver reach was is false request whole following left Wrote = IsShort request following × Wrote [] × Leaves was is × IsAtEnd left
+ServesOver reach was is false request whole following left Wrote = IsShort request following × Wrote [] × Leaves reach was is × IsAtEnd left
 
 -- the same for a request, whatever line spelled it
 pub record ServesRequestOver (reach : Reach) (was is : SessionState → Type 0) (is_whole : Bool) (request : Request) (following : List ℕ) (left : Option (List ℕ)) (Wrote : List ℕ → Type 0) : Type 0 where
@@ -51,6 +51,6 @@ pub record ServesReadOver (reach : Reach) (was is : SessionState → Type 0) (is
 
 -- the bytes after a put were taken, and its result
 abbrev pub ReceivesOver : Reach → (SessionState → Type 0) → (SessionState → Type 0) → Option Answer → ℕ → ℕ → ℕ → List ℕ → Option (List ℕ) → Type 0
-ReceivesOver reach was is None upload offset len following left = (length following < len) × Leaves was is × IsAtEnd left
+ReceivesOver reach was is None upload offset len following left = (length following < len) × Leaves reach was is × IsAtEnd left
 ReceivesOver reach was is (Some answer) upload offset len following left =
     (len ≤ length following) × (left ≡ Some (drop len following)) × AnsweredOver was is (λ before turn after. IsLinkedPut reach before upload offset (take len following) turn after) answer

@@ -16,7 +16,7 @@ loop-init g c =
     (begun g.A.Access.reach (g.A.Access.stands c.args.access.now) (g.R.Read.remaining c.args.reader.now) (g.W.Write.contents c.args.writer.now), room)
 
 pub returns-in_err-read-clause-read : goal.returns-in_err-read-clause-read
-returns-in_err-read-clause-read g c = λ is. stopped g.A.Access.reach (g.A.Access.stands c.args.access.now) (g.A.Access.stands c.loop.access) (g.A.Access.stands c.loop.access) (g.R.Read.remaining c.args.reader.now) (g.R.Read.remaining c.loop.reader) (g.W.Write.contents c.args.writer.now) (g.W.Write.contents c.loop.writer) c.loop.invariant.0 (rests (g.A.Access.stands c.loop.access))
+returns-in_err-read-clause-read g c = λ is. stopped g.A.Access.reach (g.A.Access.stands c.args.access.now) (g.A.Access.stands c.loop.access) (g.A.Access.stands c.loop.access) (g.R.Read.remaining c.args.reader.now) (g.R.Read.remaining c.loop.reader) (g.W.Write.contents c.args.writer.now) (g.W.Write.contents c.loop.writer) c.loop.invariant.0 (rests g.A.Access.reach (g.A.Access.stands c.loop.access))
 
 pub returns-then-read-eq0-clause-written : goal.returns-then-read-eq0-clause-written
 returns-then-read-eq0-clause-written g c =
@@ -104,4 +104,4 @@ loop-preserved g c =
     )
 
 pub returns-clause-read : goal.returns-clause-read
-returns-clause-read g c = λ is. stopped g.A.Access.reach (g.A.Access.stands c.args.access.now) (g.A.Access.stands c.loop.access) (g.A.Access.stands c.loop.access) (g.R.Read.remaining c.args.reader.now) (g.R.Read.remaining c.loop.reader) (g.W.Write.contents c.args.writer.now) (g.W.Write.contents c.loop.writer) c.loop.invariant.0 (rests (g.A.Access.stands c.loop.access))
+returns-clause-read g c = λ is. stopped g.A.Access.reach (g.A.Access.stands c.args.access.now) (g.A.Access.stands c.loop.access) (g.A.Access.stands c.loop.access) (g.R.Read.remaining c.args.reader.now) (g.R.Read.remaining c.loop.reader) (g.W.Write.contents c.args.writer.now) (g.W.Write.contents c.loop.writer) c.loop.invariant.0 (rests g.A.Access.reach (g.A.Access.stands c.loop.access))
