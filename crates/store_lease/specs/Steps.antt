@@ -6,7 +6,10 @@ use Rattle.store_core.specs.Carried.{IsCarried}
 use Rattle.store_core.specs.Model.{ModelStore}
 use Rattle.store_core.specs.Runs.{Call, Step}
 use Rattle.store_core.specs.declared.store.questions.Reply.{Reply}
+use Rattle.store_core.specs.declared.store.questions.Reply.TheVariants as replies
 use Rattle.store_history.specs.Histories.{ModelFront}
+use Rattle.store_lease.specs.declared.stepped.Stepped.{Stepped}
+use Rattle.store_lease.specs.declared.stepped.Stepped.TheVariants as stepped
 use Rattle.store_lines.specs.Access.{took_numbers}
 
 -- A client whose front was `before` took a step from a lawful store whose journal continues what the front had seen. Afterwards the front
@@ -20,3 +23,9 @@ pub record TookLawful (before now : ModelFront) (call : Call) (reply : Result Re
   pub law_left : IsCarried left
   pub seen : now.seen ≡ left.journal
   pub own : now.own ≡ before.own ++ took_numbers found call reply
+
+-- the reply of a command under the lock
+abbrev pub stepped_seen : Stepped → Reply
+stepped_seen (stepped.Replied reply) = reply
+stepped_seen (stepped.Aborted held) = replies.Done
+stepped_seen (stepped.Forgot _) = replies.Done

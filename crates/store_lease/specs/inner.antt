@@ -1,3 +1,2 @@
 -- Definitions that only proofs and private functions use.
 pub mod Stepped
-pub mod Under
