@@ -1,4 +1,4 @@
-"""Caches in processes of their own, for bench/caches and bench/ccache: each function starts one in a folder, and yields its port."""
+"""Servers in processes of their own, which the benchmarks compare. `our_cache`, `nginx` and `redis` start one in a folder, and yield its port."""
 import contextlib
 import os
 import socket
@@ -96,10 +96,14 @@ def nginx(_, place):
         yield port
 
 
+def redis_words(place, *words):
+    """The command for a redis that saves nothing; the words say where it listens."""
+    return ["redis-server", *words, "--save", "", "--appendonly", "no", "--dir", place, "--loglevel", "warning"]
+
+
 @contextlib.contextmanager
 def redis(_, place):
     port = free_port()
-    words = ["redis-server", "--port", str(port), "--bind", "127.0.0.1", "--save", "", "--appendonly", "no", "--dir", place]
-    with running(words, stdout=subprocess.DEVNULL):
+    with running(redis_words(place, "--port", str(port), "--bind", "127.0.0.1"), stdout=subprocess.DEVNULL):
         wait_for(port)
         yield port
