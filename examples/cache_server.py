@@ -274,6 +274,7 @@ class Handler(Connection):
         """Counts an answer. This is called for each one, also for those that http.server gives itself."""
         self.server.metrics.count_request(self.command, code)
 
+
 class CacheServer(Server):
     """Answers requests to a cache."""
 
