@@ -11,6 +11,7 @@ import os
 import re
 import stat
 import sys
+import tempfile
 from typing import Any, BinaryIO, Callable, Iterator, List, Optional, Tuple
 
 from .client import Client
@@ -24,7 +25,8 @@ examples:
   tar c DIR | b3store-client put -
   b3store-client get ADDRESS -o FILE
 
-exit status: 0 done; 1 an object or a file is missing, or the store refused a command; 2 usage error; 3 reading, writing or the connection failed
+exit status: 0 done; 1 an object is missing, a file to put can't be read, or the store refused a command; 2 usage error;
+3 writing, the connection or reading the token failed
 """
 
 
@@ -71,14 +73,14 @@ def get(store: Client, words: Any) -> int:
 
 @contextlib.contextmanager
 def output_to(path: Optional[str]) -> Iterator[Callable[[memoryview], None]]:
-    """A function that writes to a file, or to standard output. A regular file gets its name when all is written, so that no half of one is left."""
+    """A function that writes to a file, or to standard output. A regular file gets its name when all is written, so that no half of one is left; it has the
+    mode of the file that it replaces. What is no regular file, such as a link or a pipe, is written to as it is."""
     if path is None:
         yield writer(1, "standard output")
         return
-    is_special = os.path.exists(path) and not os.path.isfile(path)
-    aside = path if is_special else f"{path}.{os.getpid()}.part"
+    is_special = os.path.islink(path) or os.path.exists(path) and not os.path.isfile(path)
     try:
-        file = open(aside, "wb" if is_special else "xb", buffering=0)
+        aside, file = (path, open(path, "wb", buffering=0)) if is_special else open_beside(path)
     except OSError as fault:
         raise named(fault, path) from None
     with file:
@@ -90,6 +92,20 @@ def output_to(path: Optional[str]) -> Iterator[Callable[[memoryview], None]]:
             if not is_special:
                 os.unlink(aside)
             raise
+
+
+def open_beside(path: str) -> Tuple[str, BinaryIO]:
+    """A new file in the folder of a path, and its name. It has the mode of the file at the path, or that of a new one."""
+    number, name = tempfile.mkstemp(".part", ".", os.path.dirname(path) or ".")
+    file = open(number, "wb", buffering=0)
+    try:
+        mode = os.stat(path).st_mode & 0o777
+    except OSError:
+        mask = os.umask(0)
+        os.umask(mask)
+        mode = 0o666 & ~mask
+    os.fchmod(number, mode)
+    return name, file
 
 
 def rename(source: str, target: str) -> None:

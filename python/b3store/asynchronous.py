@@ -22,7 +22,7 @@ class AsyncStore:
     It has most methods of `Store`, and `run` runs any other. Each raises the same errors. A command whose coroutine is cancelled still runs to its end."""
 
     def __init__(self, store: Transfers, threads: int = 4) -> None:
-        self.store = store
+        self.store, self._is_closed = store, False
         self._threads = concurrent.futures.ThreadPoolExecutor(check_number("threads", threads, 1, MAX_SESSIONS), "b3store")
 
     async def __aenter__(self) -> "AsyncStore":
@@ -36,9 +36,11 @@ class AsyncStore:
         return await asyncio.get_running_loop().run_in_executor(self._threads, functools.partial(call, *words, **options))
 
     async def close(self) -> None:
-        """Closes the store, once its commands are done."""
-        await self.run(self.store.close)
-        self._threads.shutdown()
+        """Closes the store, once its commands are done. A second call has no effect."""
+        if not self._is_closed:
+            self._is_closed = True
+            await self.run(self.store.close)
+            self._threads.shutdown()
 
     async def tenant(self, limit: int = MAX_LIMIT) -> int:
         """See `Store.tenant`."""

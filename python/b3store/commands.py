@@ -16,8 +16,8 @@ MAX_DESCRIPTOR = (1 << 31) - 1
 
 class Commands(Sessions):
     """A method for each command. Arguments are checked before anything is sent: TypeError for a wrong type, ValueError for a value that no command
-    takes. Every method can raise Refused, which changes nothing, and Ended; docstrings list the refusals, which `REFUSALS` explains. S13, a full
-    journal, can happen to every command that changes something, and S14, out of memory, to every command."""
+    takes. Every method can raise Refused, for a command that changed nothing, and Ended; docstrings list the refusals, which `REFUSALS` explains. S13,
+    a full journal, can happen to every command that changes something, and S14, out of memory, to every command."""
 
     def __init__(self) -> None:
         super().__init__()

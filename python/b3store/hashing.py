@@ -20,6 +20,7 @@ import sys
 from typing import Any, BinaryIO, Callable, List, Optional, Union
 
 from .console import FAILED, check_line, error_text, finish, report
+from .transfers import read_full
 from .values import CHUNK_LEN, Buffer, check_bytes, check_number
 
 SPAN_LEN = 1 << 20
@@ -265,17 +266,18 @@ def digest_by_threads(data: Buffer, threads: Optional[int] = None, key: Buffer =
 
 def file_digest(file: BinaryIO, threads: Optional[int] = None) -> bytes:
     """Returns the hash of a file's bytes from its position on. A regular file at its start is read by `threads` threads (default: one for
-    each processor), and its position stays; others are read by this thread. Raises OSError, also if the file is truncated meanwhile."""
+    each processor), and its position stays; others are read by this thread. Raises OSError, also if the file is truncated meanwhile, and
+    BlockingIOError if it is not in blocking mode and has no bytes."""
     threads, size = thread_count(threads), size_at_start(file)
     if threads > 1 and size > SPAN_LEN:
         return digest_of_descriptor(file.fileno(), size, threads)
     hasher, room = blake3(), bytearray(SPAN_LEN)
     view = memoryview(room)
     while True:
-        count = file.readinto(room)  # type: ignore[attr-defined]
-        if not count:
-            return hasher.digest()
+        count = read_full(file, view)
         hasher.update(view[:count])
+        if count < len(view):
+            return hasher.digest()
 
 
 def digest_of_descriptor(number: int, size: int, threads: int) -> bytes:

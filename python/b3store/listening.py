@@ -16,8 +16,11 @@ MIN_TOKEN = 16
 MAX_TOKEN = 512
 """The minimum and maximum number of digits of a token."""
 KEEP_ALIVE = (("TCP_KEEPIDLE", 60), ("TCP_KEEPINTVL", 10), ("TCP_KEEPCNT", 6))
-"""A TCP peer that has vanished is noticed after two minutes."""
+"""A TCP peer that has vanished is noticed after two minutes; while it is sent to, the system notices it, after about a quarter of an hour."""
 
+SECONDS_TO_LOCK = 2.0
+"""How long another server may take to replace a socket."""
+SECONDS_BETWEEN_TRIES = 0.05
 MICROSECONDS_MORE = 60_000_000
 SECONDS_BETWEEN_ASKS = 5.0
 
@@ -76,13 +79,25 @@ def address_text(listening: socket.socket) -> str:
 
 @contextlib.contextmanager
 def folder_lock(path: str) -> Iterator[None]:
-    """Locks the folder of a path, so that only one server at a time replaces a stale socket in it."""
-    folder = os.open(os.path.dirname(path) or ".", os.O_RDONLY | os.O_DIRECTORY)
+    """Locks the folder of a path, so that only one server at a time replaces a stale socket in it. Other programs lock folders for as long as they run."""
+    folder, end = os.open(os.path.dirname(path) or ".", os.O_RDONLY | os.O_DIRECTORY), time.monotonic() + SECONDS_TO_LOCK
     try:
-        fcntl.flock(folder, fcntl.LOCK_EX)
+        while not is_locked(folder):
+            if time.monotonic() > end:
+                raise ListenError(f"cannot listen on {path}: its folder is in use by a server that saves there, a cache or a backup")
+            time.sleep(SECONDS_BETWEEN_TRIES)
         yield
     finally:
         os.close(folder)
+
+
+def is_locked(folder: int) -> bool:
+    """Locks a folder, unless it is locked."""
+    try:
+        fcntl.flock(folder, fcntl.LOCK_EX | fcntl.LOCK_NB)
+        return True
+    except BlockingIOError:
+        return False
 
 
 def remove_stale(path: str) -> None:

@@ -176,13 +176,20 @@ class Relay:
         answers.begun.clear()
 
 
+def close_others(kept: Set[int]) -> None:
+    """Closes all other descriptors than these and the standard ones."""
+    for name in os.listdir("/proc/self/fd"):
+        if int(name) >= FIRST_FREE and int(name) not in kept:
+            # the one that lists them is closed already
+            with contextlib.suppress(OSError):
+                os.close(int(name))
+
+
 def relay_in_child(connection: socket.socket, pipes: Pipes, reports: int, keeps_uploads: bool) -> None:
     """Relays in a process that was forked, and ends it. Nothing of the server is used here: its other threads don't exist in this process."""
     status = 1
     try:
-        kept = sorted({connection.fileno(), *pipes, reports})
-        for start, end in zip([FIRST_FREE - 1, *kept], [*kept, os.sysconf("SC_OPEN_MAX")]):
-            os.closerange(start + 1, end)
+        close_others({connection.fileno(), *pipes, reports})
         Relay(connection, pipes, reports, keeps_uploads).run()
         status = 0
     finally:

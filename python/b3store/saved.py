@@ -15,7 +15,7 @@ import collections
 import contextlib
 import os
 import re
-from typing import BinaryIO, Callable, Counter, Dict, Iterable, Iterator, List, NamedTuple, Optional, Tuple
+from typing import BinaryIO, Callable, Counter, Dict, Iterable, Iterator, List, NamedTuple, Optional, Tuple, TypeVar
 
 from .commands import fetch_line
 from .files import FolderInUse, checked_line, checked_text, lock_folder, private, replace_file
@@ -34,14 +34,17 @@ IGNORED = frozenset((ASIDE, "lost+found"))
 SMALL_CONTENT = 1 << 20
 """A content file of fewer bytes is not used again by the next save."""
 BATCH_LEN = 1 << 20
-BATCH_COUNT = 200
-"""How many bytes, and how many objects, are read or filed in one turn. The commands without the contents, and the answers without them, each fit into a pipe."""
+BATCH_COUNT = 32
+"""How many bytes, and how many objects, are read or filed in one turn. The commands without the contents, and the answers without them, each fit into the
+smallest pipe, of 4096 bytes: Linux gives such ones to a user who has many."""
+ROWS_BETWEEN_TICKS = 1 << 12
 SYNC_LEN = 1 << 28
 """How many bytes are written between two syncs."""
 ERRORS = (OSError, Refused, Ended, MemoryError)
 """What can fail in a save or a restoration, besides SaveError."""
 ADVICE = "nothing was changed; restore the folder from a copy, or move it away to start with an empty store"
 
+Value = TypeVar("Value")
 Tick = Callable[[], None]
 """Is called again and again while a save or a restoration makes progress."""
 
@@ -74,7 +77,7 @@ class Saved(NamedTuple):
 class SavedStore:
     """A folder that is locked until it is closed, and the store that is saved in it."""
 
-    def __init__(self, path: str) -> None:
+    def __init__(self, path: str, tick: Tick = lambda: None) -> None:
         """Opens a folder, which is made if there is none. Raises SaveError, and changes nothing, if another server has it, or if it has anything but a
         whole save."""
         self._path = path
@@ -87,7 +90,7 @@ class SavedStore:
         except OSError as error:
             raise SaveError(f"cannot open the folder {path}: {error.strerror}") from None
         try:
-            self._open()
+            self._open(tick)
         except BaseException:
             self.close()
             raise
@@ -99,16 +102,16 @@ class SavedStore:
     def _at(self, name: str) -> str:
         return os.path.join(self._path, name)
 
-    def _open(self) -> None:
+    def _open(self, tick: Tick) -> None:
         """Reads the index, or writes the first one. A folder that can't be written to is noticed here, and not only by the save."""
         try:
             names = set(os.listdir(self._path))
             if INDEX in names:
-                self._saved = read_index(self._at(INDEX))
+                self._saved = read_index(self._at(INDEX), tick)
                 check_contents(self._path, self._saved)
                 self._try_to_write()
             elif names <= IGNORED:
-                self._write_index(Saved([], {}))
+                self._write_index(Saved([], {}), tick)
             else:
                 raise SaveError(f"{self._path} holds {min(names - IGNORED)!r} and no saved store: name a folder that is empty or doesn't exist")
         except OSError as error:
@@ -125,7 +128,7 @@ class SavedStore:
         saved, self._saved = self._saved or Saved([], {}), None
         try:
             Restoring(self._path, store, tick).run(saved)
-            self._remove_unused()
+            self._remove_unused(tick)
         except ERRORS as error:
             raise SaveError(f"the store that is saved in {self._path} can't be restored: {reason_of(error)}; nothing was changed") from None
         return saved.text() if saved.limits else None
@@ -141,28 +144,28 @@ class SavedStore:
     def _save(self, store: Transfers, tick: Tick) -> Saved:
         limits, lists, lengths = [], {}, {}
         for tenant, usage in store.tenants().items():
-            rows = list(store.objects(tenant))
+            rows = list(ticking(store.objects(tenant), tick))
             limits.append(usage.limit)
             lists[tenant] = [row.address for row in rows]
             lengths.update(rows)
-        holders = dict(in_filing_order(lists))
+        holders = dict(ticking(in_filing_order(lists), tick))
         if len(holders) != len(lengths):
             raise SaveError(f"the store can't be saved in {self._path}: it changes meanwhile")
-        places = self._usable_places(holders)
+        places = self._usable_places(holders, tick)
         wanted = [(holders[address][0], address, lengths[address]) for address in holders if address not in places]
         try:
             if wanted:
                 places.update(self._write_content(store, wanted, tick))
             saved = Saved(limits, {address: SavedObject(lengths[address], *places[address], holders[address]) for address in holders})
-            self._write_index(saved)
+            self._write_index(saved, tick)
         finally:
-            self._remove_unused()
+            self._remove_unused(tick)
         return saved
 
-    def _usable_places(self, wanted: Dict[str, Tuple[int, ...]]) -> Dict[str, Tuple[str, int]]:
+    def _usable_places(self, wanted: Dict[str, Tuple[int, ...]], tick: Tick) -> Dict[str, Tuple[str, int]]:
         """Where the bytes of objects are already, in files that are worth keeping. None if the index was damaged meanwhile: then everything is written again."""
         try:
-            old = {address: row for address, row in read_index(self._at(INDEX)).objects.items() if address in wanted}
+            old = {address: row for address, row in read_index(self._at(INDEX), tick).objects.items() if address in wanted}
         except (OSError, SaveError):
             return {}
         live: Counter[str] = collections.Counter()
@@ -192,13 +195,13 @@ class SavedStore:
         os.fsync(self._folder)
         return places
 
-    def _write_index(self, saved: Saved) -> None:
-        replace_file(self._folder, self._at(INDEX), map(checked_line, index_texts(saved)))
+    def _write_index(self, saved: Saved, tick: Tick) -> None:
+        replace_file(self._folder, self._at(INDEX), map(checked_line, ticking(index_texts(saved), tick)))
 
-    def _remove_unused(self) -> None:
+    def _remove_unused(self, tick: Tick) -> None:
         """Removes the content files that the index doesn't name. It is the old index if it could not be replaced."""
         with contextlib.suppress(OSError, SaveError):
-            used = {row.file for row in read_index(self._at(INDEX)).objects.values()}
+            used = {row.file for row in read_index(self._at(INDEX), tick).objects.values()}
             for name in os.listdir(self._path):
                 if CONTENT.fullmatch(name) and name not in used:
                     os.unlink(self._at(name))
@@ -238,7 +241,15 @@ def index_texts(saved: Saved) -> Iterator[str]:
     yield f"end {1 + len(saved.limits) + len(saved.objects)}"
 
 
-def read_index(path: str) -> Saved:
+def ticking(rows: Iterable[Value], tick: Tick) -> Iterator[Value]:
+    """Yields the same rows, and calls `tick` among them."""
+    for number, row in enumerate(rows):
+        if number % ROWS_BETWEEN_TICKS == 0:
+            tick()
+        yield row
+
+
+def read_index(path: str, tick: Tick) -> Saved:
     """Reads an index. Raises SaveError if it isn't one, or is damaged."""
     saved, is_whole = Saved([], {}), False
     if not os.path.isfile(path):
@@ -246,7 +257,7 @@ def read_index(path: str) -> Saved:
     with open(path, "rb") as file:
         if file.readline() != checked_line(HEADER):
             raise SaveError(f"{path} is damaged, or not the index of a saved store; {ADVICE}")
-        for number, line in enumerate(file, 1):
+        for number, line in enumerate(ticking(file, tick), 1):
             text = checked_text(line[:-1]) if line.endswith(b"\n") else None
             if is_whole or text is None or not (note_line(saved, text) or text == f"end {number}"):
                 raise SaveError(f"{path} is damaged at line {number + 1}; {ADVICE}")

@@ -375,7 +375,7 @@ def serve(words: argparse.Namespace) -> int:
     # The process that is forked for a connection uses nothing that another thread may have locked.
     warnings.filterwarnings("ignore", ".*multi-threaded, use of fork", DeprecationWarning)
     with contextlib.ExitStack() as stack:
-        saved = stack.enter_context(contextlib.closing(SavedStore(words.save))) if words.save is not None else None
+        saved = stack.enter_context(contextlib.closing(SavedStore(words.save, more_time()))) if words.save is not None else None
         listeners = open_listeners(words, token)
         for listener in listeners:
             stack.callback(listener.close)

@@ -14,6 +14,7 @@ import threading
 import time
 from typing import Iterable, Iterator, List, NamedTuple, Optional, Set
 
+from .files import lock_folder
 from .sessions import Session
 from .transfers import Transfers
 from .values import Ended
@@ -26,8 +27,8 @@ SECONDS_TO_ANSWER = 1.0
 """How long the server waits at its end for the answers to its own commands."""
 SECONDS_TO_SEE = 0.5
 SECONDS_BETWEEN_LOOKS = 0.01
-ABORTS_AT_ONCE = 1000
-"""How many commands are sent before their answers are read. The commands and the answers each fit into a pipe."""
+ABORTS_AT_ONCE = 128
+"""How many commands are sent before their answers are read. The commands and the answers each fit into the smallest pipe, of 4096 bytes."""
 MAX_PIPE_BYTES = 1 << 20
 MAX_PIPES_BYTES = 1 << 25
 """The maximum capacity of all pipes together. Linux grants a user 64 MiB by default."""
@@ -94,16 +95,17 @@ class Store:
         self._numbers = itertools.count(1)
         self._lock = threading.Lock()
         self._is_closing = False
-        self._folder = ""
+        self._folder, self._locked = "", -1
         try:
             with _signals_held():
                 self._folder = tempfile.mkdtemp(prefix="b3store-server-")
+            # what removes old files from /tmp leaves a locked folder alone
+            self._locked = lock_folder(self._folder)
             self._door = os.path.join(self._folder, "door")
             os.mkfifo(self._door, 0o600)
             self._start(program, sessions)
         except BaseException:
-            if self._folder:
-                shutil.rmtree(self._folder, ignore_errors=True)
+            self._remove_folder()
             raise
 
     def _start(self, program: str, sessions: int) -> None:
@@ -274,5 +276,13 @@ class Store:
             status = -signal.SIGKILL
             with contextlib.suppress(subprocess.TimeoutExpired):
                 status = self._process.wait(SECONDS_TO_END)
-        shutil.rmtree(self._folder, ignore_errors=True)
+        self._remove_folder()
         return status
+
+    def _remove_folder(self) -> None:
+        """Removes the folder of the door, if there is one."""
+        if self._folder:
+            shutil.rmtree(self._folder, ignore_errors=True)
+        if self._locked >= 0:
+            os.close(self._locked)
+        self._folder, self._locked = "", -1

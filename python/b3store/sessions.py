@@ -72,7 +72,10 @@ class Session:
 
     def has_closed(self) -> bool:
         """Whether the other side has closed the connection. No answer may be due."""
-        return self.has_answer(0) and not self._reading.peek(1)  # type: ignore[attr-defined]
+        try:
+            return self.has_answer(0) and not self._reading.peek(1)  # type: ignore[attr-defined]
+        except OSError:
+            return True
 
     def write(self, *pieces: Buffer) -> None:
         """Writes pieces one after another, in as few system calls as possible: other threads run while one lasts."""
@@ -211,7 +214,10 @@ class Session:
                         break
         except OSError as error:
             fault = error
-        rest = first + self._reading.read(left) if left else first
+        try:
+            rest = first + self._reading.read(left) if left else first
+        except OSError:
+            raise self._ended() from None
         if len(rest) < len(first) + left:
             raise self._ended()
         return rest, fault

@@ -93,7 +93,10 @@ class Store(Transfers):
                 at = os.path.join(stack.enter_context(tempfile.TemporaryDirectory(prefix="b3store-")), "door")
                 os.mkfifo(at, 0o600)
                 words += ["--at", at, "--sessions", str(count - 1)]
-            self._process = subprocess.Popen(words, stdin=subprocess.PIPE, stdout=subprocess.PIPE, stderr=self._stderr, bufsize=READ_LEN)
+            # in its own session, so that an interrupt at a terminal reaches this process alone
+            self._process = subprocess.Popen(
+                words, stdin=subprocess.PIPE, stdout=subprocess.PIPE, stderr=self._stderr, bufsize=READ_LEN, start_new_session=True
+            )
             opened = [self._session(self._process.stdin, self._process.stdout)]
             try:
                 for number in range(1, count):

@@ -33,12 +33,16 @@ class Upload:
         self.is_open = True
         self._kept, self._sent = bytearray(), 0
         self._has_put = False
+        self._fault: Optional[BaseException] = None
+        """Why a write failed."""
 
     def __enter__(self) -> "Upload":
         return self
 
     def __exit__(self, kind: Optional[Type[BaseException]], fault: Optional[BaseException], trace: Optional[TracebackType]) -> None:
         if not self.is_open:
+            if fault is None and self._fault is not None:
+                raise self._fault
             return
         if fault is not None:
             return self._abort_quietly()
@@ -50,8 +54,11 @@ class Upload:
         return self._commands.put(self.number, offset, part)
 
     def write(self, content: Buffer) -> int:
-        """Adds bytes, any number of them, after those of earlier calls, and returns their number. Refusals: those of `Commands.put`."""
+        """Adds bytes, any number of them, after those of earlier calls, and returns their number. If it can't send them, the upload is aborted, and the end
+        of the block raises the same again. Refusals: those of `Commands.put`. Raises ValueError if the upload isn't open."""
         view, start = check_bytes(content), 0
+        if not self.is_open:
+            raise ValueError("the upload isn't open")
         if self._kept:
             start = min(PART_LEN - len(self._kept), view.nbytes)
             self._kept += view[:start]
@@ -103,7 +110,13 @@ class Upload:
         self._send([memoryview(kept)])
 
     def _send(self, parts: List[memoryview]) -> None:
-        self._commands._put_ahead(self.number, self._sent, parts)
+        """Sends parts. After a failure it isn't known which of them are put, so the upload is aborted."""
+        try:
+            self._commands._put_ahead(self.number, self._sent, parts)
+        except BaseException as fault:
+            self._fault = fault
+            self._abort_quietly()
+            raise
         self._sent += sum(part.nbytes for part in parts)
 
 

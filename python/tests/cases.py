@@ -32,6 +32,7 @@ CASES = (
     ("uploads from bytes and files of all kinds", transfers.uploads_of_all_sources),
     ("uploads that fail", transfers.uploads_that_fail),
     ("uploads with blocks", transfers.uploads_with_blocks),
+    ("an upload that is written to after a refusal", transfers.writes_after_a_refusal),
     ("uploads from slow files", transfers.slow_files),
     ("contents that are filed together", transfers.files_together),
     ("objects as files", transfers.objects_as_files),

@@ -77,6 +77,20 @@ def wrong_values():
     return differences(*((raised(call), wanted) for wanted, call in calls), (hasher.hexdigest(), ABC))
 
 
+def files_without_bytes():
+    """A file that is not in blocking mode has no end where it has no bytes yet."""
+    from b3store.hashing import file_digest
+
+    reading, writing = os.pipe()
+    os.set_blocking(reading, False)
+    with os.fdopen(reading, "rb", buffering=0) as file, os.fdopen(writing, "wb", buffering=0) as other:
+        other.write(b"abc")
+        found = differences((raised(file_digest, file), BlockingIOError))
+        other.write(b"abc")
+        other.close()
+        return found + differences((file_digest(file).hex(), ABC))
+
+
 def small_calls():
     """They take microseconds, and threads do not disturb each other."""
     from b3store.hashing import blake3
@@ -107,6 +121,7 @@ def prints_hashes():
 
 CASES = (
     ("hashes of bytes given in many ways", equal_ways), ("copies of hashers", copies), ("wrong values for hashers", wrong_values), ("small calls of hashers", small_calls),
+    ("hashes of files without bytes", files_without_bytes),
     ("the program b3store.hashing", prints_hashes),
 )
 

@@ -3,6 +3,7 @@ import os
 import pty
 import re
 import signal
+import stat
 import subprocess
 import sys
 import tempfile
@@ -42,6 +43,12 @@ def puts_and_gets():
         copy = os.path.join(place, "copy")
         found += differences((client("get", address, "-o", copy), (0, b"", "")), (open(copy, "rb").read() == content, True))
         found += differences((client("get", ABC, "--output", copy), (0, b"", "")), (open(copy, "rb").read(), b"abc"), (client("get", ABC, "-o", "/dev/null"), (0, b"", "")), (client("get", ABC, "-o", "-"), (0, b"abc", "")))
+        link = os.path.join(place, "link")
+        os.symlink("copy", link)
+        os.chmod(copy, 0o640)
+        found += differences((client("get", FOUR, "-o", copy), (0, b"", "")), (stat.S_IMODE(os.stat(copy).st_mode), 0o640))
+        found += differences((client("get", ABC, "-o", link), (0, b"", "")), (os.readlink(link), "copy"), (open(copy, "rb").read(), b"abc"))
+        os.remove(link)
         nowhere = os.path.join(place, "none", "copy")
         found += differences((client("get", ABC, "-o", nowhere), (3, b"", f"b3store: {nowhere}: no such file or directory\n")))
         found += differences((client("get", ABC, "-o", ""), (3, b"", "b3store: '': no such file or directory\n")))

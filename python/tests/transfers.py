@@ -114,6 +114,26 @@ def uploads_that_fail():
         return found + differences((store.upload(io.BytesIO(large), tenant).length, len(large)), (store.upload(b"abc", tenant, address=ABC).address, ABC))
 
 
+def writes_after_a_refusal():
+    """Once a write was refused, it isn't known which bytes the store has: the upload is aborted, and not sealed without some of them."""
+    with Store(PROGRAM, sessions=1) as store:
+        tenant = store.tenant(LIMIT)
+        upload = store.start_upload(tenant, max_len=2 * PART_LEN)
+        found = differences((upload.write(bytes(PART_LEN // 2)), PART_LEN // 2), (refusal(upload.write, bytes(3 * PART_LEN)), ("F4", None)))
+        found += differences((upload.is_open, False), (store.uploads(tenant), []), (raised(upload.write, b"a"), ValueError))
+        found += differences((refusal(upload.seal), ("S7", None)), (store.list(tenant), {}), (store.usage(tenant).reserved, 0))
+
+        def write_on():
+            with store.start_upload(tenant, max_len=PART_LEN) as upload:
+                refusal(upload.write, bytes(2 * PART_LEN))
+
+        found += differences((refusal(write_on), ("F4", None)))
+        with store.start_upload(tenant) as upload:
+            upload.write(b"abc")
+            upload.seal()
+            return found + differences((raised(upload.write, b"d"), ValueError), (store.fetch(tenant, upload.filed.address), b"abc"))
+
+
 def uploads_with_blocks():
     """An upload that is left by an exception is aborted, and sealed otherwise."""
     with Store(PROGRAM, sessions=1) as store:

@@ -295,6 +295,9 @@ def folders_that_are_none(program: str) -> List[str]:
         found += differences((fails(*words, f"{folder}/notes"), (1, f"b3store.server: cannot open the folder {folder}/notes: File exists\n")))
         found += differences((fails(*words, f"{folder}/notes/a"), (1, f"b3store.server: cannot open the folder {folder}/notes/a: Not a directory\n")))
         found += differences((fails(*words, "")[0], 1), (_files(folder), before))
+        with _folder() as other:
+            told = f"b3store.server: cannot listen on {other}/socket: its folder is in use by a server that saves there, a cache or a backup\n"
+            found += differences((fails("--program", program, "--socket", f"{other}/socket", "--save", other), (1, told)))
         for make in os.mkfifo, os.mkdir:
             with _folder() as other:
                 os.mkdir(other)
