@@ -78,6 +78,8 @@ class Files:
         self.folder = self.lock(time.monotonic() + SECONDS_TO_LOCK)
         self.keys, self.places, self.refs = {}, {}, collections.Counter()
         """The keys of the log by user and key, the objects' places, and how many keys lead to an object."""
+        self.unread = set()
+        """The objects that could not be read at the start: they stay where they are, for a later start."""
         self.live, self.sizes = collections.Counter(), collections.Counter()
         """For each segment, how many of its bytes keys lead to, and its length."""
         self.waiting, self.bytes, self.changes, self.changed = [], 0, 0, threading.Condition()
@@ -198,6 +200,7 @@ class Files:
     def lose(self, address):
         """Forgets where an object is: if its content is stored again, it is written again."""
         place = self.places.pop(address, None)
+        self.unread.discard(address)
         if place is not None and self.refs[address]:
             self.live[place.segment] -= place.length
 
@@ -282,10 +285,14 @@ class Files:
             self.write_log()
 
     def texts_of(self, cache, user, key, entry, content):
-        """The lines of a key that has changed. If no store holds its content any more and it isn't on disk, a later change has undone this one."""
+        """The lines of a key that has changed: none if a store has ended with its content. If no store holds its content any more and it isn't on disk, a
+        later change has undone this one."""
         texts = []
-        if entry is not None and entry.address not in self.places:
-            line = self.append_held(cache, user, entry.address, content)
+        if entry is not None and (entry.address not in self.places or entry.address in self.unread):
+            try:
+                line = self.append_held(cache, user, entry.address, content)
+            except Ended:
+                return []
             if line is None:
                 entry = None
             else:
@@ -298,17 +305,22 @@ class Files:
 
     def append_held(self, cache, user, address, content):
         """Appends an object that a store holds for a user, and returns its line; None if no store holds it. An object may move while it is read:
-        then it is read from where it is now."""
-        tried = None
+        then it is read from where it is now. Raises Ended if the store that holds it has ended."""
+        if content is not None:
+            return self.append(address, lambda: self.write_pieces([content]))
+        tried = fault = None
         while True:
-            if content is not None:
-                return self.append(address, lambda: self.write_pieces([content]))
             backend = cache.find(user, address)
             if backend is None or backend is tried:
-                return None
+                break
             tried = backend
-            with contextlib.suppress(Refused, Ended):
+            try:
                 return self.append(address, lambda: backend.store.fetch_to(backend.tenants[user], address, self.last.fileno()))
+            except (Refused, Ended) as error:
+                fault = error
+        if backend is not None and isinstance(fault, Ended):
+            raise fault
+        return None
 
     def write_pieces(self, pieces):
         """Writes some bytes to the last segment."""
@@ -328,11 +340,13 @@ class Files:
             raise
         place = Place(self.name, offset, self.last.tell() - offset)
         self.note_place(address, place)
+        self.unread.discard(address)
         return f"object {address} {place.segment} {place.offset} {place.length}"
 
     def emptiest(self):
-        """A segment, other than the last one, of which keys lead to at most half; or None."""
-        return next((name for name, size in self.sizes.items() if name != self.name and 2 * self.live[name] <= size), None)
+        """A segment of which keys lead to at most half, and which is neither the last one nor has an object that could not be read; or None."""
+        kept = {self.name, *(self.places[address].segment for address in self.unread if self.refs[address])}
+        return next((name for name, size in self.sizes.items() if name not in kept and 2 * self.live[name] <= size), None)
 
     def live_objects(self, segment):
         return [address for address, place in self.places.items() if place.segment == segment and self.refs[address]]
@@ -415,7 +429,8 @@ class Loader:
                 self.wrong.append((user, key))
             return str(refusal)
         except (OSError, ValueError) as fault:
-            self.files.lose(address)
+            if address in self.files.places:
+                self.files.unread.add(address)
             return error_text(fault)
 
     def load_object(self, user, address):

@@ -233,8 +233,11 @@ def http_chunks(file):
         if file.readline(3) not in (b"\r\n", b"\n"):
             raise Cut
     for _ in range(MAX_HEADERS):
-        if file.readline(MAX_LINE) in (b"\r\n", b"\n"):
+        line = file.readline(MAX_LINE)
+        if line in (b"\r\n", b"\n"):
             return
+        if not line.endswith(b"\n"):
+            break
     raise Cut
 
 

@@ -18,6 +18,7 @@ FILE has a line `NAME TOKEN LIMIT` for each user; without it there is one user, 
 recently used keys are evicted, as many as needed; with `--no-evict` none are, and the answer is 507.
 
 Content is written to FOLDER as it arrives, at least twice a second: if the server is killed, at most the last second is lost; after a signal above, nothing is.
+A signal that ends the store too is like a kill, so systemd needs `KillMode=mixed`; Ctrl-C doesn't reach the store.
 The server starts with what is in FOLDER, and compares each object with its address. A key that can't be loaded, such as one of a user who isn't in FILE, is
 reported, and stays in FOLDER with its object for a later start; an object that has another address is moved to FOLDER/aside. Only the server's user can read
 what it writes there. One server at a time uses a folder. If the store ends, the server answers 503 and exits with status 3.
@@ -79,6 +80,8 @@ PRIVATE = 0o077
 """The umask: other users can't read what is in FOLDER, which needs no token."""
 JOURNAL_LIMIT = 4000000
 """The default of `--journal-limit`: an entry takes 48 bytes of the store's memory."""
+LAST_OF_NAMES = "\xff"
+"""The last character that a user's name may have: the log has a byte for each."""
 EXAMPLE = """\
 example:
   $ cache_server.py /var/cache/builds --port 8080 &
@@ -132,11 +135,11 @@ class Handler(Connection):
 
     def store(self):
         user = self.user()
-        if user is None:
-            return self.refuse(401)
         if self.length is None and not self.has_chunks:
-            return self.refuse(411)
+            return self.refuse(401 if user is None else 411)
         body = self.counted(self.body(PART))
+        if user is None:
+            return self.refuse(401, body)
         if self.path in self.PAGES:
             return self.refuse(405, body)
         if self.length is not None and self.length > self.server.cache.max_len:
@@ -144,6 +147,8 @@ class Handler(Connection):
         try:
             self.server.cache.put(user, self.path, self.length, body, self.server.address_of(self.path))
             self.server.cache.files.wait()
+            if self.server.cache.files.fault is not None:
+                return self.refuse(503)
             self.answer(201)
         except Refused as refusal:
             self.refuse(STATUSES.get(refusal.number, 500), body)
@@ -303,8 +308,9 @@ class CacheServer(Server):
             """The store has no memory to answer now."""
 
     def end(self, fault):
-        """Ends, for a fault."""
-        self.fault = fault
+        """Ends, for a fault, unless it ends already."""
+        if not self.cache.is_closed:
+            self.fault = fault
         self.stopping.set()
 
 
@@ -317,6 +323,8 @@ def users_of(options):
             found = re.fullmatch(r"(\S+)\s+(\S+)\s+([0-9]{1,14})\s*", line)
             if not found or "\ufffd" in line or int(found[3]) > MAX_LIMIT:
                 raise ValueError(f"{options.users}, line {number}: {line.strip()[:60]!r} is not NAME TOKEN LIMIT, with a limit of up to {MAX_LIMIT} bytes")
+            if max(found[1]) > LAST_OF_NAMES:
+                raise ValueError(f"{options.users}, line {number}: the name {found[1][:60]!r} has a character that isn't in ISO 8859-1")
             users.append(User(found[1], found[2], int(found[3])))
     if not users:
         raise ValueError(f"{options.users} has no user")
@@ -379,8 +387,11 @@ def serve(options, files, stopping):
         files.end()
         if server.fault is not None:
             raise server.fault
-        objects = {entry.address for user in cache.users for entry in user.keys.values()}
-        keys = sum(len(user.keys) for user in cache.users)
+        # if a store has ended meanwhile, not all is saved
+        cache.check()
+        with cache.lock:
+            objects = {entry.address for user in cache.users for entry in user.keys.values()}
+            keys = sum(len(user.keys) for user in cache.users)
         print(f"cache_server: saved {count_text(keys, 'key')}, {count_text(len(objects), 'object')}", flush=True)
     finally:
         cache.close_stores()

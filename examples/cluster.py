@@ -33,17 +33,17 @@ exit status: 0 after a signal; 1 a server or nginx can't start, or nginx has end
 """
 NGINX = """\
 daemon off;
-pid {folder}/nginx.pid;
-error_log {folder}/nginx.log crit;
+pid nginx.pid;
+error_log nginx.log crit;
 events {{}}
 http {{
   access_log off;
   client_max_body_size 0;
-  client_body_temp_path {folder}/nginx-body;
-  proxy_temp_path {folder}/nginx-proxy;
-  fastcgi_temp_path {folder}/nginx-fastcgi;
-  uwsgi_temp_path {folder}/nginx-uwsgi;
-  scgi_temp_path {folder}/nginx-scgi;
+  client_body_temp_path nginx-body;
+  proxy_temp_path nginx-proxy;
+  fastcgi_temp_path nginx-fastcgi;
+  uwsgi_temp_path nginx-uwsgi;
+  scgi_temp_path nginx-scgi;
   upstream servers {{
     hash $request_uri consistent;
 {servers}
@@ -94,8 +94,8 @@ def start_all(options, processes):
             raise ValueError("a cache server doesn't start")
     lines = "\n".join(f"    server 127.0.0.1:{server.port} max_fails=1 fail_timeout=2s;" for server in servers)
     with open(os.path.join(folder, "nginx.conf"), "w", encoding="utf-8") as file:
-        file.write(NGINX.format(folder=folder, servers=lines, port=options.port))
-    processes.append(subprocess.Popen(["nginx", "-c", file.name, "-e", os.path.join(folder, "nginx.log")]))
+        file.write(NGINX.format(servers=lines, port=options.port))
+    processes.append(subprocess.Popen(["nginx", "-p", folder, "-c", file.name, "-e", os.path.join(folder, "nginx.log")]))
     print(f"cluster: port {options.port}", flush=True)
     print(f"cluster: servers {' '.join(str(server.process.pid) for server in servers)}", flush=True)
 

@@ -3,6 +3,7 @@ import collections
 import contextlib
 import http.client
 import os
+import signal
 import subprocess
 import sys
 import tempfile
@@ -10,7 +11,7 @@ import threading
 import time
 
 from shared import ABC, EMPTY, FOUR, PROGRAM, SECONDS, TOP, differences, readable_by_others
-from servers import USERS, Cache, ask, wait_until
+from servers import SERVER, USERS, Cache, ask, children, wait_until
 
 
 def begins_again():
@@ -239,6 +240,81 @@ def stops_at_once():
             return found + differences((files_of(folder), before))
 
 
+def keeps_all_at_an_interrupt():
+    """Ctrl-C at a terminal goes to all processes of the group. What was answered is kept, also content that is read from the store when it is written."""
+    with tempfile.TemporaryDirectory() as place:
+        folder, large = os.path.join(place, "cache"), b"large" * 600000
+        with Cache(folder) as cache:
+            found = differences((cache.ask("PUT", "/small", b"abc")[0], 201), (cache.ask("PUT", "/large", large)[0], 201))
+            told = cache.stop(lambda process: os.killpg(process.pid, signal.SIGINT))
+            found += differences((told, ("cache_server: saved 2 keys, 2 objects\n", "")), (cache.process.returncode, 0))
+        with Cache(folder) as cache:
+            return found + differences((cache.ask("GET", "/large") == (200, large), True), (cache.ask("GET", "/small"), (200, b"abc")))
+
+
+def tells_what_a_dead_store_had():
+    """If a signal ends the store too, what it alone had is lost, which is reported; a key keeps the content that it had before."""
+    with tempfile.TemporaryDirectory() as place:
+        folder, large = os.path.join(place, "cache"), b"large" * 600000
+
+        def end_both(process):
+            os.kill(children(process)[0], signal.SIGKILL)
+            process.send_signal(signal.SIGTERM)
+
+        with Cache(folder) as cache:
+            found = differences((cache.ask("PUT", "/k", b"abc")[0], 201), (wait_until(lambda: len(texts_of_log(folder)) == 2), True))
+            found += differences((cache.ask("PUT", "/k", large)[0], 201))
+            told = cache.stop(end_both)
+            found += differences((told, ("", "cache_server: the store has ended; its exit status is -9\n")), (cache.process.returncode, 3))
+        # on a slow machine the large content may have been written before
+        wanted = large if len(texts_of_log(folder)) == 4 else b"abc"
+        with Cache(folder) as cache:
+            return found + differences((cache.ask("GET", "/k") == (200, wanted), True))
+
+
+def stops_while_it_is_used():
+    """A signal ends it well, whatever its clients do meanwhile."""
+    with tempfile.TemporaryDirectory() as place:
+        found = []
+        for life in range(4):
+            with Cache(os.path.join(place, "cache")) as cache:
+                threads = [threading.Thread(target=put_on, args=(cache, thread, collections.defaultdict(list))) for thread in range(6)]
+                for thread in threads:
+                    thread.start()
+                time.sleep(0.3 + 0.1 * life)
+                out, err = cache.stop()
+                for thread in threads:
+                    thread.join()
+                found += differences((cache.process.returncode, 0), (err, ""), (out.startswith("cache_server: saved "), True))
+        return found
+
+
+UNREADABLE = f"""import sys; sys.path[:0] = {[os.path.join(TOP, name) for name in ("examples", "python")]!r}
+import builtins, cache_files, cache_server
+def open_other(path, mode, *words, **more):
+    if "segment." in path and mode == "rb":
+        raise PermissionError(13, "Permission denied")
+    return builtins.open(path, mode, *words, **more)
+cache_files.open = open_other
+sys.exit(cache_server.main())"""
+
+
+def keeps_what_it_cannot_read():
+    """Content that can't be read at one start is there for the next one. What is stored again meanwhile is written again."""
+    with tempfile.TemporaryDirectory() as place:
+        folder, large = os.path.join(place, "cache"), b"large" * 600000
+        with Cache(folder) as cache:
+            found = differences(*((cache.ask("PUT", key, content)[0], 201) for key, content in (("/a", b"abc"), ("/b", large))))
+        before = places_of(folder)
+        with Cache(folder, server=["-c", UNREADABLE]) as cache:
+            found += differences((cache.begun.split(", ", 1)[1], "has 0 keys, 0 objects\n"), (cache.ask("PUT", "/a", b"abc")[0], 201))
+            found += differences((wait_until(lambda: places_of(folder)[ABC] != before[ABC]), True))
+            found += differences((cache.stop()[1], "cache_server: 2 keys left out: permission denied\n"))
+        with Cache(folder) as cache:
+            found += differences((cache.begun.split(", ", 1)[1], "has 2 keys, 2 objects\n"))
+            return found + differences((cache.ask("GET", "/a"), (200, b"abc")), (cache.ask("GET", "/b") == (200, large), True))
+
+
 def begins_from_an_older_folder():
     """One with a file for each object, and one of the keys."""
     with tempfile.TemporaryDirectory() as place:
@@ -259,7 +335,7 @@ def begins_from_an_older_folder():
 
 def ends_where_nothing_can_be_written():
     with tempfile.TemporaryDirectory() as place:
-        words = [sys.executable, os.path.join(TOP, "examples", "cache_server.py"), os.path.join(place, "cache"), "--port", "0", "--program", PROGRAM]
+        words = [sys.executable, SERVER, os.path.join(place, "cache"), "--port", "0", "--program", PROGRAM]
         words = ["bash", "-c", 'ulimit -f 1000; exec "$@"', "bash", *words]
         with subprocess.Popen(words, stdout=subprocess.PIPE, stderr=subprocess.PIPE) as server:
             port = int(server.stdout.readline().decode().split("port ")[1].split(",")[0])

@@ -3,7 +3,7 @@ import os
 import socket
 import tempfile
 
-from servers import Cache, raw_answer
+from servers import USERS, Cache, raw_answer
 from shared import ABC, FOUR, SECONDS, differences
 
 CLOSE = b"Connection: close\r\n"
@@ -50,6 +50,15 @@ def refuses_wrong_requests():
             found += [] if told == status else [f"{name}: {told}"]
         found += differences((cache.ask("GET", "/d"), (200, b"abc")), (cache.ask("GET", "/k"), (404, b"")))
         return found + differences((cache.stop()[1], ""))
+
+
+def refuses_other_tokens():
+    """A client with a wrong token is told so after it has sent its body."""
+    with tempfile.TemporaryDirectory() as place, Cache(os.path.join(place, "cache"), USERS) as cache:
+        chunked = {"Transfer-Encoding": "chunked"}
+        found = differences(*((cache.ask("PUT", "/k", bytes(length), token)[0], 401) for length in (3, 8000000) for token in (None, "token-c")))
+        found += differences((cache.ask("PUT", "/k", iter([bytes(8000000)]), "token-c", chunked)[0], 401))
+        return found + differences((cache.ask("GET", "/k", token="token-a")[0], 404), (cache.ask("PUT", "/k", b"abc", "token-a")[0], 201))
 
 
 def does_nothing_for_half_a_request():
@@ -118,6 +127,7 @@ def etag(port, key):
 
 CASES = (
     ("a cache's wrong requests", refuses_wrong_requests),
+    ("a cache's clients with other tokens", refuses_other_tokens),
     ("a cache's half requests", does_nothing_for_half_a_request),
     ("a cache's keys that differ in a byte", keeps_keys_apart),
     ("a cache's clients that wait to be asked", asks_for_the_body),

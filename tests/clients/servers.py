@@ -13,18 +13,21 @@ import time
 from shared import PROGRAM, SECONDS, TOP
 
 
-class Cache:
-    """A cache server in a process of its own."""
+SERVER = os.path.join(TOP, "examples", "cache_server.py")
 
-    def __init__(self, folder, users=None, words=()):
+
+class Cache:
+    """A cache server in a process of its own, which has a group of its own, as a command at a terminal has."""
+
+    def __init__(self, folder, users=None, words=(), server=(SERVER,)):
         self.folder = folder
-        command = [sys.executable, os.path.join(TOP, "examples", "cache_server.py"), folder, "--port", "0", "--program", PROGRAM, *words]
+        command = [sys.executable, *server, folder, "--port", "0", "--program", PROGRAM, *words]
         if users is not None:
             path = os.path.join(os.path.dirname(folder), "users")
             with open(path, "w", encoding="ascii") as file:
                 file.write(users)
             command += ["--users", path]
-        self.process = subprocess.Popen(command, stdout=subprocess.PIPE, stderr=subprocess.PIPE)
+        self.process = subprocess.Popen(command, stdout=subprocess.PIPE, stderr=subprocess.PIPE, start_new_session=True)
         self.begun, self.told = self.process.stdout.readline().decode(), None
         self.port = int(self.begun.split("port ")[1].split(",")[0])
 
@@ -34,10 +37,10 @@ class Cache:
     def __exit__(self, *_):
         self.stop()
 
-    def stop(self):
+    def stop(self, end=lambda process: process.send_signal(signal.SIGTERM)):
         """Ends it, and gives what it told since its beginning, also if it is called again."""
         if self.told is None:
-            self.process.send_signal(signal.SIGTERM)
+            end(self.process)
             out, err = self.process.communicate(timeout=SECONDS)
             self.told = out.decode(), err.decode()
         return self.told
