@@ -100,6 +100,15 @@ def place_in(folder, path):
     return os.path.join(folder, path)
 
 
+def opened(path, status):
+    """Opens a regular file of this status. Raises OSError if another one has taken its place: a link is not followed, and a pipe not waited for."""
+    file = open(os.open(path, os.O_RDONLY | os.O_NOFOLLOW | os.O_NONBLOCK | os.O_CLOEXEC), "rb")
+    if not os.path.samestat(os.fstat(file.fileno()), status):
+        file.close()
+        raise OSError("another file has taken its place while it was saved")
+    return file
+
+
 def words_of_all(name, status):
     """The words that the lines of files, folders and links have in common."""
     return [name, f"{stat.S_IMODE(status.st_mode):o}:{status.st_uid}:{status.st_gid}", str(status.st_mtime_ns)]
@@ -122,7 +131,7 @@ def words_of(repository, folder, path, known, linked):
     words = ["file", *words, str(status.st_size)]
     addresses = known.get(tuple(words))
     if addresses is None or not all(repository.has(address) for address in addresses):
-        with open(path, "rb") as file:
+        with opened(path, status) as file:
             addresses = repository.keep_all(file, status.st_size)
     if status.st_nlink > 1:
         linked[inode] = name
@@ -181,8 +190,8 @@ class Restoring:
     def __init__(self, repository, folder):
         self.repository, self.folder = repository, folder
         self.folders, self.unowned, self.is_whole = [], 0, True
-        self.own = set()
-        """The folders that were restored: none of them is a link, or below one."""
+        self.own, self.files = set(), set()
+        """The folders that were restored, none of which is a link, or below one; and the files."""
 
     def restore(self, line):
         """Restores a line's file, link or folder. Raises OSError if a folder on its path is a link."""
@@ -198,12 +207,15 @@ class Restoring:
             self.own.add(unquoted(path))
             return
         if kind == "same":
+            if unquoted(words[0]) not in self.files:
+                raise OSError(f"it is a hard link of {unquoted(words[0])}, which isn't restored")
             os.link(place_in(self.folder, unquoted(words[0])), place, follow_symlinks=False)
             return
         if kind == "link":
             os.symlink(unquoted(words[0]), place)
         else:
             self.write(place, words[1:])
+            self.files.add(unquoted(path))
         self.finish(place, line)
 
     def write(self, place, addresses):
@@ -212,7 +224,7 @@ class Restoring:
         try:
             with file:
                 file.writelines(map(self.repository.read, addresses))
-        except (Refused, OSError):
+        except BaseException:
             os.remove(place)
             raise
 

@@ -23,13 +23,15 @@ class Checking:
         return os.path.relpath(path, self.repository.path)
 
     def check_copy(self, address, path, read):
-        """Compares a copy of an object with its address."""
+        """Compares a copy of an object with its address. Returns whether it is right."""
         try:
             content = read()
             self.repository.hold(content, address)
             self.right[address] = len(content)
+            return True
         except (Refused, OSError) as fault:
             self.faults.append((address, self.relative(path), reason(fault)))
+            return False
 
     def check_pack(self, pack):
         """Compares all that is in a pack and its index."""
@@ -43,8 +45,8 @@ class Checking:
         elif pack.length > end:
             self.report_pack(pack, pack.path, f"after its pieces are {pack.length - end} more bytes")
         for row, address, start, length in pack.pieces():
-            self.check_copy(address, pack.path, lambda: read(pack, start, length))
-            if pack.index_fault is None and address in self.right and read(pack, start - len(row), len(row)) != row:
+            is_right = self.check_copy(address, pack.path, lambda: read(pack, start, length))
+            if is_right and pack.index_fault is None and read(pack, start - len(row), len(row)) != row:
                 self.report_pack(pack, pack.path, f"before object {address} is a wrong row")
 
     def report_pack(self, pack, path, fault):

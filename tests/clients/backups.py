@@ -13,9 +13,10 @@ import sys
 import tempfile
 import time
 
-from shared import ABC, EMPTY, PROGRAM, SECONDS, TOP, differences, readable_by_others, script_of
+from shared import ABC, EMPTY, PROGRAM, SECONDS, TOP, differences, raised, readable_by_others, script_of
 from b3store import Store
 import backup_pieces
+from backup import opened
 from backup_repository import Repository
 
 
@@ -224,6 +225,66 @@ def keeps_owners_and_links():
             was, now = (os.lstat(os.path.join(at, name)) for at in (folder, restored))
             found += differences(((now.st_mode, now.st_uid, now.st_gid, now.st_mtime_ns, now.st_nlink), (was.st_mode, was.st_uid, was.st_gid, was.st_mtime_ns, was.st_nlink)))
         return found + differences((os.path.samefile(os.path.join(restored, "a"), os.path.join(restored, "b")), True))
+
+
+def links_to_its_own_files():
+    """A hard link of a file that isn't restored is reported, and not made of another file that has that name."""
+    with tempfile.TemporaryDirectory() as place:
+        folder, repository, restored = (os.path.join(place, name) for name in ("folder", "repository", "restored"))
+        for at, content in (folder, b"abc"), (restored, b"own"):
+            os.mkdir(at)
+            with open(os.path.join(at, "a"), "wb") as file:
+                file.write(content)
+        os.link(os.path.join(folder, "a"), os.path.join(folder, "b"))
+        lines = backup("save", folder, repository)[1]
+        told = ["not restored: a: file exists", "not restored: b: it is a hard link of a, which isn't restored"]
+        found = differences((backup("restore", repository, lines[-1].split()[1], restored), (1, told)), (os.listdir(restored), ["a"]))
+        with open(os.path.join(restored, "a"), "rb") as file:
+            return found + differences((file.read(), b"own"))
+
+
+ENDING_STORE = f"""import sys; sys.path[:0] = {[os.path.join(TOP, name) for name in ("examples", "python")]!r}
+import backup, backup_repository, b3store
+read, reads = backup_repository.Repository.read, []
+def read_some(self, address):
+    reads.append(address)
+    if len(reads) == 5:
+        raise b3store.Ended("the store has ended")
+    return read(self, address)
+backup_repository.Repository.read = read_some
+sys.exit(backup.main())"""
+
+
+def leaves_no_part_of_a_file():
+    """If the store ends in the middle of a file, the file is not left there in part."""
+    with tempfile.TemporaryDirectory() as place:
+        folder, repository, restored = (os.path.join(place, name) for name in ("folder", "repository", "restored"))
+        os.mkdir(folder)
+        with open(os.path.join(folder, "large"), "wb") as file:
+            file.write(random.Random(1).randbytes(4000000))
+        address = backup("save", folder, repository)[1][-1].split()[1]
+        words = [sys.executable, "-c", ENDING_STORE, "--program", PROGRAM, "restore", repository, address, restored]
+        run = subprocess.run(words, capture_output=True, timeout=SECONDS)
+        found = differences((run.returncode, 3), (run.stderr, b"backup: the store has ended\n"), (os.listdir(restored), []))
+        return found + differences((backup("restore", repository, address, restored), (0, [])))
+
+
+def opens_what_it_has_seen():
+    """A file that something else has replaced meanwhile is not saved under its name: a link is not followed, and a pipe not waited for."""
+    with tempfile.TemporaryDirectory() as place:
+        path, other, found = os.path.join(place, "a"), os.path.join(place, "other"), []
+        with open(other, "wb") as file:
+            file.write(b"secret")
+        for replace in (lambda: os.symlink(other, path)), (lambda: os.mkfifo(path)), (lambda: shutil.copy(other, path)):
+            with open(path, "wb") as file:
+                status = os.lstat(path)
+            with opened(path, status) as file:
+                found += differences((file.read(), b""))
+                os.remove(path)
+                replace()
+                found += differences((raised(opened, path, status), OSError))
+            os.remove(path)
+        return found
 
 
 def keeps_deep_folders():

@@ -115,6 +115,29 @@ def finds_changed_packs():
         return found
 
 
+def finds_other_copies():
+    """Where the end of a pack is missing, and another pack has its pieces, all else is checked, and everything can be restored. A pack of one piece is
+    written again under its name."""
+    with tempfile.TemporaryDirectory() as place:
+        folder, _ = folder_to_keep(place)
+        kept, repository = os.path.join(place, "kept"), os.path.join(place, "repository")
+        found = differences((saved(folder, kept) != "", True))
+        for pack in names_of(kept, ".pack")[-4:]:
+            shutil.copytree(kept, repository)
+            with open(os.path.join(kept, pack[:-5] + ".index"), encoding="ascii") as index:
+                last = int(index.read().split()[-1])
+            # the end is within the row of the last piece
+            os.truncate(os.path.join(repository, pack), os.path.getsize(os.path.join(kept, pack)) - last - 10)
+            saved(folder, repository)
+            status, lines = backup("check", repository)
+            wrong = [line.partition(" in ")[2] for line in lines if line.startswith("wrong: ")]
+            is_whole = os.path.getsize(os.path.join(repository, pack)) == os.path.getsize(os.path.join(kept, pack))
+            found += differences((status, 0), (wrong, [] if is_whole else [f"{pack}: the pack is truncated; another copy is right"]))
+            found += differences(([line.split()[::2] for line in lines[-1:]], [["backups", "broken"]]), ([line.split()[-1] for line in lines[-1:]], ["0"]))
+            shutil.rmtree(repository)
+        return found
+
+
 def reads_rows_of_packs():
     """Packs are read without any index, up to what is wrong in them."""
     with tempfile.TemporaryDirectory() as place:
@@ -281,6 +304,7 @@ def foreign_files():
 CASES = (
     ("a backup in packs", reads_packs_back),
     ("a backup whose pack was changed", finds_changed_packs),
+    ("a backup with another copy of what is wrong", finds_other_copies),
     ("a backup whose indexes are missing", reads_rows_of_packs),
     ("a backup whose packs are missing", keeps_what_is_missing_again),
     ("a backup in an older repository", reads_an_older_repository),
