@@ -2,8 +2,10 @@
 //!
 //!     rustc -O sum.rs -C link-args="$(pkg-config --libs b3)"
 
+use std::ffi::OsStr;
 use std::fs::File;
-use std::io::{self, Read};
+use std::io::{self, Read, Write};
+use std::os::unix::ffi::OsStrExt;
 use std::process::ExitCode;
 
 const HASH: u32 = 0;
@@ -63,7 +65,7 @@ impl Hasher {
     }
 }
 
-fn hash_of_file(name: &str) -> io::Result<[u8; HASH_LEN]> {
+fn hash_of_file(name: &OsStr) -> io::Result<[u8; HASH_LEN]> {
     let mut file = File::open(name)?;
     let mut hasher = Hasher::new();
     let mut piece = vec![0; 1 << 16];
@@ -77,16 +79,20 @@ fn hash_of_file(name: &str) -> io::Result<[u8; HASH_LEN]> {
 
 fn main() -> ExitCode {
     let mut status = ExitCode::SUCCESS;
-    for name in std::env::args().skip(1) {
-        match hash_of_file(&name) {
-            Ok(hash) => {
-                let digits: String = hash.iter().map(|byte| format!("{byte:02x}")).collect();
-                println!("{digits}  {name}");
-            }
+    for name in std::env::args_os().skip(1) {
+        let hash = match hash_of_file(&name) {
+            Ok(hash) => hash,
             Err(error) => {
-                eprintln!("{name}: {error}");
+                eprintln!("{}: {error}", name.to_string_lossy());
                 status = ExitCode::FAILURE;
+                continue;
             }
+        };
+        let digits: String = hash.iter().map(|byte| format!("{byte:02x}")).collect();
+        let line = [digits.as_bytes(), b"  ", name.as_bytes(), b"\n"].concat();
+        if let Err(error) = io::stdout().write_all(&line) {
+            eprintln!("standard output: {error}");
+            return ExitCode::FAILURE;
         }
     }
     status

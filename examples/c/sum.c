@@ -22,14 +22,25 @@ int main(int argc, char **argv) {
         const char *name = i > 0 ? argv[i] : "-";
         FILE *stream = strcmp(name, "-") == 0 ? stdin : fopen(name, "rb");
         uint8_t hash[B3_HASH_LEN];
-        if (stream == NULL || (hash_stream(stream, hash), ferror(stream))) {
+        int is_read = 0;
+        if (stream != NULL) {
+            hash_stream(stream, hash);
+            is_read = !ferror(stream);
+        }
+        if (is_read) {
+            for (size_t j = 0; j < sizeof hash; j++)
+                printf("%02x", hash[j]);
+            printf("  %s\n", name);
+        } else {
             perror(name);
             status = 1;
-            continue;
         }
-        for (size_t j = 0; j < sizeof hash; j++)
-            printf("%02x", hash[j]);
-        printf("  %s\n", name);
+        if (stream != NULL && stream != stdin)
+            fclose(stream);
+    }
+    if (fflush(stdout) != 0) {
+        perror("standard output");
+        status = 1;
     }
     return status;
 }

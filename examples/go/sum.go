@@ -34,7 +34,10 @@ func main() {
 			continue
 		}
 		sum, _ := hash(bytes)
-		fmt.Printf("%x  %s\n", sum, name)
+		if _, err := fmt.Printf("%x  %s\n", sum, name); err != nil {
+			fmt.Fprintln(os.Stderr, err)
+			os.Exit(1)
+		}
 	}
 	os.Exit(status)
 }
