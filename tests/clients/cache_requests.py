@@ -1,4 +1,5 @@
 """Requests to examples/cache_server.py that are wrong, by mistake or on purpose."""
+import contextlib
 import os
 import socket
 import tempfile
@@ -34,10 +35,11 @@ def status_of(answer):
 
 
 def answer_of_half(port, request):
-    """What a server answers to a request after which the client sends nothing more."""
+    """What a server answers to a request after which the client sends nothing more. It may close the connection before it has read all."""
     with socket.create_connection(("127.0.0.1", port), timeout=SECONDS) as connection:
-        connection.sendall(request)
-        connection.shutdown(socket.SHUT_WR)
+        with contextlib.suppress(OSError):
+            connection.sendall(request)
+            connection.shutdown(socket.SHUT_WR)
         return b"".join(iter(lambda: connection.recv(4096), b""))
 
 
