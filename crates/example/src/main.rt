@@ -17,6 +17,7 @@ use std::io::{Read, Write};
 use std::sync::Wait;
 use std::thread::Threads;
 use store_core::{Address, Limits, Store, TenantId};
+use store_ledger::Accepted;
 
 // The bytes of a part. All parts but the last are whole chunks of 1024 bytes.
 const PART_LEN: usize = 1024;
@@ -85,6 +86,7 @@ fn give_back<W: Write>(
     for segment in object.segments() {
         writer.write_all(segment.bytes.as_slice())?;
     }
+    writer.flush()?;
     Ok(())
 }
 
@@ -101,18 +103,14 @@ fn show_calls<T: Threads + Runtime>(rt: &HostRuntime, threads: &T, bytes: &[u8])
     Ok(())
 }
 
-fn run<T: Threads + Wait + Sync + Runtime>(rt: &HostRuntime, threads: &T) -> Result<()> {
-    let alloc = rt.alloc();
-    let mut work = Work::new(rt);
-    let mut input = Vec::new(alloc);
-    rt.stdin().read_to_end(&mut input)?;
-
-    let mut store = Store::new(alloc, Limits::full());
-    let tenant = store.open_tenant(1 << 40)?;
-    let address = back_up(alloc, &mut store, tenant, input.as_slice(), &mut work)?;
-    let mut stream = input.as_slice();
-    let _known = back_up_stream(alloc, &mut store, tenant, &mut stream, &mut work)?;
-    let (_same, accepted) = back_up_shared(threads, alloc, input.as_slice())?;
+// Prints what the store has, and what it has done.
+fn show_store(
+    rt: &HostRuntime,
+    store: &Store,
+    address: Address,
+    accepted: &Accepted,
+    work: &Work,
+) -> Result<()> {
     let totals = store.totals();
     println!(rt; "{address}")?;
     println!(rt;
@@ -125,13 +123,30 @@ fn run<T: Threads + Wait + Sync + Runtime>(rt: &HostRuntime, threads: &T) -> Res
         work.count()
     )?;
     println!(rt; "accepted {} {}", accepted.bytes, accepted.calls)?;
-    show_calls(rt, threads, input.as_slice())?;
-    let mut writer = io::writer(rt);
-    give_back(&store, tenant, address, &mut writer)?;
-    writer.flush()?;
     Ok(())
 }
 
+// Backs up some bytes in each way, and writes what the stores then have.
+fn back_up_all<T: Threads + Wait + Sync + Runtime>(
+    rt: &HostRuntime,
+    threads: &T,
+    input: &[u8],
+) -> Result<()> {
+    let alloc = rt.alloc();
+    let mut work = Work::new(rt);
+    let mut store = Store::new(alloc, Limits::full());
+    let tenant = store.open_tenant(1 << 40)?;
+    let address = back_up(alloc, &mut store, tenant, input, &mut work)?;
+    let mut stream = input;
+    let _known = back_up_stream(alloc, &mut store, tenant, &mut stream, &mut work)?;
+    let (_same, accepted) = back_up_shared(threads, alloc, input)?;
+    show_store(rt, &store, address, &accepted, &work)?;
+    show_calls(rt, threads, input)?;
+    give_back(&store, tenant, address, &mut io::writer(rt))
+}
+
 fn main(rt: HostRuntime) -> Result<()> {
-    run(&rt, &rt)
+    let mut input = Vec::new(rt.alloc());
+    rt.stdin().read_to_end(&mut input)?;
+    back_up_all(&rt, &rt, input.as_slice())
 }

@@ -1,6 +1,6 @@
 //! Commands of a store under its lock.
 
-ghost use Rattle.std.specs.Prelude.{◌≡◌, ◌+◌, ◌^◌, ◌<◌, ◌≤◌};
+ghost use Rattle.std.specs.Prelude.{◌≡◌, ◌^◌, ◌≤◌};
 
 use crate::hashes::PATTERN_2048;
 use crate::parts::part_at;
@@ -31,19 +31,16 @@ fn half(rt: &(impl AllocGlobal + Runtime), offset: u64) -> Result<Prepared, Fail
     chunk(rt, &plan, offset)
 }
 
-// Puts a part under the lock. The share rises by the part's length and one call, or not at all.
+// Puts a part under the lock.
 fn put_one<L: Ledgers, R: Wait>(
     rt: &R,
     shared: &Shared<L>,
     share: Share<L>,
     part: Prepared,
     work: Work,
-) -> (Share<L>, bool)
-    ensures few { (result.0.bytes < share.bytes + 2 ^ 63) × (result.0.calls ≤ share.calls + 1) }
-{
+) -> (Share<L>, bool) {
     let mut share = share;
     let mut work = work;
-    let _len = part.bytes().len();
     let done = {
         let mut guard = shared.lock(rt);
         lent_put(&mut *guard, &mut share, UploadId::new(0), part, &mut work).is_ok()
@@ -59,8 +56,7 @@ fn begin_two_chunks<L: Ledgers, R: Wait>(rt: &R, shared: &Shared<L>) -> Result<(
     Ok(())
 }
 
-// Two threads put one half each, with one share each; the half at `first` is put by the first thread. Neither share is whole; both together
-// settle.
+// Two threads put one half each, with one share each; the half at `first` is put by the first thread.
 fn two_halves<L: Ledgers + Send + Sync, R: Threads + Wait + Sync + AllocGlobal + Runtime + Abort>(
     rt: &R,
     ledgers: UnnamedLedgers,
@@ -79,16 +75,24 @@ fn two_halves<L: Ledgers + Send + Sync, R: Threads + Wait + Sync + AllocGlobal +
     let other = share.split(1);
     let _begun = begin_two_chunks(rt, &shared);
     let both = &shared;
-    let ((mut share, done_one), (other, done_two)) = thread::join(
+    let ((share, done_one), (other, done_two)) = thread::join(
         rt,
-        move || -> (Share<L>, bool)
-            ensures { (result.0.bytes < share.bytes + 2 ^ 63) × (result.0.calls ≤ share.calls + 1) }
-        { put_one(rt, both, share, one, work_one) },
-        move || -> (Share<L>, bool)
-            ensures { (result.0.bytes < other.bytes + 2 ^ 63) × (result.0.calls ≤ other.calls + 1) }
-        { put_one(rt, both, other, two, work_two) },
+        move || -> (Share<L>, bool) { put_one(rt, both, share, one, work_one) },
+        move || -> (Share<L>, bool) { put_one(rt, both, other, two, work_two) },
     );
     assert!(rt; done_one && done_two);
+    settle_both(rt, shared, share, other);
+    Ok(())
+}
+
+// Seals and forgets the upload of both halves. Neither share is whole; both together settle.
+fn settle_both<L: Ledgers, R: Wait + Runtime + Abort>(
+    rt: &R,
+    shared: Shared<L>,
+    share: Share<L>,
+    other: Share<L>,
+) {
+    let mut share = share;
     sealed_and_forgotten(rt, &shared, &mut share);
     let mut locked = shared.close();
     assert!(rt; locked.store().journal().len() == 7);
@@ -97,9 +101,8 @@ fn two_halves<L: Ledgers + Send + Sync, R: Threads + Wait + Sync + AllocGlobal +
         calls: 1,
     };
     assert!(rt; locked.settle(&mut share) == Err(missing));
-    share.join(other);
+    locked.join(&mut share, other);
     assert!(rt; locked.settle(&mut share) == Ok(BOTH));
-    Ok(())
 }
 
 // Whether an object has the bytes of the pattern of 2048.
@@ -256,6 +259,13 @@ fn fix_and_seal<L: Ledgers, R: Wait + Abort>(
     assert!(rt; sealed.is_ok_and(|sealed| sealed.released.parts() == 2));
 }
 
+// Both chunks of an upload whose length is fixed later, the second one first.
+fn both_chunks(rt: &(impl AllocGlobal + Runtime)) -> Result<(Prepared, Prepared), Fail> {
+    let plan = Plan::open(4096).ok().ok_or("no plan")?;
+    let second = chunk(rt, &plan, 1024)?;
+    Ok((second, chunk(rt, &plan, 0)?))
+}
+
 // A part that was put to an aborted upload counts as accepted.
 fn one_after_another<L: Ledgers, R: Wait + AllocGlobal + Runtime + Abort>(
     rt: &R,
@@ -266,9 +276,7 @@ fn one_after_another<L: Ledgers, R: Wait + AllocGlobal + Runtime + Abort>(
     requires history { ledgers.history ≡ L.history }
 {
     let alone = half(rt, 1024)?;
-    let plan = Plan::open(4096).ok().ok_or("no plan")?;
-    let second = chunk(rt, &plan, 1024)?;
-    let first = chunk(rt, &plan, 0)?;
+    let (second, first) = both_chunks(rt)?;
     let mut work = Work::new(rt);
     let (shared, mut share) = Shared::<L>::new(rt.alloc(), Limits::full(), ledgers);
     give_up(rt, &shared, &mut share, alone, &mut work);
