@@ -102,7 +102,7 @@ def place_in(folder, path):
 
 def opened(path, status):
     """Opens a regular file of this status. Raises OSError if another one has taken its place: a link is not followed, and a pipe not waited for."""
-    file = open(os.open(path, os.O_RDONLY | os.O_NOFOLLOW | os.O_NONBLOCK | os.O_CLOEXEC), "rb")
+    file = open(path, "rb", opener=lambda path, flags: os.open(path, flags | os.O_NOFOLLOW | os.O_NONBLOCK))
     if not os.path.samestat(os.fstat(file.fileno()), status):
         file.close()
         raise OSError("another file has taken its place while it was saved")

@@ -39,7 +39,7 @@ token. All other paths are keys.
 | 404 | there is no such key |
 | 405 | `/healthz` and `/metrics` can't be keys |
 | 400, 411, 413 | the request is malformed, or its body is truncated or isn't what `--compare` wants; it has no length; it is longer than `--most` |
-| 503, 507 | the store is out of memory, or has ended; the user's quota, or the store, is full |
+| 503, 507 | the store is out of memory, or has ended, or FOLDER can't be written to; the user's quota, or the store, is full |
 """
 import os
 import sys
@@ -147,9 +147,7 @@ class Handler(Connection):
         try:
             self.server.cache.put(user, self.path, self.length, body, self.server.address_of(self.path))
             self.server.cache.files.wait()
-            if self.server.cache.files.fault is not None:
-                return self.refuse(503)
-            self.answer(201)
+            self.answer_change(201)
         except Refused as refusal:
             self.refuse(STATUSES.get(refusal.number, 500), body)
         except (Cut, OSError):
@@ -167,7 +165,13 @@ class Handler(Connection):
             return self.refuse(401)
         if self.path in self.PAGES:
             return self.refuse(405)
-        self.answer(204 if self.server.cache.drop(user, self.path) else 404)
+        self.answer_change(204 if self.server.cache.drop(user, self.path) else 404)
+
+    def answer_change(self, status):
+        """Answers a change of a key: by 503 if FOLDER can't be written to any more."""
+        if self.server.cache.files.fault is not None:
+            return self.refuse(503)
+        self.answer(status)
 
     def give(self, with_content):
         user = self.user()

@@ -38,7 +38,7 @@ int main(int argc, char **argv) {
         if (stream != NULL && stream != stdin)
             fclose(stream);
     }
-    if (fflush(stdout) != 0) {
+    if (fflush(stdout) != 0 || ferror(stdout)) {
         perror("standard output");
         status = 1;
     }

@@ -104,7 +104,9 @@ def open_beside(path: str) -> Tuple[str, BinaryIO]:
         mask = os.umask(0)
         os.umask(mask)
         mode = 0o666 & ~mask
-    os.fchmod(number, mode)
+    # not every file system has modes
+    with contextlib.suppress(OSError):
+        os.fchmod(number, mode)
     return name, file
 
 

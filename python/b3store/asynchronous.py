@@ -38,8 +38,8 @@ class AsyncStore:
     async def close(self) -> None:
         """Closes the store, once its commands are done. A second call has no effect."""
         if not self._is_closed:
-            self._is_closed = True
             await self.run(self.store.close)
+            self._is_closed = True
             self._threads.shutdown()
 
     async def tenant(self, limit: int = MAX_LIMIT) -> int:

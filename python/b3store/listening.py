@@ -82,17 +82,17 @@ def folder_lock(path: str) -> Iterator[None]:
     """Locks the folder of a path, so that only one server at a time replaces a stale socket in it. Other programs lock folders for as long as they run."""
     folder, end = os.open(os.path.dirname(path) or ".", os.O_RDONLY | os.O_DIRECTORY), time.monotonic() + SECONDS_TO_LOCK
     try:
-        while not is_locked(folder):
+        while not try_to_lock(folder):
             if time.monotonic() > end:
-                raise ListenError(f"cannot listen on {path}: its folder is in use by a server that saves there, a cache or a backup")
+                raise ListenError(f"cannot listen on {path}: its folder is in use by another server or a backup")
             time.sleep(SECONDS_BETWEEN_TRIES)
         yield
     finally:
         os.close(folder)
 
 
-def is_locked(folder: int) -> bool:
-    """Locks a folder, unless it is locked."""
+def try_to_lock(folder: int) -> bool:
+    """Locks a folder. False if another process has locked it."""
     try:
         fcntl.flock(folder, fcntl.LOCK_EX | fcntl.LOCK_NB)
         return True

@@ -347,6 +347,12 @@ def open_listeners(words: argparse.Namespace, token: Optional[bytes]) -> List[Li
     return listeners
 
 
+def check_places(words: argparse.Namespace) -> None:
+    """Raises ListenError if the socket is to be in the folder that the server saves in, which it locks."""
+    if words.socket and words.save is not None and os.path.realpath(os.path.dirname(words.socket) or ".") == os.path.realpath(words.save):
+        raise ListenError(f"{words.socket} can't be in the folder of --save")
+
+
 def restore(saved: SavedStore, store: Store) -> None:
     """Restores the store that is saved."""
     with store.own_session() as session:
@@ -368,6 +374,7 @@ def serve(words: argparse.Namespace) -> int:
     """Starts the store, and serves it until the end."""
     for number_of_signal in (signal.SIGTERM, signal.SIGINT):
         signal.signal(number_of_signal, lambda *_: sys.exit(0))
+    check_places(words)
     token = read_token(words.token_file) if words.token_file else None
     options = Options(words.sessions, words.wait, words.grace, words.keep_uploads, token)
     raise_file_limit(options.sessions)

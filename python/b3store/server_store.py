@@ -14,7 +14,7 @@ import threading
 import time
 from typing import Iterable, Iterator, List, NamedTuple, Optional, Set
 
-from .files import lock_folder
+from .files import FolderInUse, lock_folder
 from .sessions import Session
 from .transfers import Transfers
 from .values import Ended
@@ -100,7 +100,8 @@ class Store:
             with _signals_held():
                 self._folder = tempfile.mkdtemp(prefix="b3store-server-")
             # what removes old files from /tmp leaves a locked folder alone
-            self._locked = lock_folder(self._folder)
+            with contextlib.suppress(OSError, FolderInUse):
+                self._locked = lock_folder(self._folder)
             self._door = os.path.join(self._folder, "door")
             os.mkfifo(self._door, 0o600)
             self._start(program, sessions)

@@ -34,7 +34,7 @@ class Upload:
         self._kept, self._sent = bytearray(), 0
         self._has_put = False
         self._fault: Optional[BaseException] = None
-        """Why a write failed."""
+        """Why a write failed, until that is raised again, or the upload is ended otherwise."""
 
     def __enter__(self) -> "Upload":
         return self
@@ -89,14 +89,16 @@ class Upload:
             filed = self._commands.seal(self.number) if address is None else self._commands.seal_as(self.number, address)
         except BaseException:
             self._abort_quietly()
+            self._fault = None
             raise
         self.is_open, self.filed = False, filed
         return filed
 
     def abort(self) -> None:
-        """Ends the upload without an object. Refusals: S7."""
-        self._commands.abort(self.number)
-        self.is_open = False
+        """Ends the upload without an object, unless a failed write has done so. Refusals: S7."""
+        if self._fault is None:
+            self._commands.abort(self.number)
+        self.is_open, self._fault = False, None
 
     def _abort_quietly(self) -> None:
         self.is_open = False

@@ -275,16 +275,18 @@ def opens_what_it_has_seen():
         path, other, found = os.path.join(place, "a"), os.path.join(place, "other"), []
         with open(other, "wb") as file:
             file.write(b"secret")
-        for replace in (lambda: os.symlink(other, path)), (lambda: os.mkfifo(path)), (lambda: shutil.copy(other, path)):
+        before = len(os.listdir("/proc/self/fd"))
+        for replace in (lambda at: os.symlink(other, at)), os.mkfifo, (lambda at: shutil.copy(other, at)), os.mkdir:
             with open(path, "wb") as file:
                 status = os.lstat(path)
             with opened(path, status) as file:
                 found += differences((file.read(), b""))
                 os.remove(path)
-                replace()
-                found += differences((raised(opened, path, status), OSError))
-            os.remove(path)
-        return found
+                replace(path)
+                fault = raised(opened, path, status)
+                found += differences((fault is not None and issubclass(fault, OSError), True))
+            os.rename(path, f"{path}.{len(os.listdir(place))}")
+        return found + differences((len(os.listdir("/proc/self/fd")), before))
 
 
 def keeps_deep_folders():

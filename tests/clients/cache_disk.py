@@ -300,19 +300,24 @@ sys.exit(cache_server.main())"""
 
 
 def keeps_what_it_cannot_read():
-    """Content that can't be read at one start is there for the next one. What is stored again meanwhile is written again."""
+    """Content that can't be read at one start is there for the next one, also if most of its segment is free by then. What is stored again meanwhile is
+    written again."""
     with tempfile.TemporaryDirectory() as place:
-        folder, large = os.path.join(place, "cache"), b"large" * 600000
+        folder, large, other = os.path.join(place, "cache"), b"large" * 600000, b"other" * 600000
         with Cache(folder) as cache:
             found = differences(*((cache.ask("PUT", key, content)[0], 201) for key, content in (("/a", b"abc"), ("/b", large))))
         before = places_of(folder)
-        with Cache(folder, server=["-c", UNREADABLE]) as cache:
-            found += differences((cache.begun.split(", ", 1)[1], "has 0 keys, 0 objects\n"), (cache.ask("PUT", "/a", b"abc")[0], 201))
-            found += differences((wait_until(lambda: places_of(folder)[ABC] != before[ABC]), True))
-            found += differences((cache.stop()[1], "cache_server: 2 keys left out: permission denied\n"))
-        with Cache(folder) as cache:
-            found += differences((cache.begun.split(", ", 1)[1], "has 2 keys, 2 objects\n"))
-            return found + differences((cache.ask("GET", "/a"), (200, b"abc")), (cache.ask("GET", "/b") == (200, large), True))
+        for key, content, is_written in ("/b", other, lambda: len(places_of(folder)) == 3), ("/a", b"abc", lambda: places_of(folder)[ABC] != before[ABC]):
+            with Cache(folder, server=["-c", UNREADABLE]) as cache:
+                found += differences((cache.begun.split(", ", 1)[1], "has 0 keys, 0 objects\n"), (cache.ask("PUT", key, content)[0], 201))
+                found += differences((wait_until(is_written), True))
+                # the writer looks for a segment to free, and finds none
+                time.sleep(1)
+                found += differences((cache.stop()[1], "cache_server: 2 keys left out: permission denied\n"), (cache.process.returncode, 0))
+            with Cache(folder) as cache:
+                found += differences((cache.begun.split(", ", 1)[1], "has 2 keys, 2 objects\n"))
+                found += differences((cache.ask("GET", "/a"), (200, b"abc")), (cache.ask("GET", "/b") == (200, other), True))
+        return found
 
 
 def begins_from_an_older_folder():
@@ -339,14 +344,18 @@ def ends_where_nothing_can_be_written():
         words = ["bash", "-c", 'ulimit -f 1000; exec "$@"', "bash", *words]
         with subprocess.Popen(words, stdout=subprocess.PIPE, stderr=subprocess.PIPE) as server:
             port = int(server.stdout.readline().decode().split("port ")[1].split(",")[0])
+            answers = []
             # the server may end before it answers
             with contextlib.suppress(OSError, http.client.HTTPException):
                 ask(port, "PUT", "/k", bytes(3000000))
+                wait_until(lambda: ask(port, "GET", "/healthz")[0] == 503)
+                answers += [ask(port, "PUT", "/b", b"abc")[0], ask(port, "DELETE", "/k")[0]]
             try:
                 _, err = server.communicate(timeout=SECONDS)
             finally:
                 server.kill()
-        return differences((server.returncode, 1), (err.decode(), f"cache_server: {place}/cache can't be written: file too large\n"))
+        found = differences((server.returncode, 1), (err.decode(), f"cache_server: {place}/cache can't be written: file too large\n"))
+        return found + differences((set(answers) - {503}, set()))
 
 
 def keeps_what_it_cannot_begin_with():

@@ -14,7 +14,7 @@ from lines import SHORTLY, soon
 from running import AS_MODULE, CLEAN, PACKAGE, SECONDS, Client, Running, differences, environment, fails
 
 sys.path.insert(1, PACKAGE)
-from b3store.files import checked_line
+from b3store.files import checked_line, lock_folder
 from b3store.saved import in_filing_order
 
 LENGTHS = (1, 2, 1023, 1024, 1025, 4096, 70_000)
@@ -296,8 +296,13 @@ def folders_that_are_none(program: str) -> List[str]:
         found += differences((fails(*words, f"{folder}/notes/a"), (1, f"b3store.server: cannot open the folder {folder}/notes/a: Not a directory\n")))
         found += differences((fails(*words, "")[0], 1), (_files(folder), before))
         with _folder() as other:
-            told = f"b3store.server: cannot listen on {other}/socket: its folder is in use by a server that saves there, a cache or a backup\n"
-            found += differences((fails("--program", program, "--socket", f"{other}/socket", "--save", other), (1, told)))
+            told = f"b3store.server: {other}/socket can't be in the folder of --save\n"
+            found += differences((fails("--program", program, "--socket", f"{other}/socket", "--save", other), (1, told)), (os.path.exists(other), False))
+            os.mkdir(other)
+            locked = lock_folder(other)
+            told = f"b3store.server: cannot listen on {other}/socket: its folder is in use by another server or a backup\n"
+            found += differences((fails("--program", program, "--socket", f"{other}/socket"), (1, told)), (os.listdir(other), []))
+            os.close(locked)
         for make in os.mkfifo, os.mkdir:
             with _folder() as other:
                 os.mkdir(other)
