@@ -22,7 +22,7 @@ import time
 
 from b3store import Ended, Refused
 from b3store.console import count_text, error_text
-from b3store.files import FolderInUse, checked_line, checked_text, lock_folder, replace_file
+from b3store.files import checked_line, checked_text, lock_folder, replace_file
 from cache_stores import Entry
 
 LOG = "log"
@@ -41,6 +41,7 @@ MAX_CHANGES = 1000
 """And while this many changes of keys do."""
 SECONDS_BETWEEN_SYNCS = 0.4
 SECONDS_TO_LOCK = 1
+"""If a server was killed while it started a store, that process may still have the lock for a moment."""
 COPIED = 1 << 20
 IDLE_LINES = 1000
 """How many lines of the log may be undone by later ones, beyond as many as are valid."""
@@ -75,7 +76,7 @@ class Files:
     def __init__(self, path):
         self.path = path
         os.makedirs(path, exist_ok=True)
-        self.folder = self.lock(time.monotonic() + SECONDS_TO_LOCK)
+        self.folder = lock_folder(path, SECONDS_TO_LOCK)
         self.keys, self.places, self.refs = {}, {}, collections.Counter()
         """The keys of the log by user and key, the objects' places, and how many keys lead to an object."""
         self.unread = set()
@@ -89,16 +90,6 @@ class Files:
 
     def at(self, name):
         return os.path.join(self.path, name)
-
-    def lock(self, end):
-        """Locks the folder. If a server was killed while it started a store, that process may still have the lock for a moment."""
-        while True:
-            try:
-                return lock_folder(self.path)
-            except FolderInUse:
-                if time.monotonic() > end:
-                    raise
-                time.sleep(0.05)
 
     # ---- what is there
 

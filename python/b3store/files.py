@@ -2,25 +2,38 @@
 import contextlib
 import fcntl
 import os
+import time
 import zlib
 from typing import Iterable, Optional
+
+SECONDS_BETWEEN_TRIES = 0.05
 
 
 class FolderInUse(Exception):
     """Another process has locked a folder."""
 
 
-def lock_folder(path: str) -> int:
-    """Opens a folder, and locks it until the descriptor is closed or the process ends. Raises FolderInUse if another process has locked it."""
-    folder = os.open(path, os.O_RDONLY | os.O_DIRECTORY)
+def lock_folder(path: str, seconds: float = 0) -> int:
+    """Opens a folder, and locks it until the descriptor is closed or the process ends. Raises FolderInUse if another process keeps it locked for so long."""
+    folder, end = os.open(path, os.O_RDONLY | os.O_DIRECTORY), time.monotonic() + seconds
     try:
-        fcntl.flock(folder, fcntl.LOCK_EX | fcntl.LOCK_NB)
-    except OSError as error:
+        while not try_to_lock(folder):
+            if time.monotonic() >= end:
+                raise FolderInUse(f"{path} is in use by another server")
+            time.sleep(SECONDS_BETWEEN_TRIES)
+    except BaseException:
         os.close(folder)
-        if isinstance(error, BlockingIOError):
-            raise FolderInUse(f"{path} is in use by another server") from None
         raise
     return folder
+
+
+def try_to_lock(folder: int) -> bool:
+    """Locks an open folder. False if another process has locked it."""
+    try:
+        fcntl.flock(folder, fcntl.LOCK_EX | fcntl.LOCK_NB)
+        return True
+    except BlockingIOError:
+        return False
 
 
 def checked_line(text: str) -> bytes:

@@ -1,13 +1,14 @@
 """The sockets that a server listens on: its own, and those that systemd passes; and what it reports to systemd."""
 import contextlib
 import errno
-import fcntl
 import os
 import re
 import socket
 import stat
 import time
 from typing import Callable, Iterator, List, Optional, Tuple
+
+from .files import FolderInUse, lock_folder
 
 FIRST_PASSED = 3
 """The first descriptor that systemd passes."""
@@ -20,7 +21,6 @@ KEEP_ALIVE = (("TCP_KEEPIDLE", 60), ("TCP_KEEPINTVL", 10), ("TCP_KEEPCNT", 6))
 
 SECONDS_TO_LOCK = 2.0
 """How long another server may take to replace a socket."""
-SECONDS_BETWEEN_TRIES = 0.05
 MICROSECONDS_MORE = 60_000_000
 SECONDS_BETWEEN_ASKS = 5.0
 
@@ -80,24 +80,14 @@ def address_text(listening: socket.socket) -> str:
 @contextlib.contextmanager
 def folder_lock(path: str) -> Iterator[None]:
     """Locks the folder of a path, so that only one server at a time replaces a stale socket in it. Other programs lock folders for as long as they run."""
-    folder, end = os.open(os.path.dirname(path) or ".", os.O_RDONLY | os.O_DIRECTORY), time.monotonic() + SECONDS_TO_LOCK
     try:
-        while not try_to_lock(folder):
-            if time.monotonic() > end:
-                raise ListenError(f"cannot listen on {path}: its folder is in use by another server or a backup")
-            time.sleep(SECONDS_BETWEEN_TRIES)
+        folder = lock_folder(os.path.dirname(path) or ".", SECONDS_TO_LOCK)
+    except FolderInUse:
+        raise ListenError(f"cannot listen on {path}: its folder is in use by another server or a backup") from None
+    try:
         yield
     finally:
         os.close(folder)
-
-
-def try_to_lock(folder: int) -> bool:
-    """Locks a folder. False if another process has locked it."""
-    try:
-        fcntl.flock(folder, fcntl.LOCK_EX | fcntl.LOCK_NB)
-        return True
-    except BlockingIOError:
-        return False
 
 
 def remove_stale(path: str) -> None:

@@ -297,6 +297,7 @@ def by_asyncio():
     async def run():
         async with AsyncStore(Store(PROGRAM, sessions=4)) as store:
             found = await work(store)
+        await store.close()
         return found + differences((store.store.alive, False))
 
     return asyncio.run(run())
