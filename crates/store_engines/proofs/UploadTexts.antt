@@ -1,36 +1,32 @@
 -- What an upload writes.
-use Rattle.std.proofs.Common.{◌≡◌, ◌+◌, ◌++◌, arith, codes, inl, inr, refl, ℕ, Bool, true, false, List, Option, Some, None, Result, Ok, Err, ap, ap₂, subst, sym, [], length, ◌∙◌}
-use Rattle.std.specs.Prelude.{IfSome, OnErr, OnOk, if◌then◌else◌, nat_lt, option_map}
+use Rattle.std.proofs.Common.{◌≡◌, ◌++◌, arith, codes, inl, inr, refl, ℕ, Bool, true, false, List, Option, Some, None, Result, Ok, Err, ap, subst, sym, [], length, ◌∙◌}
+use Rattle.std.specs.Prelude.{IfSome, OnErr, OnOk, if◌then◌else◌, option_map}
 use Rattle.std.specs.Option.{option_map_or}
 use Rattle.std.specs.Io.KnownBytes.{Appends}
 use Rattle.b3_core.specs.Modes.{hash_of}
 use Rattle.store_books.specs.declared.refusal.Refusal.{Refusal}
-use Rattle.store_books.specs.declared.refusal.Refusal.TheVariants.{JournalFull, LimitTooLarge, NoTenant, NotHeld, TenantsFull}
-use Rattle.store_books.specs.Books.{is_absent, is_held_by, max_limit, max_workers, object_at}
+use Rattle.store_books.specs.declared.refusal.Refusal.TheVariants.{NoTenant, NotHeld}
+use Rattle.store_books.specs.Books.{is_absent, is_held_by, max_workers, object_at}
 use Rattle.store_books.specs.Commands.{holding_refusal}
 use Rattle.store_books.specs.Forgetting.{bare_object}
 use Rattle.store_books.proofs.Commands.{passed}
 use Rattle.store_books.proofs.Forgets.{object_same}
 use Rattle.store_core.specs.Carried.{replayed_of}
-use Rattle.store_core.specs.Commands.{Acceptance, StepsAs, unless}
+use Rattle.store_core.specs.Commands.{unless}
 use Rattle.store_core.specs.Questions.{AnswersAs, fetch_in}
-use Rattle.store_core.specs.Model.{ModelObject, ModelStoreBooks, ModelStore}
+use Rattle.store_core.specs.Model.{ModelObject, ModelStoreBooks}
 use Rattle.store_upload.proofs.Places.{not_some}
-use Rattle.store_ledger.specs.declared.amounts.ShareAmounts.{ShareAmounts}
-use Rattle.store_shared.specs.Cuts.{IsBadCut, cut_of}
-use Rattle.store_shared.specs.Uploading.{ModelCut}
-use Rattle.store_shared.specs.Gates.{GateRule}
-use Rattle.store_shared.specs.Uploads.{IsAnswered}
+use Rattle.store_shared.specs.Cuts.{IsBadCut}
 use Rattle.store_core.specs.declared.store.Sealed.{Sealed}
 use Rattle.store_shared.specs.declared.fault.UploadFault.{UploadFault}
 use Rattle.store_shared.specs.declared.fault.UploadFaultKind.{UploadFaultKind}
 use Rattle.store_shared.specs.declared.fault.UploadFaultKind.TheVariants.{BadCut, Stopped, StrangePart}
 use Rattle.store_shared.specs.declared.fault.UploadFaultKind.TheVariants as kinds
 use Rattle.store_shared.specs.Gates.{IsOwnFault}
-use Rattle.store_engines.specs.Uploads.{HasObject, IsUnopened, IsUploadText, MayFail, SomeRefusal, WrotePrefix, WroteMemory, failed_text, is_memory, uploaded_text}
+use Rattle.store_engines.specs.Uploads.{HasObject, IsUnopened, MayFail, SomeRefusal, WrotePrefix, WroteMemory, failed_text, is_memory}
 use Rattle.edge.specs.Output.{WroteSome}
 use Rattle.store_engines.proofs.Writes.{wrote_none}
-use Rattle.store_engines.specs.inner.Uploads.{IsFiled, IsUploadReport}
+use Rattle.store_engines.specs.inner.Uploads.{IsFiled}
 use Rattle.edge.specs.declared.outcome.Cause.{Cause}
 use Rattle.edge.specs.declared.outcome.Cause.TheVariants.{CannotWrite, OutOfMemory}
 use Rattle.edge.specs.declared.outcome.Verdict.{Verdict}
@@ -71,17 +67,6 @@ reported_some o r kind old new (Some input) may wrote memory is = go (is_memory 
     go true e = let stopped = memory e in absurd (cc)
     go false e = (failed_text kind, inr (kind, may, e, refl), rw is at wrote)
 
--- the store opens its tenant, whose limit is none too large, or is full
-pub unopened : {R M : Type 0} (seen : R → M) (limit : ℕ) (a : Acceptance M) (old new : ModelStore) (full many : Bool) (refusal : Refusal) → nat_lt max_limit limit ≡ false
-    → StepsAs seen (unless (if many then Some TenantsFull else if nat_lt max_limit limit then Some LimitTooLarge else if full then Some JournalFull else None) a) old (Err refusal) new → IsUnopened (kinds.Refused refusal)
-unopened seen limit a old new full many refusal low step = go many (nat_lt max_limit limit) full low step
-  where
-    go : (x y z : Bool) → y ≡ false → StepsAs seen (unless (if x then Some TenantsFull else if y then Some LimitTooLarge else if z then Some JournalFull else None) a) old (Err refusal) new → IsUnopened (kinds.Refused refusal)
-    go true y z e h = subst (λ (r : Refusal). IsUnopened (kinds.Refused r)) (sym h.0) tt
-    go false true z e h = absurd (cc)
-    go false false true e h = subst (λ (r : Refusal). IsUnopened (kinds.Refused r)) (sym h.0) tt
-    go false false false e h = subst (λ (r : Refusal). IsUnopened (kinds.Refused r)) (sym h.0) tt
-
 -- no cut is at fault
 pub own_may : (o : UploadOptions) (kind : UploadFaultKind) → IsOwnFault kind → (IsBadCut o.part_chunks o.workers max_workers → IsUnopened kind) → MayFail o kind
 own_may o kinds.BadCut own bad = absurd own
@@ -96,69 +81,7 @@ pub never_bad : (o : UploadOptions) (most : ℕ) (result : Result Sealed UploadF
     → (IsBadCut o.part_chunks o.workers most → (result ≡ Err fault) × A) → result ≡ Ok sealed → IsBadCut o.part_chunks o.workers max_workers → ⊥
 never_bad o most result sealed fault A same bad_cut is bad = let e = (bad_cut (subst (λ (m : ℕ). IsBadCut o.part_chunks o.workers m) (sym same) bad)).0 in cc
 
--- a cut is at fault exactly where it is bad, and the gate never
-cut_may : (o : UploadOptions) (kind : UploadFaultKind) → (IsBadCut o.part_chunks o.workers max_workers → kind ≡ kinds.BadCut) → (kind ≡ kinds.BadCut → IsBadCut o.part_chunks o.workers max_workers)
-    → (kind ≡ kinds.Stopped → ⊥) → ((part code : ℕ) → kind ≡ kinds.GateFault part code → ⊥) → MayFail o kind
-cut_may o kinds.BadCut bad good stopped gate = good refl
-cut_may o kinds.Stopped bad good stopped gate = absurd (stopped refl)
-cut_may o (kinds.GateFault part code) bad good stopped gate = absurd (gate part code refl)
-cut_may o (kinds.Refused refusal) bad good stopped gate = (tt, λ b. let e = bad b in absurd (cc))
-cut_may o kinds.NoMemory bad good stopped gate = (tt, λ b. let e = bad b in absurd (cc))
-cut_may o kinds.StrangePart bad good stopped gate = (tt, λ b. let e = bad b in absurd (cc))
-
-abbrev kind_in : Result Sealed UploadFault → UploadFaultKind
-kind_in (Ok sealed) = BadCut
-kind_in (Err fault) = fault.kind
-
--- the fault of an upload whose gate passes each part
-pub passed_may : (rule : GateRule) (bytes : List ℕ) (o : UploadOptions) (most : ℕ) (old new : ShareAmounts) (result : Result Sealed UploadFault) (fault : UploadFault)
-    → IsAnswered rule (record { bytes = bytes; part_chunks = o.part_chunks }) o.workers most old new result → result ≡ Err fault → most ≡ max_workers → ((part : ℕ) → rule.may_stop part → ⊥) → ((part code : ℕ) → rule.may_fault part code → ⊥)
-    → MayFail o fault.kind
-passed_may rule bytes o most old new result fault h is same no_stop no_code = cut_may o fault.kind bad good stopped code
-  where
-    workers : (m n : ℕ) → m ≡ n → IsBadCut o.part_chunks o.workers m → IsBadCut o.part_chunks o.workers n
-    workers m n e b = subst (λ (k : ℕ). IsBadCut o.part_chunks o.workers k) e b
-
-    bad : IsBadCut o.part_chunks o.workers max_workers → fault.kind ≡ kinds.BadCut
-    bad b = ap kind_in (sym is ∙ (h.bad_cut (workers max_workers most (sym same) b)).0)
-
-    good : fault.kind ≡ kinds.BadCut → IsBadCut o.part_chunks o.workers max_workers
-    good e = workers most max_workers same ((rw is at h.good_cut) e)
-
-    stopped : fault.kind ≡ kinds.Stopped → ⊥
-    stopped e = let some = (rw is at h.stopped) e in no_stop some.0 some.2
-
-    code : (part code : ℕ) → fault.kind ≡ kinds.GateFault part code → ⊥
-    code part n e = let some = (rw is at h.gate_fault) part n e in no_code part n some.1
-
 -- ---- an upload that was filed
-
--- what is sealed in a store that was empty
-pub record IsSealed (content : List ℕ) (part_chunks : ℕ) (share : ShareAmounts) (sealed : Sealed) : Type 0 where
-  pub address : sealed.address ≡ hash_of content
-  pub bytes : share.bytes ≡ length content
-  pub calls : share.calls ≡ length (cut_of content part_chunks)
-
-pub is_sealed : (rule : GateRule) (c : ModelCut) (workers most parts : ℕ) (old new : ShareAmounts) (result : Result Sealed UploadFault) (sealed : Sealed)
-    → IsAnswered rule c workers most old new result → result ≡ Ok sealed → old ≡ record { parts = parts; bytes = 0; calls = 0 } → IsSealed c.bytes c.part_chunks new sealed
-is_sealed rule c workers most parts old new result sealed h is start =
-    let ok = rw is at h.ok in
-    let grew = rw is at h.share in
-    let no_bytes : old.bytes ≡ 0 = ap (λ (s : ShareAmounts). s.bytes) start in
-    let no_calls : old.calls ≡ 0 = ap (λ (s : ShareAmounts). s.calls) start in
-    let bytes : new.bytes ≡ old.bytes + length c.bytes = ap (λ (s : ShareAmounts). s.bytes) grew in
-    let calls : new.calls ≡ old.calls + length (cut_of c.bytes c.part_chunks) = ap (λ (s : ShareAmounts). s.calls) grew in
-    record { address = ok.0; bytes = omega (arith, no_bytes, bytes); calls = omega (arith, no_calls, calls) }
-
--- what is reported of a store whose upload was filed is a text of its input
-pub is_upload_text : (o : UploadOptions) (input text address : List ℕ) (share : ShareAmounts) (store : ModelStore) → address ≡ hash_of input → share.bytes ≡ length input → share.calls ≡ length (cut_of input o.part_chunks)
-    → IsUploadReport o.journal address share store text → IsUploadText o input text
-is_upload_text o input text address share store hash bytes calls reported = record {
-  entries = store.journal;
-  journal = record { left = reported.left; legal = reported.legal; filed = subst (λ (a : List ℕ). HasObject reported.left a (length input)) hash (subst (HasObject reported.left address) bytes reported.filed); bytes = reported.bytes ∙ bytes; calls = reported.calls ∙ calls };
-  is = reported.text_is ∙ ap (λ (a : List ℕ). uploaded_text o.journal a share.bytes share.calls store.journal) hash
-      ∙ ap₂ (λ (n m : ℕ). uploaded_text o.journal (hash_of input) n m store.journal) bytes calls;
-}
 
 -- what is filed is left by the journal
 pub has_object : (s : ModelStoreBooks) (address : List ℕ) (n : ℕ) → IsFiled s address n → HasObject (replayed_of s) address n

@@ -2,13 +2,14 @@
 
 ghost use Rattle.std.specs.Prelude.{◌≡◌, ◌≢◌, ◌<◌, ◌++◌, codes, false, true, IfErr, IfOk, IfSome, OnErr, OnOk, Err, Ok};
 ghost use Rattle.std.specs.Io.KnownBytes.{Appends, IsAtEnd};
+ghost use Rattle.b3_forest.specs.Borrowed.{borrowed_bytes};
 ghost use Rattle.store_books.specs.Books.{max_workers};
 ghost use Rattle.store_ledger.specs.Shares.{all_parts};
 ghost use Rattle.store_shared.specs.Cuts.{IsBadCut};
 ghost use Rattle.store_shared.specs.Gates.{IsOwnFault};
-ghost use Rattle.store_engines.specs.Uploads.{SomeRefusal, WrotePrefix, WroteMemory, WroteUpload, failed_text, is_memory, journal_part};
+ghost use Rattle.store_engines.specs.Uploads.{MayFail, SomeRefusal, WrotePrefix, WroteMemory, WroteUpload, failed_text, is_memory, journal_part, uploaded_text};
 ghost use Rattle.edge.specs.Output.{WroteSome};
-ghost use Rattle.store_engines.specs.inner.Uploads.{IsFiled, IsUploadReport};
+ghost use Rattle.store_engines.specs.inner.Uploads.{IsFiled, IsFiledInput, IsUploadReport};
 
 use crate::auditing::accepted_line;
 use crate::journals::text_of;
@@ -22,7 +23,7 @@ use std::io::{Read, Write};
 use std::sync::Wait;
 use std::thread::Threads;
 use store_core::{Address, Entry, Limits, Refusal, TenantId};
-use store_ledger::{Ledgers, Share};
+use store_ledger::{Accepted, Ledgers, Share};
 use store_shared::{
     Locked, PassAll, Shared, UnnamedLedgers, UploadFaultKind, UploadRequest, lent_open_tenant,
 };
@@ -106,8 +107,24 @@ fn held<L: Ledgers>(
     }
 }
 
+// What is written about an upload: the check line of its address, what was accepted, and the journal's text if it is requested.
+fn uploaded_text(
+    alloc: Global,
+    journal: bool,
+    address: Address,
+    accepted: Accepted,
+    entries: &[Entry],
+) -> Result<Vec<u8>, AllocError>
+    ensures { IfOk result (λ text. text.items ≡ uploaded_text journal address accepted.bytes accepted.calls entries.now) }
+{
+    let line = Line::text_of(alloc, address.bytes(), b"-")?;
+    let accepted = accepted_line(alloc, accepted.bytes, accepted.calls)?;
+    let entries = journal_part(alloc, journal, entries)?;
+    joined(line, accepted.as_bytes(), entries.as_slice())
+}
+
 // What is written about a filed upload, from the store, which is no longer shared.
-fn uploaded_text<L: Ledgers>(
+fn report_of<L: Ledgers>(
     alloc: Global,
     journal: bool,
     address: Address,
@@ -123,10 +140,45 @@ fn uploaded_text<L: Ledgers>(
     let Ok(accepted) = locked.settle(&mut share) else {
         unreachable!()
     };
-    let line = Line::text_of(alloc, address.bytes(), b"-")?;
-    let accepted = accepted_line(alloc, accepted.bytes, accepted.calls)?;
-    let entries = journal_part(alloc, journal, locked.store().journal())?;
-    joined(line, accepted.as_bytes(), entries.as_slice())
+    uploaded_text(alloc, journal, address, accepted, locked.store().journal())
+}
+
+// Uploads bytes into a new store with one tenant, and checks that the tenant holds an object of that length at the address. The store that is
+// returned is no longer shared.
+fn filed<L: Ledgers, T: Threads + Wait + Sync + Runtime>(
+    rt: &T,
+    alloc: Global,
+    options: UploadOptions,
+    ledgers: UnnamedLedgers,
+    bytes: BorrowedBytes<'_>,
+) -> Result<(Address, Locked<L>, Share<L>), UploadFaultKind>
+    requires bytes { (ledgers.bytes.name ≡ L.bytes_name) × (ledgers.bytes.parts ≡ L.bytes_parts) × (ledgers.bytes.parts ≡ all_parts) }
+    requires calls { (ledgers.calls.name ≡ L.calls_name) × (ledgers.calls.parts ≡ L.calls_parts) × (ledgers.calls.parts ≡ all_parts) }
+    requires history { ledgers.history ≡ L.history }
+    ensures filed { IfOk result (λ filed. IsFiledInput options.part_chunks (borrowed_bytes bytes.entry) filed.0 filed.1.store filed.2) }
+    ensures fault { IfErr result (λ kind. MayFail options kind) }
+    ensures cut { OnOk result (IsBadCut options.part_chunks options.workers max_workers → ⊥) }
+{
+    let (shared, share): (Shared<L>, Share<L>) = Shared::new(alloc, Limits::full(), ledgers);
+    let tenant = match lent_open_tenant(&mut *shared.lock(rt), LIMIT) {
+        Ok(tenant) => tenant,
+        Err(refusal) => return Err(UploadFaultKind::Refused(refusal)),
+    };
+    let request = UploadRequest {
+        tenant,
+        bytes,
+        part_chunks: options.part_chunks as u64,
+        workers: options.workers as u64,
+        gate: &PassAll,
+    };
+    let (share, uploaded) = request.upload(rt, alloc, &shared, share);
+    let address = match uploaded {
+        Ok(sealed) => sealed.address,
+        Err(fault) => return Err(fault.kind),
+    };
+    let locked = shared.close();
+    held(&locked, tenant, address, request.bytes.len())?;
+    Ok((address, locked, share))
 }
 
 // The number of bytes in a stretch: those of a part; if no part can have `part_chunks` chunks, those of the nearest part size.
@@ -171,29 +223,12 @@ pub fn upload<L: Ledgers, T: Threads + Wait + Sync + Runtime, R: Read, W: Write>
         WrotePrefix options input (W.contents writer.old) (W.contents writer.new)) }
 {
     let input = read_stretches(alloc, reader, stretch_len(options.part_chunks))?;
-    let (shared, share): (Shared<L>, Share<L>) = Shared::new(alloc, Limits::full(), ledgers);
-    let tenant = match lent_open_tenant(&mut *shared.lock(rt), LIMIT) {
-        Ok(tenant) => tenant,
-        Err(refusal) => return refuse(alloc, UploadFaultKind::Refused(refusal), writer),
+    let bytes = BorrowedBytes::Stretches(&input);
+    let (address, locked, share) = match filed::<L, T>(rt, alloc, options, ledgers, bytes) {
+        Ok(filed) => filed,
+        Err(kind) => return refuse(alloc, kind, writer),
     };
-    let request = UploadRequest {
-        tenant,
-        bytes: BorrowedBytes::Stretches(&input),
-        part_chunks: options.part_chunks as u64,
-        workers: options.workers as u64,
-        gate: &PassAll,
-    };
-    let (share, uploaded) = request.upload(rt, alloc, &shared, share);
-    match uploaded {
-        Ok(sealed) => {
-            let locked = shared.close();
-            if let Err(kind) = held(&locked, tenant, sealed.address, input.len()) {
-                return refuse(alloc, kind, writer);
-            }
-            let text = uploaded_text(alloc, options.journal, sealed.address, locked, share)?;
-            write_all(writer, text.as_slice())?;
-            Ok(Verdict::Good)
-        }
-        Err(fault) => refuse(alloc, fault.kind, writer),
-    }
+    let text = report_of(alloc, options.journal, address, locked, share)?;
+    write_all(writer, text.as_slice())?;
+    Ok(Verdict::Good)
 }
