@@ -15,7 +15,7 @@ import tempfile
 from typing import Any, BinaryIO, Callable, Iterator, List, Optional, Tuple
 
 from .client import Client
-from .console import Progress, check_line, error_text, finish, report
+from .console import Progress, check_line, error_text, finish, one_line, report
 from .values import MAX_NUMBER, MAX_UPLOAD_LEN, PART_LEN, Refused, check_address, check_number
 
 USAGE, MISSING = 2, 1
@@ -63,9 +63,10 @@ def get(store: Client, words: Any) -> int:
         with output_to(words.output) as write, contextlib.closing(Progress(words.address[:16], end - start, is_quiet)) as progress:
             room = memoryview(bytearray(min(PART_LEN, end - start)))
             for at in range(start, end, PART_LEN):
-                count = store.fetch_into(tenant, words.address, room[: end - at], at)
-                write(room[:count])
-                progress(at + count - start)
+                piece = room[: end - at]
+                store._fill(tenant, words.address, piece, at)
+                write(piece)
+                progress(at + piece.nbytes - start)
     except Refused as fault:
         return miss(f"{words.address}: {fault}")
     return 0
@@ -74,11 +75,13 @@ def get(store: Client, words: Any) -> int:
 @contextlib.contextmanager
 def output_to(path: Optional[str]) -> Iterator[Callable[[memoryview], None]]:
     """A function that writes to a file, or to standard output. A regular file gets its name when all is written, so that no half of one is left; it has the
-    mode of the file that it replaces. What is no regular file, such as a link or a pipe, is written to as it is."""
+    mode of the file that it replaces. What is no regular file, such as a pipe, is written to as it is."""
     if path is None:
         yield writer(1, "standard output")
         return
-    is_special = os.path.islink(path) or os.path.exists(path) and not os.path.isfile(path)
+    # a link stays one: what it leads to is replaced
+    path = os.path.realpath(path) if os.path.islink(path) else path
+    is_special = os.path.exists(path) and not os.path.isfile(path)
     try:
         aside, file = (path, open(path, "wb", buffering=0)) if is_special else open_beside(path)
     except OSError as fault:
@@ -192,7 +195,7 @@ def show_journal(store: Client, words: Any) -> int:
         if left == 0:
             break
         left -= 1
-        print(entry)
+        print(one_line(entry))
     return 0
 
 
@@ -202,7 +205,8 @@ def tenant_of(store: Client, words: Any) -> int:
     if number is not None:
         return int(number)
     tenants = store.tenants()
-    return min(tenants) if tenants else store.tenant()
+    # another client may open one at the same time: both use the first
+    return min(tenants) if tenants else min([store.tenant(), *store.tenants()])
 
 
 def worst(statuses: Iterator[int]) -> int:
@@ -227,7 +231,7 @@ def address_argument(text: str) -> str:
 def number_argument(text: str) -> int:
     """An argument that is a number."""
     try:
-        return check_number("a number", int(text) if text.isdigit() and len(text) < 21 else text, 0, MAX_NUMBER)
+        return check_number("a number", int(text) if text.isdigit() and text.isascii() and len(text) < 21 else text, 0, MAX_NUMBER)
     except (TypeError, ValueError):
         raise argparse.ArgumentTypeError(f"{text!r} is not a number below 2^64") from None
 

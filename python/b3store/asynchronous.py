@@ -6,7 +6,7 @@ from types import TracebackType
 from typing import Any, AsyncIterator, BinaryIO, Callable, Dict, List, Optional, Type, TypeVar, Union
 
 from .transfers import Transfers
-from .values import MAX_LIMIT, MAX_SESSIONS, MAX_UPLOAD_LEN, RANGE_LEN, Buffer, Filed, Held, OpenUpload, Totals, Usage, check_number
+from .values import MAX_LIMIT, MAX_SESSIONS, MAX_UPLOAD_LEN, RANGE_LEN, Buffer, Ended, Filed, Held, OpenUpload, Totals, Usage, check_number
 
 Value = TypeVar("Value")
 
@@ -19,7 +19,8 @@ class AsyncStore:
             tenant = await store.tenant()
             rows = await asyncio.gather(*(store.upload(content, tenant) for content in contents))
 
-    It has most methods of `Store`, and `run` runs any other. Each raises the same errors. A command whose coroutine is cancelled still runs to its end."""
+    It has most methods of `Store`, and `run` runs any other. Each raises the same errors. If a coroutine is cancelled, its command still runs to its end,
+    unless it waits for a thread: then it isn't run."""
 
     def __init__(self, store: Transfers, threads: int = 4) -> None:
         self.store, self._is_closed = store, False
@@ -33,6 +34,8 @@ class AsyncStore:
 
     async def run(self, call: Callable[..., Value], *words: Any, **options: Any) -> Value:
         """Runs a method of the store in a thread, and returns its result: `await store.run(store.store.size, tenant, address)`."""
+        if self._is_closed:
+            raise Ended("the store was closed")
         return await asyncio.get_running_loop().run_in_executor(self._threads, functools.partial(call, *words, **options))
 
     async def close(self) -> None:
@@ -40,7 +43,7 @@ class AsyncStore:
         if not self._is_closed:
             await self.run(self.store.close)
             self._is_closed = True
-            self._threads.shutdown()
+            await asyncio.get_running_loop().run_in_executor(None, self._threads.shutdown)
 
     async def tenant(self, limit: int = MAX_LIMIT) -> int:
         """See `Store.tenant`."""
@@ -92,8 +95,8 @@ class AsyncStore:
 
     async def ranges(self, tenant: int, address: str, length: int = RANGE_LEN) -> AsyncIterator[bytes]:
         """See `Store.ranges`."""
-        offset = 0
-        content = await self.fetch(tenant, address, offset, check_number("length", length, 1))
+        offset, length = 0, check_number("length", length, 1)
+        content = await self.fetch(tenant, address, offset, length)
         while content:
             yield content
             offset += len(content)

@@ -8,9 +8,9 @@ import threading
 from types import TracebackType
 from typing import Any, List, Optional, Type, Union
 
-from .sessions import READ_LEN, Session
+from .sessions import READ_LEN, Session, prepare_tcp
 from .transfers import Transfers
-from .values import MAX_SESSIONS, Ended, check_number
+from .values import MAX_SESSIONS, Ended, Refused, check_number
 
 Place = Union[str, bytes, "os.PathLike[str]"]
 
@@ -55,15 +55,15 @@ class Client(Transfers):
 
     @property
     def alive(self) -> bool:
-        """Whether the client can be used, as far as it knows: no command was interrupted, and the server has not closed a connection that is free."""
+        """Whether the client can be used, as far as it knows: no command was interrupted, and the server has not closed a connection that is free, nor
+        sent anything over it."""
         if self._fault is not None:
             return False
         sessions = self._take_free()
         try:
-            return not any(session.has_closed() for session in sessions)
+            return all(session.is_at_rest() for session in sessions)
         finally:
-            for session in sessions:
-                self._free.put(session)
+            self._give_back(sessions)
 
     def close(self) -> None:
         """Closes the connections, once the commands of other threads are done; those of a client that can't be used any more at once."""
@@ -71,11 +71,12 @@ class Client(Transfers):
             if self._fault is not None:
                 self._shut_down()
             sessions = self._take_all()
-            for session in sessions:
-                session.close()
-            self._fault = self._fault or Ended("the client was closed")
-            for session in sessions:
-                self._free.put(session)
+            try:
+                for session in sessions:
+                    session.close()
+                self._fault = self._fault or Ended("the client was closed")
+            finally:
+                self._give_back(sessions)
 
     def _open_session(self) -> Session:
         connection = self._connect()
@@ -93,10 +94,12 @@ class Client(Transfers):
 
     def _check_welcome(self, session: Session) -> None:
         """Reads the answer to a token."""
-        if not session.has_answer(SECONDS_TO_CONNECT):
-            raise Ended(f"{self._name} does not answer the token")
         try:
-            session.answer("ok")
+            session.answer_within("ok", SECONDS_TO_CONNECT)
+        except TimeoutError:
+            raise Ended(f"{self._name} does not answer the token") from None
+        except (Refused, ValueError) as fault:
+            raise Ended(f"{self._name} does not answer the token as a server does: {fault}") from None
         except Ended as fault:
             if "closed" in fault.reason:
                 raise Ended(f"{self._name} closes the connection: is the token right?") from None
@@ -161,6 +164,6 @@ def connect_to_port(host: str, port: int) -> socket.socket:
         raise OSError(fault.errno, fault.strerror or str(fault), f"{host}:{port}") from None
     except UnicodeError:
         raise ValueError(f"{host!r} is not the name of a host") from None
-    connection.setsockopt(socket.IPPROTO_TCP, socket.TCP_NODELAY, 1)
+    prepare_tcp(connection)
     connection.settimeout(None)
     return connection

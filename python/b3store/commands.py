@@ -1,11 +1,11 @@
 """The commands of a store, over its sessions."""
 import os
-from typing import Callable, Dict, Iterator, List, Optional, Sequence, TypeVar
+from typing import Callable, Dict, Iterable, Iterator, List, Optional, Sequence, Tuple, TypeVar
 
 from .sessions import MAX_FILED_AHEAD, Kinds, Session, Sessions, write_all
 from .values import (
     MAX_LIMIT, MAX_UPLOAD_LEN, PART_LEN, RANGE_LEN, Buffer, Filed, Held, ObjectRow, OpenUpload, Refused, Totals, Usage, check_address, check_bytes,
-    check_number, parse_digits, parse_filed, parse_held, parse_number, parse_object, parse_open_upload, parse_usage,
+    check_number, check_room, check_seconds, parse_asked, parse_digits, parse_filed, parse_held, parse_number, parse_object, parse_open_upload, parse_usage,
 )
 
 Value = TypeVar("Value")
@@ -56,7 +56,8 @@ class Commands(Sessions):
 
     def seal_as(self, upload: int, address: str) -> Filed:
         """Files an upload as an object if it has this address. Refusals: those of `seal`, and S11."""
-        return self._ask(parse_filed, ("new", "known"), f"sealas {check_number('upload', upload)} {check_address(address)}")
+        line = f"sealas {check_number('upload', upload)} {check_address(address)}"
+        return self._ask(lambda words: parse_asked(words, address), ("new", "known"), line)
 
     def abort(self, upload: int) -> None:
         """Ends an upload without an object. Refusals: S7."""
@@ -65,12 +66,12 @@ class Commands(Sessions):
     def file(self, tenant: int, content: Buffer, address: Optional[str] = None) -> Filed:
         """Files content of up to MAX_PART_LEN bytes in one turn; `upload` has no maximum. If an address is given, content with another address is refused.
         Refusals: those of `begin`, `put` and `seal_as`; after a refusal the upload is aborted."""
-        view, ending = check_bytes(content), "" if address is None else f" {check_address(address)}"
+        view, address = check_bytes(content), None if address is None else check_address(address)
         begin = f"begin {check_number('tenant', tenant)} {view.nbytes}"
         with self._turn() as session:
             if self._next_upload is None:
-                return file_begun(session, session.ask("upload", begin), view, ending)
-            return self._file_ahead(session, begin, view, ending)
+                return file_begun(session, session.ask("upload", begin), view, address)
+            return self._file_ahead(session, begin, view, address)
 
     def file_all(self, tenant: int, contents: Sequence[Buffer]) -> List[Filed]:
         """Files several contents, each as `file` does. A `Store` with one session takes one turn for many of them, so for small ones this is several times
@@ -122,11 +123,14 @@ class Commands(Sessions):
     def fetch_into(self, tenant: int, address: str, room: Buffer, offset: int = 0) -> int:
         """Reads an object's bytes, starting at `offset`, into a writable buffer, and returns how many it read. These are fewer than the buffer has room for
         only at the object's end. Refusals: S1, S12."""
-        view = check_bytes(room)
-        if view.readonly:
-            raise TypeError("the buffer to read into must be writable")
+        view = check_room(room)
         line = fetch_line(tenant, address, offset, view.nbytes)
-        return self._talk(lambda session, words: session.content_into(words, view), "bytes", line)
+        return self._talk(lambda session, words: session.content_into(words, view, 0), "bytes", line)
+
+    def _fill(self, tenant: int, address: str, view: memoryview, offset: int) -> None:
+        """Reads bytes that the object is known to have into a whole buffer. Refusals: S1, S12."""
+        line = fetch_line(tenant, address, offset, view.nbytes)
+        self._talk(lambda session, words: session.content_into(words, view, view.nbytes), "bytes", line)
 
     def fetch_to(
         self, tenant: int, address: str, target: int, offset: int = 0, length: int = MAX_UPLOAD_LEN, seconds: Optional[float] = None
@@ -135,7 +139,8 @@ class Commands(Sessions):
         moves them if it can, so that Python copies none. Bytes that the descriptor has no room for are read into memory before this waits for room, so
         other commands can run meanwhile. Raises OSError if it can't be written to, TimeoutError if it has no room for `seconds`. Refusals: S1, S12."""
         first, left = check_number("offset", offset), check_number("length", length)
-        target = check_number("target", target, 0, MAX_DESCRIPTOR)
+        target, seconds = check_number("target", target, 0, MAX_DESCRIPTOR), check_seconds("seconds", seconds)
+        offset = first
         is_blocking = os.get_blocking(target)
         os.set_blocking(target, False)
         try:
@@ -154,8 +159,7 @@ class Commands(Sessions):
 
     def ranges(self, tenant: int, address: str, length: int = RANGE_LEN) -> Iterator[bytes]:
         """Yields an object's bytes in ranges of `length`. Other commands can run between two of them. Refusals: S1, S12."""
-        check_number("length", length, 1)
-        return self._ranges(tenant, address, length)
+        return self._ranges(tenant, address, check_number("length", length, 1))
 
     def _ranges(self, tenant: int, address: str, length: int) -> Iterator[bytes]:
         offset = 0
@@ -177,8 +181,16 @@ class Commands(Sessions):
 
     def objects(self, tenant: int) -> Iterator[ObjectRow]:
         """Yields the objects that a tenant holds, as of one moment, in the order in which they were filed. Refusals: S1, S14."""
-        rows = self._lines("list", f"list {check_number('tenant', tenant)}")
-        return (parse_object(*row.split(" ")) for row in rows)
+        return self._object_rows(self._lines("list", f"list {check_number('tenant', tenant)}"))
+
+    def _object_rows(self, rows: Iterable[str]) -> Iterator[ObjectRow]:
+        for row in rows:
+            try:
+                found = parse_object(*row.split(" "))
+            except (TypeError, ValueError) as fault:
+                self._note(fault)
+                raise
+            yield found
 
     def uploads(self, tenant: int) -> List[OpenUpload]:
         """Returns a tenant's open uploads, in the order of their numbers. Refusals: S1, S14."""
@@ -199,9 +211,7 @@ class Commands(Sessions):
 
     def journal(self, start: int = 0, page_len: int = 1000) -> Iterator[str]:
         """Yields the journal's entries from number `start` on, which it reads in pages of `page_len`, until there are no more. Refusals: S14."""
-        check_number("start", start)
-        check_number("page_len", page_len, 1)
-        return self._journal(start, page_len)
+        return self._journal(check_number("start", start), check_number("page_len", page_len, 1))
 
     def _journal(self, start: int, page_len: int) -> Iterator[str]:
         while True:
@@ -225,12 +235,11 @@ class Commands(Sessions):
 
         return self._ask(read, "upload", line)
 
-    def _file_ahead(self, session: Session, begin: str, content: memoryview, ending: str) -> Filed:
+    def _file_ahead(self, session: Session, begin: str, content: memoryview, address: Optional[str]) -> Filed:
         """Files content by three commands that are sent together, since the upload's number is known before."""
         number = self._next_upload or 0
-        put = f"putb {number} 0 {content.nbytes}\n" if content.nbytes else ""
-        seal = f"{'sealas' if ending else 'seal'} {number}{ending}\n"
-        session.write(f"{begin}\n{put}".encode(), content, seal.encode())
+        put, seal = put_and_seal(number, content, address)
+        session.write(f"{begin}\n".encode() + put, content, seal)
         kinds: List[Kinds] = ["upload", *["held"] * bool(content.nbytes), ("new", "known")]
         answers, refusals = session.answers(kinds)
         self._next_upload = number + bool(answers)
@@ -238,7 +247,7 @@ class Commands(Sessions):
             session.ask("ok", f"abort {number}")
         if refusals:
             raise refusals[0]
-        return parse_filed(answers[-1])
+        return parse_asked(answers[-1], address, content.nbytes)
 
     def _file_all_ahead(self, session: Session, begin: str, contents: List[memoryview]) -> List[Filed]:
         """Files contents by commands that are all sent before an answer is read. Once a `begin` is refused, all uploads after it have other numbers than
@@ -246,8 +255,8 @@ class Commands(Sessions):
         number = self._next_upload or 0
         lines: List[Buffer] = []
         for at, content in enumerate(contents, number):
-            put = f"putb {at} 0 {content.nbytes}\n" if content.nbytes else ""
-            lines += f"{begin} {content.nbytes}\n{put}".encode(), content, f"seal {at}\n".encode()
+            put, seal = put_and_seal(at, content, None)
+            lines += f"{begin} {content.nbytes}\n".encode() + put, content, seal
         session.write(*lines)
         filed: List[Filed] = []
         unfiled: List[int] = []
@@ -258,7 +267,7 @@ class Commands(Sessions):
             answers, refused = session.answers(kinds)
             begun += bool(answers)
             if not refused:
-                filed.append(parse_filed(answers[-1]))
+                filed.append(parse_asked(answers[-1], None, content.nbytes))
             elif answers:
                 unfiled.append(parse_number(answers[0]))
             refusals += refused
@@ -296,14 +305,21 @@ def fetch_line(tenant: int, address: str, offset: int, length: int) -> str:
     return f"fetchb {check_number('tenant', tenant)} {check_address(address)} {check_number('offset', offset)} {check_number('length', length)}"
 
 
-def file_begun(session: Session, begun: List[str], content: memoryview, ending: str) -> Filed:
+def put_and_seal(upload: int, content: memoryview, address: Optional[str]) -> Tuple[bytes, bytes]:
+    """The command before an upload's content, if it has any, and the one after it."""
+    put = f"putb {upload} 0 {content.nbytes}\n" if content.nbytes else ""
+    seal = f"seal {upload}\n" if address is None else f"sealas {upload} {address}\n"
+    return put.encode(), seal.encode()
+
+
+def file_begun(session: Session, begun: List[str], content: memoryview, address: Optional[str]) -> Filed:
     """Files content as an upload that has begun, by commands that are sent together."""
     number = parse_number(begun)
-    put = f"putb {number} 0 {content.nbytes}\n" if content.nbytes else ""
-    session.write(put.encode(), content, f"{'sealas' if ending else 'seal'} {number}{ending}\n".encode())
+    put, seal = put_and_seal(number, content, address)
+    session.write(put, content, seal)
     kinds: List[Kinds] = [*["held"] * bool(content.nbytes), ("new", "known")]
     answers, refusals = session.answers(kinds)
     if refusals:
         session.ask("ok", f"abort {number}")
         raise refusals[0]
-    return parse_filed(answers[-1])
+    return parse_asked(answers[-1], address, content.nbytes)

@@ -15,6 +15,7 @@ if __name__ == "__main__":
 import argparse
 import concurrent.futures
 import ctypes
+import io
 import os
 import sys
 from typing import Any, BinaryIO, Callable, List, Optional, Union
@@ -144,7 +145,7 @@ def output_of(length: int, function: Any, *words: Any) -> bytes:
 
 class blake3:  # named as hashlib's classes are
     """The hash of the bytes given to it and to `update`: the keyed one with a `key` of 32 bytes, a derived key with a `context`, a str. Raises
-    TypeError or ValueError for anything else."""
+    TypeError or ValueError for anything else. Threads that share one have to take turns."""
 
     __slots__ = ("_mode", "_word", "_kept", "_hasher")
     name = "blake3"
@@ -169,6 +170,8 @@ class blake3:  # named as hashlib's classes are
         other._mode, other._word, other._kept = self._mode, self._word, self._kept
         other._hasher = None if self._hasher is None else Hasher.from_buffer_copy(self._hasher)
         return other
+
+    __copy__ = copy
 
     def update(self, data: Buffer) -> None:
         """Adds bytes after those of earlier calls. Raises TypeError."""
@@ -298,9 +301,10 @@ def digest_of_descriptor(number: int, size: int, threads: int) -> bytes:
 
 
 def size_at_start(file: BinaryIO) -> int:
-    """The length of a regular file that is at its start; 0 for others."""
+    """The length of a regular file that is at its start; 0 for others, also for one that decodes what it reads, such as gzip's."""
     try:
-        return os.fstat(file.fileno()).st_size if file.seekable() and file.tell() == 0 else 0
+        is_plain = isinstance(getattr(file, "raw", file), io.FileIO)
+        return os.fstat(file.fileno()).st_size if is_plain and file.seekable() and file.tell() == 0 else 0
     except (AttributeError, OSError):
         return 0
 

@@ -9,6 +9,7 @@ import time
 from typing import Callable, Iterator, List, Optional, Tuple
 
 from .files import FolderInUse, lock_folder
+from .sessions import prepare_tcp
 
 FIRST_PASSED = 3
 """The first descriptor that systemd passes."""
@@ -16,9 +17,6 @@ BACKLOG = 1024
 MIN_TOKEN = 16
 MAX_TOKEN = 512
 """The minimum and maximum number of digits of a token."""
-KEEP_ALIVE = (("TCP_KEEPIDLE", 60), ("TCP_KEEPINTVL", 10), ("TCP_KEEPCNT", 6))
-"""A TCP peer that has vanished is noticed after two minutes; while it is sent to, the system notices it, after about a quarter of an hour."""
-
 SECONDS_TO_LOCK = 2.0
 """How long another server may take to replace a socket."""
 MICROSECONDS_MORE = 60_000_000
@@ -41,14 +39,8 @@ class Listener:
 
     def prepare(self, connection: socket.socket) -> None:
         """Sets the options of a new connection."""
-        if not self.needs_token:
-            return
-        with contextlib.suppress(OSError):
-            connection.setsockopt(socket.IPPROTO_TCP, socket.TCP_NODELAY, 1)
-            connection.setsockopt(socket.SOL_SOCKET, socket.SO_KEEPALIVE, 1)
-            for option, value in KEEP_ALIVE:
-                if hasattr(socket, option):
-                    connection.setsockopt(socket.IPPROTO_TCP, getattr(socket, option), value)
+        if self.needs_token:
+            prepare_tcp(connection)
 
     def close(self) -> None:
         """Closes the socket, and removes its file if the path still names it."""

@@ -178,11 +178,15 @@ class Relay:
 
 def close_others(kept: Set[int]) -> None:
     """Closes all other descriptors than these and the standard ones."""
-    for name in os.listdir("/proc/self/fd"):
-        if int(name) >= FIRST_FREE and int(name) not in kept:
+    try:
+        found = [int(name) for name in os.listdir("/proc/self/fd")]
+    except OSError:
+        found = list(range(os.sysconf("SC_OPEN_MAX")))
+    for number in found:
+        if number >= FIRST_FREE and number not in kept:
             # the one that lists them is closed already
             with contextlib.suppress(OSError):
-                os.close(int(name))
+                os.close(number)
 
 
 def relay_in_child(connection: socket.socket, pipes: Pipes, reports: int, keeps_uploads: bool) -> None:

@@ -51,6 +51,8 @@ NAME = "b3store.server"
 MAX_SESSIONS = 64
 MAX_WAITING = 1024
 """The maximum number of connections that wait for a turn. Others stay in the queues of the listening sockets."""
+MAX_STRANGERS = 256
+"""The maximum number of connections that have not sent the token. They keep no others out."""
 SECONDS_FOR_TOKEN = 10.0
 SECONDS_TO_LEAVE = 1.0
 """How long a refused client may take to close its side."""
@@ -103,16 +105,26 @@ class Connections:
         self._store, self._options = store, options
         self._turns = Turns(options.sessions)
         self._open: Set[socket.socket] = set()
+        self._strangers: Set[socket.socket] = set()
+        """Those that have not sent the token."""
         self._lock = threading.Lock()
 
     def count(self) -> int:
         with self._lock:
             return len(self._open)
 
+    def is_full(self, needs_token: bool) -> bool:
+        """Whether no further connection is taken now."""
+        with self._lock:
+            strangers = len(self._strangers)
+            return needs_token and strangers >= MAX_STRANGERS or len(self._open) - strangers >= self._options.sessions + MAX_WAITING
+
     def add(self, connection: socket.socket, needs_token: bool) -> None:
         """Serves a connection by a thread. It lines up for its turn now, unless it has to send the token first."""
         with self._lock:
             self._open.add(connection)
+            if needs_token:
+                self._strangers.add(connection)
         turn = None if needs_token else self._turns.line_up()
         try:
             threading.Thread(target=self._serve, args=(connection, turn), daemon=True).start()
@@ -139,11 +151,20 @@ class Connections:
     def _remove(self, connection: socket.socket) -> None:
         with self._lock:
             self._open.discard(connection)
+            self._strangers.discard(connection)
             connection.close()
+
+    def _is_trusted(self, connection: socket.socket) -> bool:
+        """Whether a connection sends the token."""
+        if not has_token(connection, self._options.token):
+            return False
+        with self._lock:
+            self._strangers.discard(connection)
+        return True
 
     def _serve(self, connection: socket.socket, turn: Optional[threading.Event]) -> None:
         try:
-            if turn is None and not has_token(connection, self._options.token):
+            if turn is None and not self._is_trusted(connection):
                 report("a connection is closed: its first line is not the token")
                 leave(connection, b"")
             elif self._turns.wait(self._turns.line_up() if turn is None else turn, self._options.wait):
@@ -278,7 +299,7 @@ class Server:
         self._connections.close_waiting()
 
     def _accept(self, listener: Listener) -> None:
-        if self._connections.count() >= self._options.sessions + MAX_WAITING:
+        if self._connections.is_full(listener.needs_token):
             time.sleep(SECONDS_BETWEEN_LOOKS)
             return
         try:
@@ -364,7 +385,7 @@ def restore(saved: SavedStore, store: Store) -> None:
 def raise_file_limit(sessions: int) -> None:
     """Raises the limit on open files to what all connections may need, as far as the system allows."""
     soft, hard = resource.getrlimit(resource.RLIMIT_NOFILE)
-    wanted = FILES + FILES_PER_SESSION * sessions + MAX_WAITING
+    wanted = FILES + FILES_PER_SESSION * sessions + MAX_WAITING + MAX_STRANGERS
     if soft != resource.RLIM_INFINITY and soft < wanted:
         with contextlib.suppress(OSError, ValueError):
             resource.setrlimit(resource.RLIMIT_NOFILE, (wanted if hard == resource.RLIM_INFINITY else min(wanted, hard), hard))

@@ -4,6 +4,8 @@ import errno
 import os
 import queue
 import select
+import socket
+import sys
 import time
 from types import TracebackType
 from typing import Any, BinaryIO, Callable, List, Optional, Sequence, Tuple, Type, Union
@@ -12,6 +14,8 @@ from .values import Buffer, Ended, Refused, parse_number, parse_refusal
 
 READ_LEN = 1 << 16
 """The length of a session's read buffer."""
+MAX_LINE_LEN = 1 << 12
+"""The maximum length of a line of an answer. All that a store writes are much shorter."""
 MAX_AHEAD = 8
 """How many parts are sent before the first one's answer is read. All their answers fit any pipe, so neither side waits for the other."""
 
@@ -20,6 +24,9 @@ MAX_FILED_AHEAD = 24
 
 SECONDS_FOR_ROOM = 0.02
 """How long a session waits, in all, for a descriptor that bytes are moved to."""
+
+KEEP_ALIVE = (("TCP_KEEPIDLE", 60), ("TCP_KEEPINTVL", 10), ("TCP_KEEPCNT", 6))
+"""A TCP peer that has vanished is noticed after two minutes; while it is sent to, the system notices it, after about a quarter of an hour."""
 
 Kinds = Union[str, Tuple[str, ...]]
 """The first word that an answer must have; or several, one of which it must have."""
@@ -38,6 +45,16 @@ def splice(source: int, target: int, count: int) -> Optional[int]:
         if error.errno in (errno.EINVAL, errno.ENOSYS):
             return None
         raise
+
+
+def prepare_tcp(connection: socket.socket) -> None:
+    """Sets the options of a TCP connection, at either end."""
+    with contextlib.suppress(OSError):
+        connection.setsockopt(socket.IPPROTO_TCP, socket.TCP_NODELAY, 1)
+        connection.setsockopt(socket.SOL_SOCKET, socket.SO_KEEPALIVE, 1)
+        for option, value in KEEP_ALIVE:
+            if hasattr(socket, option):
+                connection.setsockopt(socket.IPPROTO_TCP, getattr(socket, option), value)
 
 
 def can_write(target: int, seconds: Optional[float]) -> bool:
@@ -70,12 +87,21 @@ class Session:
         poll.register(self._reading, select.POLLIN)
         return bool(poll.poll(1000 * seconds))
 
-    def has_closed(self) -> bool:
-        """Whether the other side has closed the connection. No answer may be due."""
+    def answer_within(self, kind: str, seconds: float) -> List[str]:
+        """Returns the words of an answer after its kind. The whole answer has to arrive within some time. Raises TimeoutError, ValueError and Refused."""
+        end, got = time.monotonic() + seconds, b""
+        while not got.endswith(b"\n"):
+            if not self.has_answer(max(0, end - time.monotonic())):
+                raise TimeoutError("no answer")
+            got = self._longer(got)
+        return self._checked(kind, got[:-1].decode("ascii").split(" "))
+
+    def is_at_rest(self) -> bool:
+        """Whether the other side has neither closed the connection nor sent anything. No answer may be due."""
         try:
-            return self.has_answer(0) and not self._reading.peek(1)  # type: ignore[attr-defined]
+            return not self.has_answer(0)
         except OSError:
-            return True
+            return False
 
     def write(self, *pieces: Buffer) -> None:
         """Writes pieces one after another, in as few system calls as possible: other threads run while one lasts."""
@@ -149,9 +175,11 @@ class Session:
     def text(self) -> str:
         """Reads a line, and returns it without its newline."""
         try:
-            line = self._reading.readline()
+            line = self._reading.readline(MAX_LINE_LEN)
         except OSError:
             line = b""
+        if len(line) == MAX_LINE_LEN:
+            raise ValueError("a line is too long")
         if not line.endswith(b"\n"):
             raise self._ended()
         return line[:-1].decode("ascii")
@@ -159,7 +187,7 @@ class Session:
     def content(self, words: List[str], max_len: int) -> bytes:
         """Reads the raw bytes of an answer."""
         count = parse_number(words)
-        if count > max_len:
+        if count > min(max_len, sys.maxsize):
             raise ValueError(f"{count} bytes instead of {max_len}")
         try:
             content = self._reading.read(count)
@@ -169,10 +197,10 @@ class Session:
             raise self._ended()
         return content
 
-    def content_into(self, words: List[str], room: memoryview) -> int:
-        """Reads the raw bytes of an answer into a buffer, and returns how many they are."""
+    def content_into(self, words: List[str], room: memoryview, min_len: int) -> int:
+        """Reads the raw bytes of an answer, at least `min_len`, into a buffer, and returns how many they are."""
         count = parse_number(words)
-        if count > room.nbytes:
+        if not min_len <= count <= room.nbytes:
             raise ValueError(f"{count} bytes instead of {room.nbytes}")
         try:
             got = self._reading.readinto(room[:count])  # type: ignore[attr-defined]
@@ -189,7 +217,7 @@ class Session:
         self.write(line.encode("ascii") + b"\n")
         got = self._read_some(len(b"bytes %d\n" % max_len))
         while b"\n" not in got:
-            got += self._read_some(1)
+            got = self._longer(got)
         head, _, first = got.partition(b"\n")
         count = parse_number(self._checked("bytes", head.decode("ascii").split(" ")))
         if not len(first) <= count <= max_len:
@@ -222,6 +250,12 @@ class Session:
             raise self._ended()
         return rest, fault
 
+    def _longer(self, line: bytes) -> bytes:
+        """Reads one more byte of a line."""
+        if len(line) >= MAX_LINE_LEN:
+            raise ValueError("a line is too long")
+        return line + self._read_some(1)
+
     def _read_some(self, count: int) -> bytes:
         """Reads up to `count` bytes that are there, and none ahead of them."""
         try:
@@ -247,6 +281,7 @@ class Sessions:
         self._count = 0
         self._fault: Optional[Ended] = None
         """Why the sessions can't be used any more."""
+        self._process_id = os.getpid()
 
     def close(self) -> Any:
         """Ends all sessions."""
@@ -254,16 +289,27 @@ class Sessions:
 
     def _add(self, sessions: Sequence[Session]) -> None:
         self._count += len(sessions)
-        for session in sessions:
-            self._free.put(session)
+        self._give_back(sessions)
 
     def _ended(self, reason: str = "the store has ended", seconds: float = 0) -> Ended:
         """Why the sessions can't be used any more. It waits up to `seconds` for the process to end."""
         raise NotImplementedError
 
     def _take_all(self) -> List[Session]:
-        """Takes all sessions, once their commands are done."""
-        return [self._free.get() for _ in range(self._count)]
+        """Takes all sessions, once their commands are done; none if that is interrupted."""
+        taken: List[Session] = []
+        try:
+            while len(taken) < self._count:
+                taken.append(self._free.get())
+        except BaseException:
+            self._give_back(taken)
+            raise
+        return taken
+
+    def _give_back(self, sessions: Sequence[Session]) -> None:
+        """Makes sessions free."""
+        for session in sessions:
+            self._free.put(session)
 
     def _turn(self) -> "Turn":
         """A free session, for a command and its answer."""
@@ -283,7 +329,8 @@ class Sessions:
 
 
 class Turn:
-    """A free session, taken for a command and its answer. It waits for one, and raises Ended if they can't be used any more."""
+    """A free session, taken for a command and its answer. It waits for one, and raises Ended if they can't be used any more, or if this process has
+    inherited them: both would read the same answers."""
 
     __slots__ = ("_sessions", "_session")
 
@@ -291,6 +338,8 @@ class Turn:
         self._sessions = sessions
 
     def __enter__(self) -> Session:
+        if os.getpid() != self._sessions._process_id:
+            raise Ended("the connection belongs to the process that opened it: after a fork, open another one")
         session = self._sessions._free.get()
         fault = self._sessions._fault
         if fault is not None:

@@ -76,13 +76,14 @@ class Store(Transfers):
             if self._fault is not None:
                 self._process.kill()
             sessions = self._take_all()
-            for session in sessions:
-                session.close()
-            status = self._process.wait()
-            self._stderr.close()
-            self._fault = self._fault or Ended("the store was closed", status)
-            for session in sessions:
-                self._free.put(session)
+            try:
+                for session in sessions:
+                    session.close()
+                status = self._process.wait()
+                self._stderr.close()
+                self._fault = self._fault or Ended("the store was closed", status)
+            finally:
+                self._give_back(sessions)
             return status
 
     def _start(self, program: str, count: int) -> None:

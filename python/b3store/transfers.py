@@ -1,13 +1,14 @@
 """Whole objects: uploads of any length, and objects as file objects."""
 import io
 import itertools
+import operator
 import sys
 from types import TracebackType
 from typing import Any, BinaryIO, Callable, Iterator, List, Optional, Type, Union
 
 from .commands import Commands
 from .values import (
-    CHUNK_LEN, MAX_UPLOAD_LEN, PART_LEN, RANGE_LEN, Buffer, Ended, Filed, Held, Refused, check_address, check_bytes, check_number,
+    CHUNK_LEN, MAX_UPLOAD_LEN, PART_LEN, RANGE_LEN, Buffer, Ended, Filed, Held, Refused, check_address, check_bytes, check_number, check_room,
 )
 
 PARTS_AT_ONCE = 4
@@ -152,7 +153,7 @@ class StoredObject(io.RawIOBase):
         """Changes the position of the next read, and returns it. Positions after the end are allowed; there nothing is read."""
         if whence not in (io.SEEK_SET, io.SEEK_CUR, io.SEEK_END):
             raise ValueError(f"whence must be 0, 1 or 2, not {whence!r}")
-        position = (0, self._at, self.size)[whence] + offset
+        position = (0, self._at, self.size)[whence] + operator.index(offset)
         if position < 0:
             raise ValueError(f"the position {position} is negative")
         self._at = position
@@ -161,12 +162,11 @@ class StoredObject(io.RawIOBase):
     def readinto(self, room: Any) -> int:
         """Reads into a writable buffer, and returns how many bytes it read: fewer than there is room for only at the end. Refusals: S1, S12."""
         self._check_open()
-        view = check_bytes(room)
-        if self._at >= self.size or not view.nbytes:
-            return 0
-        count = self._commands.fetch_into(self._tenant, self.address, view, self._at)
-        self._at += count
-        return count
+        view = check_room(room)[: max(0, self.size - self._at)]
+        if view.nbytes:
+            self._commands._fill(self._tenant, self.address, view, self._at)
+            self._at += view.nbytes
+        return view.nbytes
 
     def readall(self) -> bytes:
         """Reads all bytes up to the end. Refusals: S1, S12."""
@@ -210,7 +210,7 @@ class Transfers(Commands):
         if address is not None:
             check_address(address)
         if length is not None:
-            check_number("length", length, 0, MAX_UPLOAD_LEN)
+            length = check_number("length", length, 0, MAX_UPLOAD_LEN)
         if is_file(content):
             return self._upload_file(content, tenant, length, address, max_len, progress)
         view = check_bytes(content)

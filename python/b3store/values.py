@@ -1,4 +1,5 @@
 """The values of a store's commands: constants, errors, what commands return, and the checks of their arguments."""
+import numbers
 import operator
 import re
 from typing import Any, List, NamedTuple, Optional, Union
@@ -20,6 +21,8 @@ MAX_DIGITS = 20
 """The maximum number of digits of a number in an answer."""
 MAX_SESSIONS = 64
 """The maximum number of a store's sessions."""
+MAX_SECONDS = 1_000_000
+"""The longest time that a call may be told to wait, in seconds: eleven days."""
 PART_LEN = 1 << 20
 """The length of the parts that an upload is split into."""
 RANGE_LEN = 1 << 18
@@ -156,6 +159,18 @@ def check_number(name: str, value: Any, min_value: int = 0, max_value: int = MAX
     return number
 
 
+def check_seconds(name: str, value: Any) -> Optional[float]:
+    """Returns an argument that must be a time in seconds, or None. Raises TypeError or ValueError."""
+    if value is None:
+        return None
+    if not isinstance(value, numbers.Real):
+        raise TypeError(f"{name} must be a number, not {type(value).__name__}")
+    seconds = float(value)
+    if not 0 <= seconds <= MAX_SECONDS:
+        raise ValueError(f"{name} must be from 0 to {MAX_SECONDS}, not {seconds}")
+    return seconds
+
+
 def shortened(value: int) -> str:
     """The digits of an integer, if they are few: long ones can't be printed by every Python."""
     return str(value) if abs(value) < 1 << 200 else f"a number of {value.bit_length()} bits"
@@ -178,6 +193,14 @@ def check_bytes(content: Any) -> memoryview:
         return view.cast("B") if view.nbytes else memoryview(bytearray())
     except TypeError:
         raise TypeError(f"content must be bytes or a contiguous buffer, not {type(content).__name__}") from None
+
+
+def check_room(room: Any) -> memoryview:
+    """Returns a view of an argument that must be a writable buffer. Raises TypeError."""
+    view = check_bytes(room)
+    if view.readonly:
+        raise TypeError("the buffer to read into must be writable")
+    return view
 
 
 def parse_digits(text: str) -> int:
@@ -204,6 +227,14 @@ def parse_filed(words: List[str]) -> Filed:
     """The answer to a seal."""
     kind, address, length = words
     return Filed(kind == "new", check_address(address), parse_digits(length))
+
+
+def parse_asked(words: List[str], address: Optional[str] = None, length: Optional[int] = None) -> Filed:
+    """The answer to a seal, of an object that must have this address and this length. Raises ValueError."""
+    filed = parse_filed(words)
+    if address is not None and filed.address != address.lower() or length is not None and filed.length != length:
+        raise ValueError(f"{filed.address} of {filed.length} bytes was filed, not what was asked for")
+    return filed
 
 
 def parse_held(words: List[str]) -> Held:

@@ -2,6 +2,7 @@
 import os
 
 import hashes
+import hostile
 import installing
 import moves
 import programs
@@ -47,6 +48,7 @@ CASES = (
     ("places of servers that are wrong", served.places_that_are_wrong),
     ("servers that end", served.servers_that_end),
     ("clients that are closed", served.clients_that_are_closed),
+    *hostile.CASES,
     ("the command line", programs.puts_and_gets),
     ("messages of the command line", programs.says_what_is_wrong),
     ("an interrupt of the command line", programs.ends_on_an_interrupt),

@@ -1,5 +1,6 @@
 """b3store.hashing, by the library that B3_LIBRARY names. `python3 python/tests/hashes.py` runs these cases alone."""
 import copy
+import gzip
 import hashlib
 import io
 import os
@@ -45,6 +46,10 @@ def equal_ways():
             found += differences(((length, wrong), (length, [])), (files[3], blake3(content[1:]).digest()), (digest_by_threads(content, 2, KEY), blake3(content, key=KEY).digest()))
             long = blake3(content, context="context").digest(100)
             found += differences((blake3(content, context="context").digest(30, position=70), long[70:]), (hasher.digest(0), b""))
+            with gzip.open(path, "wb", 0) as file:
+                file.write(content)
+            with gzip.open(path) as file:
+                found += differences((file_digest(file, 3), digest))
     return found
 
 
@@ -60,7 +65,8 @@ def copies():
         wanted = blake3(content_of(length) + b"more", key=KEY).digest()
         found += differences((second.digest(), wanted), (first.digest(), blake3(content_of(length), key=KEY).digest()))
         first.update(memoryview(b"more"))
-        found += differences((first.digest(), wanted), (first.hexdigest(), wanted.hex()), (type(third), blake3))
+        third.update(b"other")
+        found += differences((first.digest(), wanted), (first.hexdigest(), wanted.hex()), (third.digest(), blake3(content_of(length) + b"other", key=KEY).digest()))
     return found
 
 

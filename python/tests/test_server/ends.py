@@ -1,6 +1,7 @@
 """How a server starts and ends, when it doesn't start, and which connections it refuses."""
 import contextlib
 import os
+import resource
 import signal
 import socket
 import stat
@@ -15,6 +16,8 @@ from lines import SHORTLY, SOON, soon
 from running import AS_MODULE, CLEAN, SECONDS, WITH_FEW_FILES, Client, Running, differences, environment, fails, is_running
 
 TOKEN = "0123456789abcdef" * 2
+STRANGERS = 1200
+"""More connections than a server takes in all."""
 
 
 def _token_file(folder: str, text: str = TOKEN + "\n", mode: int = 0o600) -> str:
@@ -167,6 +170,21 @@ def tokens(program: str) -> List[str]:
             found += differences((unix.uploads(), []), (unix.ask("journal").count(b"\n"), 4))
             wanted = {"b3store.server: a connection is closed: its first line is not the token"}
             return found + differences((len(reports), len(wrong)), (set(reports), wanted), (server.end()[::2], (0, [])))
+
+
+def strangers(program: str) -> List[str]:
+    """Peers that send no token keep no others out."""
+    soft, hard = resource.getrlimit(resource.RLIMIT_NOFILE)
+    resource.setrlimit(resource.RLIMIT_NOFILE, (max(soft, min(4 * STRANGERS, hard)), hard))
+    with contextlib.ExitStack() as stack:
+        words = ("--tcp", "127.0.0.1:0", "--token-file", _token_file(stack.enter_context(tempfile.TemporaryDirectory())))
+        server = stack.enter_context(Running(program, *words))
+        for _ in range(STRANGERS):
+            stack.enter_context(socket.create_connection(("127.0.0.1", server.port())))
+        start = time.monotonic()
+        with server.client() as unix:
+            found = differences((unix.ask("tenant 5000"), b"tenant 0\n"), (time.monotonic() - start < SECONDS / 6, True))
+        return found
 
 
 def tcp_alone(program: str) -> List[str]:
@@ -430,6 +448,7 @@ ENDS = (
     ("closed streams", closed_streams),
     ("tokens", tokens),
     ("TCP alone", tcp_alone),
+    ("strangers over TCP", strangers),
     ("files of tokens, and addresses", token_files),
     ("wrong words", wrong_words),
     ("files of sockets", files_of_sockets),

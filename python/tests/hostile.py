@@ -1,0 +1,183 @@
+"""Servers that lie, processes that inherit a store, closes that are interrupted, and odd numbers."""
+import asyncio
+import contextlib
+import os
+import queue
+import socket
+import subprocess
+import sys
+import tempfile
+import threading
+import time
+
+from served import server_of
+from shared import ABC, FOUR, PROGRAM, SECONDS, TOP, differences, ended, raised
+from b3store import AsyncStore, Client, Ended, Store, client
+from b3store.sessions import MAX_LINE_LEN, Session
+
+
+class Number:
+    """A number that is no int."""
+
+    def __init__(self, number):
+        self._number = number
+
+    def __index__(self):
+        return self._number
+
+
+def answers_that_lie():
+    """Each is noticed at once, and ends the connection."""
+    found, filed, sink = [], (b"upload 0\n", b"held 3 all\nnew %s %d\n"), os.open(os.devnull, os.O_WRONLY)
+    cases = (
+        ([b"has 100\n", b"bytes 10\n0123456789"], lambda store: store.open(0, ABC).read()),
+        ([b"has 3\n", b"bytes 2\nab"], lambda store: store.open(0, ABC, 0).readinto(bytearray(9))),
+        ([b"list 1\nfoo\n"], lambda store: list(store.objects(0))),
+        ([b"list 1\n%s 3 3\n" % ABC.encode()], lambda store: list(store.objects(0))),
+        ([filed[0], filed[1] % (FOUR.encode(), 3)], lambda store: store.file(0, b"abc", ABC)),
+        ([filed[0], filed[1] % (ABC.encode(), 4)], lambda store: store.file(0, b"abc")),
+        ([b"new %s 3\n" % FOUR.encode()], lambda store: store.seal_as(0, ABC)),
+        ([b"x" * MAX_LINE_LEN], lambda store: store.stat()),
+        ([b"x" * MAX_LINE_LEN], lambda store: store.fetch_to(0, ABC, sink)),
+        ([b"bytes %d\n" % (1 << 63)], lambda store: store.fetch(0, ABC, 0, (1 << 64) - 1)),
+    )
+    for answers, call in cases:
+        with server_of(*answers) as path, Client(path) as store:
+            told = ended(call, store)
+            found += differences((told is not None and "makes no sense" in told[0], True), (store.alive, False), (ended(store.stat), told))
+    ours, theirs = socket.socketpair()
+    with ours, theirs:
+        session = Session(ours, ours.makefile("rb"), Ended)
+        found += differences((session.is_at_rest(), True), (theirs.send(b"busy\n"), 5), (session.is_at_rest(), False))
+    os.close(sink)
+    return found
+
+
+def gets_that_fail():
+    """The file that a link leads to stays as it is, and no part of another one is left."""
+    with server_of(b"has 3\n", b"bytes 2\nab") as path, tempfile.TemporaryDirectory() as place:
+        file, link = os.path.join(place, "file"), os.path.join(place, "link")
+        with open(file, "wb") as old:
+            old.write(b"old")
+        os.symlink("file", link)
+        words = [sys.executable, "-m", "b3store", "--socket", path, "get", "--tenant", "0", ABC, "-o", link]
+        ran = subprocess.run(words, cwd=os.path.join(TOP, "python"), stdout=subprocess.PIPE, stderr=subprocess.PIPE, timeout=SECONDS)
+        with open(file, "rb") as old:
+            found = differences((old.read(), b"old"), (sorted(os.listdir(place)), ["file", "link"]))
+        return found + differences((ran.returncode, 3), (b"makes no sense" in ran.stderr, True))
+
+
+def tokens_without_answer():
+    """A server that sends half an answer, or another one, keeps no one."""
+    found, seconds = [], client.SECONDS_TO_CONNECT
+    client.SECONDS_TO_CONNECT = 0.3
+    try:
+        for answer in b"o", b"", b"\xff\n", b"refused S1\n", b"refused\n", b"x" * (MAX_LINE_LEN + 1):
+            with socket.create_server(("127.0.0.1", 0)) as listener:
+                threading.Thread(target=answer_once, args=(listener, answer), daemon=True).start()
+                start, port = time.monotonic(), listener.getsockname()[1]
+                told = ended(lambda port=port: Client(host="127.0.0.1", port=port, token="00"))
+                found += differences((told is not None and "does not answer the token" in told[0], True), (time.monotonic() - start < SECONDS / 2, True))
+    finally:
+        client.SECONDS_TO_CONNECT = seconds
+    return found
+
+
+def answer_once(listener, answer):
+    """Answers a connection, and waits until it is closed."""
+    connection = listener.accept()[0]
+    with connection, contextlib.suppress(ConnectionResetError):
+        connection.recv(100)
+        connection.sendall(answer)
+        connection.recv(1)
+
+
+def processes_that_inherit():
+    """A process after a fork uses none of its parent's connections, whose answers it would take away."""
+    with Store(PROGRAM, sessions=1) as store:
+        tenant = store.tenant()
+        reading, writing = os.pipe()
+        child = os.fork()
+        if child == 0:
+            try:
+                os.write(writing, (ended(store.stat) or ["nothing is raised"])[0].encode())
+            finally:
+                os._exit(0)
+        os.close(writing)
+        with open(reading, "rb") as told:
+            found = differences((b"belongs to the process that opened it" in told.read(), True))
+        os.waitpid(child, 0)
+        return found + differences((store.upload(b"abc", tenant).address, ABC), (store.alive, True))
+
+
+class Interrupted:
+    """Free sessions, for which no one waits: an interrupt comes first."""
+
+    def __init__(self, free):
+        self.get, self.put, self.get_nowait = free.get_nowait, free.put, free.get_nowait
+
+
+def closes_that_are_interrupted():
+    """A close that is interrupted while a session is in use loses none, so that the next one ends."""
+    with server_of(b"tenant 0\n") as path:
+        found = []
+        for make in (lambda: Client(path, sessions=3), lambda: Store(PROGRAM, sessions=3)):
+            store = make()
+            free = store._free
+            with store._turn():
+                store._free = Interrupted(free)
+                found += differences((raised(store.close), queue.Empty))
+                store._free = free
+            closing = threading.Thread(target=store.close, daemon=True)
+            closing.start()
+            closing.join(SECONDS / 2)
+            found += differences((closing.is_alive(), False), (store.alive, False))
+        return found
+
+
+async def close_beside_a_pipe():
+    """Closes a store while a thread of it reads a pipe, whose other end belongs to the same loop."""
+    reading, writing = os.pipe()
+    with open(reading, "rb", buffering=0) as source, open(writing, "wb", buffering=0) as target:
+        store = AsyncStore(Store(PROGRAM, sessions=2), 2)
+        upload = asyncio.ensure_future(store.upload(source, await store.tenant()))
+        await asyncio.sleep(0.1)
+        rescue = threading.Timer(SECONDS / 4, target.close)
+        rescue.start()
+        closing = asyncio.ensure_future(store.close())
+        await asyncio.sleep(0.2)
+        found = differences((target.closed, False))
+        target.close()
+        await closing
+        rescue.cancel()
+        results = await asyncio.gather(upload, store.stat(), return_exceptions=True)
+        return found + differences(([type(result) for result in results], [Ended, Ended]))
+
+
+def odd_numbers():
+    """Numbers that are no int are used as they are; a time has to be one."""
+    content = os.urandom(5000)
+    with Store(PROGRAM, sessions=1) as store, tempfile.TemporaryFile() as file:
+        tenant = store.tenant()
+        file.write(content)
+        file.seek(0)
+        address = store.upload(file, Number(tenant), Number(5000)).address
+        found = differences((b"".join(store.ranges(tenant, address, Number(2000))) == content, True))
+        with tempfile.TemporaryFile() as copy:
+            found += differences((store.fetch_to(tenant, address, copy.fileno(), Number(10), Number(4000)), 4000), (copy.seek(0), 0), (copy.read() == content[10:4010], True))
+            for seconds, kind in (-1, ValueError), (float("nan"), ValueError), (1e10, ValueError), ("1", TypeError):
+                found += differences((raised(lambda: store.fetch_to(tenant, address, copy.fileno(), seconds=seconds)), kind), (copy.tell(), 4000))
+        with store.open(tenant, address, 0) as stored:
+            found += differences((raised(stored.readinto, b"abc"), TypeError), (raised(stored.seek, 1.5), TypeError), (stored.seek(Number(7)), 7))
+        return found + differences((store.alive, True))
+
+
+CASES = (
+    ("answers that lie", answers_that_lie),
+    ("gets that fail", gets_that_fail),
+    ("tokens without an answer", tokens_without_answer),
+    ("processes that inherit a store", processes_that_inherit),
+    ("closes that are interrupted", closes_that_are_interrupted),
+    ("a store for asyncio that is closed", lambda: asyncio.run(close_beside_a_pipe())),
+    ("odd numbers", odd_numbers),
+)
