@@ -62,12 +62,17 @@ def whole_lines(content):
 
 
 def last_changes(batch):
-    """The last change of each key, in their order."""
-    changes = {}
+    """The last change of each key, in their order, each with whether the key was removed by it or before it."""
+    changes, removed = {}, set()
     for change in batch:
         changes.pop(change[:2], None)
         changes[change[:2]] = change
-    return list(changes.values())
+        removed.update([change[:2]] if change[2] is None else [])
+    return [(*change, which in removed) for which, change in changes.items()]
+
+
+class Unreadable(Exception):
+    """An object can't be read from its segment."""
 
 
 class Files:
@@ -79,8 +84,9 @@ class Files:
         self.folder = lock_folder(path, SECONDS_TO_LOCK)
         self.keys, self.places, self.refs = {}, {}, collections.Counter()
         """The keys of the log by user and key, the objects' places, and how many keys lead to an object."""
-        self.unread = set()
-        """The objects that could not be read at the start: they stay where they are, for a later start."""
+        self.unread, self.unchecked = set(), set()
+        """The objects that could not be read: they stay where they are, with their segments, for a later start. And those that were not read at the start, as
+        no user may have them. If one of either kind is stored again, it is written again."""
         self.live, self.sizes = collections.Counter(), collections.Counter()
         """For each segment, how many of its bytes keys lead to, and its length."""
         self.waiting, self.bytes, self.changes, self.changed = [], 0, 0, threading.Condition()
@@ -106,6 +112,7 @@ class Files:
             log.truncate(end)
         for text in texts:
             self.take(text)
+        self.forget_dead()
         self.lines = len(texts)
         for name in list(self.sizes):
             self.sizes[name] = os.path.getsize(self.at(name)) if os.path.exists(self.at(name)) else 0
@@ -138,6 +145,10 @@ class Files:
         else:
             user, key = words.split(" ", 1)
             self.note_key(user, key, None)
+
+    def forget_dead(self):
+        """Forgets where the objects are to which no key leads. Their segments may be gone: what is stored again is written again."""
+        self.places = {address: place for address, place in self.places.items() if self.refs[address]}
 
     def note_place(self, address, place):
         old = self.places.get(address)
@@ -238,7 +249,7 @@ class Files:
             due = 0
             while not self.write_batch(cache, due):
                 due = time.monotonic() + SECONDS_BETWEEN_SYNCS
-        except (OSError, ValueError) as fault:
+        except Exception as fault:  # whatever it is, nothing is written any more
             with self.changed:
                 self.fault = OSError(f"{self.path} can't be written: {error_text(fault)}")
                 self.changed.notify_all()
@@ -275,15 +286,17 @@ class Files:
         if moves and self.lines > 2 * (len(self.keys) + len(self.refs)) + IDLE_LINES:
             self.write_log()
 
-    def texts_of(self, cache, user, key, entry, content):
-        """The lines of a key that has changed: none if a store has ended with its content. If no store holds its content any more and it isn't on disk, a
-        later change has undone this one."""
+    def texts_of(self, cache, user, key, entry, content, was_removed):
+        """The lines of a key that has changed. If a store has ended with its content, there are none, unless the key was removed before. If no store holds
+        its content any more and it isn't on disk, a later change has undone this one."""
         texts = []
-        if entry is not None and (entry.address not in self.places or entry.address in self.unread):
+        if entry is not None and (entry.address not in self.places or entry.address in self.unread or entry.address in self.unchecked):
             try:
                 line = self.append_held(cache, user, entry.address, content)
             except Ended:
-                return []
+                if not was_removed:
+                    return []
+                line = None
             if line is None:
                 entry = None
             else:
@@ -325,31 +338,44 @@ class Files:
         offset = self.last.tell()
         try:
             write()
-        except (Refused, Ended):
+        except (Refused, Ended, Unreadable):
             self.last.seek(offset)
             self.last.truncate()
             raise
         place = Place(self.name, offset, self.last.tell() - offset)
         self.note_place(address, place)
         self.unread.discard(address)
+        self.unchecked.discard(address)
         return f"object {address} {place.segment} {place.offset} {place.length}"
 
     def emptiest(self):
-        """A segment of which keys lead to at most half, and which is neither the last one nor has an object that could not be read; or None."""
+        """The segment of which keys lead to the fewest bytes, at most half, and which is neither the last one nor has an object that could not be read;
+        or None. One to which no key leads is removed without writing, on a full disk too."""
         kept = {self.name, *(self.places[address].segment for address in self.unread if self.refs[address])}
-        return next((name for name, size in self.sizes.items() if name not in kept and 2 * self.live[name] <= size), None)
+        found = [name for name, size in self.sizes.items() if name not in kept and 2 * self.live[name] <= size]
+        return min(found, key=lambda name: self.live[name], default=None)
 
     def live_objects(self, segment):
         return [address for address, place in self.places.items() if place.segment == segment and self.refs[address]]
 
     def move(self, segment):
-        """Moves some objects that keys lead to from a segment to the last one, and returns their lines."""
+        """Moves some objects that keys lead to from a segment to the last one, and returns their lines. One that can't be read stays."""
         texts, moved = [], 0
         for address in self.live_objects(segment):
             if moved < MOVED_AT_ONCE:
                 moved += self.places[address].length
-                texts.append(self.append(address, lambda: self.write_pieces(self.content(address))))
+                try:
+                    texts.append(self.append(address, lambda: self.write_pieces(self.readable(address))))
+                except Unreadable:
+                    self.unread.add(address)
         return texts
+
+    def readable(self, address):
+        """The same as `content`, but raises Unreadable."""
+        try:
+            yield from self.content(address)
+        except OSError as fault:
+            raise Unreadable(error_text(fault)) from None
 
     def remove(self, segment):
         """Removes a segment to whose objects no key leads."""
@@ -369,7 +395,7 @@ class Files:
 
     def write_log(self):
         """Writes the log again, with the valid lines only."""
-        self.places = {address: place for address, place in self.places.items() if self.refs[address]}
+        self.forget_dead()
         texts = [f"object {address} {' '.join(map(str, place))}" for address, place in self.places.items()]
         texts += [f"key {user} {address} {key}" for (user, key), address in self.keys.items()]
         self.log.close()
@@ -394,11 +420,13 @@ class Loader:
         if dropped:
             print(f"cache_server: the log has no complete line in its last {count_text(dropped, 'byte')}, which the server drops", file=sys.stderr)
         users = {user.name: user for user in self.cache.users}
-        faults, count = collections.Counter(), 0
+        faults, count, loaded = collections.Counter(), 0, set()
         for (name, key), address in list(self.files.keys.items()):
             fault = "its user doesn't exist" if name not in users else self.load_key(users[name], key, address)
             count += fault is None
+            loaded.update([address] if fault is None else [])
             faults.update([fault] if fault else [])
+        self.files.unchecked = set(self.files.keys.values()) - loaded
         for fault, keys in faults.items():
             print(f"cache_server: {count_text(keys, 'key')} left out: {fault}", file=sys.stderr)
         if not self.files.keys:

@@ -54,9 +54,9 @@ import argparse
 import base64
 import contextlib
 import hmac
+import queue
 import re
 import signal
-import threading
 import time
 
 from b3store import MAX_LIMIT, MAX_SESSIONS, Ended, Refused, Store
@@ -308,8 +308,8 @@ class CacheServer(Server):
             self.cache.move_if_due()
         except Ended as fault:
             self.end(fault)
-        except Refused:
-            """The store has no memory to answer now."""
+        except (Refused, RuntimeError):
+            """The store has no memory to answer now, or the system no thread for a move."""
 
     def end(self, fault):
         """Ends, for a fault, unless it ends already."""
@@ -337,9 +337,26 @@ def users_of(options):
     return users
 
 
+class Stop:
+    """An event, which a handler of signals can set at any moment: threading's takes a lock that the same thread may hold."""
+
+    def __init__(self):
+        self.told = queue.SimpleQueue()
+
+    def set(self):
+        self.told.put(None)
+
+    def wait(self, seconds):
+        """Whether it is set within some time."""
+        with contextlib.suppress(queue.Empty):
+            self.told.get(timeout=seconds)
+            self.told.put(None)
+        return not self.told.empty()
+
+
 def stop_signals():
     """An event that is set when the process receives a signal to end."""
-    stopping = threading.Event()
+    stopping = Stop()
     for number in signal.SIGTERM, signal.SIGINT, signal.SIGHUP:
         signal.signal(number, lambda *_: stopping.set())
     return stopping

@@ -236,10 +236,10 @@ class Cache:
             return next((backend for backend in self.backends() if address in backend.counts[user]), None)
 
     def drop(self, user, key):
-        """Removes a key. Returns whether there was one."""
+        """Removes a key, also one that a start has left out. Returns whether there was one."""
         with self.lock:
             found = key in user.keys
-            if found:
+            if found or self.files is not None and (user.name, key) in self.files.keys:
                 self.lead(user, key, None)
             return found
 
@@ -288,8 +288,9 @@ class Cache:
         """Starts a move if the journal is longer than its limit, and twice as long as it was after the last move."""
         is_moving = self.old is not None or (self.mover is not None and self.mover.is_alive())
         if self.journal_limit and not is_moving and self.backend.count_entries() > self.next_limit:
-            self.mover = threading.Thread(target=self.try_to_move, daemon=True)
-            self.mover.start()
+            mover = threading.Thread(target=self.try_to_move, daemon=True)
+            mover.start()
+            self.mover = mover
 
     def try_to_move(self):
         """Moves all content to a new store. If a store has ended, the server notices that itself; if no new store can be started, the journal keeps growing."""

@@ -9,13 +9,14 @@ import contextlib
 import errno
 import os
 import re
+import secrets
 import stat
 import sys
-import tempfile
 from typing import Any, BinaryIO, Callable, Iterator, List, Optional, Tuple
 
 from .client import Client
 from .console import Progress, check_line, error_text, finish, one_line, report
+from .files import private
 from .values import MAX_NUMBER, MAX_UPLOAD_LEN, PART_LEN, Refused, check_address, check_number
 
 USAGE, MISSING = 2, 1
@@ -75,7 +76,7 @@ def get(store: Client, words: Any) -> int:
 @contextlib.contextmanager
 def output_to(path: Optional[str]) -> Iterator[Callable[[memoryview], None]]:
     """A function that writes to a file, or to standard output. A regular file gets its name when all is written, so that no half of one is left; it has the
-    mode of the file that it replaces. What is no regular file, such as a pipe, is written to as it is."""
+    owner, the group and the mode of the file that it replaces. What is no regular file, such as a pipe, is written to as it is."""
     if path is None:
         yield writer(1, "standard output")
         return
@@ -86,31 +87,44 @@ def output_to(path: Optional[str]) -> Iterator[Callable[[memoryview], None]]:
         aside, file = (path, open(path, "wb", buffering=0)) if is_special else open_beside(path)
     except OSError as fault:
         raise named(fault, path) from None
-    with file:
-        try:
+    try:
+        with file:
             yield writer(file.fileno(), path)
-            if not is_special:
-                rename(aside, path)
-        except BaseException:
-            if not is_special:
-                os.unlink(aside)
-            raise
+        if not is_special:
+            rename(aside, path)
+    except BaseException:
+        if not is_special:
+            os.unlink(aside)
+        raise
 
 
 def open_beside(path: str) -> Tuple[str, BinaryIO]:
-    """A new file in the folder of a path, and its name. It has the mode of the file at the path, or that of a new one."""
-    number, name = tempfile.mkstemp(".part", ".", os.path.dirname(path) or ".")
-    file = open(number, "wb", buffering=0)
+    """A new file in the folder of a path, and its name."""
+    name = os.path.join(os.path.dirname(path), f".{secrets.token_hex(8)}.part")
+    file = open(name, "xb", buffering=0, opener=private)
+    number, mask = file.fileno(), os.umask(0)
+    os.umask(mask)
     try:
-        mode = os.stat(path).st_mode & 0o777
+        old = os.stat(path)
     except OSError:
-        mask = os.umask(0)
-        os.umask(mask)
         mode = 0o666 & ~mask
+    else:
+        # what the old group may do is not for another one
+        is_same = gives(number, old.st_uid, old.st_gid) or gives(number, -1, old.st_gid)
+        mode = old.st_mode & (0o777 if is_same else 0o707)
     # not every file system has modes
     with contextlib.suppress(OSError):
         os.fchmod(number, mode)
     return name, file
+
+
+def gives(number: int, owner: int, group: int) -> bool:
+    """Gives a file to an owner, unless that is -1, and a group, and returns whether it could."""
+    try:
+        os.fchown(number, owner, group)
+        return True
+    except OSError:
+        return False
 
 
 def rename(source: str, target: str) -> None:

@@ -4,7 +4,7 @@ import re
 import signal
 import sys
 import time
-from typing import Callable, Optional
+from typing import Any, Callable, Optional
 
 from .programs import end_at_once, raise_again
 from .values import StoreError
@@ -58,6 +58,15 @@ def count_text(count: int, noun: str) -> str:
     return f"{count} {noun}" if count == 1 else f"{count} {noun}s"
 
 
+class Terminated(BaseException):
+    """A signal has told the program to end."""
+
+
+def terminate(number: int, _: Any) -> None:
+    """Ends a program at a signal as Ctrl-C does, so that it leaves no half of a file."""
+    raise Terminated(number)
+
+
 def finish(run: Callable[[], int]) -> int:
     """Runs a program, and returns its exit status. What it raises ends it with a message, and never with a traceback."""
     if not open_standard_files():
@@ -66,6 +75,9 @@ def finish(run: Callable[[], int]) -> int:
     if hasattr(sys.stdout, "reconfigure"):
         sys.stdout.reconfigure(errors="surrogateescape")
     is_program = raise_again()
+    for number in signal.SIGTERM, signal.SIGHUP:
+        if is_program and signal.getsignal(number) is signal.SIG_DFL:
+            signal.signal(number, terminate)
     try:
         status = run()
         sys.stdout.flush()
@@ -75,6 +87,9 @@ def finish(run: Callable[[], int]) -> int:
     except KeyboardInterrupt:
         drop_output()
         return 128 + signal.SIGINT
+    except Terminated as fault:
+        drop_output()
+        return 128 + int(fault.args[0])
     except OSError as fault:
         report("cannot write: " + error_text(fault) if fault.filename is None else fault_text(fault))
     except (StoreError, MemoryError, ValueError) as fault:

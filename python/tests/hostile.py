@@ -3,6 +3,7 @@ import asyncio
 import contextlib
 import os
 import queue
+import signal
 import socket
 import subprocess
 import sys
@@ -11,7 +12,7 @@ import threading
 import time
 
 from served import server_of
-from shared import ABC, FOUR, PROGRAM, SECONDS, TOP, differences, ended, raised
+from shared import ABC, FOUR, PROGRAM, SECONDS, TOP, differences, ended, raised, wait_until
 from b3store import AsyncStore, Client, Ended, Store, client
 from b3store.sessions import MAX_LINE_LEN, Session
 
@@ -65,6 +66,24 @@ def gets_that_fail():
         with open(file, "rb") as old:
             found = differences((old.read(), b"old"), (sorted(os.listdir(place)), ["file", "link"]))
         return found + differences((ran.returncode, 3), (b"makes no sense" in ran.stderr, True))
+
+
+def gets_that_are_ended():
+    """A signal leaves no part of a file."""
+    found = []
+    for number in signal.SIGTERM, signal.SIGHUP, signal.SIGINT:
+        with server_of(b"has 3\n", None) as path, tempfile.TemporaryDirectory() as place:
+            words = [sys.executable, "-m", "b3store", "--socket", path, "get", "--tenant", "0", ABC, "-o", os.path.join(place, "file")]
+            with subprocess.Popen(words, cwd=os.path.join(TOP, "python"), stdout=subprocess.PIPE, stderr=subprocess.PIPE, preexec_fn=listen_to_interrupts) as ended_one:
+                found += differences((wait_until(lambda place=place: os.listdir(place)), True))
+                ended_one.send_signal(number)
+                found += differences((ended_one.communicate(timeout=SECONDS), (b"", b"")), (ended_one.returncode, 128 + number), (os.listdir(place), []))
+    return found
+
+
+def listen_to_interrupts():
+    """A shell starts what is in its background with SIGINT ignored."""
+    signal.signal(signal.SIGINT, signal.default_int_handler)
 
 
 def tokens_without_answer():
@@ -175,6 +194,7 @@ def odd_numbers():
 CASES = (
     ("answers that lie", answers_that_lie),
     ("gets that fail", gets_that_fail),
+    ("gets that are ended", gets_that_are_ended),
     ("tokens without an answer", tokens_without_answer),
     ("processes that inherit a store", processes_that_inherit),
     ("closes that are interrupted", closes_that_are_interrupted),

@@ -46,7 +46,11 @@ def puts_and_gets():
         link = os.path.join(place, "link")
         os.symlink("copy", link)
         os.chmod(copy, 0o640)
+        # only root can give a file to others
+        owner = (1234, 5678) if os.geteuid() == 0 else (os.geteuid(), os.getegid())
+        os.chown(copy, *owner)
         found += differences((client("get", FOUR, "-o", copy), (0, b"", "")), (stat.S_IMODE(os.stat(copy).st_mode), 0o640))
+        found += differences(((os.stat(copy).st_uid, os.stat(copy).st_gid), owner))
         found += differences((client("get", ABC, "-o", link), (0, b"", "")), (os.readlink(link), "copy"), (open(copy, "rb").read(), b"abc"))
         os.remove(link)
         nowhere = os.path.join(place, "none", "copy")

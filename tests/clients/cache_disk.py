@@ -12,6 +12,10 @@ import time
 
 from shared import ABC, EMPTY, FOUR, PROGRAM, SECONDS, TOP, differences, readable_by_others
 from servers import SERVER, USERS, Cache, ask, children, wait_until
+import cache_files
+from b3store import Ended
+from b3store.files import checked_line
+from cache_stores import Entry, User
 
 
 def begins_again():
@@ -318,6 +322,73 @@ def keeps_what_it_cannot_read():
                 found += differences((cache.begun.split(", ", 1)[1], "has 2 keys, 2 objects\n"))
                 found += differences((cache.ask("GET", "/a"), (200, b"abc")), (cache.ask("GET", "/b") == (200, other), True))
         return found
+
+
+def writes_again_what_was_removed():
+    """Segments that were removed are still in the log for a while; content of theirs that is stored again is written again."""
+    with tempfile.TemporaryDirectory() as place:
+        folder = os.path.join(place, "cache")
+        with Cache(folder) as cache:
+            found = differences((cache.ask("PUT", "/a", b"abc")[0], 201), (cache.stop()[1], ""))
+        with open(os.path.join(folder, "log"), "ab") as log:
+            for number in range(100):
+                log.write(checked_line(f"object {FOUR if number == 99 else f'{number:064}'} segment.{number} 0 4"))
+        with Cache(folder) as cache:
+            found += differences((cache.ask("PUT", "/four", b"four")[0], 201), (cache.stop(), ("cache_server: saved 2 keys, 2 objects\n", "")))
+        with Cache(folder) as cache:
+            return found + differences((cache.ask("GET", "/four"), (200, b"four")), (cache.stop()[1], ""))
+
+
+def lives_with_what_it_has_not_read():
+    """The content of a user who isn't there is not read at the start. If it is truncated, the writer leaves it where it is, and another user's content of
+    the same bytes is written again."""
+    with tempfile.TemporaryDirectory() as place:
+        folder, large = os.path.join(place, "cache"), b"large" * 600000
+        with Cache(folder, USERS) as cache:
+            found = differences(*((cache.ask("PUT", key, content, token)[0], 201) for key, content, token in (("/a", large, "token-a"), ("/b", b"abc", "token-b"))))
+        segment, offset, length = places_of(folder)[ABC]
+        os.truncate(os.path.join(folder, segment), offset + length - 1)
+        with Cache(folder, "ann token-a 10000000\n") as cache:
+            found += differences((cache.ask("DELETE", "/a", token="token-a")[0], 204), (cache.ask("PUT", "/d", b"four", "token-a")[0], 201))
+            # the writer looks for a segment to free
+            time.sleep(1)
+            found += differences((cache.ask("PUT", "/c", b"abc", "token-a")[0], 201), (cache.stop()[0], "cache_server: saved 2 keys, 2 objects\n"), (cache.process.returncode, 0))
+        with Cache(folder, "ann token-a 10000000\n") as cache:
+            return found + differences((cache.ask("GET", "/c", token="token-a"), (200, b"abc")), (cache.ask("GET", "/d", token="token-a"), (200, b"four")))
+
+
+def keeps_a_removal():
+    """A key that was removed and then written is gone if the store has ended with its content: what it led to before doesn't come back."""
+    with tempfile.TemporaryDirectory() as place:
+        files = cache_files.Files(place)
+        user, entry = User("ann", None, 1000), Entry(None, ABC, 3)
+
+        def has_ended(*_):
+            raise Ended("the store has ended")
+
+        files.append_held = has_ended
+        found = []
+        for batch, wanted in (
+            ([(user, "/k", entry, None)], []),
+            ([(user, "/k", None, None), (user, "/k", entry, None)], ["drop ann /k"]),
+            ([(user, "/k", entry, None), (user, "/k", None, None)], ["drop ann /k"]),
+            ([(user, "/j", None, None), (user, "/k", entry, None)], ["drop ann /j"]),
+        ):
+            texts = [text for change in cache_files.last_changes(batch) for text in files.texts_of(None, *change)]
+            found += differences((texts, wanted))
+        return found
+
+
+def deletes_what_was_left_out():
+    """A key that a start could not load is not found, and a DELETE of it stays."""
+    with tempfile.TemporaryDirectory() as place:
+        folder = os.path.join(place, "cache")
+        with Cache(folder) as cache:
+            found = differences((cache.ask("PUT", "/a", b"abc")[0], 201), (cache.ask("PUT", "/b", b"four")[0], 201))
+        with Cache(folder, server=["-c", UNREADABLE]) as cache:
+            found += differences((cache.ask("DELETE", "/a")[0], 404))
+        with Cache(folder) as cache:
+            return found + differences((cache.begun.split(", ", 1)[1], "has 1 key, 1 object\n"), (cache.ask("GET", "/a")[0], 404), (cache.ask("GET", "/b"), (200, b"four")))
 
 
 def begins_from_an_older_folder():

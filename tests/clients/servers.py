@@ -10,7 +10,7 @@ import subprocess
 import sys
 import time
 
-from shared import PROGRAM, SECONDS, TOP
+from shared import PROGRAM, SECONDS, TOP, wait_until
 
 
 SERVER = os.path.join(TOP, "examples", "cache_server.py")
@@ -73,16 +73,6 @@ def free_port():
             it.bind(("127.0.0.1", port))
             return port
     raise OSError("no port is free")
-
-
-def wait_until(check, seconds=SECONDS):
-    """Whether something becomes true in time."""
-    end = time.monotonic() + seconds
-    while not check():
-        if time.monotonic() > end:
-            return False
-        time.sleep(0.02)
-    return True
 
 
 def is_answered(port):

@@ -181,6 +181,8 @@ def strangers(program: str) -> List[str]:
         server = stack.enter_context(Running(program, *words))
         for _ in range(STRANGERS):
             stack.enter_context(socket.create_connection(("127.0.0.1", server.port())))
+        # until the server has taken as many as it takes
+        time.sleep(2)
         start = time.monotonic()
         with server.client() as unix:
             found = differences((unix.ask("tenant 5000"), b"tenant 0\n"), (time.monotonic() - start < SECONDS / 6, True))
