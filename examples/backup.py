@@ -11,22 +11,26 @@ new piece. A backup is a list of names and pieces, which is kept in pieces too. 
 object, is read too, and its new objects are kept in packs.
 
 A file is not read again if its length, mode, owner and time are those in the last backup of its folder and its pieces are there. With `--all`, every file
-is read, and the objects that are there are compared with it. All files are written under other names, synced, and then renamed; a backup is recorded last. So a save that
-is killed changes no earlier backup. The next save uses or removes what it left. Only one save can use a repository at a time.
+is read, and the objects that are there are compared with it. If a file's length or time changes while it is read, what was read is saved, which may be a state
+that the file never had; that is reported. All files are written under other names, synced, and then renamed; a backup is recorded last. So a save that is
+killed changes no earlier backup. The next save uses or removes what it left. Only one save can use a repository at a time.
 
 `check` reads everything. It prints each object that is missing, truncated or altered, with its pack, and each file that a backup can't restore. If only an
 index is missing or wrong, everything can be restored, and the next save writes the index again. A wrong object is written again by `save --all` of a folder
 that has the same content.
 
 It keeps files, folders, links and hard links, with times, modes, owners and groups. If an owner can't be restored, for example by a user other than root,
-that is reported, and no setuid or setgid bit is set. A file that can't be restored whole is reported, and isn't left there in part. If the folder to restore
-into is already there, it keeps its own owner, mode and time. It doesn't keep extended attributes, access lists and holes in files. Anything else (a pipe, a
-device, a socket) is reported and left out. It doesn't compress or encrypt, and removes no backups.
+that is reported, and no setuid or setgid bit is set. A file that can't be restored whole is reported, and isn't left there in part. If its pieces are whole
+but don't have the length in the backup's list, it is restored from them and reported. A folder that is already there keeps its own owner, mode and time. It
+doesn't keep extended attributes, access lists and holes in files. Anything else (a pipe, a device, a socket) is reported and left out. A repository that is in
+FOLDER is left out too: that is reported, but doesn't change the status. It doesn't compress or encrypt, and removes no backups.
 
 What it writes is readable only by the user who runs it: the files of a repository, and each restored file and folder until it has its owner and mode.
 
 The store computes the address of each piece, and compares what is read from the repository with it. It holds up to `--memory` bytes; beyond that it forgets
-the oldest objects.
+the oldest objects. Besides these bytes, it and this program take about 300 bytes for each piece that a run saves or reads, since the store's journal only
+grows, 700 for each piece in the repository, 600 for each object that is held, 1.5 KB for each path in the backup, and tens of megabytes for pieces that wait to
+be written.
 
 The status is 0 if all was saved, restored or correct; 1 if something was not, which is reported; 2 for a usage error; 3 if the store has ended; 130 after
 Ctrl-C.
@@ -42,6 +46,7 @@ if __name__ == "__main__":
 
 import argparse
 import collections
+import errno
 import fcntl
 import re
 import signal
@@ -51,12 +56,16 @@ from b3store import MAX_LIMIT, Ended, Refused, Store
 from b3store.console import drop_output, error_text, fault_text, one_line, open_standard_files
 from backup_check import check
 from backup_packs import WriteFailed
-from backup_repository import ADDRESS, Damaged, Repository, quoted, unquoted
+from backup_repository import ADDRESS, MORE, Damaged, Repository, length_fault, line_fault, quoted, unquoted
 
 MIN_MEMORY = 1 << 23
 """The least `--memory`."""
 ITSELF = "."
 """The name of the folder itself in a backup of it."""
+IS_REPOSITORY = "it is the repository"
+"""Why a folder is left out, which is no fault."""
+NOT_ALLOWED = {errno.EPERM, errno.EACCES, errno.EINVAL, errno.ENOSYS, errno.ENOTSUP}
+"""The errors of giving a file to an owner where that isn't possible: EINVAL if a container doesn't have the owner."""
 PRIVATE = 0o077
 """The umask: other users can't read what is written."""
 EXAMPLE = """\
@@ -73,24 +82,47 @@ example:
 exit status: 0 all was saved, restored or correct; 1 something was not; 2 usage error; 3 the store has ended
 """
 
-def entries_of(folder):
+def entries_of(folder, repository):
     """Yields the paths below a folder, in the order of their names, each after the folder that it is in, and with None; and a folder that can't be listed
-    once more, with the reason."""
-    waiting = sorted_entries(folder)
+    once more, with the reason. The folder of the repository, whose status is given, has only a reason."""
+    waiting = listed(folder, 0)
     while waiting:
-        entry = waiting.pop()
-        yield entry.path, None
-        if entry.is_dir(follow_symlinks=False):
+        path, is_folder = waiting.pop()
+        if is_folder and has_status(path, repository):
+            yield path, IS_REPOSITORY
+            continue
+        yield path, None
+        if is_folder:
             try:
-                waiting += sorted_entries(entry.path)
+                waiting += listed(path, os.O_NOFOLLOW)
             except OSError as fault:
-                yield entry.path, error_text(fault)
+                yield path, error_text(fault)
 
 
-def sorted_entries(folder):
-    """The entries of a folder, the first in the order of their names last."""
-    with os.scandir(folder) as entries:
-        return sorted(entries, key=lambda entry: entry.name, reverse=True)
+def listed(folder, flags):
+    """The path of each entry of a folder, and whether that is a folder, the first in the order of their names last."""
+    opened_folder, before = os.open(folder, os.O_RDONLY | os.O_DIRECTORY | flags), os.path.join(folder, "")
+    try:
+        with os.scandir(opened_folder) as entries:
+            return sorted(((before + entry.name, may_be_folder(entry)) for entry in entries), reverse=True)
+    finally:
+        os.close(opened_folder)
+
+
+def may_be_folder(entry):
+    """Whether an entry is a folder. What can't be looked at may be one: then to list it reports the reason."""
+    try:
+        return entry.is_dir(follow_symlinks=False)
+    except OSError:
+        return True
+
+
+def has_status(path, status):
+    """Whether a path is that of the folder with this status."""
+    try:
+        return os.path.samestat(os.lstat(path), status)
+    except OSError:
+        return False
 
 
 def place_in(folder, path):
@@ -109,33 +141,14 @@ def opened(path, status):
     return file
 
 
+def state_of(status):
+    """What stays the same while a file isn't written to. Another file may have the number of one that was removed, but then not its length and time."""
+    return status.st_dev, status.st_ino, status.st_size, status.st_mtime_ns
+
+
 def words_of_all(name, status):
     """The words that the lines of files, folders and links have in common."""
     return [name, f"{stat.S_IMODE(status.st_mode):o}:{status.st_uid}:{status.st_gid}", str(status.st_mtime_ns)]
-
-
-def words_of(repository, folder, path, known, linked):
-    """The words of the backup's line for a path, and a list of addresses that follow them; None for what is left out. `known` has the lines of the last
-    backup; `linked` the first path of each file that has several."""
-    status, name = os.lstat(path), quoted(os.path.relpath(path, folder))
-    words = words_of_all(name, status)
-    if stat.S_ISDIR(status.st_mode):
-        return ["folder", *words], []
-    if stat.S_ISLNK(status.st_mode):
-        return ["link", *words, quoted(os.readlink(path))], []
-    if not stat.S_ISREG(status.st_mode):
-        return None
-    inode = status.st_dev, status.st_ino
-    if inode in linked:
-        return ["same", *words, linked[inode]], []
-    words = ["file", *words, str(status.st_size)]
-    addresses = known.get(tuple(words))
-    if addresses is None or not all(repository.has(address) for address in addresses):
-        with opened(path, status) as file:
-            addresses = repository.keep_all(file, status.st_size)
-    if status.st_nlink > 1:
-        linked[inode] = name
-    return words, addresses
 
 
 def known_files(repository, folder):
@@ -144,44 +157,88 @@ def known_files(repository, folder):
     if not backups:
         return {}
     try:
-        lines = [line[0].split(" ") for line in repository.lines_of(backups[-1]) if line[1] == "file"]
+        lines = [line[0].split(" ") for line in repository.lines_of(backups[-1]) if line[1] == "file" and MORE["file"].fullmatch(line[7])]
     except (Refused, OSError, Damaged) as fault:
         print(f"the last backup can't be read, so each file is read: {fault_text(fault)}")
         return {}
     return {tuple(words[:5]): words[5:] for words in lines}
 
 
-def lines_of_folder(repository, options, known):
-    """The lines for a folder and the paths in it, and whether none was left out."""
-    found, is_whole, linked = [(["folder", *words_of_all(ITSELF, os.stat(options.folder))], [])], True, {}
-    for path, fault in entries_of(options.folder):
-        try:
-            words = None if fault else words_of(repository, options.folder, path, known, linked)
-        except OSError as error:
-            words, fault = None, error_text(error)
-        if words is not None:
-            found.append(words)
-        else:
-            fault = fault or "not a file, folder or link"
-            print(one_line(f"left out: {os.path.relpath(path, options.folder)}: {fault}"))
-            is_whole = False
-    repository.keep_waiting()
-    return [" ".join([*words, *addresses]) for words, addresses in found], is_whole
+class Saving:
+    """A folder that is being saved into a repository. `known` has the addresses of each file in the last backup, by the first words of its line."""
+
+    def __init__(self, repository, folder, known):
+        self.repository, self.folder, self.known = repository, folder, known
+        self.linked, self.is_whole = {}, True
+        """The first path of each file that has several, by `state_of`; and whether all was saved as it was."""
+
+    def lines(self):
+        """The lines for the folder and the paths in it."""
+        found = [(["folder", *words_of_all(ITSELF, os.stat(self.folder))], [])]
+        for path, fault in entries_of(self.folder, os.stat(self.repository.path)):
+            try:
+                words = None if fault else self.words_of(path)
+            except OSError as error:
+                words, fault = None, error_text(error)
+            if words is None:
+                self.report(f"left out: {self.name_of(path)}: {fault or 'not a file, folder or link'}", fault == IS_REPOSITORY)
+            else:
+                found.append(words)
+        self.repository.keep_waiting()
+        return [" ".join([*words, *addresses]) for words, addresses in found]
+
+    def name_of(self, path):
+        return os.path.relpath(path, self.folder)
+
+    def report(self, text, is_meant=False):
+        print(one_line(text))
+        self.is_whole = self.is_whole and is_meant
+
+    def words_of(self, path):
+        """The words of the backup's line for a path, and a list of addresses that follow them; None for what is left out."""
+        status, name = os.lstat(path), quoted(self.name_of(path))
+        words = words_of_all(name, status)
+        if stat.S_ISDIR(status.st_mode):
+            return ["folder", *words], []
+        if stat.S_ISLNK(status.st_mode):
+            return ["link", *words, quoted(os.readlink(path))], []
+        if not stat.S_ISREG(status.st_mode):
+            return None
+        if status.st_nlink > 1 and state_of(status) in self.linked:
+            return ["same", *words, self.linked[state_of(status)]], []
+        addresses, length, is_as_before = self.known.get(("file", *words, str(status.st_size))), status.st_size, True
+        if addresses is None or not self.repository.has_all(addresses, length):
+            addresses, length, is_as_before = self.keep_file(path, status)
+        if not is_as_before:
+            self.report(f"changed while it was read: {self.name_of(path)}")
+        elif status.st_nlink > 1:
+            self.linked[state_of(status)] = name
+        return ["file", *words, str(length)], addresses
+
+    def keep_file(self, path, status):
+        """Keeps a file of this status in pieces. Returns the list for their addresses, their length together, and whether the file stayed as it was."""
+        with opened(path, status) as file:
+            addresses, length = self.repository.keep_all(file, status.st_size)
+            after = os.fstat(file.fileno())
+        return addresses, length, length == status.st_size and state_of(after) == state_of(status)
 
 
 def save(repository, options):
+    if os.path.exists(options.repository) and os.path.samefile(options.folder, options.repository):
+        raise Damaged(f"{options.folder} is the repository")
     repository.make()
     with repository.locked(fcntl.LOCK_EX):
         repository.load()
         repository.clean()
         repository.compares = options.all
-        lines, is_whole = lines_of_folder(repository, options, {} if options.all else known_files(repository, options.folder))
+        saving = Saving(repository, options.folder, {} if options.all else known_files(repository, options.folder))
+        lines = saving.lines()
         backup = repository.keep_backup(options.folder, lines)
     kinds, counts = collections.Counter(line.split(" ")[0] for line in lines[1:]), repository.counts
     print(f"files {kinds['file'] + kinds['same']} folders {kinds['folder']} links {kinds['link']}")
     print(f"new objects {counts['new']} bytes {counts['new bytes']} known objects {counts['known']} bytes {counts['known bytes']}")
     print(f"backup {backup}")
-    return is_whole
+    return saving.is_whole
 
 
 class Restoring:
@@ -194,17 +251,16 @@ class Restoring:
         """The folders that were restored, none of which is a link, or below one; and the files."""
 
     def restore(self, line):
-        """Restores a line's file, link or folder. Raises OSError if a folder on its path is a link."""
-        kind, path, *_, more = line.groups()
-        place, above = place_in(self.folder, unquoted(path)), os.path.dirname(unquoted(path))
+        """Restores a line's file, link or folder. Raises OSError if the line is wrong, or a folder on its path is a link."""
+        fault = line_fault(line)
+        if fault is not None:
+            raise OSError(fault)
+        kind, name, words = line[1], unquoted(line[2]), line[7].split()
+        place, above = place_in(self.folder, name), os.path.dirname(name)
         if above not in self.own and os.path.realpath(os.path.dirname(place)) != os.path.normpath(os.path.join(os.path.realpath(self.folder), above)):
             raise OSError("a folder on its way is a link")
-        words = more.split()
         if kind == "folder":
-            if os.path.islink(place) or not os.path.isdir(place):
-                os.mkdir(place)
-            self.folders.append((place, line))
-            self.own.add(unquoted(path))
+            self.make_folder(place, name, line)
             return
         if kind == "same":
             if unquoted(words[0]) not in self.files:
@@ -214,16 +270,28 @@ class Restoring:
         if kind == "link":
             os.symlink(unquoted(words[0]), place)
         else:
-            self.write(place, words[1:])
-            self.files.add(unquoted(path))
+            fault = length_fault(line, self.write(place, words[1:]))
+            self.files.add(name)
+            if fault is not None:
+                self.report("not restored as it was", line, fault)
         self.finish(place, line)
 
+    def make_folder(self, place, name, line):
+        """Makes a folder, unless it is there. Only one that was made, or the new folder to restore into, gets its owner, mode and time later."""
+        is_there = os.path.isdir(place) and not os.path.islink(place)
+        if not is_there:
+            os.mkdir(place)
+        if not is_there or name == ITSELF:
+            self.folders.append((place, line))
+        self.own.add(name)
+
     def write(self, place, addresses):
-        """Writes a file of these pieces, or leaves none if one of them can't be read or written."""
+        """Writes a file of these pieces, and returns its length; or leaves none if one of them can't be read or written."""
         file = open(place, "xb")
         try:
             with file:
                 file.writelines(map(self.repository.read, addresses))
+                return file.tell()
         except BaseException:
             os.remove(place)
             raise
@@ -232,11 +300,7 @@ class Restoring:
         """Sets the owner, mode and time of what was restored."""
         kind, _, mode, owner, group, moment, _ = line.groups()
         mode = int(mode, 8)
-        try:
-            if owner is None:
-                raise PermissionError
-            os.chown(place, int(owner), int(group), follow_symlinks=False)
-        except PermissionError:
+        if owner is None or not is_given(place, int(owner), int(group)):
             self.unowned += 1
             mode &= ~(stat.S_ISUID | stat.S_ISGID)
         if kind != "link":
@@ -246,9 +310,23 @@ class Restoring:
     def try_to(self, work, line, *words):
         try:
             work(*words, line)
-        except (Refused, OSError) as fault:
-            print(one_line(f"not restored: {unquoted(line[2])}: {error_text(fault)}"))
-            self.is_whole = False
+        except (Refused, OSError, ValueError, OverflowError) as fault:
+            self.report("not restored", line, error_text(fault))
+
+    def report(self, what, line, text):
+        print(one_line(f"{what}: {unquoted(line[2])}: {text}"))
+        self.is_whole = False
+
+
+def is_given(place, owner, group):
+    """Gives a file to an owner and a group, and returns whether that is possible here."""
+    try:
+        os.chown(place, owner, group, follow_symlinks=False)
+        return True
+    except OSError as fault:
+        if fault.errno in NOT_ALLOWED:
+            return False
+        raise
 
 
 def restore(repository, options):

@@ -4,7 +4,7 @@ import os
 
 from b3store import Refused
 from b3store.console import count_text, error_text, one_line
-from backup_repository import ADDRESS, Damaged, unquoted
+from backup_repository import ADDRESS, Damaged, length_fault, line_fault, unquoted
 
 
 class Checking:
@@ -83,10 +83,21 @@ class Checking:
         for line in lines:
             pieces = line[7].split()[1:] if line[1] == "file" else []
             self.used.update(pieces)
-            if not self.right.keys() >= set(pieces):
-                print(one_line(f"backup {backup} can't restore {unquoted(line[2])}"))
+            fault = self.fault_of(line, pieces)
+            if fault is not None:
+                print(one_line(f"backup {backup} can't restore {unquoted(line[2])}{fault}"))
                 is_whole = False
         return is_whole
+
+    def fault_of(self, line, pieces):
+        """What a report says after the path of a line that can't be restored, or None if it can be."""
+        fault = line_fault(line)
+        if fault is not None:
+            return f": {fault}"
+        if not self.right.keys() >= set(pieces):
+            return ""
+        fault = length_fault(line, sum(map(self.right.get, pieces))) if line[1] == "file" else None
+        return None if fault is None else f" as it was: {fault}"
 
 
 def reason(fault):

@@ -77,10 +77,16 @@ def rename_synced(path, name):
     sync_folder(os.path.dirname(name))
 
 
+def new_file(path, **how):
+    """Opens a new file for writing. What has its name is removed: if it is a link that someone else has made, nothing is written where it leads."""
+    remove(path)
+    return open(path, "xb", **how)
+
+
 def write_synced(path, content, aside):
     """Writes a file under another name first, so that it is at any time as before or complete."""
     try:
-        with open(aside, "wb") as file:
+        with new_file(aside) as file:
             file.write(content)
             file.flush()
             os.fsync(file.fileno())
@@ -224,8 +230,8 @@ class Writer(threading.Thread):
         self.folder, self.hold = folder, hold
         self.queue, self.fault = queue.Queue(MAX_WAITING), None
         self.file, self.aside = None, os.path.join(folder, "pack.new")
-        self.written = set()
-        """The addresses of all pieces that were put."""
+        self.written = {}
+        """The lengths of all pieces that were put, by address."""
         self.rows, self.length = [], 0
         """The rows of the pack that is being written, and its length."""
         self.batch, self.batch_len = [], 0
@@ -237,7 +243,7 @@ class Writer(threading.Thread):
         length = len(row) + len(content)
         if len(self.rows) == MAX_PIECES or self.length + length > PACK:
             self.end_pack()
-        self.written.add(address)
+        self.written[address] = len(content)
         self.rows.append(row)
         self.length += length
         self.batch += row, content
@@ -271,20 +277,22 @@ class Writer(threading.Thread):
             raise self.fault
 
     def run(self):
+        """Does the work that is passed, for ever: after a fault it drops it, as a thread that has ended would let others wait at a full queue."""
         while True:
             work, words = self.queue.get()
             try:
                 if self.fault is None:
                     work(*words)
-            except OSError as fault:
-                self.fault = WriteFailed(f"{self.folder}: a pack can't be written: {error_text(fault)}")
+            except Exception as fault:
+                text = "out of memory" if isinstance(fault, MemoryError) else error_text(fault)
+                self.fault = WriteFailed(f"{self.folder}: a pack can't be written: {text}")
                 self.drop()
             finally:
                 self.queue.task_done()
 
     def write(self, batch):
         if self.file is None:
-            self.file = open(self.aside, "wb", buffering=0)
+            self.file = new_file(self.aside, buffering=0)
         view = memoryview(b"".join(batch))
         while view:
             view = view[self.file.write(view) :]
@@ -299,6 +307,7 @@ class Writer(threading.Thread):
 
     def drop(self):
         """Removes a pack that is incomplete."""
-        if self.file is not None:
-            self.file.close()
+        with contextlib.suppress(OSError):
+            if self.file is not None:
+                self.file.close()
         remove(self.aside)

@@ -9,6 +9,7 @@ import time
 import urllib.parse
 
 from b3store import Refused
+from b3store.console import count_text
 from backup_packs import BATCH, MAX_BATCH_ITEMS, Packs, Writer, make_folder, open_file, write_synced
 from backup_pieces import pieces_of
 
@@ -18,6 +19,9 @@ BACKUP = re.compile(r"([0-9a-f]{64}) (\d+) (\S+)")
 LINE = re.compile(r"(file|folder|link|same) (\S+) ([0-7]+)(?::(\d+):(\d+))? (-?\d+)((?: \S+)*)")
 """A line of a backup: kind, path, mode, owner and group, time, and what the kind has: a file its length and the addresses of its pieces, a link where it
 leads, a hard link the path of the same file."""
+MORE = {"file": re.compile(r" \d{1,19}(?: [0-9a-f]{64})*"), "folder": re.compile(""), "link": re.compile(r" \S+"), "same": re.compile(r" \S+")}
+"""The words that each kind has."""
+MAX_MODE, MAX_OWNER, MAX_TIME, MAX_DIGITS = 0o7777, (1 << 32) - 2, 10**9 * (1 << 63) - 1, 30
 
 
 class Damaged(Exception):
@@ -78,10 +82,12 @@ class Repository:
                 yield folder, name
 
     def clean(self):
-        """Removes what a save that was killed has left."""
-        for folder, name in self.files():
-            if name.endswith(".new"):
-                os.remove(os.path.join(folder, name))
+        """Removes what a save that was killed has left, and nothing else: the folder of objects may be a link, which leads to other files."""
+        if not os.path.islink(os.path.join(self.path, "objects")):
+            for folder, name in self.files():
+                address, kind = os.path.splitext(name)
+                if kind == ".new" and ADDRESS.fullmatch(address) and folder == os.path.dirname(self.place(address)):
+                    os.remove(os.path.join(folder, name))
         self.packs.clean()
 
     def hold(self, content, address=None):
@@ -137,16 +143,26 @@ class Repository:
 
     def has(self, address, length=None, content=None):
         """Whether an object is there, or is about to be. If its content is given, what is there is compared with it."""
-        if address in self.writer.written:
-            return True
-        if content is not None:
+        if content is not None and address not in self.writer.written:
             return any(is_copy(content, read, words) for read, words in self.copies(address))
+        found = self.length_of(address)
+        return found is not None and length in (None, found)
+
+    def has_all(self, addresses, length):
+        """Whether objects are there, or are about to be, and have this length together."""
+        lengths = [self.length_of(address) for address in addresses]
+        return None not in lengths and sum(lengths) == length
+
+    def length_of(self, address):
+        """The length of an object that is there, or is about to be, by its row or its file; or None."""
+        if address in self.writer.written:
+            return self.writer.written[address]
         if address in self.packs.places:
-            return True
+            return self.packs.places[address].length
         try:
-            return self.has_files and length in (None, os.path.getsize(self.place(address)))
+            return os.path.getsize(self.place(address)) if self.has_files else None
         except OSError:
-            return False
+            return None
 
     def keep(self, content, addresses):
         """Keeps an object, now or at the latest when `keep_waiting` is called, and adds its address to a list."""
@@ -167,16 +183,18 @@ class Repository:
             addresses.append(address)
 
     def keep_all(self, file, length):
-        """Keeps a file in pieces, and returns a list that has their addresses once `keep_waiting` was called."""
-        addresses = []
+        """Keeps a file, which should have this length, in pieces. Returns a list that has their addresses once `keep_waiting` was called, and their length
+        together."""
+        addresses, kept_len = [], 0
         for piece in pieces_of(file, length):
             self.keep(piece, addresses)
-        return addresses
+            kept_len += len(piece)
+        return addresses, kept_len
 
     def keep_backup(self, folder, lines):
         """Keeps a backup's lines, and records the backup once everything is on disk."""
         text = "".join(line + "\n" for line in lines).encode()
-        addresses = self.keep_all(io.BytesIO(text), len(text))
+        addresses, _ = self.keep_all(io.BytesIO(text), len(text))
         self.keep_waiting()
         backup = []
         self.keep("".join(address + "\n" for address in addresses).encode(), backup)
@@ -228,6 +246,26 @@ def is_copy(content, read, words):
         return read(*words) == content
     except OSError:
         return False
+
+
+def line_fault(line):
+    """What is wrong with a line of a backup, so that it can't be restored, or None, as for each line that a save has written."""
+    kind, _, mode, owner, group, moment, more = line.groups()
+    if not MORE[kind].fullmatch(more):
+        return f"its line isn't that of a {kind}"
+    if "%00" in line[0] or "\0" in line[0]:
+        return "a name in its line has a zero byte"
+    if max(map(len, (mode, owner or "", group or "", moment))) > MAX_DIGITS:
+        return "a number in its line is too long"
+    if int(mode, 8) > MAX_MODE or max(int(owner or 0), int(group or 0)) > MAX_OWNER or abs(int(moment)) > MAX_TIME:
+        return "a number in its line is too large"
+    return None
+
+
+def length_fault(line, length):
+    """What is wrong with a file's line if its pieces have this length together, or None."""
+    wanted = line[7].split()[0]
+    return None if int(wanted) == length else f"its pieces have {count_text(length, 'byte')}, not {wanted}"
 
 
 def quoted(path):

@@ -16,6 +16,7 @@ import cache_quotas
 import cache_requests
 import caches
 import cases as package
+import odd_backups
 import packs
 from judging import judged
 from python_needed import end_where_older
@@ -34,6 +35,7 @@ CASES = (
     ("a backup's last words", backups.ends_with_a_sentence),
     ("a backup's pieces", backups.splits_by_content),
     *packs.CASES,
+    *odd_backups.CASES,
     ("a cache's keys", caches.caches_keys),
     ("a cache's ranges", caches.gives_ranges),
     ("a cache's contents that a client has", caches.gives_what_is_new),

@@ -131,12 +131,12 @@ def odd_files_in_a_repository():
     with tempfile.TemporaryDirectory() as place:
         folder, repository = folder_of_abc(place)
         backup("save", folder, repository)
-        left = [os.path.join(repository, name) for name in ("objects/64/x.new", "packs/index.new", "packs/pack.new")]
+        left = [os.path.join(repository, name) for name in (f"objects/64/{ABC}.new", "packs/index.new", "packs/pack.new")]
         for path in (*left, os.path.join(repository, "objects", "stray"), os.path.join(repository, "packs", "stray")):
             os.makedirs(os.path.dirname(path), exist_ok=True)
             with open(path, "wb"):
                 pass
-        names = ["objects/64/x.new", "objects/stray", "packs/index.new", "packs/pack.new", "packs/stray"]
+        names = [f"objects/64/{ABC}.new", "objects/stray", "packs/index.new", "packs/pack.new", "packs/stray"]
         status, lines = backup("check", repository)
         found = differences((status, 0), (sorted(lines[:5]), [f"no object: {name}" for name in names]), (lines[5], "objects 3 wrong 0"))
         found += differences((backup("save", folder, repository)[0], 0), ([os.path.exists(path) for path in left], [False] * 3))

@@ -1,0 +1,302 @@
+"""Backups by examples/backup.py of what changes meanwhile, in repositories and by lists that someone else has changed."""
+import argparse
+import contextlib
+import errno
+import io
+import os
+import stat
+import tempfile
+import threading
+import time
+from unittest import mock
+
+from backups import backup, folder_of_abc, made_backup
+from shared import ABC, PROGRAM, SECONDS, differences
+from b3store import Store
+import backup as tool
+import backup_packs
+from backup_repository import Repository
+
+BATCH = bytes(backup_packs.BATCH)
+
+
+def content_of(*names):
+    with open(os.path.join(*names), "rb") as file:
+        return file.read()
+
+
+def write(path, content):
+    with open(path, "wb") as file:
+        file.write(content)
+
+
+def save(folder, repository, **replaced):
+    """Saves a folder in this process, with other functions in place of some of backup.py. Returns what `save` returns, and the lines that it prints."""
+    options = argparse.Namespace(folder=folder, repository=repository, all=False)
+    with Store(PROGRAM, sessions=1) as store, contextlib.redirect_stdout(io.StringIO()) as printed, mock.patch.multiple(tool, **replaced):
+        is_whole = tool.save(Repository(repository, store, 1 << 23), options)
+    return is_whole, printed.getvalue().splitlines()
+
+
+def restored_files(repository, lines, *names):
+    """The contents of files, after the backup that a save has printed was restored."""
+    with tempfile.TemporaryDirectory() as place:
+        folder = os.path.join(place, "restored")
+        result = backup("restore", repository, lines[-1].split()[1], folder)
+        return result, [content_of(folder, name) for name in names]
+
+
+def writes_through_no_link():
+    """A link with the name under which a file is written at first is removed, and what it leads to stays as it was."""
+    with tempfile.TemporaryDirectory() as place:
+        folder, repository = folder_of_abc(place)
+        own, packs = os.path.join(place, "own"), os.path.join(place, "packs")
+        write(own, b"own")
+        for path in repository, packs:
+            os.mkdir(path)
+        for link in os.path.join(repository, "backups.new"), os.path.join(packs, "pack.new"), os.path.join(packs, "index.new"):
+            os.symlink(own, link)
+        found = differences((backup("save", folder, repository)[0], 0), (content_of(own), b"own"), (os.path.islink(os.path.join(repository, "backups")), False))
+        found += differences((backup("check", repository), (0, ["objects 3 wrong 0", "backups 1 broken 0"])))
+        writer = backup_packs.Writer(packs, lambda rows: ABC)
+        writer.put(ABC, b"abc")
+        writer.finish()
+        found += differences((content_of(own), b"own"), (sorted(os.listdir(packs)), [f"{ABC}.index", f"{ABC}.pack"]))
+        return found + differences((content_of(packs, f"{ABC}.pack"), f"{ABC} 3\nabc".encode()), (content_of(packs, f"{ABC}.index"), f"{ABC} 3\n".encode()))
+
+
+def removes_nothing_of_others():
+    """A save removes what a killed one has left of an older repository, but nothing that has another name, and nothing where a link leads."""
+    with tempfile.TemporaryDirectory() as place:
+        folder, repository = folder_of_abc(place)
+        own, objects = os.path.join(place, "own"), os.path.join(repository, "objects")
+        names = [os.path.join("64", f"{ABC}.new"), "x.new", f"{ABC}.new", os.path.join("64", "x.new"), os.path.join("64", "0" * 64 + ".new")]
+        os.makedirs(os.path.join(own, "64"))
+        for name in names:
+            write(os.path.join(own, name), b"")
+        os.mkdir(repository)
+        os.symlink(own, objects)
+        found = differences((backup("save", folder, repository)[0], 0), ([os.path.exists(os.path.join(own, name)) for name in names], [True] * 5))
+        os.remove(objects)
+        os.rename(own, objects)
+        found += differences((backup("save", folder, repository)[0], 0))
+        return found + differences(([os.path.exists(os.path.join(objects, name)) for name in names], [False] + [True] * 4))
+
+
+def rewrite(path):
+    write(path, b"xyz")
+    os.utime(path, ns=(5, 5))
+
+
+def opened_before(change):
+    """A function that opens a file as backup.py does, and then changes it."""
+    opened = tool.opened
+
+    def opened_and_changed(path, status):
+        file = opened(path, status)
+        change(path)
+        return file
+
+    return opened_and_changed
+
+
+def reports_files_that_change():
+    """A file that changes while it is read is kept as it was read, under the length that was read. That is reported, and the next save reads it again."""
+    found = []
+    for change, kept in ((lambda path: os.truncate(path, 1)), b"a"), ((lambda path: write(path, b"abcde")), b"abcde"), (rewrite, b"xyz"):
+        with tempfile.TemporaryDirectory() as place:
+            folder, repository = folder_of_abc(place)
+            os.link(os.path.join(folder, "file"), os.path.join(folder, "second"))
+            is_whole, lines = save(folder, repository, opened=opened_before(change))
+            found += differences((is_whole, False), (lines[0], "changed while it was read: file"))
+            found += differences((restored_files(repository, lines, "file", "second"), ((0, []), [kept, kept])), (backup("check", repository)[0], 0))
+            status, lines = backup("save", folder, repository)
+            found += differences((status, 0), (restored_files(repository, lines, "file", "second"), ((0, []), [kept, kept])))
+    return found
+
+
+def reports_wrong_lengths():
+    """If a list has another length than the pieces of a file have, `restore` and `check` report it, and a save reads the file again."""
+    with tempfile.TemporaryDirectory() as place:
+        path = os.path.join(place, "f")
+        write(path, b"abcd")
+        repository, address = made_backup(place, " ".join(["file", *tool.words_of_all("f", os.lstat(path)), "4", "abc"]))
+        restored = os.path.join(place, "restored")
+        told = ["not restored as it was: f: its pieces have 3 bytes, not 4"]
+        found = differences((backup("restore", repository, address, restored), (1, told)), (content_of(restored, "f"), b"abc"))
+        told = [f"backup {address} can't restore f as it was: its pieces have 3 bytes, not 4", "objects 3 wrong 0", "backups 1 broken 1"]
+        found += differences((backup("check", repository), (1, told)))
+        status, lines = backup("save", place, repository)
+        return found + differences((status, 0), (restored_files(repository, lines, "f"), ((0, []), [b"abcd"])))
+
+
+def links_no_other_file():
+    """A file with the number of one that was saved before is no hard link of it, unless it has several paths, and its length and time."""
+    with tempfile.TemporaryDirectory() as place:
+        folder, repository = folder_of_abc(place)
+        first, second, third, fourth = (os.path.join(folder, name) for name in ("file", "second", "third", "fourth"))
+        os.link(first, second)
+        os.link(first, third)
+        moment = os.stat(first).st_mtime_ns
+
+        def entries_that_change(*_):
+            yield first, None
+            yield second, None
+            write(second, b"longer")
+            yield third, None
+            os.remove(first)
+            os.remove(second)
+            os.rename(third, fourth)
+            write(fourth, b"xyz")
+            os.utime(fourth, ns=(moment, moment))
+            yield fourth, None
+
+        is_whole, lines = save(folder, repository, entries_of=entries_that_change)
+        wanted = (0, []), [b"abc", b"abc", b"longer", b"xyz"]
+        return differences((is_whole, True), (restored_files(repository, lines, "file", "second", "third", "fourth"), wanted))
+
+
+def links_to_whole_files_alone():
+    """A second path of a file that changed while it was read is no hard link of what was read, though the file is again as it was."""
+    with tempfile.TemporaryDirectory() as place:
+        folder, repository = folder_of_abc(place)
+        first, second = os.path.join(folder, "file"), os.path.join(folder, "second")
+        os.link(first, second)
+        moment = os.stat(first).st_mtime_ns
+
+        def entries_that_change(*_):
+            yield first, None
+            write(first, b"abc")
+            os.utime(first, ns=(moment, moment))
+            yield second, None
+
+        change = opened_before(lambda path: path == first and os.truncate(path, 1))
+        is_whole, lines = save(folder, repository, entries_of=entries_that_change, opened=change)
+        return differences((is_whole, False), (restored_files(repository, lines, "file", "second"), ((0, []), [b"a", b"abc"])))
+
+
+def restores_the_rest_of_an_edited_list():
+    """Each line that nothing can be restored by is reported, by `check` too, and all others are restored."""
+    wrong = [
+        "file a%00b 644 0 3 abc", "link n 777 0 x%00y", "link l 777 0", "same s 644 0", "file e 644 0", "file p 644 0 3 /etc/passwd", "folder d 755 0 x",
+        "file m 10000 0 3 abc", f"folder m {'7' * 30} 0", "file o 644:4294967295:0 0 3 abc", f"file g 644:0:{'9' * 5000} 0 3 abc",
+        f"file t 644 {'9' * 29} 3 abc",
+    ]
+    with tempfile.TemporaryDirectory() as place:
+        owner = f"{os.getuid()}:{os.getgid()}"
+        repository, address = made_backup(place, *wrong, f"file f 644:{owner} 0 3 abc", f"folder last 750:{owner} 0")
+        restored = os.path.join(place, "restored")
+        status, lines = backup("restore", repository, address, restored)
+        found = differences((status, 1), ([line[:14] for line in lines], ["not restored: "] * len(wrong)), (sorted(os.listdir(restored)), ["f", "last"]))
+        found += differences((content_of(restored, "f"), b"abc"), (stat.S_IMODE(os.stat(os.path.join(restored, "last")).st_mode), 0o750))
+        status, lines = backup("check", repository)
+        reported = [line for line in lines if line.startswith(f"backup {address} can't restore ")]
+        return found + differences((status, 1), (len(reported), len(wrong)), (lines[-1], "backups 1 broken 1"))
+
+
+class FailingWriter(backup_packs.Writer):
+    """A writer without memory, once its queue is full."""
+
+    def write(self, batch):
+        while not self.queue.full():
+            time.sleep(0.01)
+        raise MemoryError
+
+
+def ends_where_a_pack_fails():
+    """Whatever fails in the thread that writes, the thread that passes pieces to it doesn't wait for ever."""
+    with tempfile.TemporaryDirectory() as place:
+        writer, faults = FailingWriter(place, lambda rows: ABC), []
+
+        def put_until_it_fails():
+            try:
+                while True:
+                    writer.put(ABC, BATCH)
+            except backup_packs.WriteFailed as fault:
+                faults.append(str(fault))
+            try:
+                writer.finish()
+            except backup_packs.WriteFailed as fault:
+                faults.append(str(fault))
+
+        putting = threading.Thread(target=put_until_it_fails, daemon=True)
+        putting.start()
+        putting.join(SECONDS / 6)
+        return differences((putting.is_alive(), False), (faults, [f"{place}: a pack can't be written: out of memory"] * 2))
+
+
+def restores_without_owners():
+    """Where an owner isn't possible, as in some containers, all else of a file is restored."""
+    with tempfile.TemporaryDirectory() as place:
+        repository, address = made_backup(place, "file f 4755:7:7 5000000000 3 abc", "folder d 755:7:7 5000000000")
+        found = []
+        for number in errno.EPERM, errno.EINVAL, errno.ENOSYS, errno.ENOTSUP:
+            folder = os.path.join(place, str(number))
+            options = argparse.Namespace(folder=folder, address=address)
+            fault = OSError(number, "not here")
+            with Store(PROGRAM, sessions=1) as store, contextlib.redirect_stdout(io.StringIO()) as printed, mock.patch("os.chown", side_effect=fault):
+                found += differences((tool.restore(Repository(repository, store, 1 << 23), options), False))
+            found += differences((printed.getvalue(), "owners not restored: 2; no setuid or setgid bits are set there\n"))
+            states = [os.stat(os.path.join(folder, name)) for name in ("f", "d")]
+            found += differences(([(stat.S_IMODE(state.st_mode), state.st_mtime_ns) for state in states], [(0o755, 5000000000)] * 2))
+        return found
+
+
+def leaves_the_repository_out():
+    """A repository in the folder that is saved isn't saved in itself."""
+    with tempfile.TemporaryDirectory() as place:
+        folder, _ = folder_of_abc(place)
+        repository = os.path.join(folder, "repository")
+        runs = [backup("save", folder, repository) for _ in range(2)]
+        told = ["left out: repository: it is the repository", "files 1 folders 0 links 0"]
+        found = differences(*((status, 0) for status, _ in runs), *((lines[:2], told) for _, lines in runs))
+        restored = os.path.join(place, "restored")
+        found += differences((backup("restore", repository, runs[0][1][-1].split()[1], restored), (0, [])), (os.listdir(restored), ["file"]))
+        return found + differences((backup("save", repository, repository)[0], 1))
+
+
+def lists_no_folder_by_a_link():
+    """If a link takes the place of a folder before it is listed, what it leads to isn't saved; and what can't be looked at doesn't end a save."""
+    with tempfile.TemporaryDirectory() as place:
+        folder, other = os.path.join(place, "folder"), os.path.join(place, "other")
+        for path in os.path.join(folder, "a"), other:
+            os.makedirs(path)
+        write(os.path.join(other, "secret"), b"")
+        found = []
+        for path, fault in tool.entries_of(folder, os.stat(place)):
+            found.append((os.path.relpath(path, folder), fault))
+            if fault is None:
+                os.rmdir(path)
+                os.symlink(other, path)
+        entry = mock.Mock(is_dir=mock.Mock(side_effect=PermissionError))
+        return differences((found, [("a", None), ("a", "not a directory")]), (tool.may_be_folder(entry), True))
+
+
+def keeps_folders_that_are_there():
+    """A folder that is there already keeps its mode, and what is in it; what isn't there is restored."""
+    with tempfile.TemporaryDirectory() as place:
+        owner = f"{os.getuid()}:{os.getgid()}"
+        repository, address = made_backup(place, f"folder d 755:{owner} 0", f"file d/f 644:{owner} 0 3 abc", f"folder d/new 750:{owner} 0")
+        restored = os.path.join(place, "restored")
+        os.makedirs(os.path.join(restored, "d"))
+        os.chmod(os.path.join(restored, "d"), 0o711)
+        found = differences((backup("restore", repository, address, restored), (0, [])), (content_of(restored, "d", "f"), b"abc"))
+        states = [os.stat(os.path.join(restored, name)) for name in ("d", "d/new")]
+        found += differences(([stat.S_IMODE(state.st_mode) for state in states], [0o711, 0o750]))
+        return found + differences(([state.st_mtime_ns == 0 for state in states], [False, True]))
+
+
+CASES = (
+    ("a repository with links of others", writes_through_no_link),
+    ("a repository with files of others", removes_nothing_of_others),
+    ("files that change while they are read", reports_files_that_change),
+    ("a backup with wrong lengths", reports_wrong_lengths),
+    ("files with the numbers of others", links_no_other_file),
+    ("hard links of files that change", links_to_whole_files_alone),
+    ("a backup whose list was edited", restores_the_rest_of_an_edited_list),
+    ("a backup without memory to write", ends_where_a_pack_fails),
+    ("a backup of owners that aren't possible", restores_without_owners),
+    ("a repository in the folder that is saved", leaves_the_repository_out),
+    ("a folder that a link replaces while it is saved", lists_no_folder_by_a_link),
+    ("a restore into folders that are there", keeps_folders_that_are_there),
+)
