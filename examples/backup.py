@@ -51,6 +51,7 @@ import fcntl
 import re
 import signal
 import stat
+import time
 
 from b3store import MAX_LIMIT, Ended, Refused, Store
 from b3store.console import drop_output, error_text, fault_text, one_line, open_standard_files
@@ -62,6 +63,8 @@ MIN_MEMORY = 1 << 23
 """The least `--memory`."""
 ITSELF = "."
 """The name of the folder itself in a backup of it."""
+SECONDS_FOR_LEASE = 5
+"""How long a program may take to give a lease on a file back."""
 IS_REPOSITORY = "it is the repository"
 """Why a folder is left out, which is no fault."""
 NOT_ALLOWED = {errno.EPERM, errno.EACCES, errno.EINVAL, errno.ENOSYS, errno.ENOTSUP}
@@ -133,8 +136,17 @@ def place_in(folder, path):
 
 
 def opened(path, status):
-    """Opens a regular file of this status. Raises OSError if another one has taken its place: a link is not followed, and a pipe not waited for."""
-    file = open(path, "rb", opener=lambda path, flags: os.open(path, flags | os.O_NOFOLLOW | os.O_NONBLOCK))
+    """Opens a regular file of this status. Raises OSError if another one has taken its place: a link is not followed, and a pipe not waited for. Another
+    program that has a lease on the file has some time to give it back."""
+    end = time.monotonic() + SECONDS_FOR_LEASE
+    while True:
+        try:
+            file = open(path, "rb", opener=lambda path, flags: os.open(path, flags | os.O_NOFOLLOW | os.O_NONBLOCK))
+            break
+        except BlockingIOError:
+            if time.monotonic() > end:
+                raise
+            time.sleep(0.05)
     if not os.path.samestat(os.fstat(file.fileno()), status):
         file.close()
         raise OSError("another file has taken its place while it was saved")
@@ -287,13 +299,19 @@ class Restoring:
 
     def write(self, place, addresses):
         """Writes a file of these pieces, and returns its length; or leaves none if one of them can't be read or written."""
-        file = open(place, "xb")
+        file, signals = None, signal.pthread_sigmask(signal.SIG_BLOCK, {signal.SIGINT})
         try:
+            try:
+                file = open(place, "xb")
+            finally:
+                # an interrupt comes now, when it is known whether there is a file
+                signal.pthread_sigmask(signal.SIG_SETMASK, signals)
             with file:
                 file.writelines(map(self.repository.read, addresses))
                 return file.tell()
         except BaseException:
-            os.remove(place)
+            if file is not None:
+                os.remove(place)
             raise
 
     def finish(self, place, line):

@@ -35,7 +35,7 @@ class Checking:
 
     def check_pack(self, pack):
         """Compares all that is in a pack and its index."""
-        read, end = self.repository.packs.read, pack.end()
+        end = pack.end()
         if pack.lacks_index and pack.fault is None:
             print(f"missing: {self.relative(pack.index)}, which the next save makes from its pack")
         elif pack.index_fault is not None:
@@ -45,9 +45,18 @@ class Checking:
         elif pack.length > end:
             self.report_pack(pack, pack.path, f"after its pieces are {pack.length - end} more bytes")
         for row, address, start, length in pack.pieces():
-            is_right = self.check_copy(address, pack.path, lambda: read(pack, start, length))
-            if is_right and pack.index_fault is None and read(pack, start - len(row), len(row)) != row:
-                self.report_pack(pack, pack.path, f"before object {address} is a wrong row")
+            is_right = self.check_copy(address, pack.path, lambda: self.repository.packs.read(pack, start, length))
+            if is_right and pack.index_fault is None:
+                self.check_row(pack, row, address, start - len(row))
+
+    def check_row(self, pack, row, address, at):
+        """Compares what is in a pack before an object with the row of the index."""
+        try:
+            fault = None if self.repository.packs.read(pack, at, len(row)) == row else f"before object {address} is a wrong row"
+        except OSError as error:
+            fault = reason(error)
+        if fault is not None:
+            self.report_pack(pack, pack.path, fault)
 
     def report_pack(self, pack, path, fault):
         print(one_line(f"wrong: {self.relative(path)}: {fault}"))

@@ -5,13 +5,15 @@ import errno
 import io
 import os
 import stat
+import subprocess
+import sys
 import tempfile
 import threading
 import time
 from unittest import mock
 
 from backups import backup, folder_of_abc, made_backup
-from shared import ABC, PROGRAM, SECONDS, differences
+from shared import ABC, PROGRAM, SECONDS, TOP, differences
 from b3store import Store
 import backup as tool
 import backup_packs
@@ -286,7 +288,66 @@ def keeps_folders_that_are_there():
         return found + differences(([state.st_mtime_ns == 0 for state in states], [False, True]))
 
 
+INTERRUPTED = f"""import sys; sys.path[:0] = {[os.path.join(TOP, name) for name in ("examples", "python")]!r}
+import builtins, os, signal, backup
+def open_and_interrupt(path, mode):
+    file = builtins.open(path, mode)
+    os.kill(os.getpid(), signal.SIGINT)
+    return file
+signal.signal(signal.SIGINT, signal.default_int_handler)
+backup.open = open_and_interrupt
+try:
+    object.__new__(backup.Restoring).write(sys.argv[1], [])
+except KeyboardInterrupt:
+    print(os.path.exists(sys.argv[1]))"""
+
+
+def leaves_nothing_at_an_interrupt():
+    """An interrupt while a file is opened leaves none."""
+    with tempfile.TemporaryDirectory() as place:
+        ran = subprocess.run([sys.executable, "-c", INTERRUPTED, os.path.join(place, "f")], stdout=subprocess.PIPE, stderr=subprocess.PIPE, timeout=SECONDS)
+        return differences((ran.stdout, b"False\n"), (ran.stderr, b""))
+
+
+def waits_for_leases():
+    """A file on which another program has a lease is opened when that is given back."""
+    waiting = [BlockingIOError(errno.EAGAIN, "busy")] * 2
+
+    def open_later(*words, **options):
+        if waiting:
+            raise waiting.pop()
+        return open(*words, **options)
+
+    with tempfile.TemporaryDirectory() as place, mock.patch.object(tool, "open", open_later, create=True):
+        path = os.path.join(place, "f")
+        write(path, b"abc")
+        with tool.opened(path, os.lstat(path)) as file:
+            return differences((file.read(), b"abc"), (waiting, []))
+
+
+def checks_beyond_a_row():
+    """A row of a pack that can't be read is reported, and the check goes on."""
+    read = backup_packs.Packs.read
+
+    def read_some(packs, pack, start, length):
+        if start == 0:
+            raise OSError(errno.EIO, "Input/output error")
+        return read(packs, pack, start, length)
+
+    with tempfile.TemporaryDirectory() as place:
+        folder, repository = folder_of_abc(place)
+        found = differences((backup("save", folder, repository)[0], 0))
+        options = argparse.Namespace(repository=repository)
+        with Store(PROGRAM, sessions=1) as store, contextlib.redirect_stdout(io.StringIO()) as printed, mock.patch.object(backup_packs.Packs, "read", read_some):
+            is_right = tool.check(Repository(repository, store, 1 << 23), options)
+        lines = printed.getvalue().splitlines()
+        return found + differences((is_right, False), ([line for line in lines if "input/output error" in line] != [], True), (lines[-1], "backups 1 broken 0"))
+
+
 CASES = (
+    ("an interrupt while a file is restored", leaves_nothing_at_an_interrupt),
+    ("files with a lease", waits_for_leases),
+    ("a pack whose row can't be read", checks_beyond_a_row),
     ("a repository with links of others", writes_through_no_link),
     ("a repository with files of others", removes_nothing_of_others),
     ("files that change while they are read", reports_files_that_change),
