@@ -74,16 +74,17 @@ def gets_that_are_ended():
     for number in signal.SIGTERM, signal.SIGHUP, signal.SIGINT:
         with server_of(b"has 3\n", None) as path, tempfile.TemporaryDirectory() as place:
             words = [sys.executable, "-m", "b3store", "--socket", path, "get", "--tenant", "0", ABC, "-o", os.path.join(place, "file")]
-            with subprocess.Popen(words, cwd=os.path.join(TOP, "python"), stdout=subprocess.PIPE, stderr=subprocess.PIPE, preexec_fn=listen_to_interrupts) as ended_one:
+            with subprocess.Popen(words, cwd=os.path.join(TOP, "python"), stdout=subprocess.PIPE, stderr=subprocess.PIPE, preexec_fn=listen_to_signals) as ended_one:
                 found += differences((wait_until(lambda place=place: os.listdir(place)), True))
                 ended_one.send_signal(number)
                 found += differences((ended_one.communicate(timeout=SECONDS), (b"", b"")), (ended_one.returncode, 128 + number), (os.listdir(place), []))
     return found
 
 
-def listen_to_interrupts():
-    """A shell starts what is in its background with SIGINT ignored."""
-    signal.signal(signal.SIGINT, signal.default_int_handler)
+def listen_to_signals():
+    """A shell starts what is in its background with SIGINT ignored, and nohup ignores SIGHUP."""
+    for number in signal.SIGHUP, signal.SIGINT, signal.SIGTERM:
+        signal.signal(number, signal.SIG_DFL)
 
 
 def tokens_without_answer():

@@ -2,6 +2,7 @@
 import os
 import pty
 import re
+import select
 import signal
 import stat
 import subprocess
@@ -151,14 +152,16 @@ def shows_progress():
         words = [sys.executable, "-m", "b3store", "--socket", server.path, "put", "-"]
         environment = {**os.environ, "PYTHONPATH": PACKAGE}
         with subprocess.Popen(words, stdin=subprocess.PIPE, stdout=subprocess.PIPE, stderr=terminal, env=environment) as put:
-            for _ in range(3):
+            shown, end = b"", time.monotonic() + SECONDS / 2
+            while b" MiB in " not in shown and time.monotonic() < end:
                 put.stdin.write(bytes(5 * PART_LEN))
                 put.stdin.flush()
-                time.sleep(0.8)
+                if select.select([main_end], [], [], 0.3)[0]:
+                    shown += os.read(main_end, 10000)
             put.stdin.close()
             line = put.stdout.read()
         os.close(terminal)
-        shown = os.read(main_end, 10000)
+        shown += os.read(main_end, 10000)
         os.close(main_end)
         is_shown = bool(re.search(rb"b3store: -: [0-9]+ MiB in ", shown))
         return differences((put.returncode, 0), (line[64:], b"  -\n"), (is_shown, True), (shown.endswith(b"\r\x1b[K"), True))
