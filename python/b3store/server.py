@@ -299,6 +299,9 @@ class Server:
         self._connections.close_waiting()
 
     def _accept(self, listener: Listener) -> None:
+        if self._deadline is not None:
+            # a signal that came with the connection has closed the listener
+            return
         if self._connections.is_full(listener.needs_token):
             time.sleep(SECONDS_BETWEEN_LOOKS)
             return
