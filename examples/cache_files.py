@@ -91,7 +91,7 @@ class Files:
         """For each segment, how many of its bytes keys lead to, and its length."""
         self.waiting, self.bytes, self.changes, self.changed = [], 0, 0, threading.Condition()
         """The changes of keys that wait, and how many bytes and changes wait or are being written."""
-        self.fault, self.has_ended, self.lines = None, False, 0
+        self.fault, self.has_ended, self.lines, self.is_full = None, False, 0, False
         self.log = self.last = self.writer = self.name = None
 
     def at(self, name):
@@ -301,6 +301,8 @@ class Files:
                 entry = None
             else:
                 texts.append(line)
+                self.unread.discard(entry.address)
+                self.unchecked.discard(entry.address)
         if entry is None:
             self.note_key(user.name, key, None)
             return [*texts, f"drop {user.name} {key}"]
@@ -338,28 +340,26 @@ class Files:
         offset = self.last.tell()
         try:
             write()
-        except (Refused, Ended, Unreadable):
+        except BaseException:
             self.last.seek(offset)
             self.last.truncate()
             raise
         place = Place(self.name, offset, self.last.tell() - offset)
         self.note_place(address, place)
-        self.unread.discard(address)
-        self.unchecked.discard(address)
         return f"object {address} {place.segment} {place.offset} {place.length}"
 
     def emptiest(self):
         """The segment of which keys lead to the fewest bytes, at most half, and which is neither the last one nor has an object that could not be read;
-        or None. One to which no key leads is removed without writing, on a full disk too."""
+        or None. One to which no key leads is removed without writing; no other one while the disk is full."""
         kept = {self.name, *(self.places[address].segment for address in self.unread if self.refs[address])}
-        found = [name for name, size in self.sizes.items() if name not in kept and 2 * self.live[name] <= size]
+        found = [name for name, size in self.sizes.items() if name not in kept and 2 * self.live[name] <= (0 if self.is_full else size)]
         return min(found, key=lambda name: self.live[name], default=None)
 
     def live_objects(self, segment):
         return [address for address, place in self.places.items() if place.segment == segment and self.refs[address]]
 
     def move(self, segment):
-        """Moves some objects that keys lead to from a segment to the last one, and returns their lines. One that can't be read stays."""
+        """Moves some objects that keys lead to from a segment to the last one, and returns their lines. What can't be read or written stays."""
         texts, moved = [], 0
         for address in self.live_objects(segment):
             if moved < MOVED_AT_ONCE:
@@ -368,6 +368,9 @@ class Files:
                     texts.append(self.append(address, lambda: self.write_pieces(self.readable(address))))
                 except Unreadable:
                     self.unread.add(address)
+                except OSError:
+                    self.is_full = True
+                    break
         return texts
 
     def readable(self, address):
@@ -382,6 +385,7 @@ class Files:
         for address in [address for address, place in self.places.items() if place.segment == segment]:
             del self.places[address]
         del self.sizes[segment], self.live[segment]
+        self.is_full = False
         with contextlib.suppress(FileNotFoundError):
             os.remove(self.at(segment))
 

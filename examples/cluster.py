@@ -1,11 +1,12 @@
 #!/usr/bin/env python3
-"""Several cache servers with nginx in front of them, on loopback addresses. nginx distributes the keys by a consistent hash.
+"""Several cache servers with nginx in front of them, on loopback addresses. nginx distributes the keys by their hash.
 
     cluster.py FOLDER [--servers N] [--port N] [--program PATH]
 
-Server K keeps its content in FOLDER/K. If a server ends, nginx asks the next one on the ring for its keys, which are misses until they are stored again;
-other keys stay where they are. The first line of output has the port of nginx, the second the process id of each server. On SIGTERM, SIGINT or SIGHUP it
-ends, and each server saves its content first.
+Server K keeps its content in FOLDER/K. If a server ends, nginx asks others for its keys, which are misses until they are stored again; other keys stay where
+they are. At the next start it answers for its keys again, with the content that it had, so use keys that name their content, as caches of compilers do. The
+number of servers of a folder has to stay the same. The first line of output has the port of nginx, the second the process id of each server. On SIGTERM,
+SIGINT or SIGHUP it ends, and each server saves its content first.
 """
 import os
 import sys
@@ -45,7 +46,7 @@ http {{
   uwsgi_temp_path nginx-uwsgi;
   scgi_temp_path nginx-scgi;
   upstream servers {{
-    hash $request_uri consistent;
+    hash $request_uri;
 {servers}
   }}
   server {{
@@ -92,7 +93,7 @@ def start_all(options, processes):
         processes.append(servers[-1].process)
         if servers[-1].port is None:
             raise ValueError("a cache server doesn't start")
-    lines = "\n".join(f"    server 127.0.0.1:{server.port} max_fails=1 fail_timeout=2s;" for server in servers)
+    lines = "\n".join(f"    server 127.0.0.1:{server.port} max_fails=0;" for server in servers)
     with open(os.path.join(folder, "nginx.conf"), "w", encoding="utf-8") as file:
         file.write(NGINX.format(servers=lines, port=options.port))
     processes.append(subprocess.Popen(["nginx", "-p", folder, "-c", file.name, "-e", os.path.join(folder, "nginx.log")]))

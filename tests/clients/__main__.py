@@ -59,6 +59,8 @@ CASES = (
     ("a cache whose segments were removed", cache_disk.writes_again_what_was_removed),
     ("a cache that has not read all its files", cache_disk.lives_with_what_it_has_not_read),
     ("a cache whose keys were left out", cache_disk.deletes_what_was_left_out),
+    ("a cache that has moved what it has not read", cache_disk.writes_what_was_only_moved),
+    ("a cache on a full disk", cache_disk.removes_on_a_full_disk),
     ("a cache's keys that were removed", cache_disk.keeps_a_removal),
     ("a cache that begins with other users", cache_disk.keeps_what_it_cannot_begin_with),
     ("a cache's metrics", cache_moves.reports_its_counts),
@@ -79,7 +81,7 @@ CASES = (
     ("a cache's keys of any bytes", caches.keys_of_any_bytes),
     ("a cache whose store ends", caches.ends_with_its_store),
 )
-NEED_MORE = (("nginx", caches.parts_the_keys), ("ccache", caches.compiles_twice))
+NEED_MORE = (("nginx", caches.parts_the_keys), ("nginx", caches.finds_keys_again), ("ccache", caches.compiles_twice))
 
 
 def cases():

@@ -357,6 +357,46 @@ def lives_with_what_it_has_not_read():
             return found + differences((cache.ask("GET", "/c", token="token-a"), (200, b"abc")), (cache.ask("GET", "/d", token="token-a"), (200, b"four")))
 
 
+def writes_what_was_only_moved():
+    """Content that was not read at the start is not taken for right because it was moved."""
+    with tempfile.TemporaryDirectory() as place:
+        folder, large = os.path.join(place, "cache"), b"large" * 600000
+        with Cache(folder, USERS) as cache:
+            found = differences(*((cache.ask("PUT", key, content, token)[0], 201) for key, content, token in (("/a", large, "token-a"), ("/b", b"abc", "token-b"))))
+        before = places_of(folder)[ABC]
+        with open(os.path.join(folder, before[0]), "r+b") as file:
+            file.seek(before[1])
+            file.write(b"abd")
+        with Cache(folder, "ann token-a 10000000\n") as cache:
+            found += differences((cache.ask("DELETE", "/a", token="token-a")[0], 204), (wait_until(lambda: places_of(folder)[ABC] != before), True))
+            found += differences((cache.ask("PUT", "/c", b"abc", "token-a")[0], 201))
+        with Cache(folder, "ann token-a 10000000\n") as cache:
+            return found + differences((cache.ask("GET", "/c", token="token-a"), (200, b"abc")))
+
+
+FULL = f"""import sys; sys.path[:0] = {[os.path.join(TOP, name) for name in ("examples", "python")]!r}
+import cache_files, cache_server
+def write_some(files, pieces):
+    files.last.write(b"half")
+    raise OSError(28, "No space left on device")
+cache_files.Files.write_pieces = write_some
+sys.exit(cache_server.main())"""
+
+
+def removes_on_a_full_disk():
+    """A key is removed on a disk that is too full to move what is left of its segment."""
+    with tempfile.TemporaryDirectory() as place:
+        folder, large = os.path.join(place, "cache"), b"large" * 600000
+        with Cache(folder) as cache:
+            found = differences(*((cache.ask("PUT", key, content)[0], 201) for key, content in (("/a", large), ("/b", b"abc"))))
+        with Cache(folder, server=["-c", FULL]) as cache:
+            found += differences((cache.ask("DELETE", "/a")[0], 204), (wait_until(lambda: texts_of_log(folder)[-1] == "drop all /a"), True))
+            time.sleep(1)
+            found += differences((bytes_below(folder) < len(large) + 10000, True), (cache.stop(), ("cache_server: saved 1 key, 1 object\n", "")))
+        with Cache(folder) as cache:
+            return found + differences((cache.ask("GET", "/a")[0], 404), (cache.ask("GET", "/b"), (200, b"abc")))
+
+
 def keeps_a_removal():
     """A key that was removed and then written is gone if the store has ended with its content: what it led to before doesn't come back."""
     with tempfile.TemporaryDirectory() as place:

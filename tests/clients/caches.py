@@ -1,4 +1,5 @@
 """Caches by examples/cache_server.py, and the programs that use them: examples/cluster.py and bench/ccache."""
+import contextlib
 import http.client
 import os
 import re
@@ -7,6 +8,7 @@ import socket
 import subprocess
 import sys
 import tempfile
+import time
 
 from shared import ABC, FOUR, PROGRAM, SECONDS, TOP, differences
 from servers import USERS, Cache, ask, ask_without_store, free_port, is_answered, metrics, raw_answer, wait_until
@@ -233,6 +235,35 @@ def ends_with_its_store():
             found += differences((cache.begun.split(", ", 1)[1], "has 1 key, 1 object\n"), (answer and answer[0], 503), (cache.process.returncode, 3))
             found += differences((cache.told[1], "cache_server: the store has ended; its exit status is -9\n"))
         return found
+
+
+def put_too_much(port):
+    """Sends more of a PUT that is refused than a server reads."""
+    with socket.create_connection(("127.0.0.1", port)) as connection, contextlib.suppress(OSError):
+        connection.sendall(b"PUT /much HTTP/1.1\r\nHost: a\r\nContent-Length: 5000000000\r\n\r\n")
+        for _ in range(80):
+            connection.sendall(bytes(1 << 20))
+
+
+def finds_keys_again():
+    """After a stop each key is where it was, and after a refused PUT too: what was overwritten doesn't come back."""
+    found, before, keys = [], None, [f"/key{number}" for number in range(60)]
+    with tempfile.TemporaryDirectory() as place:
+        for content in b"one", b"two", b"three":
+            port = free_port()
+            words = [sys.executable, os.path.join(TOP, "examples", "cluster.py"), place, "--port", str(port), "--servers", "3", "--program", PROGRAM]
+            with subprocess.Popen(words, stdout=subprocess.PIPE) as cluster:
+                wait_until(lambda port=port: is_answered(port))
+                if before is not None:
+                    found += differences(({ask(port, "GET", key) for key in keys}, {(200, before)}))
+                found += differences(({ask(port, "PUT", key, b"old")[0] for key in keys}, {201}))
+                put_too_much(port)
+                found += differences(({ask(port, "PUT", key, content)[0] for key in keys}, {201}))
+                time.sleep(2.5)
+                found += differences(({ask(port, "GET", key) for key in keys}, {(200, content)}))
+                cluster.send_signal(signal.SIGTERM)
+            before = content
+    return found
 
 
 def parts_the_keys():
