@@ -52,7 +52,7 @@ MAX_SESSIONS = 64
 MAX_WAITING = 1024
 """The maximum number of connections that wait for a turn. Others stay in the queues of the listening sockets."""
 MAX_STRANGERS = 256
-"""The maximum number of connections that have not sent the token. They keep no others out."""
+"""The maximum number of connections that have not sent the token. Further TCP connections wait for them; others don't."""
 SECONDS_FOR_TOKEN = 10.0
 SECONDS_TO_LEAVE = 1.0
 """How long a refused client may take to close its side."""
@@ -187,10 +187,10 @@ class Connections:
 
 def has_token(connection: socket.socket, token: Optional[bytes]) -> bool:
     """Whether the first line of a connection is the token. If it is, it is answered. No byte after the line is read."""
-    connection.settimeout(SECONDS_FOR_TOKEN)
     line, end = b"", time.monotonic() + SECONDS_FOR_TOKEN
     with contextlib.suppress(OSError):
         while not line.endswith(b"\n") and len(line) < MAX_TOKEN_LINE and time.monotonic() < end:
+            connection.settimeout(max(SECONDS_BETWEEN_LOOKS, end - time.monotonic()))
             byte = connection.recv(1)
             if not byte:
                 return False
