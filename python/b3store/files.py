@@ -13,6 +13,10 @@ class FolderInUse(Exception):
     """Another process has locked a folder."""
 
 
+class NotSynced(OSError):
+    """A file is replaced, but its folder can't be synced: after a crash of the machine it may have its old content."""
+
+
 def lock_folder(path: str, seconds: float = 0) -> int:
     """Opens a folder, and locks it until the descriptor is closed or the process ends. Raises FolderInUse if another process keeps it locked for so long."""
     folder, end = os.open(path, os.O_RDONLY | os.O_DIRECTORY), time.monotonic() + seconds
@@ -50,7 +54,7 @@ def checked_text(line: bytes) -> Optional[str]:
 
 def replace_file(folder: int, path: str, lines: Iterable[bytes]) -> None:
     """Replaces a file in an open folder: writes the lines to PATH.new, syncs this, renames it, and syncs the folder. Whenever that is interrupted, the file
-    has either its old content or all of the new."""
+    has either its old content or all of the new. Raises NotSynced if only the last step fails, and OSError if another does: then it has its old content."""
     aside = path + ".new"
     try:
         with open(aside, "wb", opener=private) as file:
@@ -62,7 +66,10 @@ def replace_file(folder: int, path: str, lines: Iterable[bytes]) -> None:
             os.unlink(aside)
         raise
     os.replace(aside, path)
-    os.fsync(folder)
+    try:
+        os.fsync(folder)
+    except OSError as error:
+        raise NotSynced(error.errno, error.strerror) from None
 
 
 def private(path: str, flags: int) -> int:

@@ -13,6 +13,7 @@ from .sessions import prepare_tcp
 
 FIRST_PASSED = 3
 """The first descriptor that systemd passes."""
+FAMILIES = (socket.AF_UNIX, socket.AF_INET, socket.AF_INET6)
 BACKLOG = 1024
 MIN_TOKEN = 16
 MAX_TOKEN = 512
@@ -43,12 +44,12 @@ class Listener:
             prepare_tcp(connection)
 
     def close(self) -> None:
-        """Closes the socket, and removes its file if the path still names it."""
-        self.socket.close()
+        """Removes the socket's file if the path still names it, and closes the socket. While it listens, no other server replaces the file."""
         if self._path and self._identity == identity(self._path):
             with contextlib.suppress(OSError):
                 os.unlink(self._path)
         self._path = None
+        self.socket.close()
 
 
 def identity(path: str) -> Optional[Tuple[int, int]]:
@@ -159,8 +160,8 @@ def passed(descriptor: int) -> Listener:
         is_listening = listening.getsockopt(socket.SOL_SOCKET, socket.SO_ACCEPTCONN)
     except OSError as error:
         raise ListenError(f"the passed descriptor {descriptor} is not a socket: {error.strerror}") from None
-    if not is_listening or listening.type != socket.SOCK_STREAM:
-        raise ListenError(f"the passed descriptor {descriptor} is not a listening stream socket")
+    if not is_listening or listening.type != socket.SOCK_STREAM or listening.family not in FAMILIES:
+        raise ListenError(f"the passed descriptor {descriptor} is not a listening Unix-domain or TCP socket")
     return Listener(listening)
 
 

@@ -1,7 +1,14 @@
-"""How the programs of this package start: `b3store-client` and `b3store-server`, which pip installs, and Ctrl-C until a program handles it.
+"""How the programs of this package start: `b3store-client` and `b3store-server`, which pip installs; Ctrl-C until a program handles it; and the signals that
+end a server.
 
 While modules are imported, Python would raise KeyboardInterrupt in the middle of an import, and print a traceback. This module imports little itself."""
+import contextlib
 import signal
+import sys
+from typing import Any, Iterator
+
+ENDING = (signal.SIGTERM, signal.SIGINT, signal.SIGHUP)
+"""The signals that end a server."""
 
 
 def end_at_once() -> None:
@@ -16,6 +23,36 @@ def raise_again() -> bool:
     if ended:
         signal.signal(signal.SIGINT, signal.default_int_handler)
     return ended
+
+
+def handle_ending(handler: Any) -> None:
+    """Sets the handler of the signals that end a server. SIGHUP stays ignored if it is, as `nohup` wants it."""
+    for number in ENDING:
+        if number != signal.SIGHUP or signal.getsignal(number) is not signal.SIG_IGN:
+            signal.signal(number, handler)
+
+
+def exit_at_ending() -> None:
+    """Lets the first signal that ends a server raise SystemExit. Later ones have no effect, so that they interrupt nothing that is tidied up."""
+    is_ending = False
+
+    def end(*_: Any) -> None:
+        nonlocal is_ending
+        if not is_ending:
+            is_ending = True
+            sys.exit(0)
+
+    handle_ending(end)
+
+
+@contextlib.contextmanager
+def signals_held() -> Iterator[None]:
+    """Holds these signals back, so that none interrupts what is made until it is noted that it has to be removed."""
+    held = signal.pthread_sigmask(signal.SIG_BLOCK, ENDING)
+    try:
+        yield
+    finally:
+        signal.pthread_sigmask(signal.SIG_SETMASK, held)
 
 
 def client() -> int:

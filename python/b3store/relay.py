@@ -3,16 +3,17 @@
 Within one process Python runs one thread at a time, and the threads of several connections would mostly wait for each other."""
 import array
 import contextlib
-import errno
 import os
 import select
 import signal
 import socket
 import threading
-from typing import Any, Callable, Optional, Set
+from typing import Any, Callable, Set
 
 from .answers import Answers
+from .programs import signals_held
 from .server_store import Pipes, Store, status_text
+from .sessions import splice, write_all
 
 AT_A_TIME = 1 << 20
 """The maximum number of bytes spliced by one call."""
@@ -25,11 +26,6 @@ MAX_KEPT = 1 << 10
 MAX_BEGUN = 1 << 14
 """With more uploads than this, the server asks the store which of them are still open."""
 FIRST_FREE = 3
-SIGNALS = (signal.SIGINT, signal.SIGTERM)
-"""The signals that are for the server alone."""
-
-_splice: Optional[Callable[[int, int, int], int]] = getattr(os, "splice", None)
-
 
 Wait = Callable[[], Any]
 """Returns when an event has come, or the connection has ended."""
@@ -45,38 +41,16 @@ def waiter(connection: int, events: int) -> Wait:
     return poll.poll
 
 
-def write_all(target: int, data: bytes, wait_for_room: Wait) -> None:
-    """Writes all bytes."""
-    written = 0
-    while written < len(data):
-        try:
-            written += os.write(target, memoryview(data)[written:] if written else data)
-        except BlockingIOError:
-            wait_for_room()
-
-
-def splice(source: int, target: int, count: int) -> Optional[int]:
-    """Moves up to `count` bytes within the kernel, and returns how many: 0 at the end of the source, None if they can't be moved so."""
-    global _splice
-    if _splice is None:
-        return None
-    try:
-        return _splice(source, target, count)
-    except OSError as error:
-        if error.errno not in (errno.EINVAL, errno.ENOSYS):
-            raise
-        # Not with such descriptors, or not on this system: from now on bytes are read and written.
-        _splice = None
-        return None
-
-
-def move(source: int, target: int, wait_for_room: Wait) -> int:
+def move(source: int, target: int) -> int:
     """Moves what there is, or what comes first, and returns how many bytes: 0 at the end of the source."""
     moved = splice(source, target, AT_A_TIME)
-    if moved is not None:
-        return moved
+    return copy(source, target) if moved is None else moved
+
+
+def copy(source: int, target: int) -> int:
+    """The same without splicing."""
     data = os.read(source, BUFFER)
-    write_all(target, data, wait_for_room)
+    write_all(target, data, None)
     return len(data)
 
 
@@ -118,12 +92,14 @@ class Relay:
     def _move_requests(source: int, requests: int, wait_for_data: Wait) -> bool:
         """Moves requests as they come. False at the end of the connection's input; true if there was nothing to read after all."""
         wait_for_data()
-        try:
-            while move(source, requests, wait_for_data):
+        with contextlib.suppress(BlockingIOError):
+            while move(source, requests):
                 wait_for_data()
-        except BlockingIOError:
-            return True
-        return False
+            return False
+        with contextlib.suppress(BlockingIOError):
+            # nothing is spliced from where TCP has an urgent byte, which a read leaves out
+            return copy(source, requests) > 0
+        return True
 
     def _relay_answers(self, nowhere: int) -> None:
         """Ends with the session. When the client has left, the remaining answers are still read: they may report uploads."""
@@ -139,20 +115,20 @@ class Relay:
         while goes_on:
             try:
                 if self._answers is None:
-                    goes_on = self._pass_all(self._pipes.answers, target, wait_for_room)
+                    goes_on = self._pass_all(self._pipes.answers, target)
                 else:
-                    goes_on = self._pass_read(self._answers, self._pipes.answers, target, wait_for_room)
+                    goes_on = self._pass_read(self._answers, self._pipes.answers, target)
             except BlockingIOError:
                 wait_for_room()
 
     @staticmethod
-    def _pass_all(source: int, target: int, wait_for_room: Wait) -> bool:
+    def _pass_all(source: int, target: int) -> bool:
         """Forwards answers without reading them. False at their end."""
-        while move(source, target, wait_for_room):
+        while move(source, target):
             pass
         return False
 
-    def _pass_read(self, answers: Answers, source: int, target: int, wait_for_room: Wait) -> bool:
+    def _pass_read(self, answers: Answers, source: int, target: int) -> bool:
         """Forwards raw bytes if many follow, else lines until many raw bytes follow. False at the end of the answers."""
         if answers.body >= LEAST_SPLICED:
             moved = splice(source, target, min(answers.body, AT_A_TIME))
@@ -164,7 +140,7 @@ class Relay:
             answers.read(piece)
             if len(answers.begun) >= MAX_KEPT:
                 self._report(answers)
-            write_all(target, piece, wait_for_room)
+            write_all(target, piece, None)
             if not piece or answers.body >= LEAST_SPLICED:
                 return bool(piece)
 
@@ -193,7 +169,7 @@ def relay_in_child(connection: socket.socket, pipes: Pipes, reports: int, keeps_
     """Relays in a process that was forked, and ends it. Nothing of the server is used here: its other threads don't exist in this process."""
     status = 1
     try:
-        close_others({connection.fileno(), *pipes, reports})
+        close_others({connection.fileno(), pipes.requests, pipes.answers, reports})
         Relay(connection, pipes, reports, keeps_uploads).run()
         status = 0
     finally:
@@ -202,14 +178,47 @@ def relay_in_child(connection: socket.socket, pipes: Pipes, reports: int, keeps_
 
 def start_relay(connection: socket.socket, pipes: Pipes, reports: int, keeps_uploads: bool) -> int:
     """Starts the process of a relay, and returns its process id."""
-    before = signal.pthread_sigmask(signal.SIG_BLOCK, SIGNALS)
-    try:
+    # these signals are for the server alone
+    with signals_held():
         process = os.fork()
         if not process:
             relay_in_child(connection, pipes, reports, keeps_uploads)
         return process
-    finally:
-        signal.pthread_sigmask(signal.SIG_SETMASK, before)
+
+
+class Relays:
+    """The processes of the relays that run."""
+
+    def __init__(self) -> None:
+        self._running: Set[int] = set()
+        self._lock = threading.Lock()
+        self._is_cut = False
+
+    def add(self, process: int) -> None:
+        with self._lock:
+            self._running.add(process)
+            if self._is_cut:
+                os.kill(process, signal.SIGKILL)
+
+    def wait(self, process: int) -> int:
+        """Waits until a process has ended, and returns its exit status, or the number of the signal that ended it, negated."""
+        # until its status is taken, no other process gets its number
+        os.waitid(os.P_PID, process, os.WEXITED | os.WNOWAIT)
+        with self._lock:
+            self._running.discard(process)
+        status = os.waitpid(process, 0)[1]
+        return -os.WTERMSIG(status) if os.WIFSIGNALED(status) else os.WEXITSTATUS(status)
+
+    def kill(self) -> None:
+        """Kills all processes, and those that are added later."""
+        with self._lock:
+            self._is_cut = True
+            for process in self._running:
+                os.kill(process, signal.SIGKILL)
+
+    def is_fault(self, status: int) -> bool:
+        """Whether a process that ended so has failed, and was not killed by this server."""
+        return status != 0 and not self._is_cut
 
 
 class Uploads:
@@ -247,25 +256,24 @@ class Uploads:
             report(failure)
 
 
-def serve_connection(store: Store, connection: socket.socket, keeps_uploads: bool, report: Callable[[str], None]) -> None:
-    """Opens a session, connects both by a process, and waits until it ends. Then the uploads that the session began and left open are aborted."""
-    reading, writing = os.pipe()
+def serve_connection(store: Store, relays: Relays, connection: socket.socket, keeps_uploads: bool, report: Callable[[str], None]) -> None:
+    """Opens a session, connects both by a process, and waits until both have ended. Then the uploads that the session began and left open are aborted."""
     uploads = Uploads(store)
-    try:
+    with contextlib.ExitStack() as ending:
+        ending.callback(uploads.abort, report)
+        pipes = store.open_session()
+        ending.callback(pipes.wait_for_end)
         try:
-            pipes = store.open_session()
+            reading, writing = os.pipe()
+            ending.callback(os.close, reading)
             try:
                 process = start_relay(connection, pipes, writing, keeps_uploads)
             finally:
-                for pipe in pipes:
-                    os.close(pipe)
+                os.close(writing)
         finally:
-            os.close(writing)
+            pipes.close()
+        relays.add(process)
         uploads.read(reading)
-        status = os.waitpid(process, 0)[1]
-        if status:
-            ended = status_text(-os.WTERMSIG(status) if os.WIFSIGNALED(status) else os.WEXITSTATUS(status))
-            report(f"the process of a connection ended with {ended}; uploads that the connection began may be left open")
-    finally:
-        os.close(reading)
-        uploads.abort(report)
+        status = relays.wait(process)
+        if relays.is_fault(status):
+            report(f"the process of a connection ended with {status_text(status)}; uploads that the connection began may be left open")

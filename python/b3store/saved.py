@@ -18,7 +18,7 @@ import re
 from typing import BinaryIO, Callable, Counter, Dict, Iterable, Iterator, List, NamedTuple, Optional, Tuple, TypeVar
 
 from .commands import fetch_line
-from .files import FolderInUse, checked_line, checked_text, lock_folder, private, replace_file
+from .files import FolderInUse, NotSynced, checked_line, checked_text, lock_folder, private, replace_file
 from .sessions import Kinds
 from .transfers import Transfers
 from .values import Ended, Refused
@@ -134,9 +134,13 @@ class SavedStore:
         return saved.text() if saved.limits else None
 
     def save(self, store: Transfers, tick: Tick) -> str:
-        """Saves the store, which no other thread changes meanwhile, and returns what it has. Raises SaveError; then the folder has the previous save."""
+        """Saves the store, which no other thread changes meanwhile, and returns what it has. Raises SaveError; then the folder has the previous save, or both
+        if the new one isn't synced."""
         try:
             saved = self._save(store, tick)
+        except NotSynced as error:
+            fault = f"its folder can't be synced: {reason_of(error)}; after a crash of the machine the save before may be back"
+            raise SaveError(f"the store is saved in {self._path}, but {fault}") from None
         except ERRORS as error:
             raise SaveError(f"the store can't be saved in {self._path}, which keeps the save before: {reason_of(error)}") from None
         return saved.text()
@@ -158,8 +162,13 @@ class SavedStore:
                 places.update(self._write_content(store, wanted, tick))
             saved = Saved(limits, {address: SavedObject(lengths[address], *places[address], holders[address]) for address in holders})
             self._write_index(saved, tick)
-        finally:
+        except NotSynced:
+            # what the index named before may be needed
+            raise
+        except BaseException:
             self._remove_unused(tick)
+            raise
+        self._remove_unused(tick)
         return saved
 
     def _usable_places(self, wanted: Dict[str, Tuple[int, ...]], tick: Tick) -> Dict[str, Tuple[str, int]]:

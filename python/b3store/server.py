@@ -14,13 +14,14 @@ which speaks the lines of `b3store serve` and nothing else. A separate process m
 - Up to N connections are served at a time. Others wait for their turn, in the order in which they came. One that has waited for `--wait` seconds is sent the
   line `busy` and closed: no answer begins with this word. None of its commands was executed.
 - Over TCP a client's first line is `token HEX`, with the digits of the token file. The server answers `ok`, or closes the connection.
-- On SIGTERM or SIGINT the server stops accepting connections, and waits up to `--grace` seconds for the open ones to end. A second signal ends the wait.
+- On SIGTERM, SIGINT or SIGHUP the server stops accepting connections, and waits up to `--grace` seconds for the open ones to end. A second signal ends the
+  wait.
 - The store lives in memory: when the server exits, everything in the store is lost, unless it was started with `--save FOLDER`. Then it saves the objects and
   the tenants in the folder after that wait, and a server that is started with the same folder restores them. Open uploads are not saved.
 
 Exit status: 0 after a signal, 1 if it can't start, 2 for wrong arguments, 3 if the store's process ended, 4 if the store can't be saved.
 """
-from .programs import end_at_once
+from .programs import ENDING, end_at_once, exit_at_ending, handle_ending, signals_held
 
 if __name__ == "__main__":
     end_at_once()
@@ -38,11 +39,11 @@ import sys
 import threading
 import time
 import warnings
-from typing import Callable, List, NamedTuple, Optional, Set, TextIO
+from typing import Callable, Dict, List, NamedTuple, Optional, Set, TextIO
 
 from .console import one_line, open_standard_files
 from .listening import Listener, ListenError, inherited, listen_at, listen_tcp, more_time, notify, read_token
-from .relay import serve_connection
+from .relay import Relays, serve_connection
 from .saved import SavedStore, SaveError
 from .server_store import Store, StoreError, status_text
 from .turns import Turns
@@ -52,12 +53,14 @@ MAX_SESSIONS = 64
 MAX_WAITING = 1024
 """The maximum number of connections that wait for a turn. Others stay in the queues of the listening sockets."""
 MAX_STRANGERS = 256
-"""The maximum number of connections that have not sent the token. Further TCP connections wait for them; others don't."""
+"""The maximum number of connections that have not sent the token. For a further one the oldest is closed."""
 SECONDS_FOR_TOKEN = 10.0
 SECONDS_TO_LEAVE = 1.0
 """How long a refused client may take to close its side."""
-SECONDS_TO_CUT = 10.0
-"""How long the sessions of connections that are ended by the server may take to end."""
+SECONDS_TO_CUT = 2.0
+"""How long the sessions of connections that are ended by the server may take to execute the commands that they have read."""
+SECONDS_FOR_LAST = 30.0
+"""How long they may then take for the last command, once the processes of the connections are killed."""
 SECONDS_BETWEEN_LOOKS = 0.02
 SECONDS_AT_REST = 5.0
 """How long the server sleeps if nothing happens."""
@@ -103,28 +106,27 @@ class Connections:
 
     def __init__(self, store: Store, options: Options) -> None:
         self._store, self._options = store, options
-        self._turns = Turns(options.sessions)
+        self._turns, self._relays = Turns(options.sessions), Relays()
         self._open: Set[socket.socket] = set()
-        self._strangers: Set[socket.socket] = set()
-        """Those that have not sent the token."""
+        self._strangers: Dict[socket.socket, None] = {}
+        """Those that have not sent the token, the oldest first."""
         self._lock = threading.Lock()
 
     def count(self) -> int:
         with self._lock:
             return len(self._open)
 
-    def is_full(self, needs_token: bool) -> bool:
+    def is_full(self) -> bool:
         """Whether no further connection is taken now."""
         with self._lock:
-            strangers = len(self._strangers)
-            return needs_token and strangers >= MAX_STRANGERS or len(self._open) - strangers >= self._options.sessions + MAX_WAITING
+            return len(self._open) - len(self._strangers) >= self._options.sessions + MAX_WAITING
 
     def add(self, connection: socket.socket, needs_token: bool) -> None:
         """Serves a connection by a thread. It lines up for its turn now, unless it has to send the token first."""
         with self._lock:
             self._open.add(connection)
             if needs_token:
-                self._strangers.add(connection)
+                self._add_stranger(connection)
         turn = None if needs_token else self._turns.line_up()
         try:
             threading.Thread(target=self._serve, args=(connection, turn), daemon=True).start()
@@ -134,24 +136,39 @@ class Connections:
                 self._turns.give_back()
             self._remove(connection)
 
+    def _add_stranger(self, connection: socket.socket) -> None:
+        if len(self._strangers) >= MAX_STRANGERS:
+            oldest = next(iter(self._strangers))
+            del self._strangers[oldest]
+            with contextlib.suppress(OSError):
+                oldest.shutdown(socket.SHUT_RDWR)
+        self._strangers[connection] = None
+
     def close_waiting(self) -> None:
         """Sends `busy` to the connections that wait, and to any that come later."""
         self._turns.close()
 
-    def end_all(self) -> None:
+    def end_all(self, tick: Callable[[], None]) -> None:
         """Ends all connections, and waits until their sessions have ended: their clients change nothing any more."""
         with self._lock:
             for connection in self._open:
                 with contextlib.suppress(OSError):
                     connection.shutdown(socket.SHUT_RDWR)
-        end = time.monotonic() + SECONDS_TO_CUT
+        self._wait_for_ends(SECONDS_TO_CUT, tick)
+        # a client that sent much ahead and reads nothing may have commands left
+        self._relays.kill()
+        self._wait_for_ends(SECONDS_FOR_LAST, tick)
+
+    def _wait_for_ends(self, seconds: float, tick: Callable[[], None]) -> None:
+        end = time.monotonic() + seconds
         while self.count() and time.monotonic() < end:
+            tick()
             time.sleep(SECONDS_BETWEEN_LOOKS)
 
     def _remove(self, connection: socket.socket) -> None:
         with self._lock:
             self._open.discard(connection)
-            self._strangers.discard(connection)
+            self._strangers.pop(connection, None)
             connection.close()
 
     def _is_trusted(self, connection: socket.socket) -> bool:
@@ -159,7 +176,7 @@ class Connections:
         if not has_token(connection, self._options.token):
             return False
         with self._lock:
-            self._strangers.discard(connection)
+            self._strangers.pop(connection, None)
         return True
 
     def _serve(self, connection: socket.socket, turn: Optional[threading.Event]) -> None:
@@ -180,7 +197,7 @@ class Connections:
     def _relay(self, connection: socket.socket) -> None:
         try:
             connection.setblocking(False)
-            serve_connection(self._store, connection, self._options.keeps_uploads, report)
+            serve_connection(self._store, self._relays, connection, self._options.keeps_uploads, report)
         finally:
             self._turns.give_back()
 
@@ -217,7 +234,7 @@ class Server:
 
     def __init__(self, store: Store, listeners: List[Listener], options: Options, saved: Optional[SavedStore]) -> None:
         self._store, self._listeners, self._options, self._saved = store, listeners, options, saved
-        self._connections = Connections(store, options)
+        self._connections, self._more_time = Connections(store, options), more_time()
         self._deadline: Optional[float] = None
         """After a signal: when the server ends at the latest."""
         self._selector = selectors.DefaultSelector()
@@ -226,8 +243,8 @@ class Server:
             end.setblocking(False)
         self._written = written
         signal.set_wakeup_fd(written.fileno(), warn_on_full_buffer=False)
-        for number in (signal.SIGTERM, signal.SIGINT, signal.SIGCHLD):
-            signal.signal(number, lambda *_: None)
+        signal.signal(signal.SIGCHLD, lambda *_: None)
+        handle_ending(lambda *_: None)
         self._selector.register(self._signals, selectors.EVENT_READ)
         for listener in listeners:
             listener.socket.setblocking(False)
@@ -249,6 +266,8 @@ class Server:
                 return 3
             if self._is_over():
                 return self._end()
+            if self._deadline is not None:
+                self._more_time()
             for key, _ in self._selector.select(SECONDS_AT_REST if self._deadline is None else SECONDS_BETWEEN_LOOKS):
                 if key.data is None:
                     self._read_signals()
@@ -270,10 +289,10 @@ class Server:
 
     def _save(self, saved: SavedStore) -> bool:
         """Saves the store, and returns whether it is saved. A signal doesn't interrupt it."""
-        self._connections.end_all()
+        self._connections.end_all(self._more_time)
         try:
             with self._store.own_session() as session:
-                text = saved.save(session, more_time())
+                text = saved.save(session, self._more_time)
         except SaveError as error:
             report(str(error))
             return False
@@ -282,7 +301,7 @@ class Server:
 
     def _read_signals(self) -> None:
         numbers = self._signals.recv(64)
-        asked = sum(number in (signal.SIGTERM, signal.SIGINT) for number in numbers)
+        asked = sum(number in ENDING for number in numbers)
         if asked and self._deadline is None:
             self._stop()
             asked -= 1
@@ -302,7 +321,7 @@ class Server:
         if self._deadline is not None:
             # a signal that came with the connection has closed the listener
             return
-        if self._connections.is_full(listener.needs_token):
+        if self._connections.is_full():
             time.sleep(SECONDS_BETWEEN_LOOKS)
             return
         try:
@@ -357,15 +376,18 @@ def read_words() -> argparse.Namespace:
     return words
 
 
-def open_listeners(words: argparse.Namespace, token: Optional[bytes]) -> List[Listener]:
-    """The sockets named by options, and those that systemd passed."""
+def open_listeners(words: argparse.Namespace, token: Optional[bytes], ending: contextlib.ExitStack) -> List[Listener]:
+    """The sockets named by options, which are closed at the end, and those that systemd passed."""
     listeners = inherited()
     if any(listener.needs_token for listener in listeners) and token is None:
         raise ListenError("a TCP socket was passed to the server, which requires --token-file")
     if words.socket:
-        listeners.append(listen_at(words.socket))
+        with signals_held():
+            listeners.append(listen_at(words.socket))
+            ending.callback(listeners[-1].close)
     if words.tcp:
         listeners.append(listen_tcp(words.tcp))
+        ending.callback(listeners[-1].close)
     if not listeners:
         raise ListenError("nothing to listen on: give --socket PATH")
     return listeners
@@ -396,8 +418,7 @@ def raise_file_limit(sessions: int) -> None:
 
 def serve(words: argparse.Namespace) -> int:
     """Starts the store, and serves it until the end."""
-    for number_of_signal in (signal.SIGTERM, signal.SIGINT):
-        signal.signal(number_of_signal, lambda *_: sys.exit(0))
+    exit_at_ending()
     check_places(words)
     token = read_token(words.token_file) if words.token_file else None
     options = Options(words.sessions, words.wait, words.grace, words.keep_uploads, token)
@@ -405,13 +426,13 @@ def serve(words: argparse.Namespace) -> int:
     threading.stack_size(STACK)
     # The process that is forked for a connection uses nothing that another thread may have locked.
     warnings.filterwarnings("ignore", ".*multi-threaded, use of fork", DeprecationWarning)
-    with contextlib.ExitStack() as stack:
-        saved = stack.enter_context(contextlib.closing(SavedStore(words.save, more_time()))) if words.save is not None else None
-        listeners = open_listeners(words, token)
-        for listener in listeners:
-            stack.callback(listener.close)
-        store = Store(words.program, options.sessions)
-        stack.callback(store.close)
+    with contextlib.ExitStack() as ending:
+        saved = ending.enter_context(contextlib.closing(SavedStore(words.save, more_time()))) if words.save is not None else None
+        listeners = open_listeners(words, token, ending)
+        with signals_held():
+            store = Store()
+            ending.callback(store.close)
+        store.start(words.program, options.sessions)
         if saved is not None:
             restore(saved, store)
         server = Server(store, listeners, options, saved)
@@ -429,6 +450,9 @@ def main() -> int:
     except (ListenError, SaveError, StoreError, OSError) as error:
         report(str(error))
         return 1
+    finally:
+        # one that comes while the interpreter ends doesn't change the status
+        handle_ending(signal.SIG_IGN)
 
 
 if __name__ == "__main__":

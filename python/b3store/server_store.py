@@ -41,10 +41,39 @@ class StoreError(Exception):
 
 
 class Pipes(NamedTuple):
-    """The server's ends of a session: requests are written to one, and answers are read from the other."""
+    """The server's ends of a session: requests are written to one, and answers are read from the other; and the names of the pipes."""
 
     requests: int
     answers: int
+    names: List[str]
+
+    def close(self) -> None:
+        """Closes these ends."""
+        os.close(self.requests)
+        os.close(self.answers)
+
+    def wait_for_end(self) -> None:
+        """Waits until the store has closed its ends, which it does when it has ended the session, and removes the names. No process may have the server's ends
+        any more."""
+        try:
+            while has_reader(self.names[0]):
+                time.sleep(SECONDS_BETWEEN_LOOKS)
+        finally:
+            self.remove_names()
+
+    def remove_names(self) -> None:
+        for name in self.names:
+            with contextlib.suppress(FileNotFoundError):
+                os.remove(name)
+
+
+def has_reader(name: str) -> bool:
+    """Whether a process reads a named pipe."""
+    try:
+        os.close(os.open(name, os.O_WRONLY | os.O_NONBLOCK))
+    except OSError as error:
+        return error.errno not in (errno.ENXIO, errno.ENOENT)
+    return True
 
 
 def status_text(status: int) -> str:
@@ -77,39 +106,24 @@ class OwnSession(Transfers):
         return Ended(reason)
 
 
-@contextlib.contextmanager
-def _signals_held() -> Iterator[None]:
-    """Holds back the signals that end the server: one that arrives while a temporary folder is made would leave the folder."""
-    held = signal.pthread_sigmask(signal.SIG_BLOCK, (signal.SIGTERM, signal.SIGINT))
-    try:
-        yield
-    finally:
-        signal.pthread_sigmask(signal.SIG_SETMASK, held)
-
-
 class Store:
     """A running `b3store serve --at DOOR --sessions N`. Its standard input and output are the server's own session."""
 
-    def __init__(self, program: str, sessions: int) -> None:
-        self._size = pipe_size(sessions)
+    def __init__(self) -> None:
+        """Makes the temporary folder of the door."""
         self._numbers = itertools.count(1)
         self._lock = threading.Lock()
-        self._is_closing = False
-        self._folder, self._locked = "", -1
-        try:
-            with _signals_held():
-                self._folder = tempfile.mkdtemp(prefix="b3store-server-")
-            # what removes old files from /tmp leaves a locked folder alone
-            with contextlib.suppress(OSError, FolderInUse):
-                self._locked = lock_folder(self._folder)
-            self._door = os.path.join(self._folder, "door")
-            os.mkfifo(self._door, 0o600)
-            self._start(program, sessions)
-        except BaseException:
-            self._remove_folder()
-            raise
+        self._is_started = self._is_closing = False
+        self._folder, self._locked = tempfile.mkdtemp(prefix="b3store-server-"), -1
+        # what removes old files from /tmp leaves a locked folder alone
+        with contextlib.suppress(OSError, FolderInUse):
+            self._locked = lock_folder(self._folder)
 
-    def _start(self, program: str, sessions: int) -> None:
+    def start(self, program: str, sessions: int) -> None:
+        """Starts the process. Raises StoreError if it isn't a store."""
+        self._size = pipe_size(sessions)
+        self._door = os.path.join(self._folder, "door")
+        os.mkfifo(self._door, 0o600)
         words = [program, "serve", "--at", self._door, "--sessions", str(sessions)]
         try:
             # In its own session, so that an interrupt at a terminal reaches only the server.
@@ -118,6 +132,7 @@ class Store:
             raise StoreError(f"cannot start {program}: {error.strerror}") from None
         assert self._process.stdin and self._process.stdout
         self._commands, self._answers = self._process.stdin, self._process.stdout
+        self._is_started = True
         try:
             self._commands.write(b"stat\n")
             self._commands.flush()
@@ -146,33 +161,28 @@ class Store:
             raise StoreError(f"{who} answered {answer[:60]!r} to stat" if answer else f"{who} closed its output")
 
     def open_session(self) -> Pipes:
-        """Opens a session. The names of its pipes are removed once the store has opened them."""
+        """Opens a session. The names of its pipes remain until it has ended."""
         with self._lock:
             number = next(self._numbers)
-        paths = [f"{self._door}.{number}.{end}" for end in ("in", "out")]
-        with contextlib.ExitStack() as names:
-            for path in paths:
-                os.mkfifo(path, 0o600)
-                names.callback(os.remove, path)
+        names = [f"{self._door}.{number}.{end}" for end in ("in", "out")]
+        with contextlib.ExitStack() as failing, contextlib.ExitStack() as held:
+            for name in names:
+                os.mkfifo(name, 0o600)
+                failing.callback(os.remove, name)
                 # Until the store has opened them both pipes have a reader and a writer here.
-                names.callback(os.close, os.open(path, os.O_RDWR))
-            requests = os.open(paths[0], os.O_WRONLY)
-            try:
-                answers = os.open(paths[1], os.O_RDONLY)
-            except BaseException:
-                os.close(requests)
-                raise
-            try:
-                self._enter(number, Pipes(requests, answers))
-            except BaseException:
-                os.close(requests)
-                os.close(answers)
-                raise
-        return Pipes(requests, answers)
+                held.callback(os.close, os.open(name, os.O_RDWR))
+            requests = os.open(names[0], os.O_WRONLY)
+            failing.callback(os.close, requests)
+            answers = os.open(names[1], os.O_RDONLY)
+            failing.callback(os.close, answers)
+            pipes = Pipes(requests, answers, names)
+            self._enter(number, pipes)
+            failing.pop_all()
+        return pipes
 
     def _enter(self, number: int, pipes: Pipes) -> None:
         """Writes a session's number to the door, and waits until the store serves it."""
-        for pipe in pipes:
+        for pipe in pipes.requests, pipes.answers:
             with contextlib.suppress(OSError):
                 fcntl.fcntl(pipe, SET_PIPE_SIZE, self._size)
         self._knock(b"%d\n" % number)
@@ -262,28 +272,25 @@ class Store:
         return False
 
     def close(self) -> int:
-        """Ends the process, and returns its exit status. Everything in the store is lost."""
+        """Ends the process, if it was started, removes the folder, and returns the exit status. Everything in the store is lost."""
         self._is_closing = True
+        status = self._end() if self._is_started else 0
+        shutil.rmtree(self._folder, ignore_errors=True)
+        if self._locked >= 0:
+            os.close(self._locked)
+        self._locked = -1
+        return status
+
+    def _end(self) -> int:
         # A thread that holds the lock has sent its commands, and their answers come soon.
         has_lock = self._lock.acquire(timeout=SECONDS_TO_ANSWER)
         with contextlib.suppress(OSError):
             self._commands.close()
         if has_lock:
             self._lock.release()
-        try:
-            status = self._process.wait(SECONDS_TO_END)
-        except subprocess.TimeoutExpired:
-            self._process.kill()
-            status = -signal.SIGKILL
-            with contextlib.suppress(subprocess.TimeoutExpired):
-                status = self._process.wait(SECONDS_TO_END)
-        self._remove_folder()
-        return status
-
-    def _remove_folder(self) -> None:
-        """Removes the folder of the door, if there is one."""
-        if self._folder:
-            shutil.rmtree(self._folder, ignore_errors=True)
-        if self._locked >= 0:
-            os.close(self._locked)
-        self._folder, self._locked = "", -1
+        with contextlib.suppress(subprocess.TimeoutExpired):
+            return self._process.wait(SECONDS_TO_END)
+        self._process.kill()
+        with contextlib.suppress(subprocess.TimeoutExpired):
+            return self._process.wait(SECONDS_TO_END)
+        return -signal.SIGKILL

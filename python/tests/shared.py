@@ -2,32 +2,17 @@
 import os
 import pickle
 import sys
-import time
 
 TOP = os.path.dirname(os.path.dirname(os.path.dirname(os.path.abspath(__file__))))
 sys.path[1:1] = [os.path.join(TOP, "tests", "common"), os.path.join(TOP, "python"), os.path.join(TOP, "examples")]
 from b3store import Ended, Refused
+from judging import differences, wait_until
 
 PROGRAM = os.path.abspath(sys.argv[1]) if len(sys.argv) > 1 else os.path.join(TOP, "target", "b3store")
 SECONDS = 60
 ABC = "6437b3ac38465133ffb63b75273a8db548c558465d79db03fd359c6cd5bd9d85"
 EMPTY = "af1349b9f5f9a1a6a0404dea36dcc9499bcb25c9adc112b7cc9a93cae41f3262"
 FOUR = "37392008a949c4879f190a4ce54e354782bc88564a9534a882b3d42448f96168"
-
-
-def wait_until(check, seconds=SECONDS):
-    """Whether something becomes true in time."""
-    end = time.monotonic() + seconds
-    while not check():
-        if time.monotonic() > end:
-            return False
-        time.sleep(0.02)
-    return True
-
-
-def differences(*pairs):
-    """The differences between values and those that are wanted."""
-    return [f"{found!r}, not {wanted!r}" for found, wanted in pairs if found != wanted]
 
 
 def readable_by_others(folder):

@@ -1,4 +1,9 @@
-"""Runs the cases of a test, and counts them."""
+"""Runs the cases of a test, and counts them; and what cases need to judge by."""
+import time
+
+SECONDS_TO_WAIT = 60
+"""How long something is waited for that nothing holds up, on a machine that may be slow."""
+SECONDS_BETWEEN_LOOKS = 0.02
 
 
 def judged(cases):
@@ -16,3 +21,18 @@ def judged(cases):
             passed += 1
     print(f"{passed} passed, {failed} failed")
     return 1 if failed else 0
+
+
+def differences(*pairs):
+    """The differences between values and those that are wanted."""
+    return [f"{found!r}"[:300] + f", not {wanted!r}"[:300] for found, wanted in pairs if found != wanted]
+
+
+def wait_until(check, seconds=SECONDS_TO_WAIT):
+    """Whether something becomes true in time."""
+    end = time.monotonic() + seconds
+    while not check():
+        if time.monotonic() > end:
+            return False
+        time.sleep(SECONDS_BETWEEN_LOOKS)
+    return True

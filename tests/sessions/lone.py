@@ -5,6 +5,7 @@ import threading
 import time
 
 from door import NoAnswer, Server, knock
+from judging import differences
 
 SOON = 20
 """How long an answer is waited for that nothing holds up, on a machine that may be slow."""
@@ -14,11 +15,6 @@ ROUNDS = 100
 MORE_THAN_PIPES = 1 << 18
 BAD_LINES = (b"frob\n", b"\n", b"-1\n", b"1 2\n", b"0x10\n", b" 5\n", b"18446744073709551616\n", b"a" * 4000 + b"\n", b"\xff\xfe\n")
 """Lines at the door that are no number."""
-
-
-def differences(*pairs):
-    """What is not as it should be, of pairs of a value and the one that is wanted."""
-    return [f"{found!r}, not {wanted!r}" for found, wanted in pairs if found != wanted]
 
 
 def answered(session, line, wait=SOON):

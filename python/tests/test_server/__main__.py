@@ -1,6 +1,7 @@
 """python3 python/tests/test_server PROGRAM [CASE..]: runs b3store.server over PROGRAM, and talks to it. The last line is `N passed, M failed`.
 Words after PROGRAM run only the cases whose names contain one of them."""
 import os
+import signal
 import sys
 
 sys.dont_write_bytecode = True
@@ -16,6 +17,8 @@ def main() -> int:
     if len(sys.argv) < 2:
         sys.exit(__doc__)
     program, words = os.path.abspath(sys.argv[1]), sys.argv[2:]
+    # as in a terminal: nohup would let the servers ignore it
+    signal.signal(signal.SIGHUP, signal.SIG_DFL)
     return judged((name, case) for name, case in cases(program) if not words or any(word in name for word in words))
 
 

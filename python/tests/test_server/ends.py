@@ -12,12 +12,17 @@ import threading
 import time
 from typing import Any, List, Tuple
 
-from lines import SHORTLY, SOON, soon
-from running import AS_MODULE, CLEAN, SECONDS, WITH_FEW_FILES, Client, Running, differences, environment, fails, is_running
+from judging import SECONDS_TO_WAIT, differences, wait_until
+from lines import SHORTLY
+from running import AS_MODULE, CLEAN, SECONDS, WITH_FEW_FILES, Client, Running, environment, fails, is_listening, is_running
 
 TOKEN = "0123456789abcdef" * 2
 STRANGERS = 1200
 """More connections than a server takes in all."""
+WITH_NOHUP = (
+    "import runpy, signal; signal.signal(signal.SIGHUP, signal.SIG_IGN); runpy.run_module('b3store.server', run_name='__main__', alter_sys=True)"
+)
+"""Words after `python -c` that run the server as nohup does."""
 
 
 def _token_file(folder: str, text: str = TOKEN + "\n", mode: int = 0o600) -> str:
@@ -43,7 +48,7 @@ def busy(program: str) -> List[str]:
         start = time.monotonic()
         with server.client() as late:
             late.send(b"limit 0 4000\n")
-            found = differences((late.remaining(), b"busy\n"), (0.9 < time.monotonic() - start < SOON, True))
+            found = differences((late.remaining(), b"busy\n"), (0.9 < time.monotonic() - start < SECONDS_TO_WAIT, True))
         found += differences((first.ask("usage 0"), b"used 0 reserved 0 limit 5000\n"), (first.ends(), b""), (server.end(), CLEAN))
     with Running(program, "--sessions", "1", "--wait", "60") as server, server.client() as first:
         first.ask("tenant 5000")
@@ -85,7 +90,7 @@ def many_in_turn(program: str) -> List[str]:
             if number % 2:
                 client.ends()
             client.close()
-        found += differences((soon(lambda: kept() == before), True), (before[2], ["door"]))
+        found += differences((wait_until(lambda: kept() == before), True), (before[2], ["door"]))
         return found[:5] + differences((server.end(), CLEAN))
 
 
@@ -109,7 +114,7 @@ def too_few_files(program: str) -> List[str]:
             first.ask("tenant 5000")
             first.ask("begin 0 5")
             clients = [server.client() for _ in range(60)]
-            found = differences((soon(lambda: "Too many open files" in server.reported()), True))
+            found = differences((wait_until(lambda: "Too many open files" in server.reported()), True))
             for client in clients:
                 client.close()
 
@@ -119,15 +124,9 @@ def too_few_files(program: str) -> List[str]:
                 return (last.ask("uploads 0"), last.ask("usage 0"), last.ends()) == (b"uploads 0\n", b"used 0 reserved 0 limit 5000\n", b"")
             return False
 
-        found += differences((soon(serves_again), True))
+        found += differences((wait_until(serves_again), True))
         status, told, left = server.end()
         return found + differences((status, 0), ("Traceback" in told, False), (left, []))
-
-
-def _is_listening(path: str) -> bool:
-    """Whether a socket is listened on. The connection that shows it is closed at once."""
-    with socket.socket(socket.AF_UNIX) as probe:
-        return probe.connect_ex(path) == 0
 
 
 def closed_streams(program: str) -> List[str]:
@@ -139,7 +138,7 @@ def closed_streams(program: str) -> List[str]:
             words = [sys.executable, *AS_MODULE, "--socket", path, "--program", program]
             shell = ["/bin/sh", "-c", f'exec "$@" {redirections}', "sh", *words]
             with subprocess.Popen(shell, env=environment(folder, {}), start_new_session=True) as server:
-                found += differences((soon(lambda: _is_listening(path)), True))
+                found += differences((wait_until(lambda: is_listening(path)), True))
                 with Client(path) as client:
                     found += differences((client.ask("tenants"), b"tenants 0\n"), (client.ends(), b""))
                 server.terminate()
@@ -173,7 +172,7 @@ def tokens(program: str) -> List[str]:
 
 
 def strangers(program: str) -> List[str]:
-    """Peers that send no token keep no others out."""
+    """Peers that send no token keep no others out, neither over the Unix-domain socket nor over TCP."""
     soft, hard = resource.getrlimit(resource.RLIMIT_NOFILE)
     resource.setrlimit(resource.RLIMIT_NOFILE, (max(soft, min(4 * STRANGERS, hard)), hard))
     with contextlib.ExitStack() as stack:
@@ -185,8 +184,22 @@ def strangers(program: str) -> List[str]:
         time.sleep(2)
         start = time.monotonic()
         with server.client() as unix:
-            found = differences((unix.ask("tenant 5000"), b"tenant 0\n"), (time.monotonic() - start < SECONDS / 6, True))
-        return found
+            found = differences((unix.ask("tenant 5000"), b"tenant 0\n"))
+        found += differences((_tcp_remaining(server.port(), f"token {TOKEN}\ntenants\n".encode()), b"ok\ntenants 1\n0 0 0 5000\n"))
+        return found + differences((time.monotonic() - start < SECONDS / 6, True))
+
+
+def urgent_bytes(program: str) -> List[str]:
+    """What TCP sends as urgent data is left out, and what follows is answered."""
+    with tempfile.TemporaryDirectory() as folder:
+        words = ("--tcp", "127.0.0.1:0", "--token-file", _token_file(folder))
+        with Running(program, *words) as server, Client(("127.0.0.1", server.port()), socket.AF_INET) as client:
+            found = differences((client.ask(f"token {TOKEN}"), b"ok\n"), (client.ask("tenants"), b"tenants 0\n"))
+            for text in b"!", b"tenant 5!":
+                client.socket.send(text, socket.MSG_OOB)
+                client.send(b"000\ntenants\n")
+                found += differences((client.answer() in (b"bad\n", b"tenant 0\n"), True), (client.answer()[:7], b"tenants"))
+            return found + differences((client.ends(), b""), (server.end(), CLEAN))
 
 
 def tcp_alone(program: str) -> List[str]:
@@ -222,7 +235,9 @@ def token_files(program: str) -> List[str]:
             taken.bind(("127.0.0.1", 0))
             taken.listen(1)
             address = f"127.0.0.1:{taken.getsockname()[1]}"
-            found += differences((fails("--tcp", address, "--token-file", path), (1, f"b3store.server: cannot listen on {address}: Address already in use\n")))
+            told = (1, f"b3store.server: cannot listen on {address}: Address already in use\n")
+            words = ("--socket", f"{folder}/socket", "--tcp", address, "--token-file", path)
+            found += differences((fails(*words), told), (os.listdir(folder), ["token"]))
     return found
 
 
@@ -272,7 +287,7 @@ def stale_sockets(program: str) -> List[str]:
         store = server.store()
         server.signal(signal.SIGKILL)
         server.status()
-        found = differences((os.path.exists(server.path), True), (soon(lambda: not is_running(store)), True))
+        found = differences((os.path.exists(server.path), True), (wait_until(lambda: not is_running(store)), True))
         words = [sys.executable, *AS_MODULE, "--program", program, "--socket", server.path]
         with subprocess.Popen(words, stdout=subprocess.PIPE, env=environment(server.temporary, {})) as second:
             assert second.stdout
@@ -316,7 +331,7 @@ def a_store_that_is_killed(program: str) -> List[str]:
         address = client.file(bytes(1 << 20))
         silent.send(f"fetchb 0 {address}\n".encode() * 100)
         client.ask("begin 0 5")
-        found += differences((soon(lambda: len(server.relays()) == 2), True))
+        found += differences((wait_until(lambda: len(server.relays()) == 2), True))
         time.sleep(SHORTLY)
         os.kill(server.store(), signal.SIGKILL)
         wanted = "b3store.server: the store ended with status -9, killed by SIGKILL; everything in it is lost\n"
@@ -335,7 +350,7 @@ def processes_that_are_killed(program: str) -> List[str]:
         with server.client() as one:
             found += differences((one.ask("stat"), b"objects 0 bytes 0 uploads 1 held 0 parts 0\n"), (other.ask("abort 0"), b"ok\n"), (one.ends(), b""))
         wanted = "the process of a connection ended with status -9, killed by SIGKILL; uploads that the connection began may be left open"
-        found += differences((other.ends(), b""), (soon(lambda: len(server.children()) == 1), True))
+        found += differences((other.ends(), b""), (wait_until(lambda: len(server.children()) == 1), True))
         return found + differences((server.end(), (0, f"b3store.server: {wanted}\n", [])))
 
 
@@ -344,12 +359,12 @@ def a_server_that_is_killed(program: str) -> List[str]:
     with Running(program) as server, server.client() as client, server.client() as silent:
         client.ask("tenant 1000000000")
         silent.send(f"fetchb 0 {client.file(bytes(1 << 20))}\n".encode() * 100)
-        found = differences((soon(lambda: len(server.children()) == 3), True))
+        found = differences((wait_until(lambda: len(server.children()) == 3), True))
         time.sleep(SHORTLY)
         processes = server.children()
         server.signal(signal.SIGKILL)
         server.status()
-        found += differences((client.remaining(), b""), (soon(lambda: not any(map(is_running, processes))), True))
+        found += differences((client.remaining(), b""), (wait_until(lambda: not any(map(is_running, processes))), True))
         return found
 
 
@@ -358,9 +373,9 @@ def ends_in_time(program: str) -> List[str]:
     with Running(program, "--sessions", "1", "--grace", "60") as server, server.client() as client, server.client() as waiting:
         client.ask("tenant 5000")
         client.send(b"begin 0 3\nputb 0 0 3\na")
-        found = differences((client.line(), b"upload 0\n"), (soon(lambda: server.threads() == 3), True))
+        found = differences((client.line(), b"upload 0\n"), (wait_until(lambda: server.threads() == 3), True))
         server.signal()
-        found += differences((waiting.remaining(), b"busy\n"), (soon(lambda: not os.path.exists(server.path)), True))
+        found += differences((waiting.remaining(), b"busy\n"), (wait_until(lambda: not os.path.exists(server.path)), True))
         client.send(b"bc")
         found += differences((client.line(), b"held 3 all\n"), (client.ask("seal 0").split()[0], b"new"), (server.process.poll(), None))
         found += differences((client.ends(), b""), (server.status(), 0))
@@ -368,26 +383,35 @@ def ends_in_time(program: str) -> List[str]:
 
 
 def ends_by_force(program: str) -> List[str]:
-    """A connection that is open after the grace is ended; a second signal ends the wait; SIGINT has the same effect as SIGTERM."""
+    """A connection that is open after the grace is ended; a second signal ends the wait; SIGINT and SIGHUP have the same effect as SIGTERM."""
     found = []
     for numbers, grace, wanted in (
-        ([signal.SIGTERM], "1", 1.0), ([signal.SIGTERM] * 2, "60", 0.0), ([signal.SIGINT] * 2, "60", 0.0), ([signal.SIGTERM], "0", 0.0)
+        ([signal.SIGTERM], "1", 1.0), ([signal.SIGTERM] * 2, "60", 0.0), ([signal.SIGINT] * 2, "60", 0.0), ([signal.SIGHUP] * 2, "60", 0.0),
+        ([signal.SIGTERM], "0", 0.0),
     ):
         with Running(program, "--grace", grace) as server, server.client() as client, server.client() as silent:
             client.ask("tenant 1000000000")
             address = client.file(bytes(1 << 20))
             silent.send(f"fetchb 0 {address}\n".encode() * 100)
-            found += differences((soon(lambda: len(server.relays()) == 2), True))
+            found += differences((wait_until(lambda: len(server.relays()) == 2), True))
             time.sleep(SHORTLY)
             start = time.monotonic()
             for number in numbers:
                 os.killpg(server.process.pid, number)
                 # a signal that comes before the one before it was seen is not counted
-                found += differences((soon(lambda: not os.path.exists(server.path)), True))
+                found += differences((wait_until(lambda: not os.path.exists(server.path)), True))
             told = (server.status(), server.reported())
             found += differences((told, (0, "b3store.server: the server ends while 2 connections are open\n")), (server.left(), []), (client.remaining(), b""))
-            found += differences((wanted <= time.monotonic() - start < wanted + SOON, True))
+            found += differences((wanted <= time.monotonic() - start < wanted + SECONDS_TO_WAIT, True))
     return found
+
+
+def hangs_up(program: str) -> List[str]:
+    """Under nohup SIGHUP has no effect."""
+    with Running(program, python=["-c", WITH_NOHUP]) as server, server.client() as client:
+        server.signal(signal.SIGHUP)
+        time.sleep(SHORTLY)
+        return differences((client.ask("tenants"), b"tenants 0\n"), (client.ends(), b""), (server.end(), CLEAN))
 
 
 def _notified(listening: socket.socket) -> bytes:
@@ -396,14 +420,17 @@ def _notified(listening: socket.socket) -> bytes:
 
 
 def notifications(program: str) -> List[str]:
-    """The server reports to systemd when it is ready and when it stops, at a path and at an abstract name."""
+    """The server reports to systemd when it is ready and when it stops, at a path and at an abstract name. While clients last, it asks for more time."""
     found = []
     with tempfile.TemporaryDirectory() as folder:
         for name, address in (f"{folder}/notify", f"{folder}/notify"), (f"@b3store-test-{os.getpid()}", f"\0b3store-test-{os.getpid()}"):
             with socket.socket(socket.AF_UNIX, socket.SOCK_DGRAM) as listening:
                 listening.bind(address)
-                with Running(program, NOTIFY_SOCKET=name) as server:
-                    found += differences((_notified(listening), b"READY=1"), (server.end(), CLEAN), (_notified(listening), b"STOPPING=1"))
+                with Running(program, "--grace", "60", NOTIFY_SOCKET=name) as server, server.client() as client:
+                    found += differences((client.ask("tenants"), b"tenants 0\n"), (_notified(listening), b"READY=1"))
+                    server.signal()
+                    found += differences((_notified(listening), b"STOPPING=1"), (_notified(listening), b"EXTEND_TIMEOUT_USEC=60000000"))
+                    found += differences((client.ask("tenants"), b"tenants 0\n"), (client.ends(), b""), (server.status(), 0))
     return found
 
 
@@ -416,6 +443,16 @@ def _passing(server_words: List[str], passed: socket.socket, folder: str) -> Any
     shell = ["/bin/sh", "-c", f'exec 3<&{passed.fileno()}; exec "$@"', "sh", *words]
     env = environment(folder, {"LISTEN_FDS": "1"})
     return subprocess.Popen(shell, stdout=subprocess.PIPE, stderr=subprocess.PIPE, pass_fds=[passed.fileno()], env=env)
+
+
+def _vsock(stack: contextlib.ExitStack) -> List[socket.socket]:
+    """A listening socket between virtual machines, if the system has such ones."""
+    with contextlib.suppress(AttributeError, OSError):
+        found = stack.enter_context(socket.socket(socket.AF_VSOCK))
+        found.bind((socket.VMADDR_CID_ANY, socket.VMADDR_PORT_ANY))
+        found.listen(1)
+        return [found]
+    return []
 
 
 def sockets_that_are_passed(program: str) -> List[str]:
@@ -431,10 +468,11 @@ def sockets_that_are_passed(program: str) -> List[str]:
                 found += differences((client.ask("tenants"), b"tenants 0\n"), (client.ends(), b""))
             server.terminate()
             found += differences((server.wait(SECONDS), 0), (os.path.exists(path), True), (server.stderr.read(), b""))
-        with socket.socket(socket.AF_UNIX) as silent, socket.socket() as tcp:
+        with socket.socket(socket.AF_UNIX) as silent, socket.socket() as tcp, contextlib.ExitStack() as stack:
             tcp.bind(("127.0.0.1", 0))
             tcp.listen(1)
-            for other, wanted in (silent, b"descriptor 3 is not a listening stream socket"), (tcp, b"requires --token-file"):
+            none = b"descriptor 3 is not a listening Unix-domain or TCP socket"
+            for other, wanted in (silent, none), (tcp, b"requires --token-file"), *((other, none) for other in _vsock(stack)):
                 with _passing(["--program", program], other, folder) as server:
                     out, told = server.communicate(timeout=SECONDS)
                     found += differences((server.returncode, 1), (out, b""), (wanted in told and told.count(b"\n") == 1, True))
@@ -451,6 +489,7 @@ ENDS = (
     ("tokens", tokens),
     ("TCP alone", tcp_alone),
     ("strangers over TCP", strangers),
+    ("urgent bytes over TCP", urgent_bytes),
     ("files of tokens, and addresses", token_files),
     ("wrong words", wrong_words),
     ("files of sockets", files_of_sockets),
@@ -461,6 +500,7 @@ ENDS = (
     ("a server that is killed", a_server_that_is_killed),
     ("an end in time", ends_in_time),
     ("an end by force", ends_by_force),
+    ("hang-ups", hangs_up),
     ("notifications", notifications),
     ("sockets that are passed", sockets_that_are_passed),
 )

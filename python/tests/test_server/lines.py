@@ -6,25 +6,14 @@ import random
 import signal
 import threading
 import time
-from typing import Callable, List
+from typing import List
 
-from running import CLEAN, WITHOUT_SPLICE, Client, Running, differences
+from judging import differences, wait_until
+from running import CLEAN, WITHOUT_SPLICE, Client, Running
 
 SHORTLY = 0.3
 """How long it is made sure that nothing happens."""
-SOON = 30.0
-"""How long something is waited for that nothing holds up, on a machine that may be slow."""
 LONG_LINE = 100_000_000
-
-
-def soon(look: Callable[[], bool]) -> bool:
-    """Whether something holds within some time."""
-    end = time.monotonic() + SOON
-    while not look():
-        if time.monotonic() > end:
-            return False
-        time.sleep(0.01)
-    return True
 
 
 def a_session(program: str) -> List[str]:
@@ -186,7 +175,7 @@ def clients_that_are_killed(program: str) -> List[str]:
             found += differences((os.read(reading, 100)[:7], b"upload "))
             os.kill(client.pid or 0, signal.SIGKILL)
             client.join()
-            found += differences((soon(lambda: other.uploads() == [kept]), True))
+            found += differences((wait_until(lambda: other.uploads() == [kept]), True))
             os.close(reading)
             os.close(writing)
         found += differences((other.ask("usage 0"), b"used 0 reserved 7 limit 1000000000\n"), (other.ends(), b""))

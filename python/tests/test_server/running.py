@@ -209,6 +209,12 @@ def is_running(process: int) -> bool:
     return False
 
 
+def is_listening(path: str) -> bool:
+    """Whether a socket is listened on. The connection that shows it is closed at once."""
+    with socket.socket(socket.AF_UNIX) as probe:
+        return probe.connect_ex(path) == 0
+
+
 def environment(temporary: str, variables: Dict[str, str]) -> Dict[str, str]:
     """The environment of a server."""
     return {**os.environ, "PYTHONPATH": PACKAGE, "PYTHONDONTWRITEBYTECODE": "1", "TMPDIR": temporary, **variables}
@@ -219,11 +225,6 @@ def fails(*words: str, variables: Optional[Dict[str, str]] = None, temporary: st
     command = [sys.executable, *AS_MODULE, *words]
     run = subprocess.run(command, stdin=subprocess.DEVNULL, capture_output=True, timeout=SECONDS, env=environment(temporary, variables or {}), **more)
     return run.returncode, run.stderr.decode(errors="replace")
-
-
-def differences(*pairs: Tuple[Any, Any]) -> List[str]:
-    """What is not as it should be, of pairs of a value and the one that is wanted."""
-    return [f"{found!r}"[:300] + f", not {wanted!r}"[:300] for found, wanted in pairs if found != wanted]
 
 
 CLEAN = (0, "", [])

@@ -3,6 +3,7 @@ import contextlib
 import hashlib
 import os
 import random
+import shutil
 import signal
 import subprocess
 import sys
@@ -10,8 +11,9 @@ import tempfile
 import time
 from typing import Any, Dict, Iterator, List, Optional, Tuple
 
-from lines import SHORTLY, soon
-from running import AS_MODULE, CLEAN, PACKAGE, SECONDS, Client, Running, differences, environment, fails
+from judging import differences, wait_until
+from lines import SHORTLY
+from running import AS_MODULE, CLEAN, PACKAGE, SECONDS, Client, Running, environment, fails
 
 sys.path.insert(1, PACKAGE)
 from b3store.files import checked_line, lock_folder
@@ -48,6 +50,17 @@ sys.addaudithook(lambda event, given: event == "open" and step())
 {RUN_SERVER}
 """
 """A server that is killed in a save, once it has done as many steps with files as the variable STEPS says."""
+UNSYNCED = f"""
+import errno, os, stat
+fsync, replace, replaced = os.fsync, os.replace, []
+def sync(file):
+    if replaced and stat.S_ISDIR(os.fstat(file).st_mode):
+        raise OSError(errno.EIO, os.strerror(errno.EIO))
+    fsync(file)
+os.fsync, os.replace = sync, lambda *given: (replaced.append(1), replace(*given))
+{RUN_SERVER}
+"""
+"""A server that can't sync a folder in which it has replaced a file."""
 LIMITED = (
     f"import os, resource, runpy; limit = int(os.environ['LIMIT']); resource.setrlimit(resource.RLIMIT_FSIZE, (limit, limit)); {RUN_SERVER}"
 )
@@ -145,11 +158,32 @@ def saves_what_was_answered(program: str) -> List[str]:
         state = _state(client)
         client.send(b"begin 0 5\nlimit 0 5")
         silent.send(f"fetchb 0 {address}\n".encode() * 3000)
-        is_served = soon(lambda: len(server.relays()) == 2)
+        is_served = wait_until(lambda: len(server.relays()) == 2)
         time.sleep(SHORTLY)
         server.signal()
         found = differences((is_served, True), (server.status(), 0), (server.reported(), "b3store.server: the server ends while 2 connections are open\n"))
         return found + differences((_state_at(program, folder), state))
+
+
+def saves_while_commands_are_left(program: str) -> List[str]:
+    """A client that sent much ahead and reads nothing is cut: what it sent is executed before the save or never."""
+    with _folder() as folder, Running(program, "--save", folder, "--grace", "0") as server, server.client() as client, server.client() as silent:
+        client.ask("tenant 100000000")
+        addresses = [client.file(_content(number)) for number in range(2500)]
+        long = client.file(bytes(1 << 24))
+        silent.socket.setblocking(False)
+        lines = b"".join(f"fetchb 0 {long}\n".encode() * 5 + f"forget 0 {address}\n".encode() for address in reversed(addresses))
+        with contextlib.suppress(BlockingIOError):
+            while lines:
+                lines = lines[silent.socket.send(lines) :]
+                time.sleep(SHORTLY / 10)
+        found = differences((wait_until(lambda: len(server.relays()) == 2), True))
+        server.signal()
+        told = "b3store.server: the server ends while 2 connections are open\n"
+        found += differences((server.status(), 0), (server.reported(), told), (server.left(), []))
+        state = _state_at(program, folder)
+        kept = [row.split()[0].decode() for row in state["list 0"].splitlines()[1:]]
+        return found + differences((kept, addresses[: len(kept) - 1] + [long]), (1 < len(kept), True))
 
 
 def only_new_contents(program: str) -> List[str]:
@@ -350,6 +384,26 @@ def full_disks(program: str) -> List[str]:
             subprocess.run(["umount", disk], check=True)
 
 
+def folders_that_are_not_synced(program: str) -> List[str]:
+    """If the folder can't be synced, the new save is there, and what the one before needs is still there for a crash that brings its index back."""
+    with _folder() as folder:
+        _saved_folder(program, folder)
+        before, files = _state_at(program, folder), _files(folder)
+        with Running(program, "--save", folder, python=["-c", UNSYNCED]) as server, server.client() as client:
+            client.file(b"new")
+            client.ask(f"forget 0 {client.ask('list 0').split()[2].decode()}")
+            state = _state(client)
+            client.ends()
+            status, told, left = server.end()
+        wanted = f"b3store.server: the store is saved in {folder}, but its folder can't be synced: Input/output error"
+        found = differences((status, 4), (told.startswith(wanted) and told.count("\n") == 1, True), (left, []))
+        crashed = f"{folder}-crashed"
+        shutil.copytree(folder, crashed)
+        with open(os.path.join(crashed, "index"), "wb") as index:
+            index.write(files["index"])
+        return found + differences((_state_at(program, crashed), before), (_state_at(program, folder), state))
+
+
 def stores_that_end(program: str) -> List[str]:
     """When the store's process is killed, the folder keeps the save before. A start whose store ends, or that is stopped, changes nothing."""
     with _folder() as folder:
@@ -364,26 +418,28 @@ def stores_that_end(program: str) -> List[str]:
             server.signal()
             os.kill(server.store(), signal.SIGSTOP)
             client.close()
-            soon(lambda: False) if not server.children() else time.sleep(SHORTLY)
+            time.sleep(SHORTLY)
             os.kill(server.store(), signal.SIGKILL)
             found += differences((server.status() in (3, 4), True), ("Traceback" in server.reported(), False), (_files(folder), files))
         return found + differences((_state_at(program, folder), state))
 
 
 def stops_at_the_start(program: str) -> List[str]:
-    """A signal while a server starts the store and restores ends it, and the folder keeps what it has."""
+    """A signal while a server starts the store and restores ends it, and the folder keeps what it has. A second one interrupts nothing."""
     with _folder() as folder:
         _saved_folder(program, folder)
         state, found = _state_at(program, folder), []
         for moment in range(8):
             words = [sys.executable, *AS_MODULE, "--program", program, "--socket", f"{folder}-socket", "--save", folder]
             with tempfile.TemporaryDirectory() as room, subprocess.Popen(words, stdout=-1, stderr=-1, env=environment(room, {})) as server:
-                found += differences((soon(lambda: os.path.exists(f"{folder}-socket")), True))
+                found += differences((wait_until(lambda: os.path.exists(f"{folder}-socket")), True))
                 time.sleep(0.03 * moment)
                 server.terminate()
+                time.sleep(0.005 * moment)
+                server.send_signal(signal.SIGINT)
                 told = server.communicate()[1]
                 found += differences((server.returncode, 0), (b"b3store.server" in told, False), (os.listdir(room), []))
-            found += differences((soon(lambda: not os.path.exists(f"{folder}-socket")), True))
+            found += differences((wait_until(lambda: not os.path.exists(f"{folder}-socket")), True))
         return found[:5] + differences((_state_at(program, folder), state))
 
 
@@ -423,6 +479,7 @@ def asks_for_time(program: str) -> List[str]:
 SAVES = (
     ("a store that is saved and restored", restores_all),
     ("a save when clients don't end", saves_what_was_answered),
+    ("a save when commands are left", saves_while_commands_are_left),
     ("saves of what is new", only_new_contents),
     ("saves that are killed", saves_that_are_killed),
     ("saves that are killed at each step", saves_that_are_killed_at_each_step),
@@ -430,6 +487,7 @@ SAVES = (
     ("damaged files of a save", damaged_files),
     ("folders that are none for a save", folders_that_are_none),
     ("saves on a full disk", full_disks),
+    ("saves in a folder that can't be synced", folders_that_are_not_synced),
     ("saves of stores that end", stores_that_end),
     ("a restoration that is stopped", stops_at_the_start),
     ("the order of saved objects", orders_of_lists),

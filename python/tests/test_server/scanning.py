@@ -1,18 +1,20 @@
 """What a server finds in the answers of a session, however they are split into pieces; and parts of the server alone."""
+import os
 import random
 import socket
 import subprocess
 import sys
+import tempfile
 import threading
 import types
 from typing import Any, Callable, List, Set, Tuple
 from unittest import mock
 
-from lines import soon
-from running import PACKAGE, SECONDS, differences, is_running
+from judging import differences, wait_until
+from running import PACKAGE, SECONDS, is_listening, is_running
 
 sys.path.insert(1, PACKAGE)
-from b3store import server
+from b3store import listening, server
 from b3store.answers import Answers
 from b3store.server_store import Store
 from b3store.turns import Turns
@@ -119,9 +121,10 @@ def turns_by_arrival(program: str) -> List[str]:
         def start(self) -> None:
             waiting.append(self)
 
-    with mock.patch.multiple(
-        server, threading=types.SimpleNamespace(Thread=Late, Lock=threading.Lock), serve_connection=lambda store, connection, *_: served.append(connection)
-    ):
+    def serve(store: Any, relays: Any, connection: socket.socket, *_: Any) -> None:
+        served.append(connection)
+
+    with mock.patch.multiple(server, threading=types.SimpleNamespace(Thread=Late, Lock=threading.Lock), serve_connection=serve):
         connections = server.Connections(None, server.Options(1, SECONDS, 0.0, False, None))  # type: ignore
         pairs = [socket.socketpair() for _ in range(5)]
         for one, _ in pairs:
@@ -144,7 +147,19 @@ def ends_without_a_signal(program: str) -> List[str]:
         store._process = process
         found = differences((store.is_usable(), True))
         process.kill()
-        return found + differences((soon(lambda: not is_running(process.pid)), True), (store.is_usable(), False))
+        return found + differences((wait_until(lambda: not is_running(process.pid)), True), (store.is_usable(), False))
+
+
+def removed_while_listening(program: str) -> List[str]:
+    """The file of a socket is removed while the socket still listens: otherwise another server could have replaced it meanwhile."""
+    del program
+    seen: List[bool] = []
+    with tempfile.TemporaryDirectory() as folder:
+        path, unlink = os.path.join(folder, "socket"), os.unlink
+        listener = listening.listen_at(path)
+        with mock.patch.object(os, "unlink", lambda name: (seen.append(is_listening(name)), unlink(name))):
+            listener.close()
+        return differences((seen, [True]), (os.listdir(folder), []), (listener.socket.fileno(), -1))
 
 
 SCANNING = (
@@ -154,4 +169,5 @@ SCANNING = (
     ("turns", turns),
     ("turns by arrival", turns_by_arrival),
     ("ends without a signal", ends_without_a_signal),
+    ("sockets that are removed", removed_while_listening),
 )

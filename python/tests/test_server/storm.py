@@ -6,7 +6,8 @@ import time
 import types
 from typing import Any, List
 
-from running import PACKAGE, Client, Running, differences
+from judging import differences
+from running import PACKAGE, Client, Running
 
 TESTS = os.path.join(os.path.dirname(PACKAGE), "tests")
 CLIENTS = 6
