@@ -46,6 +46,7 @@ if __name__ == "__main__":
 
 import argparse
 import collections
+import contextlib
 import errno
 import fcntl
 import re
@@ -58,6 +59,7 @@ from b3store.console import drop_output, error_text, fault_text, one_line, open_
 from backup_check import check
 from backup_packs import WriteFailed
 from backup_repository import ADDRESS, MORE, Damaged, Repository, length_fault, line_fault, quoted, unquoted
+from backup_tree import Tree
 
 MIN_MEMORY = 1 << 23
 """The least `--memory`."""
@@ -85,47 +87,29 @@ example:
 exit status: 0 all was saved, restored or correct; 1 something was not; 2 usage error; 3 the store has ended
 """
 
-def entries_of(folder, repository):
-    """Yields the paths below a folder, in the order of their names, each after the folder that it is in, and with None; and a folder that can't be listed
-    once more, with the reason. The folder of the repository, whose status is given, has only a reason."""
-    waiting = listed(folder, 0)
+
+def entries_of(tree, repository):
+    """Yields the paths below a tree's folder, in the order of their names, each after the folder that it is in, with its status and None, or with None and why
+    it has none; and a folder that can't be listed once more, with the reason. The folder of the repository, whose status is given, has only a reason."""
+    waiting = tree.listed("", os.fstat(tree.top))
     while waiting:
-        path, is_folder = waiting.pop()
-        if is_folder and has_status(path, repository):
-            yield path, IS_REPOSITORY
-            continue
-        yield path, None
-        if is_folder:
+        path = waiting.pop()
+        status, fault = status_in(tree, path, repository)
+        yield path, status, fault
+        if status is not None and stat.S_ISDIR(status.st_mode):
             try:
-                waiting += listed(path, os.O_NOFOLLOW)
-            except OSError as fault:
-                yield path, error_text(fault)
+                waiting += tree.listed(path, status)
+            except OSError as error:
+                yield path, None, error_text(error)
 
 
-def listed(folder, flags):
-    """The path of each entry of a folder, and whether that is a folder, the first in the order of their names last."""
-    opened_folder, before = os.open(folder, os.O_RDONLY | os.O_DIRECTORY | flags), os.path.join(folder, "")
+def status_in(tree, path, repository):
+    """The status of what is at a path and None, or None and why it isn't saved."""
     try:
-        with os.scandir(opened_folder) as entries:
-            return sorted(((before + entry.name, may_be_folder(entry)) for entry in entries), reverse=True)
-    finally:
-        os.close(opened_folder)
-
-
-def may_be_folder(entry):
-    """Whether an entry is a folder. What can't be looked at may be one: then to list it reports the reason."""
-    try:
-        return entry.is_dir(follow_symlinks=False)
-    except OSError:
-        return True
-
-
-def has_status(path, status):
-    """Whether a path is that of the folder with this status."""
-    try:
-        return os.path.samestat(os.lstat(path), status)
-    except OSError:
-        return False
+        status = tree.status(path)
+    except OSError as fault:
+        return None, error_text(fault)
+    return (None, IS_REPOSITORY) if os.path.samestat(status, repository) else (status, None)
 
 
 def place_in(folder, path):
@@ -135,13 +119,13 @@ def place_in(folder, path):
     return os.path.join(folder, path)
 
 
-def opened(path, status):
-    """Opens a regular file of this status. Raises OSError if another one has taken its place: a link is not followed, and a pipe not waited for. Another
-    program that has a lease on the file has some time to give it back."""
+def opened(folder, name, status):
+    """Opens a regular file of this status in an open folder. Raises OSError if another one has taken its place: a link is not followed, and a pipe not waited
+    for. Another program that has a lease on the file has some time to give it back."""
     end = time.monotonic() + SECONDS_FOR_LEASE
     while True:
         try:
-            file = open(path, "rb", opener=lambda path, flags: os.open(path, flags | os.O_NOFOLLOW | os.O_NONBLOCK))
+            file = open(name, "rb", opener=lambda name, flags: os.open(name, flags | os.O_NOFOLLOW | os.O_NONBLOCK, dir_fd=folder))
             break
         except BlockingIOError:
             if time.monotonic() > end:
@@ -177,43 +161,40 @@ def known_files(repository, folder):
 
 
 class Saving:
-    """A folder that is being saved into a repository. `known` has the addresses of each file in the last backup, by the first words of its line."""
+    """A tree that is being saved into a repository. `known` has the addresses of each file in the last backup, by the first words of its line."""
 
-    def __init__(self, repository, folder, known):
-        self.repository, self.folder, self.known = repository, folder, known
+    def __init__(self, repository, tree, known):
+        self.repository, self.tree, self.known = repository, tree, known
         self.linked, self.is_whole = {}, True
         """The first path of each file that has several, by `state_of`; and whether all was saved as it was."""
 
     def lines(self):
         """The lines for the folder and the paths in it."""
-        found = [(["folder", *words_of_all(ITSELF, os.stat(self.folder))], [])]
-        for path, fault in entries_of(self.folder, os.stat(self.repository.path)):
+        found = [(["folder", *words_of_all(ITSELF, os.fstat(self.tree.top))], [])]
+        for path, status, fault in entries_of(self.tree, os.stat(self.repository.path)):
             try:
-                words = None if fault else self.words_of(path)
+                words = None if fault else self.words_of(path, status)
             except OSError as error:
                 words, fault = None, error_text(error)
             if words is None:
-                self.report(f"left out: {self.name_of(path)}: {fault or 'not a file, folder or link'}", fault == IS_REPOSITORY)
+                self.report(f"left out: {path}: {fault or 'not a file, folder or link'}", fault == IS_REPOSITORY)
             else:
                 found.append(words)
         self.repository.keep_waiting()
         return [" ".join([*words, *addresses]) for words, addresses in found]
 
-    def name_of(self, path):
-        return os.path.relpath(path, self.folder)
-
     def report(self, text, is_meant=False):
         print(one_line(text))
         self.is_whole = self.is_whole and is_meant
 
-    def words_of(self, path):
+    def words_of(self, path, status):
         """The words of the backup's line for a path, and a list of addresses that follow them; None for what is left out."""
-        status, name = os.lstat(path), quoted(self.name_of(path))
+        name = quoted(path)
         words = words_of_all(name, status)
         if stat.S_ISDIR(status.st_mode):
             return ["folder", *words], []
         if stat.S_ISLNK(status.st_mode):
-            return ["link", *words, quoted(os.readlink(path))], []
+            return ["link", *words, quoted(self.tree.link(path))], []
         if not stat.S_ISREG(status.st_mode):
             return None
         if status.st_nlink > 1 and state_of(status) in self.linked:
@@ -222,14 +203,14 @@ class Saving:
         if addresses is None or not self.repository.has_all(addresses, length):
             addresses, length, is_as_before = self.keep_file(path, status)
         if not is_as_before:
-            self.report(f"changed while it was read: {self.name_of(path)}")
+            self.report(f"changed while it was read: {path}")
         elif status.st_nlink > 1:
             self.linked[state_of(status)] = name
         return ["file", *words, str(length)], addresses
 
     def keep_file(self, path, status):
         """Keeps a file of this status in pieces. Returns the list for their addresses, their length together, and whether the file stayed as it was."""
-        with opened(path, status) as file:
+        with opened(*self.tree.parent(path), status) as file:
             addresses, length = self.repository.keep_all(file, status.st_size)
             after = os.fstat(file.fileno())
         return addresses, length, length == status.st_size and state_of(after) == state_of(status)
@@ -238,14 +219,15 @@ class Saving:
 def save(repository, options):
     if os.path.exists(options.repository) and os.path.samefile(options.folder, options.repository):
         raise Damaged(f"{options.folder} is the repository")
-    repository.make()
-    with repository.locked(fcntl.LOCK_EX):
-        repository.load()
-        repository.clean()
-        repository.compares = options.all
-        saving = Saving(repository, options.folder, {} if options.all else known_files(repository, options.folder))
-        lines = saving.lines()
-        backup = repository.keep_backup(options.folder, lines)
+    with contextlib.closing(Tree(options.folder, os.O_RDONLY)) as tree:
+        repository.make()
+        with repository.locked(fcntl.LOCK_EX):
+            repository.load()
+            repository.clean()
+            repository.compares = options.all
+            saving = Saving(repository, tree, {} if options.all else known_files(repository, options.folder))
+            lines = saving.lines()
+            backup = repository.keep_backup(options.folder, lines)
     kinds, counts = collections.Counter(line.split(" ")[0] for line in lines[1:]), repository.counts
     print(f"files {kinds['file'] + kinds['same']} folders {kinds['folder']} links {kinds['link']}")
     print(f"new objects {counts['new']} bytes {counts['new bytes']} known objects {counts['known']} bytes {counts['known bytes']}")

@@ -275,18 +275,21 @@ def opens_what_it_has_seen():
         path, other, found = os.path.join(place, "a"), os.path.join(place, "other"), []
         with open(other, "wb") as file:
             file.write(b"secret")
+        top = os.open(place, os.O_RDONLY)
         before = len(os.listdir("/proc/self/fd"))
         for replace in (lambda at: os.symlink(other, at)), os.mkfifo, (lambda at: shutil.copy(other, at)), os.mkdir:
             with open(path, "wb") as file:
                 status = os.lstat(path)
-            with opened(path, status) as file:
+            with opened(top, "a", status) as file:
                 found += differences((file.read(), b""))
                 os.remove(path)
                 replace(path)
-                fault = raised(opened, path, status)
+                fault = raised(opened, top, "a", status)
                 found += differences((fault is not None and issubclass(fault, OSError), True))
             os.rename(path, f"{path}.{len(os.listdir(place))}")
-        return found + differences((len(os.listdir("/proc/self/fd")), before))
+        found += differences((len(os.listdir("/proc/self/fd")), before))
+        os.close(top)
+        return found
 
 
 def keeps_deep_folders():

@@ -18,6 +18,8 @@ from b3store import Store
 import backup as tool
 import backup_packs
 from backup_repository import Repository
+import backup_tree
+from backup_tree import Tree
 
 BATCH = bytes(backup_packs.BATCH)
 
@@ -94,9 +96,9 @@ def opened_before(change):
     """A function that opens a file as backup.py does, and then changes it."""
     opened = tool.opened
 
-    def opened_and_changed(path, status):
-        file = opened(path, status)
-        change(path)
+    def opened_and_changed(folder, name, status):
+        file = opened(folder, name, status)
+        change(os.path.join(os.readlink(f"/proc/self/fd/{folder}"), name))
         return file
 
     return opened_and_changed
@@ -132,6 +134,11 @@ def reports_wrong_lengths():
         return found + differences((status, 0), (restored_files(repository, lines, "f"), ((0, []), [b"abcd"])))
 
 
+def entry(path):
+    """What `entries_of` yields for a path in the folder that is saved."""
+    return os.path.basename(path), os.lstat(path), None
+
+
 def links_no_other_file():
     """A file with the number of one that was saved before is no hard link of it, unless it has several paths, and its length and time."""
     with tempfile.TemporaryDirectory() as place:
@@ -142,16 +149,16 @@ def links_no_other_file():
         moment = os.stat(first).st_mtime_ns
 
         def entries_that_change(*_):
-            yield first, None
-            yield second, None
+            yield entry(first)
+            yield entry(second)
             write(second, b"longer")
-            yield third, None
+            yield entry(third)
             os.remove(first)
             os.remove(second)
             os.rename(third, fourth)
             write(fourth, b"xyz")
             os.utime(fourth, ns=(moment, moment))
-            yield fourth, None
+            yield entry(fourth)
 
         is_whole, lines = save(folder, repository, entries_of=entries_that_change)
         wanted = (0, []), [b"abc", b"abc", b"longer", b"xyz"]
@@ -167,10 +174,10 @@ def links_to_whole_files_alone():
         moment = os.stat(first).st_mtime_ns
 
         def entries_that_change(*_):
-            yield first, None
+            yield entry(first)
             write(first, b"abc")
             os.utime(first, ns=(moment, moment))
-            yield second, None
+            yield entry(second)
 
         change = opened_before(lambda path: path == first and os.truncate(path, 1))
         is_whole, lines = save(folder, repository, entries_of=entries_that_change, opened=change)
@@ -258,20 +265,54 @@ def leaves_the_repository_out():
 
 
 def lists_no_folder_by_a_link():
-    """If a link takes the place of a folder before it is listed, what it leads to isn't saved; and what can't be looked at doesn't end a save."""
-    with tempfile.TemporaryDirectory() as place:
-        folder, other = os.path.join(place, "folder"), os.path.join(place, "other")
-        for path in os.path.join(folder, "a"), other:
-            os.makedirs(path)
-        write(os.path.join(other, "secret"), b"")
-        found = []
-        for path, fault in tool.entries_of(folder, os.stat(place)):
-            found.append((os.path.relpath(path, folder), fault))
-            if fault is None:
-                os.rmdir(path)
-                os.symlink(other, path)
-        entry = mock.Mock(is_dir=mock.Mock(side_effect=PermissionError))
-        return differences((found, [("a", None), ("a", "not a directory")]), (tool.may_be_folder(entry), True))
+    """If a link or another folder takes the place of a folder before it is listed, what it leads to isn't saved."""
+    found = []
+    for replace, told in (os.symlink, "not a directory"), (lambda other, path: os.rename(other, path), "another folder has taken its place while it was saved"):
+        with tempfile.TemporaryDirectory() as place:
+            folder, other, listed = os.path.join(place, "folder"), os.path.join(place, "other"), []
+            for path in os.path.join(folder, "a"), other:
+                os.makedirs(path)
+            write(os.path.join(other, "secret"), b"")
+            with contextlib.closing(Tree(folder, os.O_RDONLY)) as tree:
+                for path, status, fault in tool.entries_of(tree, os.stat(place)):
+                    listed.append((path, status is None, fault))
+                    if fault is None:
+                        os.rename(os.path.join(folder, path), os.path.join(place, "aside"))
+                        replace(other, os.path.join(folder, path))
+            found += differences((listed, [("a", False, None), ("a", True, told)]))
+    return found
+
+
+def link_when_saved(folder, other, wanted):
+    """A function that yields what `entries_of` does. Before it yields one path, a link to another folder takes the place of the folder `a`."""
+    entries_of = tool.entries_of
+
+    def entries_that_change(*words):
+        for found in entries_of(*words):
+            if os.path.join(folder, found[0]) == os.path.join(folder, wanted):
+                os.rename(os.path.join(folder, "a"), os.path.join(folder, "aside"))
+                os.symlink(other, os.path.join(folder, "a"))
+            yield found
+
+    return entries_that_change
+
+
+def reads_through_no_link():
+    """If a link takes the place of a folder that was listed, nothing is read where it leads, whether the folder is still open or not."""
+    found = []
+    for max_open, wanted, told in (32, "a/b/file", []), (1, "a/b/file", ["left out: a/file: not a directory"]), (1, "a/file", []):
+        with tempfile.TemporaryDirectory() as place:
+            folder, other, repository = (os.path.join(place, name) for name in ("folder", "other", "repository"))
+            for path, content in (os.path.join(folder, "a"), b"abc"), (other, b"xyz"):
+                os.makedirs(os.path.join(path, "b"))
+                write(os.path.join(path, "file"), content)
+                write(os.path.join(path, "b", "file"), content)
+            with mock.patch.object(backup_tree, "MAX_OPEN", max_open):
+                is_whole, lines = save(folder, repository, entries_of=link_when_saved(folder, other, wanted))
+            found += differences((is_whole, not told), (lines[: len(told)], told))
+            names = ["a/b/file"] if told else ["a/b/file", "a/file"]
+            found += differences((restored_files(repository, lines, *names), ((0, []), [b"abc"] * len(names))))
+    return found
 
 
 def keeps_folders_that_are_there():
@@ -321,7 +362,9 @@ def waits_for_leases():
     with tempfile.TemporaryDirectory() as place, mock.patch.object(tool, "open", open_later, create=True):
         path = os.path.join(place, "f")
         write(path, b"abc")
-        with tool.opened(path, os.lstat(path)) as file:
+        folder = os.open(place, os.O_RDONLY)
+        with tool.opened(folder, "f", os.lstat(path)) as file:
+            os.close(folder)
             return differences((file.read(), b"abc"), (waiting, []))
 
 
@@ -359,5 +402,6 @@ CASES = (
     ("a backup of owners that aren't possible", restores_without_owners),
     ("a repository in the folder that is saved", leaves_the_repository_out),
     ("a folder that a link replaces while it is saved", lists_no_folder_by_a_link),
+    ("links to elsewhere that replace folders while they are saved", reads_through_no_link),
     ("a restore into folders that are there", keeps_folders_that_are_there),
 )
