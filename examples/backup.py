@@ -19,11 +19,14 @@ killed changes no earlier backup. The next save uses or removes what it left. On
 index is missing or wrong, everything can be restored, and the next save writes the index again. A wrong object is written again by `save --all` of a folder
 that has the same content.
 
-It keeps files, folders, links and hard links, with times, modes, owners and groups. If an owner can't be restored, for example by a user other than root,
-that is reported, and no setuid or setgid bit is set. A file that can't be restored whole is reported, and isn't left there in part. If its pieces are whole
-but don't have the length in the backup's list, it is restored from them and reported. A folder that is already there keeps its own owner, mode and time. It
-doesn't keep extended attributes, access lists and holes in files. Anything else (a pipe, a device, a socket) is reported and left out. A repository that is in
-FOLDER is left out too: that is reported, but doesn't change the status. It doesn't compress or encrypt, and removes no backups.
+It keeps files, folders, links and hard links, with times, modes, owners and groups. If an owner can't be restored, for example by a user other than root, that
+is reported, and no setuid or setgid bit is set. A file that can't be restored whole is reported, and isn't left there in part, unless the restore is killed. If
+its pieces are whole but don't have the length in the backup's list, it is restored from them and reported. A folder that is already there keeps its own owner,
+mode and time. It doesn't keep extended attributes, access lists and holes in files. Anything else (a pipe, a device, a socket) is reported and left out. A
+repository that is in FOLDER is left out too: that is reported, but doesn't change the status. It doesn't compress or encrypt, and removes no backups.
+
+`save` and `restore` open each folder from the one that it is in. So if someone replaces a folder by a link meanwhile, nothing is read or written where the
+link leads, and what is in the folder is reported.
 
 What it writes is readable only by the user who runs it: the files of a repository, and each restored file and folder until it has its owner and mode.
 
@@ -58,8 +61,8 @@ from b3store import MAX_LIMIT, Ended, Refused, Store
 from b3store.console import drop_output, error_text, fault_text, one_line, open_standard_files
 from backup_check import check
 from backup_packs import WriteFailed
-from backup_repository import ADDRESS, MORE, Damaged, Repository, length_fault, line_fault, quoted, unquoted
-from backup_tree import Tree
+from backup_repository import ADDRESS, MORE, Damaged, Repository, length_fault, line_fault, path_of, quoted, unquoted
+from backup_tree import Tree, new_folder
 
 MIN_MEMORY = 1 << 23
 """The least `--memory`."""
@@ -110,13 +113,6 @@ def status_in(tree, path, repository):
     except OSError as fault:
         return None, error_text(fault)
     return (None, IS_REPOSITORY) if os.path.samestat(status, repository) else (status, None)
-
-
-def place_in(folder, path):
-    """A path of a backup in a folder. Raises OSError if it leads out of the folder."""
-    if os.path.isabs(path) or ".." in path.split("/"):
-        raise OSError(f"{path} leads out of the folder")
-    return os.path.join(folder, path)
 
 
 def opened(folder, name, status):
@@ -219,7 +215,7 @@ class Saving:
 def save(repository, options):
     if os.path.exists(options.repository) and os.path.samefile(options.folder, options.repository):
         raise Damaged(f"{options.folder} is the repository")
-    with contextlib.closing(Tree(options.folder, os.O_RDONLY)) as tree:
+    with contextlib.closing(Tree(os.open(options.folder, os.O_RDONLY | os.O_DIRECTORY), os.O_RDONLY)) as tree:
         repository.make()
         with repository.locked(fcntl.LOCK_EX):
             repository.load()
@@ -236,76 +232,100 @@ def save(repository, options):
 
 
 class Restoring:
-    """A backup that is being restored into a folder."""
+    """A backup that is being restored into a tree, whose folder is new or was there."""
 
-    def __init__(self, repository, folder):
-        self.repository, self.folder = repository, folder
-        self.folders, self.unowned, self.is_whole = [], 0, True
-        self.own, self.files = set(), set()
-        """The folders that were restored, none of which is a link, or below one; and the files."""
+    def __init__(self, repository, tree, is_new):
+        self.repository, self.tree, self.is_new = repository, tree, is_new
+        self.folders, self.files = [], set()
+        """The path of each folder that was made, its line and its number; and the paths of the files that were restored."""
+        self.unowned, self.is_whole = 0, True
 
     def restore(self, line):
         """Restores a line's file, link or folder. Raises OSError if the line is wrong, or a folder on its path is a link."""
         fault = line_fault(line)
         if fault is not None:
             raise OSError(fault)
-        kind, name, words = line[1], unquoted(line[2]), line[7].split()
-        place, above = place_in(self.folder, name), os.path.dirname(name)
-        if above not in self.own and os.path.realpath(os.path.dirname(place)) != os.path.normpath(os.path.join(os.path.realpath(self.folder), above)):
-            raise OSError("a folder on its way is a link")
-        if kind == "folder":
-            self.make_folder(place, name, line)
+        make = {"folder": self.make_folder, "file": self.make_file, "link": self.make_link, "same": self.make_hard_link}[line[1]]
+        make(path_of(line[2]), line, line[7].split())
+
+    def make_folder(self, path, line, _):
+        """Makes a folder, unless it is there. Only one that was made, or the new folder to restore into, gets its owner, mode and time later."""
+        if path == ITSELF and not self.is_new:
             return
-        if kind == "same":
-            if unquoted(words[0]) not in self.files:
-                raise OSError(f"it is a hard link of {unquoted(words[0])}, which isn't restored")
-            os.link(place_in(self.folder, unquoted(words[0])), place, follow_symlinks=False)
-            return
-        if kind == "link":
-            os.symlink(unquoted(words[0]), place)
-        else:
-            fault = length_fault(line, self.write(place, words[1:]))
-            self.files.add(name)
+        if path != ITSELF:
+            folder, name = self.tree.parent(path)
+            try:
+                os.mkdir(name, 0o700, dir_fd=folder)
+            except FileExistsError:
+                if not stat.S_ISDIR(self.tree.status(path).st_mode):
+                    raise
+                return
+        self.folders.append((path, line, number_of(self.tree.folder(path))))
+
+    def make_hard_link(self, path, _, words):
+        source = path_of(words[0])
+        if source not in self.files:
+            raise OSError(f"it is a hard link of {unquoted(words[0])}, which isn't restored")
+        folder, name = self.tree.parent(source)
+        folder = os.dup(folder)
+        try:
+            target_folder, target_name = self.tree.parent(path)
+            os.link(name, target_name, src_dir_fd=folder, dst_dir_fd=target_folder, follow_symlinks=False)
+        finally:
+            os.close(folder)
+
+    def make_link(self, path, line, words):
+        folder, name = self.tree.parent(path)
+        os.symlink(unquoted(words[0]), name, dir_fd=folder)
+        self.finish(name, line, dir_fd=folder, follow_symlinks=False)
+
+    def make_file(self, path, line, words):
+        with self.write(*self.tree.parent(path), words[1:]) as file:
+            self.files.add(path)
+            fault = length_fault(line, file.tell())
             if fault is not None:
                 self.report("not restored as it was", line, fault)
-        self.finish(place, line)
+            self.finish(file.fileno(), line)
 
-    def make_folder(self, place, name, line):
-        """Makes a folder, unless it is there. Only one that was made, or the new folder to restore into, gets its owner, mode and time later."""
-        is_there = os.path.isdir(place) and not os.path.islink(place)
-        if not is_there:
-            os.mkdir(place)
-        if not is_there or name == ITSELF:
-            self.folders.append((place, line))
-        self.own.add(name)
-
-    def write(self, place, addresses):
-        """Writes a file of these pieces, and returns its length; or leaves none if one of them can't be read or written."""
+    def write(self, folder, name, addresses):
+        """Writes a new file of these pieces in an open folder, and returns it; or leaves none if one of them can't be read or written."""
         file, signals = None, signal.pthread_sigmask(signal.SIG_BLOCK, {signal.SIGINT})
         try:
             try:
-                file = open(place, "xb")
+                file = open(name, "xb", opener=lambda name, flags: os.open(name, flags, 0o600, dir_fd=folder))
             finally:
                 # an interrupt comes now, when it is known whether there is a file
                 signal.pthread_sigmask(signal.SIG_SETMASK, signals)
-            with file:
-                file.writelines(map(self.repository.read, addresses))
-                return file.tell()
+            file.writelines(map(self.repository.read, addresses))
+            file.flush()
+            return file
         except BaseException:
             if file is not None:
-                os.remove(place)
+                os.remove(name, dir_fd=folder)
+                with contextlib.suppress(OSError):
+                    file.close()
             raise
 
-    def finish(self, place, line):
-        """Sets the owner, mode and time of what was restored."""
-        kind, _, mode, owner, group, moment, _ = line.groups()
+    def finish_folder(self, path, number, line):
+        """Sets the owner, mode and time of a folder that was made."""
+        folder = os.open(".", os.O_RDONLY | os.O_DIRECTORY, dir_fd=self.tree.folder(path))
+        try:
+            if number_of(folder) != number:
+                raise OSError("another folder has taken its place while it was restored")
+            self.finish(folder, line)
+        finally:
+            os.close(folder)
+
+    def finish(self, place, line, **how):
+        """Sets the owner, mode and time of what was restored. `place` is its descriptor, or the name of a link, which isn't followed."""
+        _, _, mode, owner, group, moment, _ = line.groups()
         mode = int(mode, 8)
-        if owner is None or not is_given(place, int(owner), int(group)):
+        if owner is None or not is_given(place, int(owner), int(group), **how):
             self.unowned += 1
             mode &= ~(stat.S_ISUID | stat.S_ISGID)
-        if kind != "link":
+        if not how:
             os.chmod(place, mode)
-        os.utime(place, ns=(int(moment), int(moment)), follow_symlinks=False)
+        os.utime(place, ns=(int(moment), int(moment)), **how)
 
     def try_to(self, work, line, *words):
         try:
@@ -318,10 +338,16 @@ class Restoring:
         self.is_whole = False
 
 
-def is_given(place, owner, group):
+def number_of(folder):
+    """The number of an open folder, which no other has."""
+    status = os.fstat(folder)
+    return status.st_dev, status.st_ino
+
+
+def is_given(place, owner, group, **how):
     """Gives a file to an owner and a group, and returns whether that is possible here."""
     try:
-        os.chown(place, owner, group, follow_symlinks=False)
+        os.chown(place, owner, group, **how)
         return True
     except OSError as fault:
         if fault.errno in NOT_ALLOWED:
@@ -333,13 +359,13 @@ def restore(repository, options):
     repository.load()
     lines = repository.lines_of(options.address)
     is_new = not os.path.isdir(options.folder)
-    os.makedirs(options.folder, exist_ok=True)
-    restoring = Restoring(repository, options.folder)
-    for line in lines:
-        if is_new or line[2] != ITSELF:
+    top = new_folder(options.folder) if is_new else os.open(options.folder, os.O_PATH | os.O_DIRECTORY)
+    with contextlib.closing(Tree(top, os.O_PATH)) as tree:
+        restoring = Restoring(repository, tree, is_new)
+        for line in lines:
             restoring.try_to(restoring.restore, line)
-    for place, line in reversed(restoring.folders):
-        restoring.try_to(restoring.finish, line, place)
+        for path, line, number in reversed(restoring.folders):
+            restoring.try_to(restoring.finish_folder, line, path, number)
     if restoring.unowned:
         print(f"owners not restored: {restoring.unowned}; no setuid or setgid bits are set there")
     return restoring.is_whole and not restoring.unowned

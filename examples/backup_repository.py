@@ -255,6 +255,8 @@ def line_fault(line):
         return f"its line isn't that of a {kind}"
     if "%00" in line[0] or "\0" in line[0]:
         return "a name in its line has a zero byte"
+    if path_of(line[2]) is None:
+        return "its path leads out of the folder"
     if max(map(len, (mode, owner or "", group or "", moment))) > MAX_DIGITS:
         return "a number in its line is too long"
     if int(mode, 8) > MAX_MODE or max(int(owner or 0), int(group or 0)) > MAX_OWNER or abs(int(moment)) > MAX_TIME:
@@ -266,6 +268,12 @@ def length_fault(line, length):
     """What is wrong with a file's line if its pieces have this length together, or None."""
     wanted = line[7].split()[0]
     return None if int(wanted) == length else f"its pieces have {count_text(length, 'byte')}, not {wanted}"
+
+
+def path_of(text):
+    """The path in a word of a line, in its shortest form; None if it leads out of the folder."""
+    path = unquoted(text)
+    return None if os.path.isabs(path) or ".." in path.split("/") else os.path.normpath(path)
 
 
 def quoted(path):

@@ -1,5 +1,6 @@
 """Folders that are opened one from another, so that no link is followed (backup.py)."""
 import os
+import stat
 
 MAX_OPEN = 32
 """How many folders on the way to the last one are kept open. If they are needed again, the others are opened again, from the first one on."""
@@ -9,11 +10,10 @@ class Tree:
     """A folder and what is below it, by paths that begin in it; its own path is empty.
 
     Each folder is opened from the one that it is in, and only if it is no link. So if someone replaces a folder by a link meanwhile, the link isn't
-    followed. `flags` say how folders are opened: for reading, or only to find what is in them."""
+    followed. `top` is a descriptor of the folder, and `flags` say how those below it are opened: for reading, or only to find what is in them."""
 
-    def __init__(self, place, flags):
-        self.flags = flags | os.O_DIRECTORY
-        self.top = os.open(place, self.flags)
+    def __init__(self, top, flags):
+        self.top, self.flags = top, flags | os.O_DIRECTORY | os.O_NOFOLLOW
         self.path, self.names, self.opened = "", [], []
         """The path of the folder that was used last, the names in it, and the descriptors of the last folders on its way."""
 
@@ -39,7 +39,13 @@ class Tree:
 
     def enter(self, name):
         """Opens a folder that is in the last one."""
-        self.opened.append(os.open(name, self.flags | os.O_NOFOLLOW, dir_fd=self.opened[-1] if self.opened else self.top))
+        above = self.opened[-1] if self.opened else self.top
+        try:
+            self.opened.append(os.open(name, self.flags, dir_fd=above))
+        except NotADirectoryError:
+            if stat.S_ISLNK(os.stat(name, dir_fd=above, follow_symlinks=False).st_mode):
+                raise OSError(f"{name} is a link, not a folder") from None
+            raise
         self.names.append(name)
         if len(self.opened) > MAX_OPEN:
             os.close(self.opened.pop(0))
@@ -69,3 +75,17 @@ class Tree:
     def close(self):
         for folder in (*self.opened, self.top):
             os.close(folder)
+
+
+def new_folder(place):
+    """Makes a folder, and those that it is in unless they are there, which only this user may enter. Returns a descriptor by which it isn't read. No link that
+    takes the place of a new folder is followed."""
+    above, name = os.path.split(place.rstrip("/"))
+    if name == ".":
+        return new_folder(above)
+    folder = os.open(above or ".", os.O_PATH | os.O_DIRECTORY) if os.path.isdir(above or ".") else new_folder(above)
+    try:
+        os.mkdir(name, 0o700, dir_fd=folder)
+        return os.open(name, os.O_PATH | os.O_DIRECTORY | os.O_NOFOLLOW, dir_fd=folder)
+    finally:
+        os.close(folder)

@@ -1,5 +1,4 @@
 """Backups by examples/backup.py."""
-import contextlib
 import fcntl
 import io
 import os
@@ -292,28 +291,45 @@ def opens_what_it_has_seen():
         return found
 
 
+DEPTH = 2500
+"""More folders in folders than Python's functions may call each other, and together a longer path than the system takes at once."""
+OPEN_FILES = 80
+"""How many files a program may have open that saves or restores them."""
+
+
+def in_deepest(folder, mode, visit):
+    """Opens the file `f` in the deepest folder of `d` in `d` in `d`... `visit` is called before each is opened, with its name and the folder that it is in."""
+    at = os.open(folder, os.O_RDONLY)
+    try:
+        for _ in range(DEPTH):
+            visit("d", dir_fd=at)
+            below = os.open("d", os.O_RDONLY, dir_fd=at)
+            os.close(at)
+            at = below
+        return open("f", mode, opener=lambda name, flags: os.open(name, flags, dir_fd=at))
+    finally:
+        os.close(at)
+
+
 def keeps_deep_folders():
-    """Folders in folders, more than Python's functions may call each other."""
+    """Folders in folders, and a file in the deepest and in the first of them, by a program that may open few files."""
     with tempfile.TemporaryDirectory() as place:
         folder, repository, restored = (os.path.join(place, name) for name in ("folder", "repository", "restored"))
-        depth = sys.getrecursionlimit() + 100
-        deepest = os.path.join(folder, *["d"] * depth)
-        os.makedirs(folder)
-        for level in range(1, depth + 1):
-            os.mkdir(os.path.join(folder, *["d"] * level))
-        with open(os.path.join(deepest, "f"), "wb") as file:
-            file.write(b"abc")
-        status, lines = backup("save", folder, repository)
-        found = differences((status, 0), (lines[0], f"files 1 folders {depth} links 0"))
-        found += differences((backup("restore", repository, lines[-1].split()[1], restored), (0, [])))
-        with open(os.path.join(restored, os.path.relpath(deepest, folder), "f"), "rb") as file:
-            found += differences((file.read(), b"abc"))
-        for top in folder, restored:
-            for level in range(depth, 0, -1):
-                with contextlib.suppress(FileNotFoundError):
-                    os.remove(os.path.join(top, *["d"] * level, "f"))
-                os.rmdir(os.path.join(top, *["d"] * level))
-        return found
+        os.mkdir(folder)
+        limited = ["sh", "-c", f"ulimit -n {OPEN_FILES}; exec \"$@\"", "sh", *BACKUP]
+        try:
+            with in_deepest(folder, "wb", os.mkdir) as file:
+                file.write(b"abc")
+            shutil.copy(os.path.join(TOP, "README.md"), os.path.join(folder, "d", "f"))
+            run = subprocess.run([*limited, "save", folder, repository], capture_output=True, timeout=2 * SECONDS)
+            lines = run.stdout.decode().splitlines()
+            found = differences((run.returncode, 0), (lines[0][:80], f"files 2 folders {DEPTH} links 0"))
+            run = subprocess.run([*limited, "restore", repository, lines[-1].split()[1], restored], capture_output=True, timeout=2 * SECONDS)
+            found += differences((run.returncode, 0), (run.stdout[:80], b""), (os.listdir(os.path.join(restored, "d")).count("f"), 1))
+            with in_deepest(restored, "rb", os.stat) as file:
+                return found + differences((file.read(), b"abc"))
+        finally:
+            subprocess.run(["rm", "-rf", folder, restored], check=True)
 
 
 def ends_with_a_sentence():

@@ -13,7 +13,7 @@ import time
 from unittest import mock
 
 from backups import backup, folder_of_abc, made_backup
-from shared import ABC, PROGRAM, SECONDS, TOP, differences
+from shared import ABC, PROGRAM, SECONDS, TOP, differences, raised
 from b3store import Store
 import backup as tool
 import backup_packs
@@ -267,13 +267,13 @@ def leaves_the_repository_out():
 def lists_no_folder_by_a_link():
     """If a link or another folder takes the place of a folder before it is listed, what it leads to isn't saved."""
     found = []
-    for replace, told in (os.symlink, "not a directory"), (lambda other, path: os.rename(other, path), "another folder has taken its place while it was saved"):
+    for replace, told in (os.symlink, "a is a link, not a folder"), (os.rename, "another folder has taken its place while it was saved"):
         with tempfile.TemporaryDirectory() as place:
             folder, other, listed = os.path.join(place, "folder"), os.path.join(place, "other"), []
             for path in os.path.join(folder, "a"), other:
                 os.makedirs(path)
             write(os.path.join(other, "secret"), b"")
-            with contextlib.closing(Tree(folder, os.O_RDONLY)) as tree:
+            with contextlib.closing(Tree(os.open(folder, os.O_RDONLY), os.O_RDONLY)) as tree:
                 for path, status, fault in tool.entries_of(tree, os.stat(place)):
                     listed.append((path, status is None, fault))
                     if fault is None:
@@ -300,7 +300,7 @@ def link_when_saved(folder, other, wanted):
 def reads_through_no_link():
     """If a link takes the place of a folder that was listed, nothing is read where it leads, whether the folder is still open or not."""
     found = []
-    for max_open, wanted, told in (32, "a/b/file", []), (1, "a/b/file", ["left out: a/file: not a directory"]), (1, "a/file", []):
+    for max_open, wanted, told in (32, "a/b/file", []), (1, "a/b/file", ["left out: a/file: a is a link, not a folder"]), (1, "a/file", []):
         with tempfile.TemporaryDirectory() as place:
             folder, other, repository = (os.path.join(place, name) for name in ("folder", "other", "repository"))
             for path, content in (os.path.join(folder, "a"), b"abc"), (other, b"xyz"):
@@ -324,30 +324,110 @@ def keeps_folders_that_are_there():
         os.makedirs(os.path.join(restored, "d"))
         os.chmod(os.path.join(restored, "d"), 0o711)
         found = differences((backup("restore", repository, address, restored), (0, [])), (content_of(restored, "d", "f"), b"abc"))
+        found += differences((backup("restore", repository, address, os.path.join(place, "new", ".", "restored", ".")), (0, [])))
+        found += differences((content_of(place, "new", "restored", "d", "f"), b"abc"))
         states = [os.stat(os.path.join(restored, name)) for name in ("d", "d/new")]
         found += differences(([stat.S_IMODE(state.st_mode) for state in states], [0o711, 0o750]))
         return found + differences(([state.st_mtime_ns == 0 for state in states], [False, True]))
 
 
+def restore(repository, address, folder, **replaced):
+    """Restores a backup in this process, with other functions in place of some of backup.py. Returns what `restore` returns, or the type of the error that it
+    raises, and the lines that it prints."""
+    options, result = argparse.Namespace(folder=folder, address=address), []
+    with Store(PROGRAM, sessions=1) as store, contextlib.redirect_stdout(io.StringIO()) as printed, mock.patch.multiple(tool, **{"os": os, **replaced}):
+        fault = raised(lambda: result.append(tool.restore(Repository(repository, store, 1 << 23), options)))
+    return fault or result[0], printed.getvalue().splitlines()
+
+
+def with_change(function, change):
+    """A function that does the same, and calls another one before, with its words, and after it returns."""
+
+    def changed(*words, **options):
+        change(*words)
+        result = function(*words, **options)
+        change(*words)
+        return result
+
+    return changed
+
+
+def replace_once(path, aside, replace, other):
+    """Puts something else in the place of a path, unless that was done."""
+    if os.path.lexists(path) and not os.path.lexists(aside):
+        os.rename(path, aside)
+        replace(other, path)
+
+
+def private_state(path):
+    """What no restore of something else may change of a folder."""
+    return stat.S_IMODE(os.stat(path).st_mode), os.stat(path).st_mtime_ns, os.listdir(path)
+
+
+def changes_no_other_folder():
+    """If a link or another folder takes the place of a folder while it is restored, nothing is written or changed there."""
+    owner, found = f"{os.getuid()}:{os.getgid()}", []
+    lines = [f"{kind} 750:{owner} 0{more}" for kind, more in (("folder d", ""), ("file d/f", " 3 abc"), ("file d/g", " 3 abc"), ("folder e", ""))]
+    for replace, told in (os.symlink, "d is a link, not a folder"), (os.rename, "another folder has taken its place while it was restored"):
+        with tempfile.TemporaryDirectory() as place:
+            repository, address = made_backup(place, *lines)
+            restored, other, aside = (os.path.join(place, name) for name in ("restored", "other", "aside"))
+            os.mkdir(other, 0o711)
+            os.utime(other, ns=(5, 5))
+            folder = os.path.join(restored, "d")
+
+            def change(*_):
+                if os.path.exists(os.path.join(folder, "f")):
+                    replace_once(folder, aside, replace, other)
+
+            with mock.patch.object(Repository, "read", with_change(Repository.read, change)):
+                found += differences((restore(repository, address, restored), (False, [f"not restored: d: {told}"])))
+            found += differences((private_state(folder), (0o711, 5, [])), (sorted(os.listdir(aside)), ["f", "g"]), (content_of(aside, "g"), b"abc"))
+    return found
+
+
+def changes_no_other_file():
+    """If a link takes the place of a file that is restored, or of the new folder to restore into, nothing is changed where it leads."""
+    with tempfile.TemporaryDirectory() as place:
+        repository, address = made_backup(place, f"folder . 750:{os.getuid()}:{os.getgid()} 0", f"file f 4755:{os.getuid()}:{os.getgid()} 0 3 abc")
+        restored, other, aside, own = (os.path.join(place, name) for name in ("restored", "other", "aside", "own"))
+        write(own, b"own")
+        os.chmod(own, 0o600)
+        change = with_change(tool.is_given, lambda *_: replace_once(os.path.join(restored, "f"), aside, os.symlink, own))
+        found = differences((restore(repository, address, restored, is_given=change), (True, [])), (stat.S_IMODE(os.stat(own).st_mode), 0o600))
+        found += differences((os.stat(own).st_mtime_ns == 0, False), (stat.S_IMODE(os.stat(aside).st_mode), 0o4755), (content_of(aside), b"abc"))
+        os.mkdir(other, 0o711)
+        os.utime(other, ns=(5, 5))
+        os.remove(aside)
+        restored = os.path.join(place, "new", "restored")
+        for path in os.path.dirname(restored), restored:
+            with mock.patch("os.mkdir", with_change(os.mkdir, lambda *_: replace_once(path, aside, os.symlink, other))):
+                fault, lines = restore(repository, address, restored)
+            found += differences((fault not in (True, False) and issubclass(fault, OSError), True), (lines, []), (private_state(other), (0o711, 5, [])))
+            subprocess.run(["rm", "-rf", os.path.join(place, "new"), aside], check=True)
+        return found
+
+
 INTERRUPTED = f"""import sys; sys.path[:0] = {[os.path.join(TOP, name) for name in ("examples", "python")]!r}
 import builtins, os, signal, backup
-def open_and_interrupt(path, mode):
-    file = builtins.open(path, mode)
+def open_and_interrupt(*words, **options):
+    file = builtins.open(*words, **options)
     os.kill(os.getpid(), signal.SIGINT)
     return file
 signal.signal(signal.SIGINT, signal.default_int_handler)
 backup.open = open_and_interrupt
+folder = os.open(sys.argv[1], os.O_RDONLY)
 try:
-    object.__new__(backup.Restoring).write(sys.argv[1], [])
+    object.__new__(backup.Restoring).write(folder, "f", [])
 except KeyboardInterrupt:
-    print(os.path.exists(sys.argv[1]))"""
+    print(os.listdir(folder))"""
 
 
 def leaves_nothing_at_an_interrupt():
     """An interrupt while a file is opened leaves none."""
     with tempfile.TemporaryDirectory() as place:
-        ran = subprocess.run([sys.executable, "-c", INTERRUPTED, os.path.join(place, "f")], stdout=subprocess.PIPE, stderr=subprocess.PIPE, timeout=SECONDS)
-        return differences((ran.stdout, b"False\n"), (ran.stderr, b""))
+        ran = subprocess.run([sys.executable, "-c", INTERRUPTED, place], stdout=subprocess.PIPE, stderr=subprocess.PIPE, timeout=SECONDS)
+        return differences((ran.stdout, b"[]\n"), (ran.stderr, b""))
 
 
 def waits_for_leases():
@@ -403,5 +483,7 @@ CASES = (
     ("a repository in the folder that is saved", leaves_the_repository_out),
     ("a folder that a link replaces while it is saved", lists_no_folder_by_a_link),
     ("links to elsewhere that replace folders while they are saved", reads_through_no_link),
+    ("folders that are replaced while they are restored", changes_no_other_folder),
+    ("files that are replaced while they are restored", changes_no_other_file),
     ("a restore into folders that are there", keeps_folders_that_are_there),
 )
