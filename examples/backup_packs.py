@@ -30,6 +30,8 @@ MAX_ROW_LEN = 64 + 1 + 8 + 1
 ROW = re.compile(rb"([0-9a-f]{64}) ([0-9]{1,8})\n")
 ROWS = re.compile(rb"(?:[0-9a-f]{64} [0-9]{1,8}\n)+")
 NAME = re.compile(r"([0-9a-f]{64})\.(?:pack|index)")
+ASIDE, INDEX_ASIDE = "pack.new", "index.new"
+"""The names under which a pack and an index are written at first."""
 
 Place = collections.namedtuple("Place", "pack start length other")
 """Where a piece is: its pack, its position and its length there. `other` is another place of the same piece, or None."""
@@ -39,27 +41,32 @@ class WriteFailed(Exception):
     """A pack can't be written, so the save can't go on."""
 
 
-def open_file(path):
+def open_file(path, flags=0):
     """Opens a file for reading. Raises OSError for anything else, such as a pipe, at which a reader would wait."""
-    opened = os.open(path, os.O_RDONLY | os.O_NONBLOCK)
+    opened = os.open(path, os.O_RDONLY | os.O_NONBLOCK | flags)
     if not stat.S_ISREG(os.fstat(opened).st_mode):
         os.close(opened)
         raise OSError(errno.EINVAL, "not a regular file", path)
     return opened
 
 
-def remove(path):
-    with contextlib.suppress(OSError):
-        os.remove(path)
-
-
-def sync_folder(path):
-    """Waits until the names in a folder are on disk."""
-    folder = os.open(path, os.O_RDONLY | os.O_DIRECTORY)
+@contextlib.contextmanager
+def opened_folder(path, flags=os.O_NOFOLLOW):
+    """Opens a folder to write into it. By default it must be no link: someone else who has made a repository could lead a save to other files by that. An
+    OSError for a file in it gets the folder's path too."""
+    folder = os.open(path, os.O_RDONLY | os.O_DIRECTORY | flags)
     try:
-        os.fsync(folder)
+        yield folder
+    except OSError as fault:
+        fault.filename = os.path.join(path, fault.filename) if fault.filename else path
+        raise
     finally:
         os.close(folder)
+
+
+def remove(folder, name):
+    with contextlib.suppress(OSError):
+        os.remove(name, dir_fd=folder)
 
 
 def make_folder(path):
@@ -67,33 +74,35 @@ def make_folder(path):
     if not os.path.isdir(path):
         make_folder(os.path.dirname(path))
         with contextlib.suppress(FileExistsError):
-            os.mkdir(path)
-        sync_folder(os.path.dirname(path))
+            os.mkdir(path, 0o700)
+        with opened_folder(os.path.dirname(path), 0) as folder:
+            os.fsync(folder)
 
 
-def rename_synced(path, name):
-    """Renames a file that was synced, and waits until its new name is on disk."""
-    os.replace(path, name)
-    sync_folder(os.path.dirname(name))
+def rename_synced(folder, name, new_name):
+    """Renames a file that was synced in an open folder, and waits until its new name is on disk."""
+    os.replace(name, new_name, src_dir_fd=folder, dst_dir_fd=folder)
+    os.fsync(folder)
 
 
-def new_file(path, **how):
-    """Opens a new file for writing. What has its name is removed: if it is a link that someone else has made, nothing is written where it leads."""
-    remove(path)
-    return open(path, "xb", **how)
+def new_file(folder, name, **how):
+    """Opens a new file in an open folder for writing. What has its name is removed: if it is a link that someone else has made, nothing is written where it
+    leads."""
+    remove(folder, name)
+    return open(name, "xb", opener=lambda name, flags: os.open(name, flags, 0o600, dir_fd=folder), **how)
 
 
-def write_synced(path, content, aside):
-    """Writes a file under another name first, so that it is at any time as before or complete."""
+def write_synced(folder, name, content, aside):
+    """Writes a file in an open folder under another name first, so that it is at any time as before or complete."""
     try:
-        with new_file(aside) as file:
+        with new_file(folder, aside) as file:
             file.write(content)
             file.flush()
             os.fsync(file.fileno())
     except OSError:
-        remove(aside)
+        remove(folder, aside)
         raise
-    rename_synced(aside, path)
+    rename_synced(folder, aside, name)
 
 
 class Pack:
@@ -211,15 +220,16 @@ class Packs:
 
     def clean(self):
         """Removes what a killed save has left, and writes indexes that are missing or wrong."""
-        for name in "pack.new", "index.new":
-            remove(os.path.join(self.folder, name))
-        for pack in self.packs:
-            if pack.index_fault is not None and pack.fault is None:
-                write_index(self.folder, pack.name, pack.rows)
+        with opened_folder(self.folder) as folder:
+            for name in ASIDE, INDEX_ASIDE:
+                remove(folder, name)
+            for pack in self.packs:
+                if pack.index_fault is not None and pack.fault is None:
+                    write_index(folder, pack.name, pack.rows)
 
 
 def write_index(folder, name, rows):
-    write_synced(os.path.join(folder, name + ".index"), rows, os.path.join(folder, "index.new"))
+    write_synced(folder, name + ".index", rows, INDEX_ASIDE)
 
 
 class Writer(threading.Thread):
@@ -229,7 +239,8 @@ class Writer(threading.Thread):
         super().__init__(daemon=True)
         self.folder, self.hold = folder, hold
         self.queue, self.fault = queue.Queue(MAX_WAITING), None
-        self.file, self.aside = None, os.path.join(folder, "pack.new")
+        self.file = self.opened = None
+        """The pack that is being written, and a descriptor of the folder, once it is needed."""
         self.written = {}
         """The lengths of all pieces that were put, by address."""
         self.rows, self.length = [], 0
@@ -291,8 +302,10 @@ class Writer(threading.Thread):
                 self.queue.task_done()
 
     def write(self, batch):
+        if self.opened is None:
+            self.opened = os.open(self.folder, os.O_RDONLY | os.O_DIRECTORY | os.O_NOFOLLOW)
         if self.file is None:
-            self.file = new_file(self.aside, buffering=0)
+            self.file = new_file(self.opened, ASIDE, buffering=0)
         view = memoryview(b"".join(batch))
         while view:
             view = view[self.file.write(view) :]
@@ -302,12 +315,13 @@ class Writer(threading.Thread):
         os.fsync(self.file.fileno())
         self.file.close()
         self.file = None
-        rename_synced(self.aside, os.path.join(self.folder, name + ".pack"))
-        write_index(self.folder, name, rows)
+        rename_synced(self.opened, ASIDE, name + ".pack")
+        write_index(self.opened, name, rows)
 
     def drop(self):
         """Removes a pack that is incomplete."""
         with contextlib.suppress(OSError):
             if self.file is not None:
                 self.file.close()
-        remove(self.aside)
+        if self.opened is not None:
+            remove(self.opened, ASIDE)

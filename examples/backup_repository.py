@@ -10,7 +10,7 @@ import urllib.parse
 
 from b3store import Refused
 from b3store.console import count_text
-from backup_packs import BATCH, MAX_BATCH_ITEMS, Packs, Writer, make_folder, open_file, write_synced
+from backup_packs import BATCH, MAX_BATCH_ITEMS, Packs, Writer, make_folder, open_file, opened_folder, write_synced
 from backup_pieces import pieces_of
 
 ADDRESS = re.compile("[0-9a-f]{64}")
@@ -52,7 +52,9 @@ class Repository:
         return os.path.join(self.path, "objects", address[:2], address)
 
     def make(self):
-        """Makes the repository's folders, if they aren't there."""
+        """Makes the repository's folders, if they aren't there. Raises Damaged if the folder of packs is a link."""
+        if os.path.islink(self.packs.folder):
+            raise Damaged(f"{self.packs.folder} is a link: nothing is saved where it leads")
         make_folder(os.path.abspath(self.packs.folder))
 
     def load(self):
@@ -224,9 +226,9 @@ class Repository:
     def backups(self):
         """The lines of the file of backups, each with its fields, the oldest first."""
         path = os.path.join(self.path, "backups")
-        if not os.path.exists(path):
+        if not os.path.lexists(path):
             return []
-        with open(path, encoding="ascii", errors="replace") as file:
+        with open(open_file(path, os.O_NOFOLLOW), encoding="ascii", errors="replace") as file:
             lines = file.read().splitlines()
         found = [BACKUP.fullmatch(line) for line in lines]
         if not all(found):
@@ -235,9 +237,9 @@ class Repository:
 
     def note(self, line):
         """Adds a line to the backups."""
-        path = os.path.join(self.path, "backups")
         lines = [found[0] for found in self.backups()]
-        write_synced(path, "".join(line + "\n" for line in [*lines, line]).encode("ascii"), path + ".new")
+        with opened_folder(self.path, 0) as folder:
+            write_synced(folder, "backups", "".join(line + "\n" for line in [*lines, line]).encode("ascii"), "backups.new")
 
 
 def is_copy(content, read, words):

@@ -12,7 +12,7 @@ import threading
 import time
 from unittest import mock
 
-from backups import backup, folder_of_abc, made_backup
+from backups import BACKUP, backup, folder_of_abc, made_backup
 from shared import ABC, PROGRAM, SECONDS, TOP, differences, raised
 from b3store import Store
 import backup as tool
@@ -62,11 +62,51 @@ def writes_through_no_link():
             os.symlink(own, link)
         found = differences((backup("save", folder, repository)[0], 0), (content_of(own), b"own"), (os.path.islink(os.path.join(repository, "backups")), False))
         found += differences((backup("check", repository), (0, ["objects 3 wrong 0", "backups 1 broken 0"])))
+        os.mkdir(os.path.join(repository, "backups.new"))
+        run = subprocess.run([*BACKUP, "save", folder, repository], capture_output=True, timeout=SECONDS)
+        found += differences((run.returncode, 1), (run.stderr.decode(), f"backup: {repository}/backups.new: file exists\n"))
         writer = backup_packs.Writer(packs, lambda rows: ABC)
         writer.put(ABC, b"abc")
         writer.finish()
         found += differences((content_of(own), b"own"), (sorted(os.listdir(packs)), [f"{ABC}.index", f"{ABC}.pack"]))
         return found + differences((content_of(packs, f"{ABC}.pack"), f"{ABC} 3\nabc".encode()), (content_of(packs, f"{ABC}.index"), f"{ABC} 3\n".encode()))
+
+
+def saves_into_no_linked_folder():
+    """Nothing is saved or removed where a link in place of the folder of packs leads. What is there can be checked and restored."""
+    with tempfile.TemporaryDirectory() as place:
+        folder, repository = folder_of_abc(place)
+        lines = backup("save", folder, repository)[1]
+        packs, elsewhere = os.path.join(repository, "packs"), os.path.join(place, "elsewhere")
+        os.rename(packs, elsewhere)
+        os.symlink(elsewhere, packs)
+        write(os.path.join(elsewhere, "pack.new"), b"own")
+        write(os.path.join(folder, "more"), b"more")
+        names = os.listdir(elsewhere)
+        run = subprocess.run([*BACKUP, "save", folder, repository], capture_output=True, timeout=SECONDS)
+        found = differences((run.returncode, 1), (run.stderr.decode(), f"backup: {packs} is a link: nothing is saved where it leads\n"))
+        found += differences((backup("check", repository)[0], 0), (restored_files(repository, lines, "file"), ((0, []), [b"abc"])))
+        writer = backup_packs.Writer(packs, lambda rows: ABC)
+        writer.put(ABC, b"abc")
+        found += differences((raised(writer.finish), backup_packs.WriteFailed))
+        with contextlib.suppress(OSError):
+            backup_packs.Packs(packs, lambda rows: ABC).clean()
+        return found + differences((os.listdir(elsewhere), names), (content_of(elsewhere, "pack.new"), b"own"))
+
+
+def reads_no_backups_elsewhere():
+    """A list of backups that is a link or a pipe is refused: nothing that a link leads to is printed, and no pipe is waited for."""
+    with tempfile.TemporaryDirectory() as place:
+        folder, repository = folder_of_abc(place)
+        found, own, backups = differences((backup("save", folder, repository)[0], 0)), os.path.join(place, "own"), os.path.join(repository, "backups")
+        write(own, b"secret\n")
+        for make, told in (lambda: os.symlink(own, backups), "too many levels of symbolic links"), (lambda: os.mkfifo(backups), "not a regular file"):
+            os.remove(backups)
+            make()
+            for words in ["save", folder, repository], ["check", repository]:
+                run = subprocess.run([*BACKUP, *words], capture_output=True, timeout=SECONDS)
+                found += differences((run.returncode, 1), (run.stderr.decode(), f"backup: {backups}: {told}\n"))
+        return found
 
 
 def removes_nothing_of_others():
@@ -472,6 +512,8 @@ CASES = (
     ("files with a lease", waits_for_leases),
     ("a pack whose row can't be read", checks_beyond_a_row),
     ("a repository with links of others", writes_through_no_link),
+    ("a repository whose folder of packs is a link", saves_into_no_linked_folder),
+    ("a repository whose list of backups is no file", reads_no_backups_elsewhere),
     ("a repository with files of others", removes_nothing_of_others),
     ("files that change while they are read", reports_files_that_change),
     ("a backup with wrong lengths", reports_wrong_lengths),
