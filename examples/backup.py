@@ -61,13 +61,11 @@ from b3store import MAX_LIMIT, Ended, Refused, Store
 from b3store.console import drop_output, error_text, fault_text, one_line, open_standard_files
 from backup_check import check
 from backup_packs import WriteFailed
-from backup_repository import ADDRESS, MORE, Damaged, Repository, length_fault, line_fault, path_of, quoted, unquoted
+from backup_repository import ADDRESS, ITSELF, MORE, Damaged, Repository, length_fault, line_fault, path_of, quoted, unquoted
 from backup_tree import Tree, new_folder
 
 MIN_MEMORY = 1 << 23
 """The least `--memory`."""
-ITSELF = "."
-"""The name of the folder itself in a backup of it."""
 SECONDS_FOR_LEASE = 5
 """How long a program may take to give a lease on a file back."""
 IS_REPOSITORY = "it is the repository"

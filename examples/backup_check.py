@@ -4,7 +4,7 @@ import os
 
 from b3store import Refused
 from b3store.console import count_text, error_text, one_line
-from backup_repository import ADDRESS, Damaged, length_fault, line_fault, unquoted
+from backup_repository import ADDRESS, ITSELF, Damaged, length_fault, line_fault, path_of, unquoted
 
 
 class Checking:
@@ -88,25 +88,39 @@ class Checking:
             print(f"backup {backup} can't be restored: {reason(fault)}")
             return False
         self.used.update([backup], lists)
-        is_whole = True
+        is_whole, kinds = True, {ITSELF: "folder"}
         for line in lines:
             pieces = line[7].split()[1:] if line[1] == "file" else []
             self.used.update(pieces)
-            fault = self.fault_of(line, pieces)
+            fault = self.fault_of(line, pieces, kinds)
             if fault is not None:
                 print(one_line(f"backup {backup} can't restore {unquoted(line[2])}{fault}"))
                 is_whole = False
         return is_whole
 
-    def fault_of(self, line, pieces):
-        """What a report says after the path of a line that can't be restored, or None if it can be."""
-        fault = line_fault(line)
+    def fault_of(self, line, pieces, kinds):
+        """What a report says after the path of a line that can't be restored, or None if it can be. Adds the kind of each path that can be."""
+        fault = line_fault(line) or place_fault(line, kinds)
         if fault is not None:
             return f": {fault}"
         if not self.right.keys() >= set(pieces):
             return ""
+        kinds[path_of(line[2])] = line[1]
         fault = length_fault(line, sum(map(self.right.get, pieces))) if line[1] == "file" else None
         return None if fault is None else f" as it was: {fault}"
+
+
+def place_fault(line, kinds):
+    """Why the path of a line can't be restored after the lines before it, whose paths have these kinds; or None."""
+    kind, path = line[1], path_of(line[2])
+    if kinds.get(os.path.dirname(path) or ITSELF) != "folder":
+        return "the list has no folder for it"
+    if path in kinds and not kind == kinds[path] == "folder":
+        return "the list has it twice"
+    source = line[7].strip() if kind == "same" else None
+    if source is not None and kinds.get(path_of(source)) != "file":
+        return f"it is a hard link of {unquoted(source)}, which can't be restored"
+    return None
 
 
 def reason(fault):

@@ -21,6 +21,8 @@ LINE = re.compile(r"(file|folder|link|same) (\S+) ([0-7]+)(?::(\d+):(\d+))? (-?\
 leads, a hard link the path of the same file."""
 MORE = {"file": re.compile(r" \d{1,19}(?: [0-9a-f]{64})*"), "folder": re.compile(""), "link": re.compile(r" \S+"), "same": re.compile(r" \S+")}
 """The words that each kind has."""
+ITSELF = "."
+"""The path of the folder itself in a backup of it."""
 MAX_MODE, MAX_OWNER, MAX_TIME, MAX_DIGITS = 0o7777, (1 << 32) - 2, 10**9 * (1 << 63) - 1, 30
 
 

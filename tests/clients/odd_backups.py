@@ -12,7 +12,7 @@ import threading
 import time
 from unittest import mock
 
-from backups import BACKUP, backup, folder_of_abc, made_backup
+from backups import BACKUP, backup, changed_in_packs, folder_of_abc, made_backup
 from shared import ABC, PROGRAM, SECONDS, TOP, differences, raised
 from b3store import Store
 import backup as tool
@@ -229,11 +229,14 @@ def restores_the_rest_of_an_edited_list():
     wrong = [
         "file a%00b 644 0 3 abc", "link n 777 0 x%00y", "link l 777 0", "same s 644 0", "file e 644 0", "file p 644 0 3 /etc/passwd", "folder d 755 0 x",
         "file m 10000 0 3 abc", f"folder m {'7' * 30} 0", "file o 644:4294967295:0 0 3 abc", f"file g 644:0:{'9' * 5000} 0 3 abc",
-        f"file t 644 {'9' * 29} 3 abc",
+        f"file t 644 {'9' * 29} 3 abc", "same i 644 0 nothing", "same i 644 0 f", "same i 644 0 ../f", "file ../x 644 0 3 abc", "file last/../x 644 0 3 abc",
+        "file /x 644 0 3 abc", "link ../x 777 0 x", "folder .. 755 0", "file last/x 644 0 3 abc",
     ]
+    last = ["file f 600 0 3 abc", "link last 777 0 x", "same j 644 0 last", "file f/x 644 0 3 abc"]
     with tempfile.TemporaryDirectory() as place:
         owner = f"{os.getuid()}:{os.getgid()}"
-        repository, address = made_backup(place, *wrong, f"file f 644:{owner} 0 3 abc", f"folder last 750:{owner} 0")
+        repository, address = made_backup(place, *wrong, f"file f 644:{owner} 0 3 abc", f"folder last 750:{owner} 0", f"folder ./last 700:{owner} 0", *last)
+        wrong += last
         restored = os.path.join(place, "restored")
         status, lines = backup("restore", repository, address, restored)
         found = differences((status, 1), ([line[:14] for line in lines], ["not restored: "] * len(wrong)), (sorted(os.listdir(restored)), ["f", "last"]))
@@ -241,6 +244,19 @@ def restores_the_rest_of_an_edited_list():
         status, lines = backup("check", repository)
         reported = [line for line in lines if line.startswith(f"backup {address} can't restore ")]
         return found + differences((status, 1), (len(reported), len(wrong)), (lines[-1], "backups 1 broken 1"))
+
+
+def checks_hard_links():
+    """A hard link of a file that can't be restored is reported with the file."""
+    with tempfile.TemporaryDirectory() as place:
+        folder, repository = folder_of_abc(place)
+        os.link(os.path.join(folder, "file"), os.path.join(folder, "second"))
+        address = backup("save", folder, repository)[1][-1].split()[1]
+        found = differences((backup("check", repository)[0], 0))
+        changed_in_packs(repository, b"3\nabc", b"3\nabd")
+        status, lines = backup("check", repository)
+        told = [f"backup {address} can't restore file", f"backup {address} can't restore second: it is a hard link of file, which can't be restored"]
+        return found + differences((status, 1), ([line for line in lines if line.startswith("backup ")], told), (lines[-1], "backups 1 broken 1"))
 
 
 class FailingWriter(backup_packs.Writer):
@@ -520,6 +536,7 @@ CASES = (
     ("files with the numbers of others", links_no_other_file),
     ("hard links of files that change", links_to_whole_files_alone),
     ("a backup whose list was edited", restores_the_rest_of_an_edited_list),
+    ("hard links of a file that is wrong", checks_hard_links),
     ("a backup without memory to write", ends_where_a_pack_fails),
     ("a backup of owners that aren't possible", restores_without_owners),
     ("a repository in the folder that is saved", leaves_the_repository_out),
