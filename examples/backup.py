@@ -35,8 +35,8 @@ the oldest objects. Besides these bytes, it and this program take about 300 byte
 grows, 700 for each piece in the repository, 600 for each object that is held, 1.5 KB for each path in the backup, and tens of megabytes for pieces that wait to
 be written.
 
-The status is 0 if all was saved, restored or correct; 1 if something was not, which is reported; 2 for a usage error; 3 if the store has ended; 130 after
-Ctrl-C.
+The status is 0 if all was saved, restored or correct; 1 if something was not, which is reported, or if it is out of memory; 2 for a usage error; 3 if the
+store has ended; 130 after Ctrl-C.
 """
 import os
 import sys
@@ -432,6 +432,8 @@ def main():
         return run(options)
     except (Refused, OSError, Damaged, WriteFailed) as fault:
         status, text = 1, fault_text(fault)
+    except MemoryError:
+        status, text = 1, "out of memory"
     except Ended as fault:
         status, text = 3, str(fault)
     except KeyboardInterrupt:

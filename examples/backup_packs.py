@@ -239,6 +239,8 @@ class Writer(threading.Thread):
         super().__init__(daemon=True)
         self.folder, self.hold = folder, hold
         self.queue, self.fault = queue.Queue(MAX_WAITING), None
+        self.out_of_memory = self.failed("out of memory")
+        """A fault that needs no memory when it occurs."""
         self.file = self.opened = None
         """The pack that is being written, and a descriptor of the folder, once it is needed."""
         self.written = {}
@@ -282,7 +284,10 @@ class Writer(threading.Thread):
 
     def pass_work(self, work, *words):
         if not self.is_alive():
-            self.start()
+            try:
+                self.start()
+            except RuntimeError as fault:
+                raise self.failed(fault) from None
         self.queue.put((work, words))
         if self.fault is not None:
             raise self.fault
@@ -295,11 +300,13 @@ class Writer(threading.Thread):
                 if self.fault is None:
                     work(*words)
             except Exception as fault:
-                text = "out of memory" if isinstance(fault, MemoryError) else error_text(fault)
-                self.fault = WriteFailed(f"{self.folder}: a pack can't be written: {text}")
+                self.fault = self.out_of_memory if isinstance(fault, MemoryError) else self.failed(error_text(fault))
                 self.drop()
             finally:
                 self.queue.task_done()
+
+    def failed(self, reason):
+        return WriteFailed(f"{self.folder}: a pack can't be written: {reason}")
 
     def write(self, batch):
         if self.opened is None:

@@ -259,6 +259,36 @@ def checks_hard_links():
         return found + differences((status, 1), ([line for line in lines if line.startswith("backup ")], told), (lines[-1], "backups 1 broken 1"))
 
 
+WITHOUT_MEMORY = f"""import sys; sys.path[:0] = {[os.path.join(TOP, name) for name in ("examples", "python")]!r}
+import threading, backup, backup_repository
+fault = MemoryError() if sys.argv.pop(1) == "memory" else RuntimeError("can't start new thread")
+def fail(*_):
+    raise fault
+if isinstance(fault, MemoryError):
+    backup_repository.Repository.read = backup_repository.Repository.hold_all = fail
+else:
+    threading.Thread.start = fail
+sys.exit(backup.main())"""
+
+
+def ends_without_memory():
+    """A run without memory, or without memory for a thread, ends with one line and status 1."""
+    with tempfile.TemporaryDirectory() as place:
+        folder, repository = folder_of_abc(place)
+        found, restored = [], os.path.join(place, "restored")
+        address = backup("save", folder, repository)[1][-1].split()[1]
+        write(os.path.join(folder, "more"), b"more")
+        thread = f"{repository}/packs: a pack can't be written: can't start new thread"
+        cases = (
+            ("memory", ["save", "--all", folder, repository], "out of memory"), ("memory", ["restore", repository, address, restored], "out of memory"),
+            ("memory", ["check", repository], "out of memory"), ("thread", ["save", folder, repository], thread),
+        )
+        for word, words, told in cases:
+            run = subprocess.run([sys.executable, "-c", WITHOUT_MEMORY, word, "--program", PROGRAM, *words], capture_output=True, timeout=SECONDS)
+            found += differences((run.returncode, 1), (run.stderr.decode(), f"backup: {told}\n"))
+        return found + differences((os.path.exists(restored), False), (backup("check", repository)[0], 0))
+
+
 class FailingWriter(backup_packs.Writer):
     """A writer without memory, once its queue is full."""
 
@@ -537,6 +567,7 @@ CASES = (
     ("hard links of files that change", links_to_whole_files_alone),
     ("a backup whose list was edited", restores_the_rest_of_an_edited_list),
     ("hard links of a file that is wrong", checks_hard_links),
+    ("a backup without memory", ends_without_memory),
     ("a backup without memory to write", ends_where_a_pack_fails),
     ("a backup of owners that aren't possible", restores_without_owners),
     ("a repository in the folder that is saved", leaves_the_repository_out),
