@@ -68,6 +68,8 @@ MIN_MEMORY = 1 << 23
 """The least `--memory`."""
 SECONDS_FOR_LEASE = 5
 """How long a program may take to give a lease on a file back."""
+SECONDS_TO_OTHER_TIME = 0.02
+"""How long after a write the next one may leave a file's time as it is: systems count these times in steps of up to 10 ms."""
 IS_REPOSITORY = "it is the repository"
 """Why a folder is left out, which is no fault."""
 NOT_ALLOWED = {errno.EPERM, errno.EACCES, errno.EINVAL, errno.ENOSYS, errno.ENOTSUP}
@@ -129,6 +131,13 @@ def opened(folder, name, status):
         file.close()
         raise OSError("another file has taken its place while it was saved")
     return file
+
+
+def wait_for_other_time(status):
+    """Waits until a write would change the time of a file of this status. If the file is read after that and has the same time later, nothing was written."""
+    left = status.st_mtime_ns / 10**9 + SECONDS_TO_OTHER_TIME - time.time()
+    if 0 < left <= SECONDS_TO_OTHER_TIME:
+        time.sleep(left)
 
 
 def state_of(status):
@@ -205,6 +214,7 @@ class Saving:
     def keep_file(self, path, status):
         """Keeps a file of this status in pieces. Returns the list for their addresses, their length together, and whether the file stayed as it was."""
         with opened(*self.tree.parent(path), status) as file:
+            wait_for_other_time(status)
             addresses, length = self.repository.keep_all(file, status.st_size)
             after = os.fstat(file.fileno())
         return addresses, length, length == status.st_size and state_of(after) == state_of(status)

@@ -159,6 +159,25 @@ def reports_files_that_change():
     return found
 
 
+def reads_files_after_their_time():
+    """A file that was just written is read only when another write would change its time: else no save would notice that write."""
+    with tempfile.TemporaryDirectory() as place:
+        folder, repository = folder_of_abc(place)
+        path, ages = os.path.join(folder, "file"), []
+
+        def entries_that_change(*_):
+            write(path, b"xyz")
+            yield entry(path)
+
+        def keep_all(kept, file, length):
+            ages.append(time.time_ns() - os.stat(path).st_mtime_ns)
+            return [], length
+
+        with mock.patch.object(Repository, "keep_all", keep_all):
+            is_whole, _ = save(folder, repository, entries_of=entries_that_change)
+        return differences((is_whole, True), ([age >= 10**7 for age in ages[:1]], [True]))
+
+
 def reports_wrong_lengths():
     """If a list has another length than the pieces of a file have, `restore` and `check` report it, and a save reads the file again."""
     with tempfile.TemporaryDirectory() as place:
@@ -562,6 +581,7 @@ CASES = (
     ("a repository whose list of backups is no file", reads_no_backups_elsewhere),
     ("a repository with files of others", removes_nothing_of_others),
     ("files that change while they are read", reports_files_that_change),
+    ("files that were just written", reads_files_after_their_time),
     ("a backup with wrong lengths", reports_wrong_lengths),
     ("files with the numbers of others", links_no_other_file),
     ("hard links of files that change", links_to_whole_files_alone),
