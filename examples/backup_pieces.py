@@ -1,4 +1,6 @@
 """Splits files into pieces by their content (backup.py)."""
+import errno
+import os
 
 MIN_PIECE, MAX_PIECE = 1 << 14, 1 << 22
 """The length of a piece: only the last one of a file may be shorter."""
@@ -28,10 +30,12 @@ def edge_after(content, start, end):
 
 
 def pieces_of(file, length):
-    """The pieces of a file, which should have this length."""
+    """The pieces of a file, which should have this length. Raises BlockingIOError if it has no bytes now and may have some later, as /proc/kmsg."""
     left, wanted = b"", min(MAX_PIECE, length + 1)
     while True:
         content = file.read(wanted)
+        if content is None:
+            raise BlockingIOError(errno.EAGAIN, os.strerror(errno.EAGAIN))
         left = left + content if left else content
         at_end, wanted, start = len(content) < wanted, MAX_PIECE, 0
         while len(left) - start >= MAX_PIECE or (at_end and start < len(left)):

@@ -553,6 +553,25 @@ def waits_for_leases():
             return differences((file.read(), b"abc"), (waiting, []))
 
 
+def leaves_out_what_has_no_bytes_now():
+    """A file that can't be read to its end now, as some of the system's own, is reported and left out, and all others are saved."""
+    opened = tool.opened
+    with tempfile.TemporaryDirectory() as place:
+        folder, repository = folder_of_abc(place)
+        pipe = os.path.join(place, "pipe")
+        write(os.path.join(folder, "second"), b"xyz")
+        os.mkfifo(pipe)
+        writing = os.open(pipe, os.O_RDWR)
+
+        def opened_as_pipe(at, name, status):
+            return open(os.open(pipe, os.O_RDONLY | os.O_NONBLOCK), "rb") if name == "file" else opened(at, name, status)
+
+        is_whole, lines = save(folder, repository, opened=opened_as_pipe)
+        os.close(writing)
+        found = differences((is_whole, False), (lines[:2], ["left out: file: resource temporarily unavailable", "files 1 folders 0 links 0"]))
+        return found + differences((restored_files(repository, lines, "second"), ((0, []), [b"xyz"])))
+
+
 def checks_beyond_a_row():
     """A row of a pack that can't be read is reported, and the check goes on."""
     read = backup_packs.Packs.read
@@ -575,6 +594,7 @@ def checks_beyond_a_row():
 CASES = (
     ("an interrupt while a file is restored", leaves_nothing_at_an_interrupt),
     ("files with a lease", waits_for_leases),
+    ("files without bytes for now", leaves_out_what_has_no_bytes_now),
     ("a pack whose row can't be read", checks_beyond_a_row),
     ("a repository with links of others", writes_through_no_link),
     ("a repository whose folder of packs is a link", saves_into_no_linked_folder),
