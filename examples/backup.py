@@ -10,10 +10,11 @@ Files are split into pieces by their content, and a piece is kept once, however 
 new piece. A backup is a list of names and pieces, which is kept in pieces too. A repository of an older version, with a file objects/AA/ADDRESS for each
 object, is read too, and its new objects are kept in packs.
 
-A file is not read again if its length, mode, owner and time are those in the last backup of its folder and its pieces are there. With `--all`, every file
-is read, and the objects that are there are compared with it. If a file's length or time changes while it is read, what was read is saved, which may be a state
-that the file never had; that is reported. All files are written under other names, synced, and then renamed; a backup is recorded last. So a save that is
-killed changes no earlier backup. The next save uses or removes what it left. Only one save can use a repository at a time.
+A file is not read again if its length, mode, owner and time are those in the last backup of its folder and its pieces are there. With `--all`, every file is
+read, and the objects that are there are compared with it. If a file's length or time changes while it is read, what was read is saved, which may be a state
+that the file never had; that is reported. Of what a file has grown meanwhile, about 16 MiB are read. All files are written under other names, synced, and then
+renamed; a backup is recorded last. So a save that is killed changes no earlier backup. The next save uses or removes what it left. Only one save can use a
+repository at a time.
 
 `check` reads everything. It prints each object that is missing, truncated or altered, with its pack, and each file that a backup can't restore. If only an
 index is missing or wrong, everything can be restored, and the next save writes the index again. A wrong object is written again by `save --all` of a folder

@@ -4,6 +4,8 @@ import os
 
 MIN_PIECE, MAX_PIECE = 1 << 14, 1 << 22
 """The length of a piece: only the last one of a file may be shorter."""
+MAX_GROWTH = 1 << 24
+"""A file that has grown by more than this is read no further: one that grows as fast as it is read would have no end."""
 EDGE_SETS = [{byte for byte in range(256) if (byte * factor + 60) % 256 < 32} for factor in (151, 89, 203, 57, 119)]
 """A piece ends after five bytes, one in each of these sets of 32 bytes: in random content, after one place in 32,768."""
 EDGE_LEN = len(EDGE_SETS)
@@ -31,13 +33,14 @@ def edge_after(content, start, end):
 
 def pieces_of(file, length):
     """The pieces of a file, which should have this length. Raises BlockingIOError if it has no bytes now and may have some later, as /proc/kmsg."""
-    left, wanted = b"", min(MAX_PIECE, length + 1)
+    left, wanted, read_len = b"", min(MAX_PIECE, length + 1), 0
     while True:
         content = file.read(wanted)
         if content is None:
             raise BlockingIOError(errno.EAGAIN, os.strerror(errno.EAGAIN))
         left = left + content if left else content
-        at_end, wanted, start = len(content) < wanted, MAX_PIECE, 0
+        read_len += len(content)
+        at_end, wanted, start = len(content) < wanted or read_len > length + MAX_GROWTH, MAX_PIECE, 0
         while len(left) - start >= MAX_PIECE or (at_end and start < len(left)):
             last = min(len(left), start + MAX_PIECE)
             end = edge_after(left, start + MIN_PIECE, last)

@@ -17,6 +17,7 @@ from shared import ABC, PROGRAM, SECONDS, TOP, differences, raised
 from b3store import Store
 import backup as tool
 import backup_packs
+import backup_pieces
 from backup_repository import Repository
 import backup_tree
 from backup_tree import Tree
@@ -125,6 +126,27 @@ def removes_nothing_of_others():
         os.rename(own, objects)
         found += differences((backup("save", folder, repository)[0], 0))
         return found + differences(([os.path.exists(os.path.join(objects, name)) for name in names], [False] + [True] * 4))
+
+
+class Endless(io.RawIOBase):
+    """A file that grows as fast as it is read; but a test must have an end."""
+
+    def __init__(self):
+        self.read_len = 0
+
+    def read(self, length=-1):
+        self.read_len += length
+        return bytes(length) if self.read_len < 1 << 28 else b""
+
+
+def ends_a_file_that_grows():
+    """Of a file that grows as fast as it is read, only some bytes more are kept than it had."""
+    found = []
+    for length in 0, 5, 10**7:
+        file = Endless()
+        kept_len = sum(map(len, backup_pieces.pieces_of(file, length)))
+        found += differences((length < kept_len < 1 << 25, True), (kept_len, file.read_len))
+    return found
 
 
 def rewrite(path):
@@ -601,6 +623,7 @@ CASES = (
     ("a repository whose list of backups is no file", reads_no_backups_elsewhere),
     ("a repository with files of others", removes_nothing_of_others),
     ("files that change while they are read", reports_files_that_change),
+    ("a file that grows for ever", ends_a_file_that_grows),
     ("files that were just written", reads_files_after_their_time),
     ("a backup with wrong lengths", reports_wrong_lengths),
     ("files with the numbers of others", links_no_other_file),
