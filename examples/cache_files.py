@@ -1,8 +1,10 @@
 """What a cache has on disk: content in segments, one object after another, and a log of the keys (cache_server.py).
 
 A writer appends new content to the last segment, syncs it, then appends lines to the log, and syncs that, at least twice a second. So a complete line of the
-log refers to content that is there. A start reads the log up to the last complete line, and drops what follows. A line is the CRC-32 of its text, and the
-text:
+log refers to content that is there. A start reads the log up to the last complete line, and drops what follows: that is what a crash leaves of the lines that
+were being written. If a complete line follows, the log isn't truncated but damaged, and the start is refused: a damaged line may be the last one of any key,
+whose older content must not be given. Nothing is changed then, as in a folder with a file `log` of something else, or with segments and no log. A line is the
+CRC-32 of its text, and the text:
 
     object ADDRESS SEGMENT OFFSET LENGTH     where an object's bytes are
     key USER ADDRESS KEY                     the key leads to this object
@@ -26,6 +28,10 @@ from b3store.files import checked_line, checked_text, lock_folder, replace_file
 from cache_stores import Entry
 
 LOG = "log"
+SEGMENT_NAME = re.compile("segment[.][0-9]+")
+TORN_LINE = re.compile(rb"\0*|[0-9a-f]{1,8}|[0-9a-f]{8} (?:[okd][^\n]*)?", re.DOTALL)
+"""What a crash may leave of the first line of a log."""
+ADVICE = "nothing was changed; restore the folder from a copy, or move it away to start with an empty cache"
 OLD_KEYS = "keys"
 """The file of the keys in a folder of an older version."""
 TEXT = re.compile("object [0-9a-f]{64} [^ ]+ [0-9]{1,19} [0-9]{1,19}|key [^ ]+ [0-9a-f]{64} .*|drop [^ ]+ .*", re.DOTALL)
@@ -49,15 +55,20 @@ IDLE_LINES = 1000
 Place = collections.namedtuple("Place", "segment offset length")
 
 
-def whole_lines(content):
-    """The texts of the lines before the first incomplete one, and the length of these lines."""
-    texts, end = [], 0
-    for line in content.split(b"\n")[:-1]:
+def whole_lines(content, path):
+    """The texts of the lines before the first incomplete one, and the length of these lines. Raises ValueError, with the path of the log, if a complete line
+    follows, or if there is none and the content is not a part of one."""
+    texts, end, lines = [], 0, content.split(b"\n")[:-1]
+    for line in lines:
         text = checked_text(line)
         if text is None or not TEXT.fullmatch(text):
             break
         texts.append(text)
         end += len(line) + 1
+    if any(map(checked_text, lines[len(texts) :])):
+        raise ValueError(f"{path} is damaged at line {len(texts) + 1}: {ADVICE}")
+    if not texts and not TORN_LINE.fullmatch(content):
+        raise ValueError(f"{path} is not the log of a cache: {ADVICE}")
     return texts, end
 
 
@@ -100,15 +111,19 @@ class Files:
     # ---- what is there
 
     def read(self):
-        """Reads the log, drops what follows its last complete line, and returns how many bytes that were."""
+        """Reads the log, drops what follows its last complete line, and returns how many bytes that were. Raises OSError or ValueError, and changes nothing, if
+        it can't be the log of what is there."""
         if os.path.exists(self.at(OLD_KEYS)) and not os.path.exists(self.at(LOG)):
             self.begin_log()
         if os.path.lexists(self.at(LOG)) and not os.path.isfile(self.at(LOG)):
             raise OSError(errno.EINVAL, "not a regular file", self.at(LOG))
+        segments = [name for name in os.listdir(self.path) if SEGMENT_NAME.fullmatch(name)]
+        if segments and not os.path.exists(self.at(LOG)):
+            raise ValueError(f"{self.path} has {min(segments)} and no log: {ADVICE}")
         with open(self.at(LOG), "ab+") as log:
             log.seek(0)
             content = log.read()
-            texts, end = whole_lines(content)
+            texts, end = whole_lines(content, self.at(LOG))
             log.truncate(end)
         for text in texts:
             self.take(text)
@@ -116,8 +131,8 @@ class Files:
         self.lines = len(texts)
         for name in list(self.sizes):
             self.sizes[name] = os.path.getsize(self.at(name)) if os.path.exists(self.at(name)) else 0
-        for name in os.listdir(self.path):
-            if name.startswith("segment.") and name not in self.sizes:
+        for name in segments:
+            if name not in self.sizes:
                 os.remove(self.at(name))
         return len(content) - end
 

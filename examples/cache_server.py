@@ -20,8 +20,9 @@ recently used keys are evicted, as many as needed; with `--no-evict` none are, a
 Content is written to FOLDER as it arrives, at least twice a second: if the server is killed, at most the last second is lost; after a signal above, nothing is.
 A signal that ends the store too is like a kill, so systemd needs `KillMode=mixed`; Ctrl-C doesn't reach the store.
 The server starts with what is in FOLDER, and compares each object with its address. A key that can't be loaded, such as one of a user who isn't in FILE, is
-reported, and stays in FOLDER with its object for a later start; an object that has another address is moved to FOLDER/aside. Only the server's user can read
-what it writes there. One server at a time uses a folder. If the store ends, the server answers 503 and exits with status 3.
+reported, and stays in FOLDER with its object for a later start; an object that has another address is moved to FOLDER/aside. If FOLDER/log is damaged, and not
+only truncated, keys may be older than they were: the server refuses to start, and changes nothing. Only the server's user can read what it writes in FOLDER.
+One server at a time uses a folder. If the store ends, the server answers 503 and exits with status 3.
 
 A store keeps a journal of its commands in memory. When it has more than `--journal-limit` entries, the content moves into a second store, to which the
 server switches while it answers requests (cache_stores.py). A limit that is less than twice what the content needs is raised to that.

@@ -208,6 +208,69 @@ def reads_to_the_last_whole_record():
             return found + differences((cache.begun.split(", ", 1)[1], "has 3 keys, 3 objects\n"), (cache.ask("GET", "/c") == (200, b"c" * 5000), True))
 
 
+def contents_of(folder):
+    """The files of a folder, with what is in them."""
+    found = {}
+    for name in os.listdir(folder):
+        with open(os.path.join(folder, name), "rb") as file:
+            found[name] = file.read()
+    return found
+
+
+def refused_start(folder):
+    """What a start that is refused reports, and with which status, if it changes nothing."""
+    before = contents_of(folder)
+    run = subprocess.run([sys.executable, SERVER, folder, "--port", "0", "--program", PROGRAM], capture_output=True, timeout=SECONDS)
+    return run.returncode, run.stdout + run.stderr if contents_of(folder) == before else "the folder was changed"
+
+
+def refuses_a_damaged_log():
+    """A log with a wrong line before a right one, one that is another file, and none beside segments: the start is refused, and nothing is changed. Once the
+    log is restored, all keys are there; and files that are none of the cache's stay."""
+    with tempfile.TemporaryDirectory() as place:
+        folder, found, others = os.path.join(place, "cache"), [], {"segment.txt": b"a", "segment.": b"b", "my-segment.1": b"c"}
+        with Cache(folder) as cache:
+            for name in "abc":
+                cache.ask("PUT", f"/{name}", name.encode() * 5000)
+        for name, content in others.items():
+            with open(os.path.join(folder, name), "wb") as file:
+                file.write(content)
+        path, segment = os.path.join(folder, "log"), min(row[0] for row in places_of(folder).values())
+        with open(path, "rb") as file:
+            whole = file.read()
+        lines = whole.splitlines(keepends=True)
+        advice = "nothing was changed; restore the folder from a copy, or move it away to start with an empty cache\n"
+        for content, fault in (
+            (bytes([whole[0] ^ 1]) + whole[1:], f"{path} is damaged at line 1"), (b"".join([*lines[:3], bytes(50), *lines[4:]]), f"{path} is damaged at line 4"),
+            (whole + b"x\n" + checked_line("another kind of line"), f"{path} is damaged at line {len(lines) + 1}"), (b"12:00 it begins\n", f"{path} is not the log of a cache"),
+            (b"\x7fELF" + bytes(600), f"{path} is not the log of a cache"), (None, f"{folder} has {segment} and no log"),
+        ):
+            os.remove(path)
+            if content is not None:
+                with open(path, "wb") as file:
+                    file.write(content)
+            found += differences((refused_start(folder), (1, f"cache_server: {fault}: {advice}".encode())))
+        with open(path, "wb") as file:
+            file.write(whole)
+        with Cache(folder) as cache:
+            found += differences((cache.begun.split(", ", 1)[1], "has 3 keys, 3 objects\n"), (cache.ask("GET", "/a") == (200, b"a" * 5000), True))
+        return found + differences(({name: content for name, content in contents_of(folder).items() if name in others}, others))
+
+
+def begins_after_a_torn_first_line():
+    """What a crash leaves of the first line that is written is dropped, with the content that it was for."""
+    with tempfile.TemporaryDirectory() as place:
+        found = []
+        for torn in b"", b"1", b"12345678", b"12345678 ", b"12345678 obj", b"12345678 key\0\0", bytes(700):
+            for name, content in ("log", torn), ("segment.5", b"abc"):
+                with open(os.path.join(place, name), "wb") as file:
+                    file.write(content)
+            files = cache_files.Files(place)
+            found += differences((files.read(), len(torn)), (contents_of(place), {"log": b""}))
+            os.close(files.folder)
+        return found
+
+
 MAX_BELOW = 100 << 20
 """What a folder has at most, of whose contents a third is live."""
 
