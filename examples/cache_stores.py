@@ -8,9 +8,14 @@ once nothing uses it.
 While there are two stores, a user's quota holds for both together. The tenant in the new store may use what the tenant in the old store leaves of the quota. An object that
 is in both counts once, and the uploads that copy objects to the new store don't count. Bytes are reserved under the lock under which the tenant's limit
 changes, so no other upload can reserve the bytes that the copies need.
+
+Content of unknown length is a draft until its end is known, unless that comes within the first part: an upload of a tenant that is no user's. Its user's tenant
+reserves as many bytes as have arrived, by an upload without content. In the end the draft is filed, and copied to an upload of its user: until that is done,
+the store needs memory for both.
 """
 import collections
 import contextlib
+import itertools
 import sys
 import threading
 import time
@@ -21,8 +26,8 @@ PART = 1 << 20
 """The length of a part: an upload takes this much memory in the server's process."""
 SMALL = 1 << 16
 """Content up to this length is stored in one turn, under the lock; longer content is hashed without it, so that several threads can."""
-FIRST_BOUND = 4 * PART
-"""What an upload of unknown length reserves at first."""
+MAX_DRAFT = 1 << 34
+"""How long content of unknown length can be. All drafts together can be as long as 4096 such ones."""
 MAX_BATCH, MAX_BATCH_BYTES = 100, 4 * PART
 """The maximum number of objects that are moved together, and of their bytes if it is more than one object."""
 SECONDS_BETWEEN_PASSES = 0.1
@@ -81,6 +86,8 @@ class Cache:
     def __init__(self, start, users, max_len, evicts=True, journal_limit=0):
         """`start` starts a store. With a `journal_limit` of 0 content never moves."""
         self.start, self.users, self.max_len, self.evicts = start, users, max_len, evicts
+        self.drafts = User("", None, MAX_LIMIT)
+        """No user: its tenant has the drafts of all users."""
         self.journal_limit = self.next_limit = journal_limit
         self.files, self.is_closed, self.mover = None, False, None
         """`files` records changes of keys, once what was on disk is loaded."""
@@ -89,13 +96,13 @@ class Cache:
         """Held while keys and the use of objects change, and while bytes are reserved."""
         self.backend, self.old = self.open_backend(), None
         """The store that content is put into, and the one that content moves away from."""
-        self.twins, self.copying = {user: {} for user in users}, {user: 0 for user in users}
+        self.twins, self.copying = {user: {} for user in (*users, self.drafts)}, {user: 0 for user in users}
         """The lengths of a user's objects that both stores hold, and how many bytes the uploads that copy some of them reserve."""
 
     def open_backend(self):
         store = self.start()
         try:
-            return Backend(store, self.users)
+            return Backend(store, [*self.users, self.drafts])
         except BaseException:
             store.close()
             raise
@@ -104,6 +111,10 @@ class Cache:
 
     def put(self, user, key, length, parts, address=None):
         """Stores the content of some parts, whose total length may not be known before. Content that hasn't the address, if one is given, is refused."""
+        if length is None:
+            length, parts = with_length(parts)
+        if length is not None and length > self.max_len:
+            raise Refused("F4")
         if length is not None and length <= SMALL:
             return self.put_small(user, key, b"".join(parts) if length == 0 else next(iter(parts)), address)
         upload = Growing(self, user, key) if length is None else Fixed(self, user, key, length)
@@ -471,50 +482,83 @@ class Fixed:
 
 
 class Growing(Fixed):
-    """An upload of unknown length. It reserves at most twice as many bytes as have arrived, and at least some parts. When these are used up, what has
-    arrived is filed, and put into a larger upload."""
+    """An upload of unknown length: a draft, with an upload that reserves its bytes, and in the end the upload that it is copied to."""
 
     def __init__(self, cache, user, key):
-        self.cache, self.user, self.key, self.number = cache, user, key, None
-        self.open_between(1, FIRST_BOUND)
-
-    def open_between(self, least, wanted):
-        """Begins an upload of `wanted` bytes, or of what the user has left, if that is at least `least`."""
-        wanted = min(max(least, wanted), self.cache.max_len)
-        with self.cache.lock:
-            backend = self.cache.backend
-            usage = backend.store.usage(backend.tenants[self.user])
-        left = usage.limit - usage.used - usage.reserved
-        try:
-            self.open_bounded(wanted if least > left else min(wanted, left))
-        except Refused as refusal:
-            if refusal.number != "S6":
-                raise
-            self.open_bounded(least)
-
-    def open_bounded(self, bound):
-        self.bound = bound
-        self.open(Store.begin_open, bound)
+        self.cache, self.user, self.key, self.number, self.holder, self.held = cache, user, key, None, None, 0
+        """`holder` and `held`: the store and the number of the upload that reserves bytes."""
+        self.bound, self.count = min(cache.max_len, MAX_DRAFT), 0
+        with cache.lock:
+            self.source = cache.backend
+            self.draft = self.source.store.begin_open(self.source.tenants[cache.drafts], self.bound)
+            self.source.uploads += 1
 
     def put(self, part):
-        if self.count + len(part) > self.bound and self.bound < self.cache.max_len:
-            self.grow(self.count + len(part))
-        super().put(part)
+        if self.count + len(part) > self.bound:
+            raise Refused("F4")
+        self.cache.with_room(self.user, self.key, len(part), lambda: self.reserve(self.count, self.count + len(part)))
+        self.source.store.put(self.draft, self.count, part)
+        self.count += len(part)
 
-    def grow(self, least):
-        """Files what has arrived, and begins an upload with it that is twice as long."""
-        self.fix()
+    def reserve(self, old, new):
+        """Reserves more bytes than before, or as many if that is refused."""
         with self.cache.lock:
-            entry = self.seal()
-            self.cache.use(self.user, entry)
-            self.cache.share_quota(self.user)
+            self.release()
+            try:
+                self.hold(new)
+            except Refused:
+                self.hold(old)
+                raise
+
+    def hold(self, length):
+        """Reserves some bytes, under the lock, in the store that content is put into."""
+        backend = self.cache.backend
+        self.held = backend.store.begin(backend.tenants[self.user], length)
+        self.holder = backend
+        backend.uploads += 1
+
+    def release(self):
+        """Frees what is reserved, under the lock."""
+        if self.holder is None:
+            return
+        holder, self.holder = self.holder, None
+        holder.uploads -= 1
+        holder.store.abort(self.held)
+        self.cache.share_quota(self.user)
+
+    def fix(self):
+        """Files the draft, and copies it to an upload of its length, which takes what was reserved."""
+        self.source.store.fix(self.draft, self.count)
+        drafts = self.cache.drafts
+        with self.cache.lock:
+            entry = Entry(self.source, self.source.store.seal(self.draft).address, self.count)
+            self.draft = None
+            self.cache.use(drafts, entry, shares=False)
+            self.source.uploads -= 1
         try:
-            self.open_between(least, 2 * self.bound)
-            for piece in self.cache.pieces(self.user, entry, 0, entry.length):
+            with self.cache.lock:
+                self.release()
+                self.hold(entry.length)
+                self.backend, self.number, self.count, self.holder = self.holder, self.held, 0, None
+            for piece in self.cache.pieces(drafts, entry, 0, entry.length):
                 super().put(piece)
         finally:
             with self.cache.lock, contextlib.suppress(Ended):
-                self.cache.leave(self.user, entry)
+                self.cache.leave(drafts, entry, shares=False)
 
-    def fix(self):
-        self.backend.store.fix(self.number, self.count)
+    def abort(self):
+        super().abort()
+        with self.cache.lock:
+            with contextlib.suppress(Refused, Ended):
+                self.release()
+            if self.draft is not None:
+                self.source.uploads -= 1
+                with contextlib.suppress(Refused, Ended):
+                    self.source.store.abort(self.draft)
+
+
+def with_length(parts):
+    """The length of the content of some parts, if it is known as the first part is short, else None; and the same parts."""
+    parts = iter(parts)
+    first = next(parts, b"")
+    return (None, itertools.chain([first], parts)) if len(first) >= PART else (len(first), [first])

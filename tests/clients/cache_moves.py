@@ -18,8 +18,8 @@ from caches import begin_to_read
 from servers import USERS, Cache, SlowPut, ask, ask_without_store, children, metrics, wait_until
 
 CHUNKED = {"Transfer-Encoding": "chunked"}
-FIRST_BOUND = 4 << 20
-"""What an upload of unknown length reserves at first."""
+PART = 1 << 20
+"""The length of a part. An upload of unknown length reserves as much as has arrived in whole parts."""
 
 
 def reports_its_counts():
@@ -38,9 +38,9 @@ def reports_its_counts():
             ("DELETE", 404): 1, ("DELETE", 405): 1, ("other", 501): 1,
         }
         given = {f'requests_total{{method="{method}",status="{status}"}}': count for (method, status), count in wanted.items()}
-        # the journal: a tenant, three entries for each small object, one for the eviction, and four for the object in chunks; a refused body begins no upload
+        # the journal: two tenants, three entries for each small object, also for the one in a chunk, and one for the eviction; a refused body begins no upload
         given.update(received_bytes_total=1000 + 500 + 500 + 3001 + 1600 + 3 + 7, sent_bytes_total=1000 + 500 + 10, hits_total=4, misses_total=2, evictions_total=1)
-        given.update(moves_total=0, keys=3, objects=3, held_bytes=1000 + 1600 + 7, journal_entries=1 + 3 * 3 + 1 + 3 + 4)
+        given.update(moves_total=0, keys=3, objects=3, held_bytes=1000 + 1600 + 7, journal_entries=2 + 3 * 3 + 1 + 3 + 3)
         found += differences((counts, given))
         scraped = metrics(cache)
         return found + differences((scraped['requests_total{method="GET",status="200"}'], 3), (scraped["sent_bytes_total"] > counts["sent_bytes_total"], True))
@@ -150,12 +150,12 @@ def ends_requests_on_the_old_store():
             connection, read = begin_to_read(cache, "/k")
             before = metrics(cache)["journal_entries"]
             fixed, grown = SlowPut(cache, "/fixed", content, {"Content-Length": str(len(content))}), SlowPut(cache, "/grown", content[::-1], CHUNKED)
-            # each has begun, and put a part
-            found += differences((wait_until(lambda: metrics(cache)["journal_entries"] == before + 4), True))
+            # each has begun, and put a part; the second one has reserved its bytes too
+            found += differences((wait_until(lambda: metrics(cache)["journal_entries"] == before + 5), True))
             found += [] if fill_journal(cache, 120) else ["no move begins"]
             time.sleep(1)
             found += differences((len(children(cache.process)), 2), (cache.ask("GET", "/small"), (200, b"abc")), (cache.ask("GET", "/k")[1] == large, True))
-            free = 60000000 - len(large) - len(b"abc") - len(b"119") - len(content) - FIRST_BOUND
+            free = 60000000 - len(large) - len(b"abc") - len(b"119") - len(content) - PART
             found += differences((cache.ask("PUT", "/rest", bytes(free + 1))[0], 507), (cache.ask("PUT", "/rest", bytes(free))[0], 201), (cache.ask("DELETE", "/rest")[0], 204))
             found += differences((cache.ask("DELETE", "/k")[0], 204))
             with connection:

@@ -11,7 +11,7 @@ from cache_stores import Cache, User
 from servers import wait_until
 
 UNIT = 4096
-SMALL = {"PART": UNIT, "FIRST_BOUND": 2 * UNIT, "MAX_BATCH": 4, "MAX_BATCH_BYTES": 6 * UNIT, "SECONDS_BETWEEN_PASSES": 0.001}
+SMALL = {"PART": UNIT, "MAX_BATCH": 4, "MAX_BATCH_BYTES": 6 * UNIT, "SECONDS_BETWEEN_PASSES": 0.001}
 """Constants of cache_stores for small contents."""
 QUOTA = 12 * UNIT
 LENGTHS = (0, 1, 700, UNIT, UNIT + 1, 2 * UNIT, 3 * UNIT + 5, 5 * UNIT)
@@ -49,6 +49,30 @@ def evicts_what_is_needed():
         found += differences((put(cache, user, "/c", b"c" * 50000), None), (sorted(user.keys), ["/c"]), (cache.evictions, 2))
     cache.close_stores()
     return found
+
+
+def evicts_for_what_arrives():
+    """Content of unknown length evicts as many keys as its length needs, and none for bytes that are free; all that a quota has room for can be stored."""
+    found, large = [], random.Random(5).randbytes(4000000)
+    for held, length, evictions in (6, 500000, 0), (6, 1000000, 0), (6, 1000001, 1), (8, 500000, 1), (8, 500001, 2), (8, 3000000, 6), (5, 1500000, 0), (1, 3500000, 0), (3, 4000000, 3):
+        user = User("all", None, 4000000)
+        cache = cache_of(user)
+        for key in range(held):
+            found += differences((put(cache, user, f"/{key}", bytes([key]) * 500000), None))
+        found += differences((refusal(cache.put, user, "/large", None, pieces_of(large[:length])), None))
+        found += [] if cache.evictions == evictions else [f"{length} bytes evict {cache.evictions} of {held} keys, not {evictions}"]
+        with cache.reading(user, "/large") as entry:
+            found += differences((entry is not None and b"".join(cache.pieces(user, entry, 0, entry.length)) == large[:length], True))
+        found += left_over(cache, user) + left_over(cache, cache.drafts)
+        found += differences((refusal(cache.put, user, "/more", None, pieces_of(large + b"x"))[0], "S6"))
+        found += left_over(cache, user) + left_over(cache, cache.drafts)
+        cache.close_stores()
+    return found[:5]
+
+
+def pieces_of(content):
+    """The parts in which a body arrives."""
+    return (content[at : at + cache_stores.PART] for at in range(0, len(content), cache_stores.PART))
 
 
 def grants_nothing_without_memory():
@@ -110,10 +134,7 @@ class Checked:
         )
         taken = sum(usage.used + usage.reserved for usage in usages) - sum(twins.values()) - copied
         free = usages[0].limit - usages[0].used - usages[0].reserved
-        # an upload of unknown length, whose end was just fixed, may reserve less than the cache knows yet
-        unknown = sum(upload.bound - upload.end for rows in uploads[1:] for upload in rows if upload.end is not None)
-        is_shared = user.limit - taken - unknown <= free <= user.limit - taken
-        return found + ([] if is_shared and free >= 0 else [f"{taken} bytes are taken and {free} are free, of {user.limit}; {unknown} may be"])
+        return found + ([] if free == user.limit - taken >= 0 else [f"{taken} bytes are taken and {free} are free, of {user.limit}"])
 
 
 class Worker(threading.Thread):
@@ -210,7 +231,7 @@ def keeps_full_quotas():
             found += differences((mover.is_alive(), False))
             cache.is_closed = True
             mover.join()
-            found += checked.found + [fault for worker in workers for fault in worker.found] + [fault for user in cache.users for fault in left_over(cache, user)]
+            found += checked.found + [fault for worker in workers for fault in worker.found] + [fault for user in (*cache.users, cache.drafts) for fault in left_over(cache, user)]
             found += differences((all(worker.stored for worker in workers), True), (cache.evictions > 0, evicts))
             cache.close_stores()
     return found[:8]
