@@ -39,7 +39,9 @@ token. All other paths are keys.
 | 401 | the token belongs to no user |
 | 404 | there is no such key |
 | 405 | `/healthz` and `/metrics` can't be keys |
-| 400, 411, 413 | the request is malformed, or its body is truncated or isn't what `--compare` wants; it has no length; it is longer than `--most`, or than 16 GiB in chunks |
+| 400 | the request is malformed, or its body is truncated or isn't what `--compare` wants, or a PUT has `Content-Range`: it would store a part |
+| 411, 413 | the body has no length; it is longer than `--most`, or in chunks than 16 GiB |
+| 412 | what the key leads to isn't what `If-Match` or, for PUT and DELETE, `If-None-Match` wants; nothing is changed |
 | 503, 507 | the store is out of memory, or has ended, or FOLDER can't be written to; the user's quota, or the store, is full |
 """
 import os
@@ -66,7 +68,7 @@ from b3store.files import FolderInUse
 from cache_files import Files, Loader
 from cache_http import SECONDS_OF_SILENCE, WRITTEN_AT_ONCE, Connection, Cut, Server
 from cache_metrics import CONTENT_TYPE, Metrics
-from cache_stores import PART, Cache, User
+from cache_stores import PART, Cache, Declined, User
 
 MAX_DROPPED = 1 << 26
 """How many bytes of a refused body are read before the connection is closed."""
@@ -143,12 +145,16 @@ class Handler(Connection):
             return self.refuse(401, body)
         if self.path in self.PAGES:
             return self.refuse(405, body)
+        if "content-range" in self.headers:
+            return self.refuse(400, body)
         try:
-            self.server.cache.put(user, self.path, self.length, body, self.server.address_of(self.path))
+            self.server.cache.put(user, self.path, self.length, body, self.server.address_of(self.path), self.permits)
             self.server.cache.files.wait()
             self.answer_change(201)
         except Refused as refusal:
             self.refuse(STATUSES.get(refusal.number, 500), body)
+        except Declined as fault:
+            self.refuse(fault.status, body)
         except (Cut, OSError):
             self.refuse(400)
 
@@ -164,7 +170,10 @@ class Handler(Connection):
             return self.refuse(401)
         if self.path in self.PAGES:
             return self.refuse(405)
-        self.answer_change(204 if self.server.cache.drop(user, self.path) else 404)
+        try:
+            self.answer_change(204 if self.server.cache.drop(user, self.path, self.permits) else 404)
+        except Declined as fault:
+            self.answer(fault.status)
 
     def answer_change(self, status):
         """Answers a change of a key: by 503 if FOLDER can't be written to any more."""
@@ -180,6 +189,8 @@ class Handler(Connection):
             self.server.metrics.add("misses" if entry is None else "hits")
             if entry is None:
                 return self.answer(404)
+            if not self.has_match(entry):
+                return self.answer(412)
             if self.has_it(entry):
                 return self.answer(304, entry)
             asked = self.asked_range(entry) if with_content else None
@@ -210,12 +221,24 @@ class Handler(Connection):
         self.wfile.write(content)
         self.server.metrics.add("sent_bytes", len(content))
 
+    def permits(self, entry):
+        """Whether the request may change a key that leads to an entry, or nowhere."""
+        return self.has_match(entry) and not self.has_it(entry)
+
+    def has_match(self, entry):
+        """Whether the content is one that `If-Match` wants."""
+        return "if-match" not in self.headers or self.tagged("if-match", entry)
+
     def has_it(self, entry):
-        """Whether the client already has the content."""
-        if "if-none-match" not in self.headers:
-            return False
-        tags = [tag.strip() for tag in self.headers["if-none-match"].split(",")]
-        return "*" in tags or any(tag[2 * tag.startswith("W/") :] == f'"{entry.address}"' for tag in tags)
+        """Whether the content is one that `If-None-Match` doesn't want: the client already has it."""
+        return "if-none-match" in self.headers and self.tagged("if-none-match", entry)
+
+    def tagged(self, name, entry):
+        """Whether a header has the ETag of the content, or `*` for any. Only for `If-None-Match` it may be a weak one."""
+        tags = [tag.strip() for tag in self.headers[name].split(",")]
+        if name == "if-none-match":
+            tags = [tag[2 * tag.startswith("W/") :] for tag in tags]
+        return entry is not None and ("*" in tags or f'"{entry.address}"' in tags)
 
     def asked_range(self, entry):
         """The requested range of the content, which is empty if it has no byte of it. None for all of it, also if several ranges are requested."""

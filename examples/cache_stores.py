@@ -35,6 +35,21 @@ SECONDS_BETWEEN_PASSES = 0.1
 
 Entry = collections.namedtuple("Entry", "backend address length")
 """Where a key leads."""
+Target = collections.namedtuple("Target", "key may_go")
+"""A key that is being stored, and whether its old content may be evicted for the new one."""
+
+
+class Declined(Exception):
+    """A change of a key that the cache itself refuses. `status` is that of the answer."""
+
+    def __init__(self, status):
+        super().__init__(status)
+        self.status = status
+
+
+def always(_):
+    """The condition of a change that has none."""
+    return True
 
 
 class User:
@@ -109,15 +124,19 @@ class Cache:
 
     # ---- storing
 
-    def put(self, user, key, length, parts, address=None):
-        """Stores the content of some parts, whose total length may not be known before. Content that hasn't the address, if one is given, is refused."""
+    def put(self, user, key, length, parts, address=None, permits=always):
+        """Stores the content of some parts, whose total length may not be known before. Content that hasn't the address, if one is given, is refused. `permits`
+        says of an entry, or of None, whether a key that leads there may be changed."""
+        with self.lock:
+            self.admit(user, key, permits)
         if length is None:
             length, parts = with_length(parts)
         if length is not None and length > self.max_len:
             raise Refused("F4")
         if length is not None and length <= SMALL:
-            return self.put_small(user, key, b"".join(parts) if length == 0 else next(iter(parts)), address)
-        upload = Growing(self, user, key) if length is None else Fixed(self, user, key, length)
+            return self.put_small(user, key, b"".join(parts) if length == 0 else next(iter(parts)), address, permits)
+        target = Target(key, permits(None))
+        upload = Growing(self, user, target) if length is None else Fixed(self, user, target, length)
         content = None
         try:
             for part in parts:
@@ -125,36 +144,45 @@ class Cache:
                 content = part if length == len(part) else None
             upload.fix()
             with self.lock:
+                self.admit(user, key, permits)
                 self.lead(user, key, upload.seal(address), content)
                 self.share_quota(user)
         except BaseException:
             upload.abort()
             raise
 
-    def put_small(self, user, key, content, address):
+    def admit(self, user, key, permits):
+        """Raises Declined if a key may not be changed, under the lock."""
+        if not permits(user.keys.get(key)):
+            raise Declined(412)
+
+    def put_small(self, user, key, content, address, permits):
         def file():
             with self.lock:
+                self.admit(user, key, permits)
                 backend = self.backend
                 filed = backend.store.file(backend.tenants[user], content, address)
                 self.lead(user, key, Entry(backend, filed.address, filed.length), content)
 
-        self.with_room(user, key, len(content), file)
+        self.with_room(user, Target(key, permits(None)), len(content), file)
 
-    def with_room(self, user, key, length, work):
+    def with_room(self, user, target, length, work):
         """Calls a function that reserves `length` bytes of a user's quota. While they are not free, evicts the least recently used keys."""
         while True:
             try:
                 return work()
             except Refused as refusal:
-                if refusal.number != "S6" or not self.evict(user, key, length):
+                if refusal.number != "S6" or not self.evict(user, target, length):
                     raise
 
-    def evict(self, user, key, wanted):
-        """Drops the least recently used keys of a user, and `key` last, until `wanted` bytes are free. If that isn't possible, drops none and returns False."""
+    def evict(self, user, target, wanted):
+        """Drops the least recently used keys of a user, and the target last, until `wanted` bytes are free. If that isn't possible, drops none and returns
+        False."""
         with self.lock:
             usage = self.backend.store.usage(self.backend.tenants[user])
             free, dropped, counts = usage.limit - usage.used - usage.reserved, [], collections.Counter()
-            for other in sorted(user.keys, key=key.__eq__) if self.evicts else ():
+            others = (key for key in user.keys if key != target.key)
+            for other in itertools.chain(others, [target.key] if target.may_go and target.key in user.keys else []) if self.evicts else ():
                 if free >= wanted:
                     break
                 _, address, length = user.keys[other]
@@ -246,10 +274,12 @@ class Cache:
         with self.lock:
             return next((backend for backend in self.backends() if address in backend.counts[user]), None)
 
-    def drop(self, user, key):
+    def drop(self, user, key, permits=always):
         """Removes a key, also one that a start has left out. Returns whether there was one."""
         with self.lock:
             found = key in user.keys
+            if found:
+                self.admit(user, key, permits)
             if found or self.files is not None and (user.name, key) in self.files.keys:
                 self.lead(user, key, None)
             return found
@@ -438,13 +468,13 @@ class Cache:
 class Fixed:
     """An upload of a known length."""
 
-    def __init__(self, cache, user, key, length):
-        self.cache, self.user, self.key, self.number = cache, user, key, None
+    def __init__(self, cache, user, target, length):
+        self.cache, self.user, self.target, self.number = cache, user, target, None
         self.open(Store.begin, length)
 
     def open(self, command, length):
         """Begins an upload in the store that content is put into, and evicts keys if needed."""
-        self.cache.with_room(self.user, self.key, length, lambda: self.begin(command, length))
+        self.cache.with_room(self.user, self.target, length, lambda: self.begin(command, length))
 
     def begin(self, command, length):
         with self.cache.lock:
@@ -484,8 +514,8 @@ class Fixed:
 class Growing(Fixed):
     """An upload of unknown length: a draft, with an upload that reserves its bytes, and in the end the upload that it is copied to."""
 
-    def __init__(self, cache, user, key):
-        self.cache, self.user, self.key, self.number, self.holder, self.held = cache, user, key, None, None, 0
+    def __init__(self, cache, user, target):
+        self.cache, self.user, self.target, self.number, self.holder, self.held = cache, user, target, None, None, 0
         """`holder` and `held`: the store and the number of the upload that reserves bytes."""
         self.bound, self.count = min(cache.max_len, MAX_DRAFT), 0
         with cache.lock:
@@ -496,7 +526,7 @@ class Growing(Fixed):
     def put(self, part):
         if self.count + len(part) > self.bound:
             raise Refused("F4")
-        self.cache.with_room(self.user, self.key, len(part), lambda: self.reserve(self.count, self.count + len(part)))
+        self.cache.with_room(self.user, self.target, len(part), lambda: self.reserve(self.count, self.count + len(part)))
         self.source.store.put(self.draft, self.count, part)
         self.count += len(part)
 

@@ -4,7 +4,7 @@ import os
 import socket
 import tempfile
 
-from servers import USERS, Cache, raw_answer
+from servers import USERS, Cache, SlowPut, metrics, raw_answer, wait_until
 from shared import ABC, FOUR, SECONDS, differences
 
 CLOSE = b"Connection: close\r\n"
@@ -121,6 +121,45 @@ def compares_addresses():
         return found + differences((cache.ask("PUT", f"/cas/{ABC}", b"abd")[0], 201))
 
 
+def stores_no_part():
+    """A PUT of a range is refused: it would take the part for the whole content."""
+    with tempfile.TemporaryDirectory() as place, Cache(os.path.join(place, "cache")) as cache:
+        found = differences((cache.ask("PUT", "/k", b"four")[0], 201))
+        for body, more in (b"ou", {}), (bytes(3000000), {}), (iter([b"ou"]), {"Transfer-Encoding": "chunked"}):
+            found += differences((cache.ask("PUT", "/k", body, headers={"Content-Range": "bytes 1-2/4", **more})[0], 400))
+        return found + differences((cache.ask("GET", "/k"), (200, b"four")))
+
+
+def changes_on_condition():
+    """A PUT or DELETE whose condition doesn't hold is refused, and evicts nothing."""
+    with tempfile.TemporaryDirectory() as place, Cache(os.path.join(place, "cache"), words=["--limit", "3000000"]) as cache:
+        found, large, chunked = [], bytes(2000000), {"Transfer-Encoding": "chunked"}
+        for method, key, body, name, value, status in (
+            ("PUT", "/k", b"abc", "If-Match", "*", 412), ("PUT", "/k", large, "If-Match", "*", 412), ("PUT", "/k", b"abc", "If-None-Match", "*", 201),
+            ("PUT", "/k", b"abcd", "If-None-Match", "*", 412), ("PUT", "/k", large, "If-None-Match", "*", 412), ("PUT", "/k", iter([large]), "If-None-Match", "*", 412),
+            ("PUT", "/k", b"abcd", "If-None-Match", f'"{ABC}"', 412), ("PUT", "/k", b"abcd", "If-None-Match", f'"x", W/"{ABC}"', 412),
+            ("PUT", "/k", b"abcd", "If-Match", f'"{FOUR}"', 412), ("PUT", "/k", b"abcd", "If-Match", f'W/"{ABC}"', 412), ("PUT", "/k", b"abcd", "If-Match", "", 412),
+            ("DELETE", "/k", None, "If-Match", f'"{FOUR}"', 412), ("DELETE", "/k", None, "If-None-Match", "*", 412), ("DELETE", "/no", None, "If-Match", "*", 404),
+            ("GET", "/k", None, "If-Match", f'"{FOUR}"', 412), ("GET", "/no", None, "If-Match", "*", 404), ("GET", "/k", None, "If-Match", f'"{ABC}"', 200),
+            ("PUT", "/k", b"four", "If-Match", f'"x", "{ABC}"', 201), ("PUT", "/k", b"abc", "If-None-Match", f'"{ABC}"', 201), ("DELETE", "/k", None, "If-Match", "*", 204),
+        ):
+            headers = {name: value, **({} if body is None or isinstance(body, bytes) else chunked)}
+            told = cache.ask(method, key, body, headers=headers)[0]
+            found += [] if told == status else [f"{method} of {key} with {name} {value[:9]}: {told}, not {status}"]
+        found += differences((cache.ask("PUT", "/k", large)[0], 201), (cache.ask("PUT", "/k", bytes(1000001), headers={"If-Match": "*"})[0], 507))
+        return found + differences((cache.ask("GET", "/k") == (200, large), True), (cache.ask("PUT", "/k", b"abc", headers={"If-Match": "*"})[0], 201))
+
+
+def lets_one_store_first():
+    """Of several uploads that are under way, and want that there is no content yet, the first that ends stores its content."""
+    with tempfile.TemporaryDirectory() as place, Cache(os.path.join(place, "cache")) as cache:
+        contents = [bytes([number]) * 2000000 for number in range(4)]
+        puts = [SlowPut(cache, "/k", content, {"If-None-Match": "*", **({"Content-Length": "2000000"} if number % 2 else {"Transfer-Encoding": "chunked"})}) for number, content in enumerate(contents)]
+        found = differences((wait_until(lambda: metrics(cache)["received_bytes_total"] == 4 << 20), True), (puts[2].end(), 201), (puts[1].end(), 412))
+        found += differences((cache.ask("PUT", "/k", b"abc", headers={"If-None-Match": "*"})[0], 412), (puts[0].end(), 412), (puts[3].end(), 412))
+        return found + differences((cache.ask("GET", "/k") == (200, contents[2]), True), (metrics(cache)["objects"], 1))
+
+
 def etag(port, key):
     """The address of a key's content."""
     answer = raw_answer(port, f"HEAD {key} HTTP/1.1\r\nConnection: close\r\n\r\n".encode())
@@ -135,4 +174,7 @@ CASES = (
     ("a cache's clients that wait to be asked", asks_for_the_body),
     ("a cache's chunks with more words", takes_long_extensions),
     ("a cache that compares addresses", compares_addresses),
+    ("a cache's PUTs of a range", stores_no_part),
+    ("a cache's changes on condition", changes_on_condition),
+    ("a cache's first PUT of several", lets_one_store_first),
 )
