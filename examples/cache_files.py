@@ -11,20 +11,23 @@ CRC-32 of its text, and the text:
     drop USER KEY                            the key leads nowhere
 
 If content that no key leads to takes more than half of a segment, the writer moves the other content to the last segment, some at a time, and removes the
-segment. If many lines of the log are undone by later ones, it writes the log again.
+segment. If many lines of the log are undone by later ones, it writes a new log, some lines at a time between its other work: first the lines that are valid
+when it begins, then those that the log has got since. The new log then replaces the old one. Until then, a start reads the old one.
 """
 import collections
 import contextlib
 import errno
+import itertools
 import os
 import re
+import shutil
 import sys
 import threading
 import time
 
 from b3store import Ended, Refused
 from b3store.console import count_text, error_text
-from b3store.files import checked_line, checked_text, lock_folder, replace_file
+from b3store.files import checked_line, checked_text, lock_folder, private, replace_file
 from cache_stores import Entry
 
 LOG = "log"
@@ -51,6 +54,9 @@ SECONDS_TO_LOCK = 1
 COPIED = 1 << 20
 IDLE_LINES = 1000
 """How many lines of the log may be undone by later ones, beyond as many as are valid."""
+REWRITTEN_AT_ONCE = 10000
+"""How many lines of a new log are written between two syncs."""
+NEW_LOG = LOG + ".new"
 
 Place = collections.namedtuple("Place", "segment offset length")
 
@@ -102,8 +108,9 @@ class Files:
         """For each segment, how many of its bytes keys lead to, and its length."""
         self.waiting, self.bytes, self.changes, self.changed = [], 0, 0, threading.Condition()
         """The changes of keys that wait, and how many bytes and changes wait or are being written."""
-        self.fault, self.has_ended, self.lines, self.is_full = None, False, 0, False
-        self.log = self.last = self.writer = self.name = None
+        self.fault, self.has_ended, self.lines, self.most_lines, self.is_full = None, False, 0, 0, False
+        """`lines`: how many the log has. Up to `most_lines`, it is not written again."""
+        self.log = self.last = self.writer = self.name = self.rewriting = None
 
     def at(self, name):
         return os.path.join(self.path, name)
@@ -134,6 +141,8 @@ class Files:
         for name in segments:
             if name not in self.sizes:
                 os.remove(self.at(name))
+        with contextlib.suppress(OSError):
+            os.unlink(self.at(NEW_LOG))
         return len(content) - end
 
     def begin_log(self):
@@ -272,7 +281,7 @@ class Files:
     def write_batch(self, cache, due):
         """Writes what is recorded until a time, and returns whether that was the end."""
         with self.changed:
-            self.changed.wait_for(lambda: self.waiting or self.has_ended or self.emptiest() is not None)
+            self.changed.wait_for(lambda: self.waiting or self.has_ended or self.rewriting is not None or self.emptiest() is not None)
             self.changed.wait_for(lambda: self.has_ended or self.is_late(), max(0, due - time.monotonic()))
             has_ended, batch, self.waiting = self.has_ended, self.waiting, []
             written, count = self.bytes, self.changes
@@ -298,8 +307,7 @@ class Files:
         size = self.sizes[self.name]
         if size >= SEGMENT or size >= SMALL_SEGMENT and 2 * self.live[self.name] <= size:
             self.open_segment()
-        if moves and self.lines > 2 * (len(self.keys) + len(self.refs)) + IDLE_LINES:
-            self.write_log()
+        self.rewrite(goes_on=moves)
 
     def texts_of(self, cache, user, key, entry, content, was_removed):
         """The lines of a key that has changed. If a store has ended with its content, there are none, unless the key was removed before. If no store holds
@@ -412,17 +420,76 @@ class Files:
         self.last = open(self.at(self.name), "xb", buffering=0)
         os.fsync(self.folder)
 
-    def write_log(self):
-        """Writes the log again, with the valid lines only."""
-        self.forget_dead()
-        texts = [f"object {address} {' '.join(map(str, place))}" for address, place in self.places.items()]
-        texts += [f"key {user} {address} {key}" for (user, key), address in self.keys.items()]
-        self.log.close()
-        self.replace_log(texts)
-        self.log, self.lines = open(self.at(LOG), "ab"), len(texts)
+    def rewrite(self, goes_on):
+        """Writes some lines of a new log, if one is due or has begun, and replaces the log by it at the end. If it can't be written, the old log stays, and is
+        not written again until it is twice as long."""
+        if goes_on and self.rewriting is None and self.lines > max(self.most_lines, 2 * (len(self.keys) + len(self.refs)) + IDLE_LINES):
+            self.rewriting = Rewriting(self)
+        if self.rewriting is None:
+            return
+        try:
+            is_whole = goes_on and self.rewriting.write_some()
+            if is_whole:
+                os.replace(self.at(NEW_LOG), self.at(LOG))
+        except OSError:
+            goes_on, self.most_lines = False, 2 * self.lines
+        if not goes_on:
+            self.rewriting.drop()
+            self.rewriting = None
+        elif is_whole:
+            self.log.close()
+            self.log, self.lines, self.most_lines, self.rewriting = self.rewriting.file, self.rewriting.count_lines(), 0, None
+            os.fsync(self.folder)
 
     def replace_log(self, texts):
         replace_file(self.folder, self.at(LOG), map(checked_line, texts))
+
+
+class Rewriting:
+    """A new log, which is being written. It is that of the moment when it begins, followed by what was appended to the old one since."""
+
+    def __init__(self, files):
+        self.files, self.file, self.count = files, None, 0
+        self.end, self.lines = os.path.getsize(files.at(LOG)), files.lines
+        """The length of the old log at that moment, and how many lines it had."""
+        self.texts = self.texts_of(dict(files.places), dict(files.keys))
+
+    def texts_of(self, places, keys):
+        """Yields the lines of some keys and their objects. An object to which no key leads by then is forgotten: if it is stored again, it is written again."""
+        for address, place in places.items():
+            if self.files.refs[address]:
+                yield f"object {address} {' '.join(map(str, place))}"
+            else:
+                self.files.places.pop(address, None)
+        for (user, key), address in keys.items():
+            yield f"key {user} {address} {key}"
+
+    def write_some(self):
+        """Writes some lines, and syncs them. Returns whether the new log is whole."""
+        if self.file is None:
+            self.file = open(self.files.at(NEW_LOG), "wb", opener=private)
+        lines = [checked_line(text) for text in itertools.islice(self.texts, REWRITTEN_AT_ONCE)]
+        self.file.writelines(lines)
+        self.count += len(lines)
+        if not lines:
+            with open(self.files.at(LOG), "rb") as log:
+                log.seek(self.end)
+                shutil.copyfileobj(log, self.file)
+        self.file.flush()
+        os.fdatasync(self.file.fileno())
+        return not lines
+
+    def count_lines(self):
+        """How many lines the whole new log has."""
+        return self.count + self.files.lines - self.lines
+
+    def drop(self):
+        """Removes what was written."""
+        with contextlib.suppress(OSError):
+            os.unlink(self.files.at(NEW_LOG))
+        if self.file is not None:
+            with contextlib.suppress(OSError):
+                self.file.close()
 
 
 class Loader:

@@ -3,12 +3,15 @@ import collections
 import contextlib
 import http.client
 import os
+import random
+import shutil
 import signal
 import subprocess
 import sys
 import tempfile
 import threading
 import time
+from unittest import mock
 
 from shared import ABC, EMPTY, FOUR, PROGRAM, SECONDS, TOP, differences, readable_by_others
 from servers import SERVER, USERS, Cache, ask, children, wait_until
@@ -435,6 +438,82 @@ def writes_what_was_only_moved():
             found += differences((cache.ask("PUT", "/c", b"abc", "token-a")[0], 201))
         with Cache(folder, "ann token-a 10000000\n") as cache:
             return found + differences((cache.ask("GET", "/c", token="token-a"), (200, b"abc")))
+
+
+def address_of(number):
+    """A name like that of an object."""
+    return f"{number:064x}"
+
+
+def begun_files(folder):
+    """A folder's files as a cache's writer has them, which a test does the work of."""
+    files = cache_files.Files(folder)
+    files.read()
+    files.log = open(files.at("log"), "ab")
+    files.open_segment()
+    return files
+
+
+def keys_after_a_kill(folder, place):
+    """The keys that a start would find in a folder, and the contents of theirs that aren't whole."""
+    shutil.rmtree(place, ignore_errors=True)
+    shutil.copytree(folder, place)
+    files = cache_files.Files(place)
+    files.read()
+    wrong = [address for address in files.keys.values() if b"".join(files.content(address)) != address.encode()]
+    os.close(files.folder)
+    return {key: address for (_, key), address in files.keys.items()}, wrong + [name for name in os.listdir(place) if name.endswith(".new")]
+
+
+def writes_its_log_in_steps():
+    """A new log is written some lines at a time, between the changes of keys. Whenever the server is killed, all that was written is there."""
+    with tempfile.TemporaryDirectory() as place, mock.patch.multiple(cache_files, IDLE_LINES=100, REWRITTEN_AT_ONCE=40, SEGMENT=3000, SMALL_SEGMENT=1000):
+        folder, chance, user, keys, found, steps = os.path.join(place, "cache"), random.Random(3), User("ann", None, 1000), {}, [], []
+        files = begun_files(folder)
+        for _ in range(160):
+            batch = []
+            for _ in range(12):
+                key, address = f"/{chance.randrange(200)}", address_of(chance.randrange(150))
+                keys.pop(key, None)
+                if chance.randrange(6) > 0:
+                    keys[key] = address
+                batch.append((user, key, Entry(None, address, 64), address.encode()) if key in keys else (user, key, None, None))
+            files.write(None, cache_files.last_changes(batch), moves=True)
+            steps.append((files.rewriting is not None, os.stat(files.at("log")).st_ino))
+            found += differences((keys_after_a_kill(folder, os.path.join(place, "killed")), (keys, [])))
+        under_way, logs = sum(is_rewriting for is_rewriting, _ in steps), sum(before[1] != after[1] for before, after in zip(steps, steps[1:]))
+        found += [] if logs >= 2 and under_way >= 5 * logs else [f"{logs} logs were begun in {under_way} steps"]
+        while files.rewriting is None:
+            files.write(None, [(user, "/again", Entry(None, address_of(1), 64), address_of(1).encode(), False)], moves=True)
+        found += differences(("log.new" in os.listdir(folder), True))
+        files.write(None, [], moves=False)
+        found += differences((files.rewriting, None), ("log.new" in os.listdir(folder), False), (len(texts_of_log(folder)), files.lines))
+        os.close(files.folder)
+        return found[:5]
+
+
+def store_and_drop(cache, first, end):
+    """Stores and drops some keys, each of which adds at least a line to the log. Returns what is answered."""
+    return {(cache.ask("PUT", f"/{number}", b"%d" % number)[0], cache.ask("DELETE", f"/{number}")[0]) for number in range(first, end)}
+
+
+def lives_without_a_new_log():
+    """If no new log can be written, the old one stays, and grows. Later it is replaced."""
+    with tempfile.TemporaryDirectory() as place:
+        folder, number = os.path.join(place, "cache"), 1500
+        os.makedirs(os.path.join(folder, "log.new"))
+        with Cache(folder) as cache:
+            found = differences((cache.ask("PUT", "/k", b"abc")[0], 201), (store_and_drop(cache, 0, number), {(201, 204)}))
+            found += differences((wait_until(lambda: len(texts_of_log(folder)) >= number), True), (cache.ask("GET", "/healthz")[0], 200))
+            os.rmdir(os.path.join(folder, "log.new"))
+            end = time.monotonic() + SECONDS
+            while not found and len(texts_of_log(folder)) >= 1000 and time.monotonic() < end:
+                found += differences((store_and_drop(cache, number, number + 50), {(201, 204)}))
+                number += 50
+            found += [] if len(texts_of_log(folder)) < 1000 else [f"the log has {len(texts_of_log(folder))} lines after {number} keys"]
+            found += differences((cache.ask("GET", "/k"), (200, b"abc")), (cache.stop(), ("cache_server: saved 1 key, 1 object\n", "")))
+        with Cache(folder) as cache:
+            return found + differences((cache.ask("GET", "/k"), (200, b"abc")), (cache.begun.split(", ", 1)[1], "has 1 key, 1 object\n"))
 
 
 FULL = f"""import sys; sys.path[:0] = {[os.path.join(TOP, name) for name in ("examples", "python")]!r}
