@@ -506,9 +506,15 @@ class Loader:
         if dropped:
             print(f"cache_server: the log has no complete line in its last {count_text(dropped, 'byte')}, which the server drops", file=sys.stderr)
         users = {user.name: user for user in self.cache.users}
-        faults, count, loaded = collections.Counter(), 0, set()
+        faults, count, loaded, left = collections.Counter(), 0, set(), collections.Counter(name for name, _ in self.files.keys)
         for (name, key), address in list(self.files.keys.items()):
-            fault = "its user doesn't exist" if name not in users else self.load_key(users[name], key, address)
+            left[name] -= 1
+            if name not in users:
+                fault = "its user doesn't exist"
+            elif left[name] >= self.cache.max_keys:
+                fault = "its user has too many keys"
+            else:
+                fault = self.load_key(users[name], key, address)
             count += fault is None
             loaded.update([address] if fault is None else [])
             faults.update([fault] if fault else [])

@@ -1,7 +1,8 @@
 """HTTP/1.1 of one connection: reads requests and their bodies, and writes the heads of answers (cache_server.py).
 
 `http.server` parses headers as those of a mail message, which takes most of the time of a small answer. It also splits the first line of a request at any
-white space, which would change keys of raw bytes. Here a key is what is between the two spaces of the first line, and headers are kept by names in lower case.
+white space, which would change keys of raw bytes. Here a key is what is between the two spaces of the first line, without a scheme and a host, and headers are
+kept by names in lower case.
 """
 import contextlib
 import email.utils
@@ -15,6 +16,8 @@ import threading
 import time
 
 REQUEST_LINE = re.compile(r"([!-~]+) ([^ ]+) HTTP/([0-9])\.([0-9])")
+ABSOLUTE_FORM = re.compile("https?://[^/?]*/?", re.IGNORECASE)
+"""What a client that takes the server for a proxy has before the path of a target, and the slash with which the path begins."""
 HEADER_NAME = re.compile("[!-9;-~]+")
 NUMBER = re.compile("[0-9]{1,19}")
 CHUNK_LINE = re.compile(rb"([0-9a-fA-F]{1,15})[ \t]*(?:;[^\n]*)?\r?\n")
@@ -68,7 +71,9 @@ class Connection(http.server.BaseHTTPRequestHandler):
             found = REQUEST_LINE.fullmatch(line)
             if not found:
                 raise Malformed(400)
-            self.requestline, (self.command, self.path, major, minor) = line, found.groups()
+            self.requestline, (self.command, target, major, minor) = line, found.groups()
+            host = ABSOLUTE_FORM.match(target)
+            self.path = target if host is None else "/" + target[host.end() :]
             if major != "1":
                 raise Malformed(505)
             return self.read_headers() and self.begin_body(minor == "0")

@@ -26,6 +26,8 @@ PART = 1 << 20
 """The length of a part: an upload takes this much memory in the server's process."""
 SMALL = 1 << 16
 """Content up to this length is stored in one turn, under the lock; longer content is hashed without it, so that several threads can."""
+MAX_KEYS = 1000000
+"""How many keys a user has, if no other number is given."""
 MAX_DRAFT = 1 << 34
 """How long content of unknown length can be. All drafts together can be as long as 4096 such ones."""
 MAX_BATCH, MAX_BATCH_BYTES = 100, 4 * PART
@@ -98,9 +100,9 @@ class Backend:
 class Cache:
     """Users and their keys, over one store, or over two while content moves from one to the other."""
 
-    def __init__(self, start, users, max_len, evicts=True, journal_limit=0):
+    def __init__(self, start, users, max_len, evicts=True, journal_limit=0, max_keys=MAX_KEYS):
         """`start` starts a store. With a `journal_limit` of 0 content never moves."""
-        self.start, self.users, self.max_len, self.evicts = start, users, max_len, evicts
+        self.start, self.users, self.max_len, self.evicts, self.max_keys = start, users, max_len, evicts, max_keys
         self.drafts = User("", None, MAX_LIMIT)
         """No user: its tenant has the drafts of all users."""
         self.journal_limit = self.next_limit = journal_limit
@@ -145,16 +147,25 @@ class Cache:
             upload.fix()
             with self.lock:
                 self.admit(user, key, permits)
-                self.lead(user, key, upload.seal(address), content)
+                self.add(user, key, upload.seal(address), content)
                 self.share_quota(user)
         except BaseException:
             upload.abort()
             raise
 
     def admit(self, user, key, permits):
-        """Raises Declined if a key may not be changed, under the lock."""
+        """Raises Declined if a key may not be stored, under the lock."""
         if not permits(user.keys.get(key)):
             raise Declined(412)
+        if len(user.keys) >= self.max_keys and key not in user.keys and not self.evicts:
+            raise Declined(507)
+
+    def add(self, user, key, entry, content):
+        """Lets a key lead to an object. If its user has too many keys then, evicts the least recently used one."""
+        self.lead(user, key, entry, content)
+        if len(user.keys) > self.max_keys:
+            self.lead(user, next(iter(user.keys)), None)
+            self.evictions += 1
 
     def put_small(self, user, key, content, address, permits):
         def file():
@@ -162,7 +173,7 @@ class Cache:
                 self.admit(user, key, permits)
                 backend = self.backend
                 filed = backend.store.file(backend.tenants[user], content, address)
-                self.lead(user, key, Entry(backend, filed.address, filed.length), content)
+                self.add(user, key, Entry(backend, filed.address, filed.length), content)
 
         self.with_room(user, Target(key, permits(None)), len(content), file)
 

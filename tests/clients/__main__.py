@@ -76,6 +76,7 @@ CASES = (
     ("a cache's quota while it copies", cache_moves.grants_the_quota_alone_while_it_copies),
     ("a cache's evictions of what is needed", cache_quotas.evicts_what_is_needed),
     ("a cache's evictions for what arrives", cache_quotas.evicts_for_what_arrives),
+    ("a cache's number of keys", cache_quotas.keeps_as_many_keys),
     ("a cache's quota without memory for a move", cache_quotas.grants_nothing_without_memory),
     ("a cache's full quotas in moves", cache_quotas.keeps_full_quotas),
     ("a cache that writes from two stores", cache_moves.writes_from_both_stores),

@@ -1,5 +1,7 @@
 """The quotas of a cache's users: what is evicted, and what the stores grant while several threads use a cache whose content moves all the time."""
+import os
 import random
+import tempfile
 import threading
 import time
 from unittest import mock
@@ -8,7 +10,8 @@ from shared import PROGRAM, SECONDS, differences, refusal
 from b3store import Refused, Store
 import cache_stores
 from cache_stores import Cache, User
-from servers import wait_until
+from servers import Cache as Server
+from servers import metrics, wait_until
 
 UNIT = 4096
 SMALL = {"PART": UNIT, "MAX_BATCH": 4, "MAX_BATCH_BYTES": 6 * UNIT, "SECONDS_BETWEEN_PASSES": 0.001}
@@ -68,6 +71,31 @@ def evicts_for_what_arrives():
         found += left_over(cache, user) + left_over(cache, cache.drafts)
         cache.close_stores()
     return found[:5]
+
+
+def keeps_as_many_keys():
+    """A user has no more keys than are allowed, also of no content: the least recently used one is evicted, or the next one is refused. A start that allows
+    fewer loads the last ones, and leaves the others on disk."""
+    with tempfile.TemporaryDirectory() as place:
+        folder, found, chunked = os.path.join(place, "cache"), [], {"Transfer-Encoding": "chunked"}
+
+        def kept(cache):
+            return "".join(name for name in "abcdefg" if cache.ask("HEAD", f"/{name}")[0] == 200)
+
+        with Server(folder, words=["--max-keys", "3"]) as cache:
+            found += differences(*((cache.ask("PUT", f"/{name}", b"")[0], 201) for name in "abc"), (cache.ask("GET", "/a"), (200, b"")), (cache.ask("PUT", "/c", b"abc")[0], 201))
+            found += differences((kept(cache), "abc"), (cache.ask("PUT", "/d", b"")[0], 201), (kept(cache), "bcd"), (cache.ask("PUT", "/e", bytes(200000))[0], 201), (kept(cache), "cde"))
+            found += differences((cache.ask("PUT", "/f", iter([bytes(3000000)]), headers=chunked)[0], 201), (kept(cache), "def"), (metrics(cache)["evictions_total"], 3))
+            found += differences((metrics(cache)["objects"], 3), (cache.stop()[1], ""))
+        for words, count, left in (["--max-keys", "2"], 2, 1), ([], 3, 0), (["--no-evict", "--max-keys", "3"], 3, 0):
+            with Server(folder, words=words) as cache:
+                found += differences((cache.begun.split(", ", 1)[1], f"has {count} keys, {count} objects\n"), (kept(cache), "def"[left:]))
+                if "--no-evict" in words:
+                    bodies = ((b"", {}), (bytes(200000), {}), (iter([bytes(2000000)]), chunked))
+                    found += differences(*((cache.ask("PUT", "/g", body, headers=headers)[0], 507) for body, headers in bodies), (cache.ask("PUT", "/f", b"")[0], 201))
+                    found += differences((cache.ask("DELETE", "/e")[0], 204), (cache.ask("PUT", "/g", b"")[0], 201), (kept(cache), "dfg"))
+                found += differences((cache.stop()[1], "cache_server: 1 key left out: its user has too many keys\n" * left))
+        return found
 
 
 def pieces_of(content):

@@ -121,6 +121,27 @@ def compares_addresses():
         return found + differences((cache.ask("PUT", f"/cas/{ABC}", b"abd")[0], 201))
 
 
+def takes_no_long_keys():
+    """A key is up to 4096 bytes."""
+    with tempfile.TemporaryDirectory() as place, Cache(os.path.join(place, "cache")) as cache:
+        found = differences((cache.ask("PUT", "/" + "k" * 4095, b"abc")[0], 201), (cache.ask("PUT", "/" + "k" * 4096, b"abc")[0], 414))
+        return found + differences((cache.ask("GET", "/" + "k" * 4095), (200, b"abc")), (cache.ask("GET", "/" + "k" * 4096)[0], 404))
+
+
+def takes_targets_with_a_host():
+    """What clients send to a proxy, which has the scheme and the host before the path, is the same key."""
+    with tempfile.TemporaryDirectory() as place, Cache(os.path.join(place, "cache")) as cache:
+
+        def status(method, target, more=b""):
+            return status_of(raw_answer(cache.port, method + b" " + target + b" HTTP/1.1\r\nHost: a\r\n" + CLOSE + more))
+
+        found = differences((cache.ask("PUT", "/k", b"abc")[0], 201), (status(b"PUT", b"http://a/l", b"Content-Length: 4\r\n\r\nfour"), 201))
+        found += differences((cache.ask("GET", "/l"), (200, b"four")), (status(b"PUT", b"https://a?q", b"Content-Length: 4\r\n\r\nfour"), 201))
+        found += differences((cache.ask("GET", "/?q"), (200, b"four")), (status(b"GET", b"http://a/healthz", b"\r\n"), 200), (status(b"GET", b"http://a//k", b"\r\n"), 404))
+        found += differences(*((status(b"GET", target, b"\r\n"), 200) for target in (b"/k", b"http://a/k", b"HTTP://a:80/k", b"https://[::1]:8080/k", b"http:///k")))
+        return found + differences((status(b"GET", b"/http://a/k", b"\r\n"), 404), (cache.stop()[0], "cache_server: saved 3 keys, 2 objects\n"))
+
+
 def stores_no_part():
     """A PUT of a range is refused: it would take the part for the whole content."""
     with tempfile.TemporaryDirectory() as place, Cache(os.path.join(place, "cache")) as cache:
@@ -174,6 +195,8 @@ CASES = (
     ("a cache's clients that wait to be asked", asks_for_the_body),
     ("a cache's chunks with more words", takes_long_extensions),
     ("a cache that compares addresses", compares_addresses),
+    ("a cache's long keys", takes_no_long_keys),
+    ("a cache's targets with a host", takes_targets_with_a_host),
     ("a cache's PUTs of a range", stores_no_part),
     ("a cache's changes on condition", changes_on_condition),
     ("a cache's first PUT of several", lets_one_store_first),

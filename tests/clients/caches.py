@@ -193,15 +193,15 @@ def refuses_wrong_words():
     """Wrong arguments and users end the server at once, with one line that has what is wrong."""
     with tempfile.TemporaryDirectory() as place, socket.create_server(("127.0.0.1", 0)) as taken:
         found, port = [], str(taken.getsockname()[1])
-        users = {"short": b"ann token\n", "digits": b"ann token 5x\n", "high": b"ann token 99999999999999\n", "twice": b"a t 5\na u 6\n", "bytes": b"a t 5\n\xff t 5\n", "greek": "a t 5\nλ t 5\n".encode(), "empty": b""}
+        users = {"short": b"ann token\n", "digits": b"ann token 5x\n", "high": b"ann token 99999999999999\n", "twice": b"a t 5\na u 6\n", "both": b"a t 5\nb u 6\nc t 7\n", "bytes": b"a t 5\n\xff t 5\n", "greek": "a t 5\nλ t 5\n".encode(), "empty": b""}
         for name, content in users.items():
             with open(os.path.join(place, name), "wb") as file:
                 file.write(content)
         cases = [(["--users", os.path.join(place, name)], 1, line) for name, line in (
-            ("short", "line 1"), ("digits", "line 1"), ("high", "line 1"), ("twice", "a name twice"), ("bytes", "line 2"), ("greek", "line 2"), ("none", "none"), ("empty", "has no user"),
+            ("short", "line 1"), ("digits", "line 1"), ("high", "line 1"), ("twice", "a name twice"), ("both", "a token twice"), ("bytes", "line 2"), ("greek", "line 2"), ("none", "none"), ("empty", "has no user"),
         )]
         cases += [([word, value], 2, repr(value)) for word, value in (
-            ("--port", "70000"), ("--port", "x"), ("--limit", "-1"), ("--most", "5x"), ("--sessions", "0"), ("--sessions", "65"), ("--journal-limit", "-1"),
+            ("--port", "70000"), ("--port", "x"), ("--limit", "-1"), ("--most", "5x"), ("--sessions", "0"), ("--sessions", "65"), ("--max-keys", "0"), ("--journal-limit", "-1"),
         )]
         cases += [(["--port", port], 1, f"port {port}: address already in use"), (["--program", "/no/program"], 1, "/no/program"), (["--program", "true"], 3, "the store has ended")]
         for words, status, part in cases:
