@@ -5,8 +5,10 @@
 
 Server K keeps its content in FOLDER/K. If a server ends, nginx asks others for its keys, which are misses until they are stored again; other keys stay where
 they are. At the next start it answers for its keys again, with the content that it had, so use keys that name their content, as caches of compilers do. The
-number of servers of a folder has to stay the same. The first line of output has the port of nginx, the second the process id of each server. On SIGTERM,
-SIGINT or SIGHUP it ends, and each server saves its content first.
+number of servers of a folder has to stay the same. The first line of output has the port of nginx, the second the process id of each server, and the third the
+port of each. On SIGTERM, SIGINT or SIGHUP it ends, and each server saves its content first.
+
+`/healthz` and `/metrics` at the port of nginx are answered by one of the servers, for itself alone. To monitor all, ask each server at its own port.
 """
 import os
 import sys
@@ -28,6 +30,7 @@ example:
   $ cluster.py /var/cache/builds --servers 2 &
   cluster: port 8080
   cluster: servers 4001 4002
+  cluster: ports 40001 40002
   $ CCACHE_REMOTE_STORAGE=http://127.0.0.1:8080 ccache gcc -c file.c
 
 exit status: 0 after a signal; 1 a server or nginx can't start, or nginx has ended; 2 usage error
@@ -99,6 +102,7 @@ def start_all(options, processes):
     processes.append(subprocess.Popen(["nginx", "-p", folder, "-c", file.name, "-e", os.path.join(folder, "nginx.log")]))
     print(f"cluster: port {options.port}", flush=True)
     print(f"cluster: servers {' '.join(str(server.process.pid) for server in servers)}", flush=True)
+    print(f"cluster: ports {' '.join(str(server.port) for server in servers)}", flush=True)
 
 
 def main():

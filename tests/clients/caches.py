@@ -266,6 +266,11 @@ def finds_keys_again():
     return found
 
 
+def keys_at(port):
+    """How many keys the metrics of a server at a port have."""
+    return int(re.search(rb"(?m)^b3store_cache_keys ([0-9]+)$", ask(port, "GET", "/metrics")[1])[1])
+
+
 def parts_the_keys():
     """Of four servers one is taken away: the keys of the others are there, and its own can be stored again."""
     with tempfile.TemporaryDirectory() as place:
@@ -273,11 +278,12 @@ def parts_the_keys():
         words = [sys.executable, os.path.join(TOP, "examples", "cluster.py"), os.path.join(place, "a folder; of"), "--port", str(port), "--program", PROGRAM]
         with subprocess.Popen(words, stdout=subprocess.PIPE) as cluster:
             cluster.stdout.readline()
-            servers = [int(word) for word in cluster.stdout.readline().decode().split()[2:]]
+            servers, ports = ([int(word) for word in cluster.stdout.readline().decode().split()[2:]] for _ in range(2))
             wait_until(lambda: is_answered(port))
             keys = [f"/key{number}" for number in range(100)]
             found = differences(({ask(port, "PUT", key, key.encode())[0] for key in keys}, {201}))
             found += differences(({ask(port, "GET", key) == (200, key.encode()) for key in keys}, {True}))
+            found += differences(({ask(each, "GET", "/healthz") for each in (port, *ports)}, {(200, b"ok\n")}), (sum(keys_at(each) for each in ports), 100))
             os.kill(servers[0], signal.SIGKILL)
             kept = [key for key in keys if ask(port, "GET", key) == (200, key.encode())]
             statuses = {ask(port, "PUT", key, key.encode())[0] for key in keys}
