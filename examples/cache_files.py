@@ -37,6 +37,7 @@ TORN_LINE = re.compile(rb"\0*|[0-9a-f]{1,8}|[0-9a-f]{8} (?:[okd][^\n]*)?", re.DO
 ADVICE = "nothing was changed; restore the folder from a copy, or move it away to start with an empty cache"
 OLD_KEYS = "keys"
 """The file of the keys in a folder of an older version."""
+OLD_LINE = re.compile("([^ ]+) ([0-9a-f]{64}) (.+)", re.DOTALL)
 TEXT = re.compile("object [0-9a-f]{64} [^ ]+ [0-9]{1,19} [0-9]{1,19}|key [^ ]+ [0-9a-f]{64} .*|drop [^ ]+ .*", re.DOTALL)
 SEGMENT = 1 << 26
 """A segment of this length gets no more content."""
@@ -148,9 +149,10 @@ class Files:
     def begin_log(self):
         """Writes the log of a folder of an older version, which has a file for each object and one with all keys."""
         with open(self.at(OLD_KEYS), encoding="latin-1", newline="\n") as lines:
-            rows = [line.rstrip("\n").split(" ", 2) for line in lines]
-        if any(len(row) < 3 for row in rows):
-            raise ValueError(f"{self.at(OLD_KEYS)} has a line that isn't USER ADDRESS KEY")
+            found = [OLD_LINE.fullmatch(line.rstrip("\n")) for line in lines]
+        if not all(found):
+            raise ValueError(f"{self.at(OLD_KEYS)} has a line that isn't USER ADDRESS KEY: {ADVICE}")
+        rows = [line.groups() for line in found]
         names = {address: os.path.join("objects", address) for _, address, _ in rows}
         there = {address: name for address, name in names.items() if os.path.exists(self.at(name))}
         texts = [f"object {address} {name} 0 {os.path.getsize(self.at(name))}" for address, name in there.items()]

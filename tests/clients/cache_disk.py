@@ -260,6 +260,18 @@ def refuses_a_damaged_log():
         return found + differences(({name: content for name, content in contents_of(folder).items() if name in others}, others))
 
 
+def refuses_other_keys():
+    """A file `keys` that isn't one of an older version is left as it is, with all else."""
+    with tempfile.TemporaryDirectory() as place:
+        path, found = os.path.join(place, "keys"), []
+        advice = "nothing was changed; restore the folder from a copy, or move it away to start with an empty cache\n"
+        for content in "the keys of the house\n", f"all {ABC} /a\nall {ABC[1:]} /b\n", f"all {ABC} \n":
+            with open(path, "w", encoding="ascii") as file:
+                file.write(content)
+            found += differences((refused_start(place), (1, f"cache_server: {path} has a line that isn't USER ADDRESS KEY: {advice}".encode())))
+        return found
+
+
 def begins_after_a_torn_first_line():
     """What a crash leaves of the first line that is written is dropped, with the content that it was for."""
     with tempfile.TemporaryDirectory() as place:
