@@ -190,8 +190,11 @@ class Cache:
         """Drops the least recently used keys of a user, and the target last, until `wanted` bytes are free. If that isn't possible, drops none and returns
         False."""
         with self.lock:
-            usage = self.backend.store.usage(self.backend.tenants[user])
-            free, dropped, counts = usage.limit - usage.used - usage.reserved, [], collections.Counter()
+            usages = [backend.store.usage(backend.tenants[user]) for backend in self.backends()]
+            free, dropped, counts = usages[0].limit - usages[0].used - usages[0].reserved, [], collections.Counter()
+            # a user may have many keys, which others wait for meanwhile
+            if wanted > free + sum(usage.used for usage in usages):
+                return False
             others = (key for key in user.keys if key != target.key)
             for other in itertools.chain(others, [target.key] if target.may_go and target.key in user.keys else []) if self.evicts else ():
                 if free >= wanted:

@@ -1,4 +1,5 @@
 """The quotas of a cache's users: what is evicted, and what the stores grant while several threads use a cache whose content moves all the time."""
+import collections
 import os
 import random
 import tempfile
@@ -50,6 +51,30 @@ def evicts_what_is_needed():
     with cache.reading(user, "/large"):
         found += differences((cache.drop(user, "/large"), True), (put(cache, user, "/c", b"c" * 60000), ("S6", 10000)), (sorted(user.keys), ["/again", "/kept"]))
         found += differences((put(cache, user, "/c", b"c" * 50000), None), (sorted(user.keys), ["/c"]), (cache.evictions, 2))
+    cache.close_stores()
+    return found
+
+
+class Keys(collections.OrderedDict):
+    """Keys that count how often they are looked through."""
+
+    looks = 0
+
+    def __iter__(self):
+        self.looks += 1
+        return super().__iter__()
+
+
+def looks_through_no_keys_in_vain():
+    """Content that has no room without all keys either is refused at once, with one store or two."""
+    user, found = User("all", None, 100000), []
+    cache = cache_of(user)
+    user.keys = Keys()
+    found += differences((put(cache, user, "/a", b"a" * 60000), None), (put(cache, user, "/b", b"b" * 20000), None))
+    found += differences((put(cache, user, "/c", bytes(100001)), ("S6", 20000)), (user.keys.looks, 0))
+    cache.add_store()
+    found += differences((put(cache, user, "/c", bytes(100001)), ("S6", 20000)), (user.keys.looks, 0), (put(cache, user, "/c", bytes(100000)), None), (user.keys.looks, 1))
+    found += differences((list(user.keys), ["/c"]), (cache.evictions, 2))
     cache.close_stores()
     return found
 
