@@ -32,6 +32,9 @@ MAX_DRAFT = 1 << 34
 """How long content of unknown length can be. All drafts together can be as long as 4096 such ones."""
 MAX_BATCH, MAX_BATCH_BYTES = 100, 4 * PART
 """The maximum number of objects that are moved together, and of their bytes if it is more than one object."""
+EVICTED_AT_ONCE = 500
+SECONDS_BETWEEN_EVICTIONS = 0.001
+"""How many keys are evicted together, and how long the lock is left to other requests then."""
 SECONDS_BETWEEN_PASSES = 0.1
 """How long a move waits for uploads and reads on the old store to end, before it looks for more to move."""
 
@@ -190,24 +193,38 @@ class Cache:
         """Drops the least recently used keys of a user, and the target last, until `wanted` bytes are free. If that isn't possible, drops none and returns
         False."""
         with self.lock:
-            usages = [backend.store.usage(backend.tenants[user]) for backend in self.backends()]
-            free, dropped, counts = usages[0].limit - usages[0].used - usages[0].reserved, [], collections.Counter()
-            # a user may have many keys, which others wait for meanwhile
-            if wanted > free + sum(usage.used for usage in usages):
-                return False
-            others = (key for key in user.keys if key != target.key)
-            for other in itertools.chain(others, [target.key] if target.may_go and target.key in user.keys else []) if self.evicts else ():
-                if free >= wanted:
-                    break
-                _, address, length = user.keys[other]
-                dropped.append(other)
-                counts[address] += 1
-                # an object that both stores hold counts once, and is free when neither uses it
-                free += length if counts[address] == sum(backend.counts[user][address] for backend in self.backends()) else 0
-            for other in dropped if free >= wanted else ():
-                self.lead(user, other, None)
+            rows = self.evictable(user, target, wanted)
+            self.drop_rows(user, rows[:EVICTED_AT_ONCE] if rows else [])
+        for at in range(EVICTED_AT_ONCE, len(rows or []), EVICTED_AT_ONCE):
+            time.sleep(SECONDS_BETWEEN_EVICTIONS)
+            with self.lock:
+                self.drop_rows(user, rows[at : at + EVICTED_AT_ONCE])
+        return rows is not None
+
+    def evictable(self, user, target, wanted):
+        """The keys and entries that have to be dropped until `wanted` bytes are free, under the lock; None if that isn't possible."""
+        usages = [backend.store.usage(backend.tenants[user]) for backend in self.backends()]
+        free, rows, counts = usages[0].limit - usages[0].used - usages[0].reserved, [], collections.Counter()
+        # a user may have many keys, which others wait for meanwhile
+        if wanted > free + sum(usage.used for usage in usages):
+            return None
+        others = ((key, entry) for key, entry in user.keys.items() if key != target.key)
+        last = [(target.key, user.keys[target.key])] if target.may_go and target.key in user.keys else []
+        for key, entry in itertools.chain(others, last) if self.evicts else ():
+            if free >= wanted:
+                break
+            rows.append((key, entry))
+            counts[entry.address] += 1
+            # an object that both stores hold counts once, and is free when neither uses it
+            free += entry.length if counts[entry.address] == sum(backend.counts[user][entry.address] for backend in self.backends()) else 0
+        return rows if free >= wanted else None
+
+    def drop_rows(self, user, rows):
+        """Drops those of some keys that still lead to the same entries, under the lock."""
+        for key, entry in rows:
+            if user.keys.get(key) == entry:
+                self.lead(user, key, None)
                 self.evictions += 1
-            return free >= wanted
 
     # ---- keys, under the lock
 

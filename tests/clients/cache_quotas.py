@@ -64,6 +64,46 @@ class Keys(collections.OrderedDict):
         self.looks += 1
         return super().__iter__()
 
+    def items(self):
+        self.looks += 1
+        return super().items()
+
+
+class Holds:
+    """A cache's lock, and the most keys that changed while it was held once."""
+
+    def __init__(self, cache):
+        self.lock, self.count, self.most, lead = cache.lock, 0, 0, cache.lead
+
+        def counted_lead(*words):
+            self.count += 1
+            lead(*words)
+
+        cache.lock, cache.lead = self, counted_lead
+
+    def __enter__(self):
+        self.lock.acquire()
+        self.count = 0
+
+    def __exit__(self, *_):
+        self.most = max(self.most, self.count)
+        self.lock.release()
+
+
+def evicts_in_turns():
+    """Where many keys have to be evicted, other requests have the lock between some and the next ones."""
+    user = User("all", None, 20000)
+    cache, found = cache_of(user), []
+    for number in range(20):
+        found += differences((put(cache, user, f"/{number}", bytes([number]) * 1000), None))
+    holds = Holds(cache)
+    with mock.patch.multiple(cache_stores, create=True, EVICTED_AT_ONCE=3):
+        found += differences((put(cache, user, "/large", b"l" * 17001), None), (holds.most, 3), (list(user.keys), ["/18", "/19", "/large"]), (cache.evictions, 18))
+        found += differences((put(cache, user, "/none", bytes(20001)), ("S6", 999)), (put(cache, user, "/all", b"a" * 20000), None), (list(user.keys), ["/all"]))
+    found += left_over(cache, user)
+    cache.close_stores()
+    return found
+
 
 def looks_through_no_keys_in_vain():
     """Content that has no room without all keys either is refused at once, with one store or two."""
