@@ -49,7 +49,7 @@ import os
 import sys
 
 sys.path.insert(0, os.path.join(os.path.dirname(os.path.dirname(os.path.abspath(__file__))), "python"))
-from b3store.programs import end_at_once
+from b3store.programs import end_at_once, handle_ending
 
 if __name__ == "__main__":
     end_at_once()
@@ -64,7 +64,7 @@ import signal
 import time
 
 from b3store import MAX_LIMIT, MAX_SESSIONS, Ended, Refused, Store
-from b3store.console import count_text, fault_text, one_line, open_standard_files
+from b3store.console import count_text, fault_text, number, one_line, open_standard_files
 from b3store.files import FolderInUse
 from cache_files import Files, Loader
 from cache_http import SECONDS_OF_SILENCE, WRITTEN_AT_ONCE, Connection, Cut, Server
@@ -386,20 +386,8 @@ class Stop:
 def stop_signals():
     """An event that is set when the process receives a signal to end."""
     stopping = Stop()
-    for number in signal.SIGTERM, signal.SIGINT, signal.SIGHUP:
-        signal.signal(number, lambda *_: stopping.set())
+    handle_ending(lambda *_: stopping.set())
     return stopping
-
-
-def number(least, most):
-    """Reads an argument that is a number in a range."""
-
-    def read(word):
-        if not re.fullmatch("[0-9]{1,15}", word) or not least <= int(word) <= most:
-            raise argparse.ArgumentTypeError(f"{word!r} is not a number from {least} to {most}")
-        return int(word)
-
-    return read
 
 
 def read_options():
@@ -473,6 +461,9 @@ def main():
     except (FolderInUse, OSError, Refused, ValueError) as fault:
         print(f"cache_server: {one_line(fault_text(fault))}", file=sys.stderr)
         return 1
+    finally:
+        # a signal that comes while the interpreter ends doesn't change the status
+        handle_ending(signal.SIG_IGN)
 
 
 if __name__ == "__main__":

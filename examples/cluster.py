@@ -22,8 +22,8 @@ if __name__ == "__main__":
 import argparse
 import subprocess
 
-from cache_server import SECONDS_BETWEEN_LOOKS, number, stop_signals
-from b3store.console import fault_text, one_line, open_standard_files
+from cache_server import SECONDS_BETWEEN_LOOKS, stop_signals
+from b3store.console import fault_text, number, one_line, open_standard_files
 
 EXAMPLE = """\
 example:

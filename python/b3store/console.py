@@ -1,4 +1,6 @@
 """What the programs of this package share: lines, messages, progress, and endings without a traceback."""
+import argparse
+import math
 import os
 import re
 import signal
@@ -13,10 +15,26 @@ SECONDS_TO_PROGRESS = 1
 """Progress is shown after this time,"""
 SECONDS_BETWEEN = 0.2
 """and then at these intervals."""
+PLAIN_NUMBER = re.compile("[0-9]{1,15}(?:[.][0-9]{1,15})?")
 CONTROLS = re.compile(r"[\x00-\x1f\x7f-\x9f]")
 ESCAPES = {"\\": "\\\\", "\n": "\\n", "\r": "\\r"}
 FAILED = 3
 """The exit status when reading, writing or the connection fails."""
+
+
+def number(least: float, most: float, kind: Callable[[str], float] = int) -> Callable[[str], float]:
+    """A function that reads an argument: a number in a range."""
+
+    def read(text: str) -> float:
+        try:
+            value = kind(text) if PLAIN_NUMBER.fullmatch(text) else math.nan
+        except ValueError:
+            value = math.nan
+        if not least <= value <= most:
+            raise argparse.ArgumentTypeError(f"{text!r} is not a number from {least} to {most}")
+        return value
+
+    return read
 
 
 def check_line(address: str, name: str) -> str:

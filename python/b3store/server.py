@@ -29,7 +29,6 @@ if __name__ == "__main__":
 import argparse
 import contextlib
 import hmac
-import math
 import os
 import resource
 import selectors
@@ -41,7 +40,7 @@ import time
 import warnings
 from typing import Callable, Dict, List, NamedTuple, Optional, Set, TextIO
 
-from .console import one_line, open_standard_files
+from .console import number, one_line, open_standard_files
 from .listening import Listener, ListenError, inherited, listen_at, listen_tcp, more_time, notify, read_token
 from .relay import Relays, serve_connection
 from .saved import SavedStore, SaveError
@@ -336,21 +335,6 @@ class Server:
         self._connections.add(connection, listener.needs_token)
 
 
-def number(least: float, most: float, kind: Callable[[str], float]) -> Callable[[str], float]:
-    """Reads an argument that is a number in a range."""
-
-    def read(text: str) -> float:
-        try:
-            value = kind(text)
-        except ValueError:
-            value = math.nan
-        if not least <= value <= most:
-            raise argparse.ArgumentTypeError(f"{text!r} is not a number from {least} to {most}")
-        return value
-
-    return read
-
-
 def read_words() -> argparse.Namespace:
     usage = "python -m b3store.server --socket PATH [OPTION..]"
     parser = argparse.ArgumentParser(
@@ -361,7 +345,7 @@ def read_words() -> argparse.Namespace:
     add("--socket", metavar="PATH", help="listen on this Unix-domain socket, created with mode 0600")
     add("--tcp", metavar="HOST:PORT", help="listen on a TCP port, in addition to --socket or instead; requires --token-file")
     add("--token-file", metavar="FILE", help="read the token of TCP clients from FILE: 16 to 512 hexadecimal digits; only its owner may read it")
-    add("--sessions", metavar="N", type=number(1, MAX_SESSIONS, int), default=16, help="serve up to N connections at a time (1 to 64, default 16)")
+    add("--sessions", metavar="N", type=number(1, MAX_SESSIONS), default=16, help="serve up to N connections at a time (1 to 64, default 16)")
     add("--program", metavar="PATH", default="b3store", help="run this b3store program (default: b3store)")
     seconds = number(0, 86400, float)
     add("--wait", metavar="SECONDS", type=seconds, default=10, help="send `busy` to a connection that has waited this long for its turn (default 10)")

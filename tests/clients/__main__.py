@@ -86,6 +86,7 @@ CASES = (
     ("a cache's metrics while its content moves", cache_moves.counts_while_content_moves),
     *cache_requests.CASES,
     ("two caches on one folder", caches.keeps_others_out),
+    ("a cache that hangs up", caches.lives_on_after_a_hang_up),
     ("a cache with wrong words", caches.refuses_wrong_words),
     ("a cache's keys of any bytes", caches.keys_of_any_bytes),
     ("a cache whose store ends", caches.ends_with_its_store),

@@ -189,6 +189,22 @@ def keeps_others_out():
         return differences((run.returncode, 1), (run.stdout, b""), (run.stderr.decode(), f"cache_server: {cache.folder} is in use by another server\n"))
 
 
+def lives_on_after_a_hang_up():
+    """Under nohup SIGHUP has no effect; otherwise it ends the server as SIGTERM does."""
+    found = []
+    for ignored in False, True:
+        before = signal.signal(signal.SIGHUP, signal.SIG_IGN if ignored else signal.SIG_DFL)
+        try:
+            with tempfile.TemporaryDirectory() as place, Cache(os.path.join(place, "cache")) as cache:
+                cache.ask("PUT", "/k", b"abc")
+                cache.process.send_signal(signal.SIGHUP)
+                has_ended = wait_until(lambda: cache.process.poll() is not None, 1 if ignored else SECONDS)
+                found += differences((has_ended, not ignored), (cache.stop()[0].count("saved 1 key"), 1), (cache.process.returncode, 0))
+        finally:
+            signal.signal(signal.SIGHUP, before)
+    return found
+
+
 def refuses_wrong_words():
     """Wrong arguments and users end the server at once, with one line that has what is wrong."""
     with tempfile.TemporaryDirectory() as place, socket.create_server(("127.0.0.1", 0)) as taken:
