@@ -45,6 +45,7 @@ from .listening import Listener, ListenError, inherited, listen_at, listen_tcp, 
 from .relay import Relays, serve_connection
 from .saved import SavedStore, SaveError
 from .server_store import Store, StoreError, status_text
+from .sessions import can_write
 from .turns import Turns
 
 NAME = "b3store.server"
@@ -60,6 +61,8 @@ SECONDS_TO_CUT = 2.0
 """How long the sessions of connections that are ended by the server may take to execute the commands that they have read."""
 SECONDS_FOR_LAST = 30.0
 """How long they may then take for the last command, once the processes of the connections are killed."""
+SECONDS_FOR_LINE = 0.2
+"""How long a standard stream may take to have room for a line, which is dropped then."""
 SECONDS_BETWEEN_LOOKS = 0.02
 SECONDS_AT_REST = 5.0
 """How long the server sleeps if nothing happens."""
@@ -68,6 +71,8 @@ STACK = 1 << 18
 FILES = 64
 """How many descriptors the server itself uses, at most."""
 FILES_PER_SESSION = 8
+WRITING = threading.Lock()
+"""Is held while a line is written to a standard stream."""
 EPILOG = """\
 example:
   $ python -m b3store.server --socket /tmp/store --save /tmp/saved &
@@ -94,10 +99,22 @@ def report(message: str) -> None:
 
 
 def write_line(stream: Optional[TextIO], message: str) -> None:
-    """Writes a line to a standard stream, if it is open."""
+    """Writes a line to a standard stream, if it is open and has room: one that nobody reads holds nothing up."""
     if stream is not None:
+        line, end = f"{NAME}: {one_line(message)}\n".encode(errors="surrogateescape"), time.monotonic() + SECONDS_FOR_LINE
         with contextlib.suppress(OSError):
-            os.write(stream.fileno(), f"{NAME}: {one_line(message)}\n".encode(errors="surrogateescape"))
+            while not write_if_room(stream.fileno(), line) and time.monotonic() < end:
+                time.sleep(SECONDS_BETWEEN_LOOKS)
+
+
+def write_if_room(target: int, line: bytes) -> bool:
+    """Writes a line if this doesn't wait, and returns whether it did."""
+    # what one thread found room for, no other one takes
+    with WRITING:
+        has_room = can_write(target, 0)
+        if has_room:
+            os.write(target, line)
+        return has_room
 
 
 class Connections:

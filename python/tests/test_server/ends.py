@@ -146,6 +146,35 @@ def closed_streams(program: str) -> List[str]:
     return found
 
 
+def _full_pipe(stack: contextlib.ExitStack) -> int:
+    """A pipe that has no room, and that nobody reads."""
+    reading, writing = os.pipe()
+    stack.callback(os.close, reading)
+    stack.callback(os.close, writing)
+    os.set_blocking(writing, False)
+    with contextlib.suppress(BlockingIOError):
+        while True:
+            os.write(writing, bytes(4096))
+    os.set_blocking(writing, True)
+    return writing
+
+
+def streams_without_room(program: str) -> List[str]:
+    """What a server can't report, since nobody reads its streams, keeps no client out, and doesn't keep it from saving."""
+    with tempfile.TemporaryDirectory() as folder, contextlib.ExitStack() as stack:
+        path, full = f"{folder}/socket", _full_pipe(stack)
+        words = ["--socket", path, "--tcp", "127.0.0.1:0", "--token-file", _token_file(folder), "--save", f"{folder}/saved", "--grace", "0"]
+        command = [sys.executable, *AS_MODULE, "--program", program, *words]
+        server = stack.enter_context(subprocess.Popen(command, stdout=full, stderr=full, env=environment(folder, {})))
+        stack.callback(server.kill)
+        found = differences((wait_until(lambda: is_listening(path)), True))
+        with Client(path) as client:
+            found += differences((client.ask("tenants"), b"tenants 0\n"))
+            server.terminate()
+            found += differences((server.wait(SECONDS), 0), (os.path.exists(path), False))
+        return found
+
+
 def _tcp_remaining(port: int, *pieces: bytes) -> bytes:
     with Client(("127.0.0.1", port), socket.AF_INET) as client:
         client.send(*pieces)
@@ -486,6 +515,7 @@ ENDS = (
     ("hundreds at once", hundreds_at_once),
     ("too few files", too_few_files),
     ("closed streams", closed_streams),
+    ("streams without room", streams_without_room),
     ("tokens", tokens),
     ("TCP alone", tcp_alone),
     ("strangers over TCP", strangers),
