@@ -208,9 +208,11 @@ class SavedStore:
         replace_file(self._folder, self._at(INDEX), map(checked_line, ticking(index_texts(saved), tick)))
 
     def _remove_unused(self, tick: Tick) -> None:
-        """Removes the content files that the index doesn't name. It is the old index if it could not be replaced."""
+        """Removes the content files that the index doesn't name. It is the old index if it could not be replaced. Before that the folder is
+        synced, and nothing is removed if this fails: after a crash of the machine the index before may be back."""
         with contextlib.suppress(OSError, SaveError):
             used = {row.file for row in read_index(self._at(INDEX), tick).objects.values()}
+            os.fsync(self._folder)
             for name in os.listdir(self._path):
                 if CONTENT.fullmatch(name) and name not in used:
                     os.unlink(self._at(name))

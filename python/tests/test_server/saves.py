@@ -61,6 +61,8 @@ os.fsync, os.replace = sync, lambda *given: (replaced.append(1), replace(*given)
 {RUN_SERVER}
 """
 """A server that can't sync a folder in which it has replaced a file."""
+NEVER_SYNCED = UNSYNCED.replace("replaced and ", "")
+"""A server that can't sync folders at all."""
 LIMITED = (
     f"import os, resource, runpy; limit = int(os.environ['LIMIT']); resource.setrlimit(resource.RLIMIT_FSIZE, (limit, limit)); {RUN_SERVER}"
 )
@@ -401,7 +403,14 @@ def folders_that_are_not_synced(program: str) -> List[str]:
         shutil.copytree(folder, crashed)
         with open(os.path.join(crashed, "index"), "wb") as index:
             index.write(files["index"])
-        return found + differences((_state_at(program, crashed), before), (_state_at(program, folder), state))
+        found += differences((_state_at(program, crashed), before))
+        # a start that can't sync the folder either
+        with Running(program, "--save", folder, python=["-c", NEVER_SYNCED]) as server:
+            found += differences((server.lines[-1][:27], "b3store.server: listening o"), (set(files) <= set(_files(folder)), True))
+            server.signal(signal.SIGKILL)
+            server.status()
+        found += differences((_state_at(program, folder), state), (set(files) <= set(_files(folder)), False))
+        return found
 
 
 def stores_that_end(program: str) -> List[str]:
