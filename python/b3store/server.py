@@ -26,6 +26,7 @@ from .programs import ENDING, end_at_once, exit_at_ending, handle_ending, signal
 if __name__ == "__main__":
     end_at_once()
 
+import _thread
 import argparse
 import contextlib
 import hmac
@@ -145,9 +146,10 @@ class Connections:
                 self._add_stranger(connection)
         turn = None if needs_token else self._turns.line_up()
         try:
-            threading.Thread(target=self._serve, args=(connection, turn), daemon=True).start()
-        except RuntimeError as error:
-            report(f"a connection is closed: {error}")
+            # the start of a `Thread` waits forever if its memory runs out before it runs
+            _thread.start_new_thread(self._serve, (connection, turn))
+        except (RuntimeError, MemoryError) as error:
+            report(f"a connection is closed: {str(error) or 'out of memory'}")
             if turn is not None and self._turns.wait(turn, 0):
                 self._turns.give_back()
             self._remove(connection)

@@ -129,6 +129,24 @@ def too_few_files(program: str) -> List[str]:
         return found + differences((status, 0), ("Traceback" in told, False), (left, []))
 
 
+def too_little_memory(program: str) -> List[str]:
+    """A server that has no memory for the threads of further connections still ends at a signal."""
+    found = []
+    for _ in range(5):
+        with Running(program, "--grace", "0") as server, contextlib.ExitStack() as stack:
+            with server.client() as client:
+                found += differences((client.ask("tenants"), b"tenants 0\n"), (client.ends(), b""))
+            with open(f"/proc/{server.process.pid}/statm", encoding="ascii") as file:
+                has = int(file.read().split()[0]) * resource.getpagesize()
+            resource.prlimit(server.process.pid, resource.RLIMIT_AS, (has, has))
+            for _ in range(200):
+                stack.enter_context(server.client())
+            time.sleep(SHORTLY)
+            server.signal()
+            found += differences((server.status(), 0), ("Traceback" in server.reported(), False), (server.left(), []))
+    return found
+
+
 def closed_streams(program: str) -> List[str]:
     """A server without standard streams, or whose output is full, serves its clients."""
     found = []
@@ -514,6 +532,7 @@ ENDS = (
     ("hundreds that come and go", many_in_turn),
     ("hundreds at once", hundreds_at_once),
     ("too few files", too_few_files),
+    ("too little memory", too_little_memory),
     ("closed streams", closed_streams),
     ("streams without room", streams_without_room),
     ("tokens", tokens),

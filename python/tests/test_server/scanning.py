@@ -115,22 +115,19 @@ def turns_by_arrival(program: str) -> List[str]:
     waiting: List[threading.Thread] = []
     served: List[Any] = []
 
-    class Late(threading.Thread):
-        """A thread that starts later."""
-
-        def start(self) -> None:
-            waiting.append(self)
+    def start_late(run: Any, given: Any) -> None:
+        waiting.append(threading.Thread(target=run, args=given))
 
     def serve(store: Any, relays: Any, connection: socket.socket, *_: Any) -> None:
         served.append(connection)
 
-    with mock.patch.multiple(server, threading=types.SimpleNamespace(Thread=Late, Lock=threading.Lock), serve_connection=serve):
+    with mock.patch.multiple(server, _thread=types.SimpleNamespace(start_new_thread=start_late), serve_connection=serve):
         connections = server.Connections(None, server.Options(1, SECONDS, 0.0, False, None))  # type: ignore
         pairs = [socket.socketpair() for _ in range(5)]
         for one, _ in pairs:
             connections.add(one, False)
         for thread in reversed(waiting):
-            threading.Thread.start(thread)
+            thread.start()
         for thread in waiting:
             thread.join(SECONDS)
     for _, other in pairs:
