@@ -20,6 +20,7 @@ MAX_TOKEN = 512
 """The minimum and maximum number of digits of a token."""
 SECONDS_TO_LOCK = 2.0
 """How long another server may take to replace a socket."""
+SECONDS_TO_NOTIFY = 1.0
 MICROSECONDS_MORE = 60_000_000
 SECONDS_BETWEEN_ASKS = 5.0
 
@@ -166,11 +167,12 @@ def passed(descriptor: int) -> Listener:
 
 
 def notify(state: str) -> None:
-    """Reports a state to systemd, if it started the server."""
+    """Reports a state to systemd, if it started the server. What it doesn't take within a second is dropped."""
     path = os.environ.get("NOTIFY_SOCKET", "")
     if path[:1] not in ("/", "@"):
         return
     with contextlib.suppress(OSError), socket.socket(socket.AF_UNIX, socket.SOCK_DGRAM) as sender:
+        sender.settimeout(SECONDS_TO_NOTIFY)
         sender.sendto(state.encode(), "\0" + path[1:] if path[0] == "@" else path)
 
 

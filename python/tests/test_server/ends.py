@@ -481,6 +481,21 @@ def notifications(program: str) -> List[str]:
     return found
 
 
+def notifications_that_nobody_reads(program: str) -> List[str]:
+    """A server whose reports systemd doesn't take starts, serves and ends."""
+    with tempfile.TemporaryDirectory() as folder, socket.socket(socket.AF_UNIX, socket.SOCK_DGRAM) as listening:
+        listening.bind(f"{folder}/notify")
+        with socket.socket(socket.AF_UNIX, socket.SOCK_DGRAM) as sender, contextlib.suppress(BlockingIOError):
+            sender.setblocking(False)
+            while True:
+                sender.sendto(b"x", f"{folder}/notify")
+        words = [sys.executable, *AS_MODULE, "--program", program, "--socket", f"{folder}/socket", "--save", f"{folder}/saved"]
+        with subprocess.Popen(words, stdout=subprocess.DEVNULL, env=environment(folder, {"NOTIFY_SOCKET": f"{folder}/notify"})) as server:
+            found = differences((wait_until(lambda: is_listening(f"{folder}/socket"), SECONDS), True))
+            server.terminate()
+            return found + differences((server.wait(SECONDS), 0))
+
+
 PASSING = "import os, sys; os.environ['LISTEN_PID'] = str(os.getpid()); os.execv(sys.argv[1], sys.argv[1:])"
 
 
@@ -551,5 +566,6 @@ ENDS = (
     ("an end by force", ends_by_force),
     ("hang-ups", hangs_up),
     ("notifications", notifications),
+    ("notifications that nobody reads", notifications_that_nobody_reads),
     ("sockets that are passed", sockets_that_are_passed),
 )
