@@ -1,6 +1,7 @@
 """Connects a client with a session of the store: a process for each connection moves the bytes both ways.
 
 Within one process Python runs one thread at a time, and the threads of several connections would mostly wait for each other."""
+import _thread
 import array
 import contextlib
 import os
@@ -26,6 +27,8 @@ MAX_KEPT = 1 << 10
 MAX_BEGUN = 1 << 14
 """With more uploads than this, the server asks the store which of them are still open."""
 FIRST_FREE = 3
+SECONDS_TO_BEGIN = 5.0
+"""How long a thread may take to run."""
 
 Wait = Callable[[], Any]
 """Returns when an event has come, or the connection has ended."""
@@ -54,6 +57,21 @@ def copy(source: int, target: int) -> int:
     return len(data)
 
 
+def begin(run: Callable[[], None]) -> None:
+    """Runs a function in a thread. Raises MemoryError if the thread doesn't run in time: the start of a `Thread` would wait forever for one that ends
+    before, out of memory."""
+    waiting = threading.Lock()
+    waiting.acquire()
+
+    def first() -> None:
+        waiting.release()
+        run()
+
+    _thread.start_new_thread(first, ())
+    if not waiting.acquire(timeout=SECONDS_TO_BEGIN):
+        raise MemoryError
+
+
 class Relay:
     """The process that moves the bytes of one connection and its session."""
 
@@ -63,8 +81,8 @@ class Relay:
 
     def run(self) -> None:
         """Moves all bytes. Returns when the session has ended, and all uploads that it began are reported."""
-        threading.Thread(target=self._watch_server, daemon=True).start()
-        threading.Thread(target=self._relay_requests, daemon=True).start()
+        begin(self._watch_server)
+        begin(self._relay_requests)
         with open(os.devnull, "wb", buffering=0) as nowhere:
             self._relay_answers(nowhere.fileno())
         if self._answers is not None:

@@ -25,6 +25,16 @@ WITH_NOHUP = (
 """Words after `python -c` that run the server as nohup does."""
 
 
+STARVED = """
+import _thread, os, runpy, threading
+def starve():
+    _thread.start_new_thread = threading._start_new_thread = lambda *_: 0
+os.register_at_fork(after_in_child=starve)
+runpy.run_module('b3store.server', run_name='__main__', alter_sys=True)
+"""
+"""A server in the processes of whose connections threads end before they run, as they do without memory."""
+
+
 def _token_file(folder: str, text: str = TOKEN + "\n", mode: int = 0o600) -> str:
     path = os.path.join(folder, "token")
     with open(path, "w", encoding="ascii") as file:
@@ -145,6 +155,19 @@ def too_little_memory(program: str) -> List[str]:
             server.signal()
             found += differences((server.status(), 0), ("Traceback" in server.reported(), False), (server.left(), []))
     return found
+
+
+def threads_without_memory(program: str) -> List[str]:
+    """The process of a connection whose threads can't run ends, its client sees the end, and its turn is free."""
+    with Running(program, "--sessions", "1", python=["-c", STARVED]) as server:
+        found = []
+        for _ in range(2):
+            with server.client() as client:
+                client.send(b"tenants\n")
+                found += differences((client.remaining(), b""))
+        told = "the process of a connection ended with status 1; uploads that the connection began may be left open"
+        found += differences((wait_until(lambda: server.reported() == 2 * f"b3store.server: {told}\n"), True))
+        return found + differences((server.relays(), set()), (server.end()[::2], (0, [])))
 
 
 def closed_streams(program: str) -> List[str]:
@@ -548,6 +571,7 @@ ENDS = (
     ("hundreds at once", hundreds_at_once),
     ("too few files", too_few_files),
     ("too little memory", too_little_memory),
+    ("threads without memory", threads_without_memory),
     ("closed streams", closed_streams),
     ("streams without room", streams_without_room),
     ("tokens", tokens),
