@@ -45,7 +45,7 @@ from .console import number, one_line, open_standard_files
 from .listening import Listener, ListenError, inherited, listen_at, listen_tcp, more_time, notify, read_token
 from .relay import Relays, serve_connection
 from .saved import SavedStore, SaveError
-from .server_store import Store, StoreError, status_text
+from .server_store import Store, StoreError, remove_left_folders, status_text
 from .sessions import can_write
 from .turns import Turns
 
@@ -432,6 +432,8 @@ def serve(words: argparse.Namespace) -> int:
     with contextlib.ExitStack() as ending:
         saved = ending.enter_context(contextlib.closing(SavedStore(words.save, more_time()))) if words.save is not None else None
         listeners = open_listeners(words, token, ending)
+        with contextlib.suppress(OSError):
+            remove_left_folders()
         with signals_held():
             store = Store()
             ending.callback(store.close)

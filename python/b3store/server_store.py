@@ -27,6 +27,9 @@ SECONDS_TO_ANSWER = 1.0
 """How long the server waits at its end for the answers to its own commands."""
 SECONDS_TO_SEE = 0.5
 SECONDS_BETWEEN_LOOKS = 0.01
+FOLDER_PREFIX = "b3store-server-"
+SECONDS_TO_LOCK = 60.0
+"""How long a server may take, at most, to lock the folder that it has made."""
 ABORTS_AT_ONCE = 128
 """How many commands are sent before their answers are read. The commands and the answers each fit into the smallest pipe, of 4096 bytes."""
 MAX_PIPE_BYTES = 1 << 20
@@ -92,6 +95,27 @@ def pipe_size(sessions: int) -> int:
     return 1 << (share.bit_length() - 1)
 
 
+def remove_left_folders() -> None:
+    """Removes the temporary folders that killed servers of this user have left: no process has locked them, some time after they were made."""
+    room = tempfile.gettempdir()
+    for name in os.listdir(room):
+        if name.startswith(FOLDER_PREFIX):
+            with contextlib.suppress(OSError, FolderInUse):
+                remove_left_folder(os.path.join(room, name))
+
+
+def remove_left_folder(path: str) -> None:
+    """Removes a folder, unless it is new, or locked, or another user's."""
+    status = os.lstat(path)
+    if status.st_uid != os.getuid() or time.time() - status.st_mtime < SECONDS_TO_LOCK:
+        return
+    folder = lock_folder(path)
+    try:
+        shutil.rmtree(path, ignore_errors=True)
+    finally:
+        os.close(folder)
+
+
 class OwnSession(Transfers):
     """The server's own session, with the methods of a store."""
 
@@ -114,7 +138,7 @@ class Store:
         self._numbers = itertools.count(1)
         self._lock = threading.Lock()
         self._is_started = self._is_closing = False
-        self._folder, self._locked = tempfile.mkdtemp(prefix="b3store-server-"), -1
+        self._folder, self._locked = tempfile.mkdtemp(prefix=FOLDER_PREFIX), -1
         # what removes old files from /tmp leaves a locked folder alone
         with contextlib.suppress(OSError, FolderInUse):
             self._locked = lock_folder(self._folder)
