@@ -21,14 +21,13 @@ import itertools
 import os
 import re
 import shutil
-import sys
 import threading
 import time
 
 from b3store import Ended, Refused
 from b3store.console import count_text, error_text
 from b3store.files import checked_line, checked_text, lock_folder, private, replace_file
-from cache_stores import Entry
+from cache_stores import Entry, report
 
 LOG = "log"
 SEGMENT_NAME = re.compile("segment[.][0-9]+")
@@ -506,7 +505,7 @@ class Loader:
         """Stores what is on disk, and reports what can't be stored or isn't as it was stored."""
         dropped = self.files.read()
         if dropped:
-            print(f"cache_server: the log has no complete line in its last {count_text(dropped, 'byte')}, which the server drops", file=sys.stderr)
+            report(f"the log has no complete line in its last {count_text(dropped, 'byte')}, which the server drops")
         users = {user.name: user for user in self.cache.users}
         faults, count, loaded, left = collections.Counter(), 0, set(), collections.Counter(name for name, _ in self.files.keys)
         for (name, key), address in list(self.files.keys.items()):
@@ -522,7 +521,7 @@ class Loader:
             faults.update([fault] if fault else [])
         self.files.unchecked = set(self.files.keys.values()) - loaded
         for fault, keys in faults.items():
-            print(f"cache_server: {count_text(keys, 'key')} left out: {fault}", file=sys.stderr)
+            report(f"{count_text(keys, 'key')} left out: {fault}")
         if not self.files.keys:
             return "begins empty"
         return f"has {count_text(count, 'key')}, {count_text(self.cache.totals()[0], 'object')}"

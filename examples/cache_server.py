@@ -69,7 +69,7 @@ from b3store.files import FolderInUse
 from cache_files import Files, Loader
 from cache_http import SECONDS_OF_SILENCE, WRITTEN_AT_ONCE, Connection, Cut, Server
 from cache_metrics import CONTENT_TYPE, Metrics
-from cache_stores import MAX_KEYS, PART, Cache, Declined, User
+from cache_stores import MAX_KEYS, PART, Cache, Declined, User, report
 
 MAX_DROPPED = 1 << 26
 """How many bytes of a refused body are read before the connection is closed."""
@@ -432,7 +432,9 @@ def serve(options, files, stopping):
         with cache.lock:
             objects = {entry.address for user in cache.users for entry in user.keys.values()}
             keys = sum(len(user.keys) for user in cache.users)
-        print(f"cache_server: saved {count_text(keys, 'key')}, {count_text(len(objects), 'object')}", flush=True)
+        # who has read the port may have closed the pipe
+        with contextlib.suppress(OSError):
+            print(f"cache_server: saved {count_text(keys, 'key')}, {count_text(len(objects), 'object')}", flush=True)
     finally:
         cache.close_stores()
 
@@ -456,10 +458,10 @@ def main():
         serve(options, Files(options.folder), stopping)
         return 0
     except Ended as fault:
-        print(f"cache_server: {fault}", file=sys.stderr)
+        report(fault)
         return 3
     except (FolderInUse, OSError, Refused, ValueError) as fault:
-        print(f"cache_server: {one_line(fault_text(fault))}", file=sys.stderr)
+        report(one_line(fault_text(fault)))
         return 1
     finally:
         # a signal that comes while the interpreter ends doesn't change the status

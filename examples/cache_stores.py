@@ -57,6 +57,12 @@ def always(_):
     return True
 
 
+def report(text):
+    """Writes a line to standard error, if that can be written to: what has something to report goes on."""
+    with contextlib.suppress(OSError):
+        print(f"cache_server: {text}", file=sys.stderr, flush=True)
+
+
 class User:
     """A user, with the keys of its content."""
 
@@ -371,7 +377,7 @@ class Cache:
         except (OSError, Refused, Ended) as fault:
             if self.old is None:
                 self.next_limit = 2 * self.backend.entries
-                print(f"cache_server: cannot start a second store, so the journal grows: {fault}", file=sys.stderr, flush=True)
+                report(f"cannot start a second store, so the journal grows: {fault}")
 
     def move(self):
         has_reported = False
@@ -385,7 +391,7 @@ class Cache:
                 refusals = [refusal]
             if refusals and not has_reported:
                 has_reported = True
-                print(f"cache_server: content waits to be moved to a new store: {refusals[0]}", file=sys.stderr, flush=True)
+                report(f"content waits to be moved to a new store: {refusals[0]}")
             time.sleep(SECONDS_BETWEEN_PASSES)
 
     def add_store(self):

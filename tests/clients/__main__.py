@@ -84,6 +84,7 @@ CASES = (
     ("a cache's full quotas in moves", cache_quotas.keeps_full_quotas),
     ("a cache that writes from two stores", cache_moves.writes_from_both_stores),
     ("a cache's metrics while its content moves", cache_moves.counts_while_content_moves),
+    ("a cache whose reports nobody reads", cache_moves.moves_where_nobody_reads),
     *cache_requests.CASES,
     ("two caches on one folder", caches.keeps_others_out),
     ("a cache that hangs up", caches.lives_on_after_a_hang_up),

@@ -3,11 +3,12 @@ import collections
 import http.client
 import os
 import random
+import signal
 import tempfile
 import threading
 import time
 
-from shared import PROGRAM, SECONDS, differences, raised
+from shared import PROGRAM, SECONDS, TOP, differences, raised
 from b3store import Ended, Refused, Store
 from cache_files import Files
 from cache_metrics import Metrics
@@ -256,6 +257,33 @@ def grants_the_quota_alone_while_it_copies():
     usage = cache.backend.store.usage(cache.backend.tenants[user])
     cache.close_stores()
     return found + differences((usage, (2500000 + 20 * 9000, 0, 4000000)))
+
+
+REFUSED_AT_FIRST = f"""import sys; sys.path[:0] = {[os.path.join(TOP, name) for name in ("examples", "python")]!r}
+import cache_server, cache_stores
+from b3store import Refused
+move_batch, tried = cache_stores.Cache.move_batch, []
+def refuse_at_first(*words):
+    tried.append(words)
+    return move_batch(*words) if len(tried) > 2 else [Refused("S14")]
+cache_stores.Cache.move_batch = refuse_at_first
+sys.exit(cache_server.main())"""
+
+
+def moves_where_nobody_reads():
+    """A move that has to wait goes on, and a signal ends the server as always, though nobody reads what it reports any more."""
+    with tempfile.TemporaryDirectory() as place:
+        folder = os.path.join(place, "cache")
+        with Cache(folder, words=["--journal-limit", "50"], server=["-c", REFUSED_AT_FIRST]) as cache:
+            for stream in cache.process.stdout, cache.process.stderr:
+                stream.close()
+            found = differences(*((ask(cache.port, "PUT", f"/{number}", b"%d" % number)[0], 201) for number in range(60)))
+            found += differences((wait_until(lambda: metrics(cache)["moves_total"] == 1), True), (wait_until(lambda: len(children(cache.process)) == 1), True))
+            cache.process.send_signal(signal.SIGTERM)
+            found += differences((cache.process.wait(SECONDS), 0))
+            cache.told = "", ""
+        with Cache(folder) as cache:
+            return found + differences((cache.begun.split(", ", 1)[1], "has 60 keys, 60 objects\n"))
 
 
 def counts_while_content_moves():
