@@ -57,6 +57,10 @@ IDLE_LINES = 1000
 REWRITTEN_AT_ONCE = 10000
 """How many lines of a new log are written between two syncs."""
 NEW_LOG = LOG + ".new"
+NO_FILES = (errno.EMFILE, errno.ENFILE)
+"""The errors of a process that has too many open files now, as clients have opened as many connections."""
+SECONDS_TO_MOVES = 5
+"""How long nothing is moved after there was no room or no file for it."""
 
 Place = collections.namedtuple("Place", "segment offset length")
 
@@ -108,8 +112,8 @@ class Files:
         """For each segment, how many of its bytes keys lead to, and its length."""
         self.waiting, self.bytes, self.changes, self.changed = [], 0, 0, threading.Condition()
         """The changes of keys that wait, and how many bytes and changes wait or are being written."""
-        self.fault, self.has_ended, self.lines, self.most_lines, self.is_full = None, False, 0, 0, False
-        """`lines`: how many the log has. Up to `most_lines`, it is not written again."""
+        self.fault, self.has_ended, self.lines, self.most_lines, self.moves_from = None, False, 0, 0, 0.0
+        """`lines`: how many the log has. Up to `most_lines`, it is not written again. `moves_from`: until then nothing is moved."""
         self.log = self.last = self.writer = self.name = self.rewriting = None
 
     def at(self, name):
@@ -374,9 +378,10 @@ class Files:
 
     def emptiest(self):
         """The segment of which keys lead to the fewest bytes, at most half, and which is neither the last one nor has an object that could not be read;
-        or None. One to which no key leads is removed without writing; no other one while the disk is full."""
+        or None. One to which no key leads is removed without writing; no other one for a while after the disk was full."""
         kept = {self.name, *(self.places[address].segment for address in self.unread if self.refs[address])}
-        found = [name for name, size in self.sizes.items() if name not in kept and 2 * self.live[name] <= (0 if self.is_full else size)]
+        waits = time.monotonic() < self.moves_from
+        found = [name for name, size in self.sizes.items() if name not in kept and 2 * self.live[name] <= (0 if waits else size)]
         return min(found, key=lambda name: self.live[name], default=None)
 
     def live_objects(self, segment):
@@ -393,15 +398,17 @@ class Files:
                 except Unreadable:
                     self.unread.add(address)
                 except OSError:
-                    self.is_full = True
+                    self.moves_from = time.monotonic() + SECONDS_TO_MOVES
                     break
         return texts
 
     def readable(self, address):
-        """The same as `content`, but raises Unreadable."""
+        """The same as `content`, but raises Unreadable, unless it is readable once the process has fewer open files."""
         try:
             yield from self.content(address)
         except OSError as fault:
+            if fault.errno in NO_FILES:
+                raise
             raise Unreadable(error_text(fault)) from None
 
     def remove(self, segment):
@@ -409,16 +416,22 @@ class Files:
         for address in [address for address, place in self.places.items() if place.segment == segment]:
             del self.places[address]
         del self.sizes[segment], self.live[segment]
-        self.is_full = False
+        self.moves_from = 0.0
         with contextlib.suppress(FileNotFoundError):
             os.remove(self.at(segment))
 
     def open_segment(self):
-        """Begins a new last segment."""
-        if self.last is not None:
-            self.last.close()
-        self.name = f"segment.{time.time_ns()}"
-        self.last = open(self.at(self.name), "xb", buffering=0)
+        """Begins a new last segment. While the process has too many open files, the old one stays the last."""
+        name, old = f"segment.{time.time_ns()}", self.last
+        try:
+            self.last = open(self.at(name), "xb", buffering=0)
+        except OSError as fault:
+            if old is None or fault.errno not in NO_FILES:
+                raise
+            return
+        self.name = name
+        if old is not None:
+            old.close()
         os.fsync(self.folder)
 
     def rewrite(self, goes_on):

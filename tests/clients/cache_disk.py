@@ -6,6 +6,7 @@ import os
 import random
 import shutil
 import signal
+import socket
 import subprocess
 import sys
 import tempfile
@@ -549,6 +550,45 @@ def removes_on_a_full_disk():
             found += differences((bytes_below(folder) < len(large) + 10000, True), (cache.stop(), ("cache_server: saved 1 key, 1 object\n", "")))
         with Cache(folder) as cache:
             return found + differences((cache.ask("GET", "/a")[0], 404), (cache.ask("GET", "/b"), (200, b"abc")))
+
+
+FEW_FILES = f"""import resource, sys; sys.path[:0] = {[os.path.join(TOP, name) for name in ("examples", "python")]!r}
+import cache_server
+resource.setrlimit(resource.RLIMIT_NOFILE, (60, 60))
+sys.exit(cache_server.main())"""
+
+
+def open_files(process):
+    return len(os.listdir(f"/proc/{process.pid}/fd"))
+
+
+def lives_without_descriptors():
+    """While connections take all descriptors of the server, it writes on; once they have ended, it moves what it couldn't move, and gives disk back."""
+    with tempfile.TemporaryDirectory() as place:
+        folder = os.path.join(place, "cache")
+        with Cache(folder, server=["-c", FEW_FILES]) as cache, contextlib.ExitStack() as stack:
+            own = stack.enter_context(contextlib.closing(http.client.HTTPConnection("127.0.0.1", cache.port, timeout=SECONDS)))
+
+            def status(method, key, body=None):
+                own.request(method, key, body)
+                answer = own.getresponse()
+                return answer.status, answer.read()
+
+            found = differences(*((status("PUT", key, body)[0], 201) for key, body in (("/a", b"abc"), ("/large", bytes(3000000)))))
+            found += differences((wait_until(lambda: len(texts_of_log(folder)) == 4), True))
+            with contextlib.ExitStack() as others:
+                for _ in range(80):
+                    others.enter_context(socket.create_connection(("127.0.0.1", cache.port), timeout=SECONDS))
+                found += differences((wait_until(lambda: open_files(cache.process) == 60), True))
+                found += differences((status("DELETE", "/large")[0], 204), (status("PUT", "/b", b"four")[0], 201))
+                found += differences((wait_until(lambda: texts_of_log(folder)[-1].endswith(" /b")), True))
+                # the writer looks for content to move
+                time.sleep(1)
+                found += differences((status("GET", "/healthz"), (200, b"ok\n")))
+            found += differences((wait_until(lambda: cache.ask("PUT", "/c", os.urandom(9))[0] == 201 and bytes_below(folder) < 1000000), True))
+            found += differences((cache.stop(), ("cache_server: saved 3 keys, 3 objects\n", "")))
+        with Cache(folder) as cache:
+            return found + differences((cache.ask("GET", "/a"), (200, b"abc")), (cache.ask("GET", "/b"), (200, b"four")))
 
 
 def keeps_a_removal():
