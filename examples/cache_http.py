@@ -24,6 +24,9 @@ CHUNK_LINE = re.compile(rb"([0-9a-fA-F]{1,15})[ \t]*(?:;[^\n]*)?\r?\n")
 MAX_LINE = 1 << 16
 MAX_HEADERS = 100
 SECONDS_OF_SILENCE = 60
+SECONDS_TO_LEAVE = 2
+MAX_LEFT = 1 << 24
+"""How long a connection that the server ends waits for bytes of the client, again and again, and how many it drops."""
 SECONDS_BETWEEN_TRIES = 0.05
 MAX_WAITING = 16
 """How many threads may wait for a connection."""
@@ -212,6 +215,17 @@ class Server(http.server.HTTPServer):
             self.handle_error(connection, address)
         finally:
             self.shutdown_request(connection)
+
+    def shutdown_request(self, request):
+        """Closes a connection once the client has, or sends no more. If bytes of the client were unread then, the system would take back what the client
+        has not yet received of the answer."""
+        left = MAX_LEFT
+        with contextlib.suppress(OSError):
+            request.shutdown(socket.SHUT_WR)
+            request.setsockopt(socket.SOL_SOCKET, socket.SO_RCVTIMEO, struct.pack("ll", SECONDS_TO_LEAVE, 0))
+            while left > 0:
+                left -= len(request.recv(MAX_LINE)) or left
+        self.close_request(request)
 
     def handle_error(self, request, client_address):
         """Reports what ended a connection, unless the client or its silence did."""

@@ -3,6 +3,7 @@ import contextlib
 import os
 import socket
 import tempfile
+import time
 
 from servers import USERS, Cache, SlowPut, metrics, raw_answer, wait_until
 from shared import ABC, FOUR, SECONDS, differences
@@ -73,6 +74,23 @@ def does_nothing_for_half_a_request():
         inside = raw_answer(cache.port, b"GET /d HTTP/1.1\r\nContent-Length: %d\r\n\r\n%s" % (len(hidden), hidden))
         found += differences((status_of(inside), 200), (inside.count(b"HTTP/1.1"), 1))
         return found + differences((cache.ask("GET", "/d"), (200, b"abc")))
+
+
+def answers_whole_before_it_closes():
+    """A client that sends more than the server reads, and reads slowly, receives the whole answer."""
+    with tempfile.TemporaryDirectory() as place, Cache(os.path.join(place, "cache")) as cache:
+        found, large, more = [], os.urandom(16000000), b"GET /k HTTP/1.1\r\n\r\n" * 5000
+        cache.ask("PUT", "/k", large)
+        for header in b"Content-Length: %d\r\n" % len(more), CLOSE:
+            with socket.create_connection(("127.0.0.1", cache.port), timeout=SECONDS) as connection:
+                connection.sendall(b"GET /k HTTP/1.1\r\n" + header + b"\r\n" + more)
+                time.sleep(0.5)
+                read = b""
+                with contextlib.suppress(ConnectionResetError):
+                    for part in iter(lambda: connection.recv(1 << 20), b""):
+                        read += part
+            found += [] if read.partition(b"\r\n\r\n")[2] == large else [f"{header}: {len(read)} bytes arrive"]
+        return found
 
 
 def keeps_keys_apart():
@@ -191,6 +209,7 @@ CASES = (
     ("a cache's wrong requests", refuses_wrong_requests),
     ("a cache's clients with other tokens", refuses_other_tokens),
     ("a cache's half requests", does_nothing_for_half_a_request),
+    ("a cache's clients that send too much", answers_whole_before_it_closes),
     ("a cache's keys that differ in a byte", keeps_keys_apart),
     ("a cache's clients that wait to be asked", asks_for_the_body),
     ("a cache's chunks with more words", takes_long_extensions),
