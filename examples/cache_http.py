@@ -22,7 +22,8 @@ HEADER_NAME = re.compile("[!-9;-~]+")
 NUMBER = re.compile("[0-9]{1,19}")
 CHUNK_LINE = re.compile(rb"([0-9a-fA-F]{1,15})[ \t]*(?:;[^\n]*)?\r?\n")
 MAX_LINE = 1 << 16
-MAX_HEADERS = 100
+MAX_HEADERS, MAX_HEADERS_LEN = 100, 1 << 17
+"""How many headers a request may have, and how many bytes in all."""
 SECONDS_OF_SILENCE = 60
 SECONDS_TO_LEAVE = 2
 MAX_LEFT = 1 << 24
@@ -95,12 +96,16 @@ class Connection(http.server.BaseHTTPRequestHandler):
 
     def read_headers(self):
         """Reads the headers. Returns whether they are complete."""
+        left = MAX_HEADERS_LEN
         for _ in range(MAX_HEADERS + 1):
             line = self.text_of(self.rfile.readline(MAX_LINE + 1))
             if not line:
                 return line is not None
+            left -= len(line)
+            if left < 0:
+                raise Malformed(431)
             name, colon, value = line.partition(":")
-            if not colon or not HEADER_NAME.fullmatch(name):
+            if not colon or not HEADER_NAME.fullmatch(name) or "\r" in value or "\0" in value:
                 raise Malformed(400)
             name, value = name.lower(), value.strip(" \t")
             self.headers[name] = f"{self.headers[name]}, {value}" if name in self.headers else value
