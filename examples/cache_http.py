@@ -56,6 +56,8 @@ class Connection(http.server.BaseHTTPRequestHandler):
     wbufsize = WRITTEN_AT_ONCE
     date = (0, "")
     """A second, and its text."""
+    is_old = False
+    """Whether the request is one of HTTP/1.0, whose client has to be told that the connection is kept."""
 
     def setup(self):
         super().setup()
@@ -65,7 +67,7 @@ class Connection(http.server.BaseHTTPRequestHandler):
 
     def parse_request(self):
         """Reads a request's first line and its headers. A request that isn't complete is not answered, and nothing is done for it."""
-        self.requestline, self.command, self.close_connection, self.headers = "", None, True, {}
+        self.requestline, self.command, self.close_connection, self.headers, self.is_old = "", None, True, {}, False
         try:
             line = self.text_of(self.raw_requestline)
             if line == "":
@@ -80,7 +82,8 @@ class Connection(http.server.BaseHTTPRequestHandler):
             self.path = target if host is None else "/" + target[host.end() :]
             if major != "1":
                 raise Malformed(505)
-            return self.read_headers() and self.begin_body(minor == "0")
+            self.is_old = minor == "0"
+            return self.read_headers() and self.begin_body()
         except Malformed as fault:
             self.send_head(fault.status, ["Content-Length: 0", "Connection: close"])
             return False
@@ -111,19 +114,19 @@ class Connection(http.server.BaseHTTPRequestHandler):
             self.headers[name] = f"{self.headers[name]}, {value}" if name in self.headers else value
         raise Malformed(431)
 
-    def begin_body(self, is_old):
+    def begin_body(self):
         """Finds out whether the connection is kept after the request, and how long its body is: `length` is None for chunks, or if no length is given."""
-        words = self.headers.get("connection", "").lower()
+        words = [word.strip() for word in self.headers.get("connection", "").lower().split(",")]
         coding, length = self.headers.get("transfer-encoding"), self.headers.get("content-length")
         if coding is not None and (length is not None or coding.lower() != "chunked"):
             raise Malformed(400 if length is not None else 501)
         if length is not None and not NUMBER.fullmatch(length):
             raise Malformed(400)
         self.has_chunks, self.length = coding is not None, None if length is None else int(length)
-        # bytes that a method doesn't read must not be taken for a request
+        # bytes that a method doesn't read must not be taken for a request, nor what follows chunks that a proxy of HTTP/1.0 may not know
         is_left = self.command != "PUT" and (self.has_chunks or bool(self.length))
-        self.close_connection = is_left or "close" in words or (is_old and "keep-alive" not in words)
-        if self.headers.get("expect", "").lower() == "100-continue" and not is_old:
+        self.close_connection = is_left or "close" in words or self.is_old and (self.has_chunks or "keep-alive" not in words)
+        if self.headers.get("expect", "").lower() == "100-continue" and not self.is_old:
             self.wfile.write(b"HTTP/1.1 100 Continue\r\n\r\n")
             self.wfile.flush()
         return True
@@ -145,7 +148,8 @@ class Connection(http.server.BaseHTTPRequestHandler):
         now = int(time.time())
         if now != Connection.date[0]:
             Connection.date = now, email.utils.formatdate(now, usegmt=True)
-        head = [f"HTTP/1.1 {status} {PHRASES[status]}", f"Date: {Connection.date[1]}", *lines, "\r\n"]
+        kept = ["Connection: keep-alive"] * (self.is_old and not self.close_connection)
+        head = [f"HTTP/1.1 {status} {PHRASES[status]}", f"Date: {Connection.date[1]}", *lines, *kept, "\r\n"]
         self.wfile.write("\r\n".join(head).encode("latin-1"))
 
     def send_error(self, code, message=None, explain=None):
@@ -260,7 +264,7 @@ def http_chunks(file):
         line = file.readline(MAX_LINE)
         if line in (b"\r\n", b"\n"):
             return
-        if not line.endswith(b"\n"):
+        if not line.endswith(b"\n") or b":" not in line:
             break
     raise Cut
 

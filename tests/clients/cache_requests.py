@@ -17,6 +17,7 @@ WRONG = (
     ("a chunk of fewer than no bytes", b"PUT /k HTTP/1.1\r\nTransfer-Encoding: chunked\r\n\r\n-3\r\nabc\r\n0\r\n\r\n", 400),
     ("a chunk's length with a prefix", b"PUT /k HTTP/1.1\r\nTransfer-Encoding: chunked\r\n\r\n0x3\r\nabc\r\n0\r\n\r\n", 400),
     ("a chunk that is longer than its length", b"PUT /k HTTP/1.1\r\nTransfer-Encoding: chunked\r\n\r\n3\r\nabcd\r\n0\r\n\r\n", 400),
+    ("a line after chunks that is no header", b"PUT /k HTTP/1.1\r\nTransfer-Encoding: chunked\r\n\r\n3\r\nabc\r\n0\r\nDELETE /d HTTP/1.1\r\n\r\n", 400),
     ("no version", b"GET /d\r\n\r\n", 400),
     ("another version", b"PRI * HTTP/2.0\r\n\r\n", 505),
     ("another method", b"BREW /d HTTP/1.1\r\n\r\n", 501),
@@ -124,6 +125,22 @@ def takes_long_extensions():
         return differences((status_of(raw_answer(cache.port, request)), 201), (cache.ask("GET", "/k"), (200, b"abc")))
 
 
+def keeps_old_connections():
+    """A client of HTTP/1.0 is told if its connection is kept: when it has asked for that, by that word, and has sent no chunks."""
+    with tempfile.TemporaryDirectory() as place, Cache(os.path.join(place, "cache")) as cache:
+        found, kept = differences((cache.ask("PUT", "/d", b"abc")[0], 201)), b"Connection: keep-alive\r\n"
+        for name, request, is_kept in (
+            ("asks", b"GET /d HTTP/1.0\r\nConnection: Keep-Alive\r\n\r\n", True), ("asks by several words", b"GET /d HTTP/1.0\r\nConnection: x, keep-alive\r\n\r\n", True),
+            ("doesn't ask", b"GET /d HTTP/1.0\r\n\r\n", False), ("asks for another thing", b"GET /d HTTP/1.0\r\nConnection: no-keep-alive\r\n\r\n", False),
+            ("sends chunks", b"PUT /k HTTP/1.0\r\nConnection: keep-alive\r\nTransfer-Encoding: chunked\r\n\r\n3\r\nabc\r\n0\r\n\r\n", False),
+        ):
+            answers = raw_answer(cache.port, request + b"GET /healthz HTTP/1.0\r\n\r\n")
+            told = status_of(answers), answers.count(b"HTTP/1.1"), answers.count(kept), answers.count(CLOSE)
+            found += [] if told == (201 if b"PUT" in request else 200, 1 + is_kept, int(is_kept), 1) else [f"a client that {name}: {answers}"]
+        answers = raw_answer(cache.port, b"GET /d HTTP/1.1\r\nConnection: enclosed\r\n\r\nGET /d HTTP/1.1\r\n" + CLOSE + b"\r\n")
+        return found + differences((answers.count(b"HTTP/1.1 200"), 2), (answers.count(b"Connection: "), 1))
+
+
 def compares_addresses():
     """With `--compare` a key that has an address gets no other content, in one part, in several, or in chunks."""
     with tempfile.TemporaryDirectory() as place, Cache(os.path.join(place, "cache"), words=["--compare"]) as cache:
@@ -216,6 +233,7 @@ CASES = (
     ("a cache's keys that differ in a byte", keeps_keys_apart),
     ("a cache's clients that wait to be asked", asks_for_the_body),
     ("a cache's chunks with more words", takes_long_extensions),
+    ("a cache's connections of HTTP/1.0", keeps_old_connections),
     ("a cache that compares addresses", compares_addresses),
     ("a cache's long keys", takes_no_long_keys),
     ("a cache's targets with a host", takes_targets_with_a_host),
