@@ -80,6 +80,8 @@ SECONDS_TO_ANSWER = 2
 SECONDS_BETWEEN_LOOKS = 0.2
 """How often the server checks whether the store has ended, or the journal is too long."""
 STATUSES = {"S2": 507, "S5": 413, "S6": 507, "S11": 400, "S12": 404, "S13": 507, "S14": 503, "F4": 413}
+TAG = re.compile('(?:W/)?"[^"]*"')
+"""An ETag, as the headers of conditions have it."""
 ADDRESS_KEY = re.compile("/(?:.*/)?cas/(?:blake3/)?([0-9a-f]{64})")
 """The keys that `--compare` is for."""
 PRIVATE = 0o077
@@ -239,11 +241,11 @@ class Handler(Connection):
         return "if-none-match" in self.headers and self.tagged("if-none-match", entry)
 
     def tagged(self, name, entry):
-        """Whether a header has the ETag of the content, or `*` for any. Only for `If-None-Match` it may be a weak one."""
-        tags = [tag.strip() for tag in self.headers[name].split(",")]
+        """Whether a header has the ETag of the content, or `*` for any. Only for `If-None-Match` it may be a weak one. A tag may have commas and stars."""
+        tags = TAG.findall(self.headers[name])
         if name == "if-none-match":
             tags = [tag[2 * tag.startswith("W/") :] for tag in tags]
-        return entry is not None and ("*" in tags or f'"{entry.address}"' in tags)
+        return entry is not None and ("*" in TAG.sub("", self.headers[name]) or f'"{entry.address}"' in tags)
 
     def asked_range(self, entry):
         """The requested range of the content, which is empty if it has no byte of it. None for all of it, also if several ranges are requested."""

@@ -198,6 +198,7 @@ def changes_on_condition():
             ("PUT", "/k", b"abcd", "If-None-Match", "*", 412), ("PUT", "/k", large, "If-None-Match", "*", 412), ("PUT", "/k", iter([large]), "If-None-Match", "*", 412),
             ("PUT", "/k", b"abcd", "If-None-Match", f'"{ABC}"', 412), ("PUT", "/k", b"abcd", "If-None-Match", f'"x", W/"{ABC}"', 412),
             ("PUT", "/k", b"abcd", "If-Match", f'"{FOUR}"', 412), ("PUT", "/k", b"abcd", "If-Match", f'W/"{ABC}"', 412), ("PUT", "/k", b"abcd", "If-Match", "", 412),
+            ("PUT", "/k", b"abcd", "If-Match", '"x,*,y"', 412), ("PUT", "/k", b"abcd", "If-None-Match", '"x", *', 412), ("GET", "/k", None, "If-None-Match", '"x,*"', 200),
             ("DELETE", "/k", None, "If-Match", f'"{FOUR}"', 412), ("DELETE", "/k", None, "If-None-Match", "*", 412), ("DELETE", "/no", None, "If-Match", "*", 404),
             ("GET", "/k", None, "If-Match", f'"{FOUR}"', 412), ("GET", "/no", None, "If-Match", "*", 404), ("GET", "/k", None, "If-Match", f'"{ABC}"', 200),
             ("PUT", "/k", b"four", "If-Match", f'"x", "{ABC}"', 201), ("PUT", "/k", b"abc", "If-None-Match", f'"{ABC}"', 201), ("DELETE", "/k", None, "If-Match", "*", 204),
