@@ -33,6 +33,8 @@ LOG = "log"
 SEGMENT_NAME = re.compile("segment[.][0-9]+")
 TORN_LINE = re.compile(rb"\0*|[0-9a-f]{1,8}|[0-9a-f]{8} (?:[okd][^\n]*)?", re.DOTALL)
 """What a crash may leave of the first line of a log."""
+MAX_LINE = 1 << 16
+"""More bytes than a line of a log has."""
 ADVICE = "nothing was changed; restore the folder from a copy, or move it away to start with an empty cache"
 OLD_KEYS = "keys"
 """The file of the keys in a folder of an older version."""
@@ -145,9 +147,19 @@ class Files:
         for name in segments:
             if name not in self.sizes:
                 os.remove(self.at(name))
-        with contextlib.suppress(OSError):
-            os.unlink(self.at(NEW_LOG))
+        self.remove_new_log()
         return len(content) - end
+
+    def remove_new_log(self):
+        """Removes what an earlier server has left of a new log; a file of something else stays, and then the log is not written again."""
+        if not os.path.isfile(self.at(NEW_LOG)):
+            return
+        with contextlib.suppress(OSError):
+            with open(self.at(NEW_LOG), "rb") as file:
+                begun = file.readline(MAX_LINE)
+            # a crash of the machine may leave zero bytes of any part
+            if begun[:1] == b"\0" or TORN_LINE.fullmatch(begun) or checked_text(begun.rstrip(b"\n")):
+                os.unlink(self.at(NEW_LOG))
 
     def begin_log(self):
         """Writes the log of a folder of an older version, which has a file for each object and one with all keys."""
@@ -481,7 +493,7 @@ class Rewriting:
     def write_some(self):
         """Writes some lines, and syncs them. Returns whether the new log is whole."""
         if self.file is None:
-            self.file = open(self.files.at(NEW_LOG), "wb", opener=private)
+            self.file = open(self.files.at(NEW_LOG), "xb", opener=private)
         lines = [checked_line(text) for text in itertools.islice(self.texts, REWRITTEN_AT_ONCE)]
         self.file.writelines(lines)
         self.count += len(lines)
@@ -499,11 +511,11 @@ class Rewriting:
 
     def drop(self):
         """Removes what was written."""
-        with contextlib.suppress(OSError):
-            os.unlink(self.files.at(NEW_LOG))
-        if self.file is not None:
+        if self.file is None:
+            return
+        for work in lambda: os.unlink(self.files.at(NEW_LOG)), self.file.close:
             with contextlib.suppress(OSError):
-                self.file.close()
+                work()
 
 
 class Loader:

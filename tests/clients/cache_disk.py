@@ -529,6 +529,24 @@ def lives_without_a_new_log():
             return found + differences((cache.ask("GET", "/k"), (200, b"abc")), (cache.begun.split(", ", 1)[1], "has 1 key, 1 object\n"))
 
 
+def leaves_another_new_log():
+    """A file `log.new` of something else stays as it is; what is left of a new log is removed."""
+    with tempfile.TemporaryDirectory() as place:
+        path, found = os.path.join(place, "log.new"), []
+        for content, stays in (b"a new log of mine\n", True), (checked_line(f"key all {ABC} /k") + b"1234", False), (b"", False), (bytes(100), False), (bytes(9) + b"x\n", False), (b"12345678 obj", False):
+            with open(path, "wb") as file:
+                file.write(content)
+            files = begun_files(place)
+            with mock.patch.object(cache_files, "IDLE_LINES", 0):
+                for _ in range(6):
+                    files.write(None, [(User("ann", None, 1000), "/k", None, None, False)], moves=True)
+            found += differences(("log.new" in os.listdir(place), stays), (os.path.getsize(files.at("log")) > 0, stays))
+            if stays:
+                found += differences((contents_of(place)["log.new"], content))
+            os.close(files.folder)
+        return found
+
+
 FULL = f"""import sys; sys.path[:0] = {[os.path.join(TOP, name) for name in ("examples", "python")]!r}
 import cache_files, cache_server
 def write_some(files, pieces):
