@@ -521,19 +521,21 @@ class Rewriting:
 class Loader:
     """Loads what a folder has into a cache."""
 
-    def __init__(self, cache, files):
-        self.cache, self.files = cache, files
+    def __init__(self, cache, files, has_to_stop=lambda: False):
+        self.cache, self.files, self.has_to_stop = cache, files, has_to_stop
         self.wrong = []
         """The users and keys whose objects have other addresses."""
 
     def load(self):
-        """Stores what is on disk, and reports what can't be stored or isn't as it was stored."""
+        """Stores what is on disk, and reports what can't be stored or isn't as it was stored. Returns what is there now, or None if it has to stop before."""
         dropped = self.files.read()
         if dropped:
             report(f"the log has no complete line in its last {count_text(dropped, 'byte')}, which the server drops")
         users = {user.name: user for user in self.cache.users}
         faults, count, loaded, left = collections.Counter(), 0, set(), collections.Counter(name for name, _ in self.files.keys)
         for (name, key), address in list(self.files.keys.items()):
+            if self.has_to_stop():
+                return None
             left[name] -= 1
             if name not in users:
                 fault = "its user doesn't exist"

@@ -417,8 +417,10 @@ def serve(options, files, stopping):
     users, program = users_of(options), options.program
     cache = Cache(lambda: Store(program, options.sessions), users, options.most, not options.no_evict, options.journal_limit, options.max_keys)
     try:
-        loader = Loader(cache, files)
+        loader = Loader(cache, files, lambda: stopping.wait(0))
         begun = loader.load()
+        if begun is None:
+            return
         files.start(cache)
         cache.files = files
         for user, key in loader.wrong:

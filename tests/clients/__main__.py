@@ -52,6 +52,7 @@ CASES = (
     ("a cache in a folder with other keys", cache_disk.refuses_other_keys),
     ("a cache whose first line is torn", cache_disk.begins_after_a_torn_first_line),
     ("a cache that gives disk back", cache_disk.gives_disk_back),
+    ("a cache that ends while it begins", cache_disk.ends_while_it_loads),
     ("a cache that stops", cache_disk.stops_at_once),
     ("a cache that stops while it is used", cache_disk.stops_while_it_is_used),
     ("a cache that is interrupted", cache_disk.keeps_all_at_an_interrupt),

@@ -547,6 +547,30 @@ def leaves_another_new_log():
         return found
 
 
+SIGNALLED = f"""import os, signal, sys; sys.path[:0] = {[os.path.join(TOP, name) for name in ("examples", "python")]!r}
+import cache_files, cache_server
+load_key = cache_files.Loader.load_key
+def load_and_signal(*words):
+    os.kill(os.getpid(), signal.SIGTERM)
+    return load_key(*words)
+cache_files.Loader.load_key = load_and_signal
+sys.exit(cache_server.main())"""
+
+
+def ends_while_it_loads():
+    """A signal while a server loads its keys ends it before it has loaded all, and changes nothing."""
+    with tempfile.TemporaryDirectory() as place:
+        folder = os.path.join(place, "cache")
+        with Cache(folder) as cache:
+            found = differences(*((cache.ask("PUT", f"/{number}", b"%d" % number)[0], 201) for number in range(20)))
+        before = contents_of(folder)
+        words = [sys.executable, "-c", SIGNALLED, folder, "--port", "0", "--program", PROGRAM]
+        run = subprocess.run(words, capture_output=True, timeout=SECONDS, start_new_session=True)
+        found += differences((run.returncode, 0), (run.stdout + run.stderr, b""), (contents_of(folder) == before, True))
+        with Cache(folder) as cache:
+            return found + differences((cache.begun.split(", ", 1)[1], "has 20 keys, 20 objects\n"))
+
+
 FULL = f"""import sys; sys.path[:0] = {[os.path.join(TOP, name) for name in ("examples", "python")]!r}
 import cache_files, cache_server
 def write_some(files, pieces):
