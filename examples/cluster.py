@@ -20,6 +20,8 @@ if __name__ == "__main__":
     end_at_once()
 
 import argparse
+import re
+import select
 import subprocess
 
 from cache_server import SECONDS_BETWEEN_LOOKS, stop_signals
@@ -70,9 +72,18 @@ class Server:
 
     def __init__(self, folder, program):
         words = [sys.executable, os.path.join(os.path.dirname(os.path.abspath(__file__)), "cache_server.py"), folder, "--port", "0", "--program", program]
-        self.process = subprocess.Popen(words, stdout=subprocess.PIPE)
-        line = self.process.stdout.readline().decode()
-        self.port = int(line.split("port ")[1].split(",")[0]) if "port " in line else None
+        self.process, self.port = subprocess.Popen(words, stdout=subprocess.PIPE), None
+
+    def wait(self, stopping):
+        """Waits until the server has loaded its content and told its port. Returns False if a signal arrives before. Raises ValueError if it doesn't start."""
+        while not stopping.wait(0):
+            if select.select([self.process.stdout], [], [], SECONDS_BETWEEN_LOOKS)[0]:
+                found = re.search("port ([0-9]+),", self.process.stdout.readline().decode())
+                if not found:
+                    raise ValueError("a cache server doesn't start")
+                self.port = int(found[1])
+                return True
+        return False
 
 
 def read_options():
@@ -87,15 +98,15 @@ def read_options():
     return parser.parse_args()
 
 
-def start_all(options, processes):
-    """Starts the servers and nginx, the last of `processes`. Raises OSError or ValueError."""
+def start_all(options, processes, stopping):
+    """Starts the servers and nginx, the last of `processes`; no nginx if a signal arrives before all servers have started. Raises OSError or ValueError."""
     folder, servers = os.path.abspath(options.folder), []
     os.makedirs(folder, exist_ok=True)
     for at in range(options.servers):
         servers.append(Server(os.path.join(folder, str(at)), options.program))
         processes.append(servers[-1].process)
-        if servers[-1].port is None:
-            raise ValueError("a cache server doesn't start")
+    if not all(server.wait(stopping) for server in servers):
+        return
     lines = "\n".join(f"    server 127.0.0.1:{server.port} max_fails=0;" for server in servers)
     with open(os.path.join(folder, "nginx.conf"), "w", encoding="utf-8") as file:
         file.write(NGINX.format(servers=lines, port=options.port))
@@ -110,7 +121,7 @@ def main():
     options = read_options()
     stopping, processes, status = stop_signals(), [], 0
     try:
-        start_all(options, processes)
+        start_all(options, processes, stopping)
         while not stopping.wait(SECONDS_BETWEEN_LOOKS):
             if processes[-1].poll() is not None:
                 raise ValueError("nginx has ended")

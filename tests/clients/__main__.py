@@ -89,6 +89,7 @@ CASES = (
     ("a cache's metrics while its content moves", cache_moves.counts_while_content_moves),
     ("a cache whose reports nobody reads", cache_moves.moves_where_nobody_reads),
     *cache_requests.CASES,
+    ("a cluster that ends while it begins", caches.ends_while_servers_start),
     ("two caches on one folder", caches.keeps_others_out),
     ("a cache that hangs up", caches.lives_on_after_a_hang_up),
     ("a cache with wrong words", caches.refuses_wrong_words),

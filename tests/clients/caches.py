@@ -3,6 +3,7 @@ import contextlib
 import http.client
 import os
 import re
+import shlex
 import signal
 import socket
 import subprocess
@@ -307,6 +308,18 @@ def parts_the_keys():
             cluster.send_signal(signal.SIGTERM)
         found += differences((statuses, {201}), (after, {(200, key.encode()) for key in keys}))
         return found if 50 <= len(kept) < 100 else [*found, f"{len(kept)} of 100 keys are kept"]
+
+
+def ends_while_servers_start():
+    """A signal that arrives before all servers of a cluster have started ends it, with those that have."""
+    with tempfile.TemporaryDirectory() as place:
+        program = os.path.join(place, "program")
+        with open(program, "w", encoding="ascii") as file:
+            file.write(f'#!/bin/bash\nread -r -a stat < "/proc/$PPID/stat"\nkill -TERM "${{stat[3]}}"\nexec {shlex.quote(os.path.abspath(PROGRAM))} "$@"\n')
+        os.chmod(program, 0o700)
+        words = [sys.executable, os.path.join(TOP, "examples", "cluster.py"), os.path.join(place, "cache"), "--port", str(free_port()), "--program", program]
+        run = subprocess.run(words, capture_output=True, timeout=SECONDS, start_new_session=True)
+        return differences((run.returncode, 0), (run.stdout + run.stderr, b""))
 
 
 def compiles_twice():
