@@ -318,6 +318,7 @@ class Files:
         self.log.write(b"".join(map(checked_line, texts)))
         self.log.flush()
         os.fdatasync(self.log.fileno())
+        self.check_files()
         self.lines += len(texts)
         if emptied and not self.live_objects(emptied):
             self.remove(emptied)
@@ -325,6 +326,12 @@ class Files:
         if size >= SEGMENT or size >= SMALL_SEGMENT and 2 * self.live[self.name] <= size:
             self.open_segment()
         self.rewrite(goes_on=moves)
+
+    def check_files(self):
+        """Raises OSError if the files that were written to are no longer in the folder: a start would not find what they have."""
+        for name, file in (LOG, self.log), (self.name, self.last):
+            if not os.path.exists(self.at(name)) or not os.path.samestat(os.stat(self.at(name)), os.fstat(file.fileno())):
+                raise OSError(f"{name} was removed or replaced")
 
     def texts_of(self, cache, user, key, entry, content, was_removed):
         """The lines of a key that has changed. If a store has ended with its content, there are none, unless the key was removed before. If no store holds

@@ -59,6 +59,7 @@ CASES = (
     ("a cache that is ended with its store", cache_disk.tells_what_a_dead_store_had),
     ("a cache that can't read its files", cache_disk.keeps_what_it_cannot_read),
     ("a cache with an older folder", cache_disk.begins_from_an_older_folder),
+    ("a cache without its folder", cache_disk.ends_without_its_folder),
     ("a cache that can't write", cache_disk.ends_where_nothing_can_be_written),
     ("a cache whose segments were removed", cache_disk.writes_again_what_was_removed),
     ("a cache that has not read all its files", cache_disk.lives_with_what_it_has_not_read),

@@ -4,6 +4,7 @@ import contextlib
 import http.client
 import os
 import random
+import re
 import shutil
 import signal
 import socket
@@ -703,6 +704,33 @@ def ends_where_nothing_can_be_written():
                 server.kill()
         found = differences((server.returncode, 1), (err.decode(), f"cache_server: {place}/cache can't be written: file too large\n"))
         return found + differences((set(answers) - {503}, set()))
+
+
+def ends_without_its_folder():
+    """Where the folder is removed or moved, or a file in it, what is stored would be lost: the server says so, and ends. It changes no other folder."""
+    with tempfile.TemporaryDirectory() as place:
+        folder, found = os.path.join(place, "cache"), []
+
+        def replace():
+            os.rename(folder, folder + ".old")
+            with Cache(folder) as other:
+                other.ask("PUT", "/other", b"other")
+
+        def remove_segment():
+            os.remove(os.path.join(folder, max(name for name in os.listdir(folder) if name != "log")))
+
+        for change, name in (lambda: shutil.rmtree(folder), "log"), (replace, "log"), (remove_segment, "segment"):
+            with Cache(folder) as cache:
+                found += differences((cache.ask("PUT", "/k", bytes(2000000))[0], 201), (wait_until(lambda: len(texts_of_log(folder)) >= 2), True))
+                time.sleep(1)
+                change()
+                before = contents_of(folder) if os.path.exists(folder) else None
+                found += differences((cache.ask("PUT", "/k", b"abc")[0] in (201, 503), True), (wait_until(lambda: cache.process.poll() is not None), True))
+                told = re.sub("segment[.][0-9]+", "segment", cache.stop(lambda process: None)[1])
+                found += differences((told, f"cache_server: {folder} can't be written: {name} was removed or replaced\n"), (cache.process.returncode, 1))
+                if change is replace:
+                    found += differences((contents_of(folder) == before, True))
+        return found
 
 
 def keeps_what_it_cannot_begin_with():
