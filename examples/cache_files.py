@@ -27,6 +27,7 @@ import time
 from b3store import Ended, Refused
 from b3store.console import count_text, error_text
 from b3store.files import checked_line, checked_text, lock_folder, private, replace_file
+from cache_http import NO_FILES
 from cache_stores import Entry, report
 
 LOG = "log"
@@ -59,8 +60,6 @@ IDLE_LINES = 1000
 REWRITTEN_AT_ONCE = 10000
 """How many lines of a new log are written between two syncs."""
 NEW_LOG = LOG + ".new"
-NO_FILES = (errno.EMFILE, errno.ENFILE)
-"""The errors of a process that has too many open files now, as clients have opened as many connections."""
 SECONDS_TO_MOVES = 5
 """How long nothing is moved after there was no room or no file for it."""
 

@@ -6,6 +6,7 @@ kept by names in lower case.
 """
 import contextlib
 import email.utils
+import errno
 import http
 import http.server
 import re
@@ -29,6 +30,8 @@ SECONDS_TO_LEAVE = 2
 MAX_LEFT = 1 << 24
 """How long a connection that the server ends waits for bytes of the client, again and again, and how many it drops."""
 SECONDS_BETWEEN_TRIES = 0.05
+NO_FILES = (errno.EMFILE, errno.ENFILE)
+"""The errors of a process that has too many open files now, as clients have opened as many connections."""
 MAX_WAITING = 16
 """How many threads may wait for a connection."""
 WRITTEN_AT_ONCE = 1 << 16
@@ -65,6 +68,13 @@ class Connection(http.server.BaseHTTPRequestHandler):
         for option in socket.SO_RCVTIMEO, socket.SO_SNDTIMEO:
             self.connection.setsockopt(socket.SOL_SOCKET, option, struct.pack("ll", SECONDS_OF_SILENCE, 0))
 
+    def handle_one_request(self):
+        self.server.note_idle(self.connection, True)
+        try:
+            super().handle_one_request()
+        finally:
+            self.server.note_idle(self.connection, False)
+
     def parse_request(self):
         """Reads a request's first line and its headers. A request that isn't complete is not answered, and nothing is done for it."""
         self.requestline, self.command, self.close_connection, self.headers, self.is_old = "", None, True, {}, False
@@ -83,7 +93,10 @@ class Connection(http.server.BaseHTTPRequestHandler):
             if major != "1":
                 raise Malformed(505)
             self.is_old = minor == "0"
-            return self.read_headers() and self.begin_body()
+            if not self.read_headers():
+                return False
+            self.server.note_idle(self.connection, False)
+            return self.begin_body()
         except Malformed as fault:
             self.send_head(fault.status, ["Content-Length: 0", "Connection: close"])
             return False
@@ -171,6 +184,8 @@ class Server(http.server.HTTPServer):
         super().__init__(address, handler)
         self.waiting, self.lock, self.has_stopped = 0, threading.Lock(), False
         """How many threads wait for a connection."""
+        self.idle = {}
+        """The connections that wait for a whole head of a request, in the order in which they began to."""
 
     def start_thread(self):
         """Starts a thread that waits for connections."""
@@ -212,10 +227,24 @@ class Server(http.server.HTTPServer):
         while not self.has_stopped:
             try:
                 return self.socket.accept()
-            except OSError:
+            except OSError as fault:
                 # the client has gone, or the process has too many open files
+                if fault.errno in NO_FILES:
+                    self.end_oldest()
                 time.sleep(SECONDS_BETWEEN_TRIES)
         return None
+
+    def note_idle(self, connection, is_idle):
+        with self.lock:
+            self.idle.pop(connection, None)
+            self.idle.update({connection: None} if is_idle else {})
+
+    def end_oldest(self):
+        """Ends the connection that has waited for a request for the longest time, if there is one: another needs its descriptor."""
+        with self.lock, contextlib.suppress(OSError, StopIteration):
+            oldest = next(iter(self.idle))
+            del self.idle[oldest]
+            oldest.shutdown(socket.SHUT_RDWR)
 
     def answer(self, connection, address):
         try:

@@ -1,13 +1,13 @@
 """What caches have on disk."""
 import collections
 import contextlib
+import errno
 import http.client
 import os
 import random
 import re
 import shutil
 import signal
-import socket
 import subprocess
 import sys
 import tempfile
@@ -601,37 +601,29 @@ resource.setrlimit(resource.RLIMIT_NOFILE, (60, 60))
 sys.exit(cache_server.main())"""
 
 
-def open_files(process):
-    return len(os.listdir(f"/proc/{process.pid}/fd"))
-
-
 def lives_without_descriptors():
-    """While connections take all descriptors of the server, it writes on; once they have ended, it moves what it couldn't move, and gives disk back."""
-    with tempfile.TemporaryDirectory() as place:
-        folder = os.path.join(place, "cache")
-        with Cache(folder, server=["-c", FEW_FILES]) as cache, contextlib.ExitStack() as stack:
-            own = stack.enter_context(contextlib.closing(http.client.HTTPConnection("127.0.0.1", cache.port, timeout=SECONDS)))
+    """While the process has too many open files, the last segment goes on, and what can't be moved stays where it is; later it is moved."""
+    with tempfile.TemporaryDirectory() as place, mock.patch.multiple(cache_files, SEGMENT=3000, SMALL_SEGMENT=1000, SECONDS_TO_MOVES=0):
+        folder, user, found = os.path.join(place, "cache"), User("ann", None, 1000), []
+        files = begun_files(folder)
 
-            def status(method, key, body=None):
-                own.request(method, key, body)
-                answer = own.getresponse()
-                return answer.status, answer.read()
+        def write(*rows):
+            batch = [(user, key, address and Entry(None, address, 64), address and address.encode(), False) for key, address in rows]
+            files.write(None, batch, moves=True)
 
-            found = differences(*((status("PUT", key, body)[0], 201) for key, body in (("/a", b"abc"), ("/large", bytes(3000000)))))
-            found += differences((wait_until(lambda: len(texts_of_log(folder)) == 4), True))
-            with contextlib.ExitStack() as others:
-                for _ in range(80):
-                    others.enter_context(socket.create_connection(("127.0.0.1", cache.port), timeout=SECONDS))
-                found += differences((wait_until(lambda: open_files(cache.process) == 60), True))
-                found += differences((status("DELETE", "/large")[0], 204), (status("PUT", "/b", b"four")[0], 201))
-                found += differences((wait_until(lambda: texts_of_log(folder)[-1].endswith(" /b")), True))
-                # the writer looks for content to move
-                time.sleep(1)
-                found += differences((status("GET", "/healthz"), (200, b"ok\n")))
-            found += differences((wait_until(lambda: cache.ask("PUT", "/c", os.urandom(9))[0] == 201 and bytes_below(folder) < 1000000), True))
-            found += differences((cache.stop(), ("cache_server: saved 3 keys, 3 objects\n", "")))
-        with Cache(folder) as cache:
-            return found + differences((cache.ask("GET", "/a"), (200, b"abc")), (cache.ask("GET", "/b"), (200, b"four")))
+        for first in 0, 100, 200:
+            write(*((f"/{number}", address_of(number)) for number in range(first, first + 50)))
+        segments, last = set(files.sizes), files.name
+        with mock.patch.object(cache_files, "open", side_effect=OSError(errno.EMFILE, "Too many open files"), create=True):
+            for first in 0, 100, 300:
+                write(*((f"/{number}", None if first < 300 else address_of(number)) for number in range(first + 1, first + 50)))
+            found += differences((files.name, last), (files.unread, set()), (set(files.sizes), segments | {last}))
+        for _ in range(5):
+            write()
+        keys = {f"/{number}": address_of(number) for number in (0, 100, *range(200, 250), *range(301, 350))}
+        found += differences((keys_after_a_kill(folder, os.path.join(place, "killed")), (keys, [])), (len(segments & set(files.sizes)), 1), (files.name != last, True))
+        os.close(files.folder)
+        return found
 
 
 def keeps_a_removal():

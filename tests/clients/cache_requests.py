@@ -6,6 +6,7 @@ import tempfile
 import time
 
 from servers import USERS, Cache, SlowPut, metrics, raw_answer, wait_until
+from cache_disk import FEW_FILES
 from shared import ABC, FOUR, SECONDS, differences
 
 CLOSE = b"Connection: close\r\n"
@@ -95,6 +96,18 @@ def answers_whole_before_it_closes():
                         read += part
             found += [] if read.partition(b"\r\n\r\n")[2] == large else [f"{header}: {len(read)} bytes arrive"]
         return found
+
+
+def answers_beside_idle_clients():
+    """Where idle connections take all descriptors, those that have waited longest are ended; one on which a body arrives isn't."""
+    with tempfile.TemporaryDirectory() as place, Cache(os.path.join(place, "cache"), server=["-c", FEW_FILES]) as cache, contextlib.ExitStack() as stack:
+        slow = SlowPut(cache, "/slow", bytes(2000000), {"Content-Length": "2000000"})
+        found = differences((wait_until(lambda: metrics(cache)["received_bytes_total"] > 0), True))
+        for begun in b"", b"GET /k HTTP/1.1\r\nX: y\r\n":
+            for _ in range(60):
+                stack.enter_context(socket.create_connection(("127.0.0.1", cache.port), timeout=SECONDS)).sendall(begun)
+            found += differences((cache.ask("PUT", "/k", b"abc")[0], 201), (cache.ask("GET", "/k"), (200, b"abc")))
+        return found + differences((slow.end(), 201), (cache.ask("GET", "/slow") == (200, bytes(2000000)), True), (cache.stop()[1], ""))
 
 
 def keeps_keys_apart():
@@ -231,6 +244,7 @@ CASES = (
     ("a cache's clients with other tokens", refuses_other_tokens),
     ("a cache's half requests", does_nothing_for_half_a_request),
     ("a cache's clients that send too much", answers_whole_before_it_closes),
+    ("a cache beside idle clients", answers_beside_idle_clients),
     ("a cache's keys that differ in a byte", keeps_keys_apart),
     ("a cache's clients that wait to be asked", asks_for_the_body),
     ("a cache's chunks with more words", takes_long_extensions),
