@@ -19,6 +19,8 @@ import time
 REQUEST_LINE = re.compile(r"([!-~]+) ([^ ]+) HTTP/([0-9])\.([0-9])")
 ABSOLUTE_FORM = re.compile("https?://[^/?]*/?", re.IGNORECASE)
 """What a client that takes the server for a proxy has before the path of a target, and the slash with which the path begins."""
+FORMS = ("OPTIONS", "CONNECT")
+"""The methods whose targets need not begin with a slash, once the host is taken away."""
 HEADER_NAME = re.compile("[!-9;-~]+")
 NUMBER = re.compile("[0-9]{1,19}")
 CHUNK_LINE = re.compile(rb"([0-9a-fA-F]{1,15})[ \t]*(?:;[^\n]*)?\r?\n")
@@ -92,6 +94,8 @@ class Connection(http.server.BaseHTTPRequestHandler):
             self.path = target if host is None else "/" + target[host.end() :]
             if major != "1":
                 raise Malformed(505)
+            if not self.path.startswith("/") and self.command not in FORMS:
+                raise Malformed(400)
             self.is_old = minor == "0"
             if not self.read_headers():
                 return False
@@ -131,6 +135,8 @@ class Connection(http.server.BaseHTTPRequestHandler):
         """Finds out whether the connection is kept after the request, and how long its body is: `length` is None for chunks, or if no length is given."""
         words = [word.strip() for word in self.headers.get("connection", "").lower().split(",")]
         coding, length = self.headers.get("transfer-encoding"), self.headers.get("content-length")
+        if "," in self.headers.get("host", ""):
+            raise Malformed(400)
         if coding is not None and (length is not None or coding.lower() != "chunked"):
             raise Malformed(400 if length is not None else 501)
         if length is not None and not NUMBER.fullmatch(length):
