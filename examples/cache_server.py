@@ -82,7 +82,7 @@ SECONDS_BETWEEN_LOOKS = 0.2
 STATUSES = {"S2": 507, "S5": 413, "S6": 507, "S11": 400, "S12": 404, "S13": 507, "S14": 503, "F4": 413}
 TAG = re.compile('(?:W/)?"[^"]*"')
 """An ETag, as the headers of conditions have it."""
-ADDRESS_KEY = re.compile("/(?:.*/)?cas/(?:blake3/)?([0-9a-f]{64})")
+ADDRESS_KEY = re.compile("/(?:.*/)?cas/(?:blake3/)?([0-9a-fA-F]{64})")
 """The keys that `--compare` is for."""
 PRIVATE = 0o077
 """The umask: other users can't read what is in FOLDER, which needs no token."""

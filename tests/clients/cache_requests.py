@@ -169,6 +169,7 @@ def compares_addresses():
         found = differences(
             (cache.ask("PUT", f"/cas/{ABC}", b"abc")[0], 201), (cache.ask("PUT", f"/cas/{ABC}", b"abd")[0], 400),
             (cache.ask("GET", f"/cas/{ABC}"), (200, b"abc")), (cache.ask("PUT", f"/x/cas/blake3/{FOUR}", b"abc")[0], 400),
+            (cache.ask("PUT", f"/cas/{ABC.upper()}", b"abc")[0], 201), (cache.ask("PUT", f"/cas/{ABC.upper()}", b"abd")[0], 400),
             (cache.ask("PUT", f"/cas/{address}", large)[0], 201), (cache.ask("PUT", f"/cas/{address}", large[:-1] + b"x")[0], 400),
             (cache.ask("PUT", f"/cas/{FOUR}", iter([b"ab", b"c"]), None, chunked)[0], 400), (cache.ask("GET", f"/cas/{FOUR}"), (404, b"")),
             (cache.ask("PUT", f"/cas/{ABC}", iter([b"ab", b"c"]), None, chunked)[0], 201), (cache.ask("PUT", f"/ac/{ABC}", b"four")[0], 201),
