@@ -46,7 +46,7 @@ SEGMENT = 1 << 26
 SMALL_SEGMENT = 1 << 20
 """Nor does one of this length, if no key leads to most of it."""
 MOVED_AT_ONCE = 1 << 24
-"""How many bytes are moved between two syncs."""
+"""How many bytes are written or moved between two syncs, if it is more than one object."""
 MAX_WAITING = 1 << 26
 """While this many bytes wait to be written, PUTs wait too: a disk that writes as many in a second is never more than a second late."""
 MAX_CHANGES = 1000
@@ -91,6 +91,19 @@ def last_changes(batch):
         changes[change[:2]] = change
         removed.update([change[:2]] if change[2] is None else [])
     return [(*change, which in removed) for which, change in changes.items()]
+
+
+def in_turns(batch):
+    """Parts of a batch that are written and synced one after another: what is in front of long content doesn't wait for that."""
+    turn, size = [], 0
+    for change in batch:
+        length = 0 if change[2] is None else change[2].length
+        if turn and size + length > MOVED_AT_ONCE:
+            yield turn
+            turn, size = [], 0
+        turn.append(change)
+        size += length
+    yield turn
 
 
 class Unreadable(Exception):
@@ -309,22 +322,28 @@ class Files:
         return has_ended
 
     def write(self, cache, batch, moves):
-        """Writes some changes of keys, and moves some content to the last segment."""
-        texts = [text for change in batch for text in self.texts_of(cache, *change)]
+        """Writes some changes of keys, some bytes at a time, and moves some content to the last segment."""
+        for changes in in_turns(batch):
+            self.write_lines([text for change in changes for text in self.texts_of(cache, *change)])
         emptied = self.emptiest() if moves else None
-        texts += self.move(emptied) if emptied else []
+        if emptied:
+            self.write_lines(self.move(emptied))
+        if emptied and not self.live_objects(emptied):
+            self.remove(emptied)
+        self.rewrite(goes_on=moves)
+
+    def write_lines(self, texts):
+        """Syncs the last segment, and appends lines to the log, which refer to what is there now. Begins a new segment if this one is long enough:
+        content that is longer than a segment has little other content beside it, and need not be moved."""
         os.fdatasync(self.last.fileno())
         self.log.write(b"".join(map(checked_line, texts)))
         self.log.flush()
         os.fdatasync(self.log.fileno())
         self.check_files()
         self.lines += len(texts)
-        if emptied and not self.live_objects(emptied):
-            self.remove(emptied)
         size = self.sizes[self.name]
         if size >= SEGMENT or size >= SMALL_SEGMENT and 2 * self.live[self.name] <= size:
             self.open_segment()
-        self.rewrite(goes_on=moves)
 
     def check_files(self):
         """Raises OSError if the files that were written to are no longer in the folder: a start would not find what they have."""

@@ -66,6 +66,7 @@ CASES = (
     ("a cache whose keys were left out", cache_disk.deletes_what_was_left_out),
     ("a cache that has moved what it has not read", cache_disk.writes_what_was_only_moved),
     ("a cache on a full disk", cache_disk.removes_on_a_full_disk),
+    ("a cache's keys in front of long content", cache_disk.writes_in_front_of_long_content),
     ("a cache without descriptors", cache_disk.lives_without_descriptors),
     ("a cache's new log", cache_disk.writes_its_log_in_steps),
     ("a cache that can't write a new log", cache_disk.lives_without_a_new_log),

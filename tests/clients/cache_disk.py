@@ -601,6 +601,29 @@ resource.setrlimit(resource.RLIMIT_NOFILE, (60, 60))
 sys.exit(cache_server.main())"""
 
 
+def writes_in_front_of_long_content():
+    """A key is on disk before long content that was stored after it is written. Content that is longer than a segment is not moved."""
+    with tempfile.TemporaryDirectory() as place, mock.patch.multiple(cache_files, MOVED_AT_ONCE=100, SEGMENT=140, SMALL_SEGMENT=100):
+        folder, user, begun = os.path.join(place, "cache"), User("ann", None, 1000), []
+        files = begun_files(folder)
+        write_pieces = files.write_pieces
+
+        def note_and_write(pieces):
+            pieces = [b"".join(pieces)]
+            begun.append((len(pieces[0]), "".join(text[-1] for text in texts_of_log(folder) if not text.startswith("object"))))
+            write_pieces(pieces)
+
+        def write(*rows):
+            files.write(None, [(user, key, length and Entry(None, address_of(length), length), length and bytes(length), False) for key, length in rows], moves=True)
+
+        files.write_pieces = note_and_write
+        write(("/a", 1), ("/b", 2), ("/c", 150), ("/d", 3), ("/e", 170))
+        write(("/e", None), ("/f", 4))
+        write()
+        os.close(files.folder)
+        return differences((begun, [(1, ""), (2, ""), (150, "ab"), (3, "abc"), (170, "abcd"), (4, "abcde"), (3, "abcdeef")]))
+
+
 def lives_without_descriptors():
     """While the process has too many open files, the last segment goes on, and what can't be moved stays where it is; later it is moved."""
     with tempfile.TemporaryDirectory() as place, mock.patch.multiple(cache_files, SEGMENT=3000, SMALL_SEGMENT=1000, SECONDS_TO_MOVES=0):
