@@ -23,7 +23,9 @@ A signal that ends the store too is like a kill, so systemd needs `KillMode=mixe
 The server starts with what is in FOLDER, and compares each object with its address. A key that can't be loaded, such as one of a user who isn't in FILE, is
 reported, and stays in FOLDER with its object for a later start; an object that has another address is moved to FOLDER/aside. If FOLDER/log is damaged, and not
 only truncated, keys may be older than they were: the server refuses to start, and changes nothing. Only the server's user can read what it writes in FOLDER.
-One server at a time uses a folder. If the store ends, the server answers 503 and exits with status 3.
+One server at a time uses a folder. If the store ends, the server answers 503 and exits with status 3; if FOLDER is removed or moved, with status 1.
+
+If the server has too many open files, the connections that have waited longest for a request are closed.
 
 A store keeps a journal of its commands in memory. When it has more than `--journal-limit` entries, the content moves into a second store, to which the
 server switches while it answers requests (cache_stores.py). A limit that is less than twice what the content needs is raised to that.
@@ -42,6 +44,7 @@ token. All other paths are keys.
 | 405 | `/healthz` and `/metrics` can't be keys |
 | 400 | the request is malformed, or its body is truncated or isn't what `--compare` wants, or a PUT has `Content-Range`: it would store a part |
 | 411, 413, 414 | the body has no length; it is longer than `--most`, or in chunks than 16 GiB; the key of a PUT has more than 4096 bytes |
+| 431, 501, 505 | a header or all headers are too long; the server has no such method or coding; the version isn't HTTP/1 |
 | 412 | what the key leads to isn't what `If-Match` or, for PUT and DELETE, `If-None-Match` wants; nothing is changed |
 | 503, 507 | the store is out of memory, or has ended, or FOLDER can't be written to; the store or the user's quota is full, or the user has too many keys |
 """

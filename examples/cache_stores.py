@@ -5,9 +5,9 @@ there what keys lead to, a batch of objects at a time, while requests are answer
 on the first one ends there: an upload is sealed there and then moved, and an object that is being read is kept until the read ends. The first store ends
 once nothing uses it.
 
-While there are two stores, a user's quota holds for both together. The tenant in the new store may use what the tenant in the old store leaves of the quota. An object that
-is in both counts once, and the uploads that copy objects to the new store don't count. Bytes are reserved under the lock under which the tenant's limit
-changes, so no other upload can reserve the bytes that the copies need.
+While there are two stores, a user's quota holds for both together. The tenant in the new store may use what the tenant in the old store leaves of the quota. An
+object that is in both counts once, and the uploads that copy objects to the new store don't count. Bytes are reserved under the lock under which the tenant's
+limit changes, so no other upload can reserve the bytes that the copies need.
 
 Content of unknown length is a draft until its end is known, unless that comes within the first part: an upload of a tenant that is no user's. Its user's tenant
 reserves as many bytes as have arrived, by an upload without content. In the end the draft is filed, and copied to an upload of its user: until that is done,
