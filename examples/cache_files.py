@@ -106,6 +106,11 @@ def in_turns(batch):
     yield turn
 
 
+def at_once(path, flags):
+    """Opens a file, and doesn't wait if it is a pipe."""
+    return os.open(path, flags | os.O_NONBLOCK)
+
+
 class Unreadable(Exception):
     """An object can't be read from its segment."""
 
@@ -237,7 +242,7 @@ class Files:
     def content(self, address):
         """Yields the bytes of an object in pieces."""
         place = self.place(address)
-        with open(self.at(place.segment), "rb") as file:
+        with open(self.at(place.segment), "rb", opener=at_once) as file:
             file.seek(place.offset)
             for start in range(0, place.length, COPIED):
                 piece = file.read(min(COPIED, place.length - start))

@@ -48,6 +48,7 @@ CASES = (
     ("a cache that is killed", cache_disk.loses_a_second),
     ("a cache of many clients that is killed", cache_disk.loses_a_second_of_many),
     ("a cache whose files end early", cache_disk.reads_to_the_last_whole_record),
+    ("a cache with a pipe for a segment", cache_disk.begins_beside_a_pipe),
     ("a cache whose log is damaged", cache_disk.refuses_a_damaged_log),
     ("a cache in a folder with other keys", cache_disk.refuses_other_keys),
     ("a cache whose first line is torn", cache_disk.begins_after_a_torn_first_line),

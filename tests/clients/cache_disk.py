@@ -6,6 +6,7 @@ import http.client
 import os
 import random
 import re
+import select
 import shutil
 import signal
 import subprocess
@@ -211,6 +212,24 @@ def reads_to_the_last_whole_record():
             found += differences((cache.stop()[1], "cache_server: 1 key left out: its object is truncated\n"))
         with Cache(folder) as cache:
             return found + differences((cache.begun.split(", ", 1)[1], "has 3 keys, 3 objects\n"), (cache.ask("GET", "/c") == (200, b"c" * 5000), True))
+
+
+def begins_beside_a_pipe():
+    """Where a segment is a pipe, a start doesn't wait for what is written to it; with the segment, the content is there again."""
+    with tempfile.TemporaryDirectory() as place:
+        folder = os.path.join(place, "cache")
+        with Cache(folder) as cache:
+            found = differences((cache.ask("PUT", "/k", b"abc")[0], 201))
+        segment = os.path.join(folder, places_of(folder)[ABC][0])
+        os.rename(segment, segment + ".aside")
+        os.mkfifo(segment)
+        words = [sys.executable, SERVER, folder, "--port", "0", "--program", PROGRAM]
+        with subprocess.Popen(words, stdout=subprocess.PIPE, stderr=subprocess.PIPE, start_new_session=True) as server:
+            has_begun = bool(select.select([server.stdout], [], [], SECONDS)[0])
+            server.send_signal(signal.SIGTERM if has_begun else signal.SIGKILL)
+        os.rename(segment + ".aside", segment)
+        with Cache(folder) as cache:
+            return found + differences((has_begun, True), (cache.ask("GET", "/k"), (200, b"abc")))
 
 
 def contents_of(folder):
