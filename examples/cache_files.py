@@ -562,20 +562,23 @@ class Loader:
         if dropped:
             report(f"the log has no complete line in its last {count_text(dropped, 'byte')}, which the server drops")
         users = {user.name: user for user in self.cache.users}
-        faults, count, loaded, left = collections.Counter(), 0, set(), collections.Counter(name for name, _ in self.files.keys)
-        for (name, key), address in list(self.files.keys.items()):
+        faults, count, loaded, seen = collections.Counter(), 0, set(), collections.Counter()
+        # the last ones first, as there may be no room for all
+        for (name, key), address in reversed(list(self.files.keys.items())):
             if self.has_to_stop():
                 return None
-            left[name] -= 1
+            seen[name] += 1
             if name not in users:
                 fault = "its user doesn't exist"
-            elif left[name] >= self.cache.max_keys:
+            elif seen[name] > self.cache.max_keys:
                 fault = "its user has too many keys"
             else:
                 fault = self.load_key(users[name], key, address)
             count += fault is None
             loaded.update([address] if fault is None else [])
             faults.update([fault] if fault else [])
+        for user in self.cache.users:
+            user.keys = collections.OrderedDict(reversed(user.keys.items()))
         self.files.unchecked = set(self.files.keys.values()) - loaded
         for fault, keys in faults.items():
             report(f"{count_text(keys, 'key')} left out: {fault}")

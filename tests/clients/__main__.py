@@ -73,6 +73,7 @@ CASES = (
     ("a cache that can't write a new log", cache_disk.lives_without_a_new_log),
     ("a cache in a folder with another new log", cache_disk.leaves_another_new_log),
     ("a cache's keys that were removed", cache_disk.keeps_a_removal),
+    ("a cache that begins with a lower limit", cache_disk.begins_with_the_last_keys),
     ("a cache that begins with other users", cache_disk.keeps_what_it_cannot_begin_with),
     ("a cache's metrics", cache_moves.reports_its_counts),
     ("a cache's health", cache_moves.reports_its_health),

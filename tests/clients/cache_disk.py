@@ -767,6 +767,19 @@ def ends_without_its_folder():
         return found
 
 
+def begins_with_the_last_keys():
+    """A start with a lower limit leaves out what was stored first, as an eviction would; so does the next eviction."""
+    with tempfile.TemporaryDirectory() as place:
+        folder = os.path.join(place, "cache")
+        with Cache(folder) as cache:
+            found = differences(*((cache.ask("PUT", f"/{name}", name.encode() * 1000)[0], 201) for name in "abcd"))
+        with Cache(folder, words=["--limit", "2500"]) as cache:
+            found += differences((cache.begun.split(", ", 1)[1], "has 2 keys, 2 objects\n"), (cache.ask("PUT", "/e", b"e" * 1000)[0], 201))
+            found += differences(([cache.ask("GET", f"/{name}")[0] for name in "abcde"], [404, 404, 404, 200, 200]))
+        with Cache(folder) as cache:
+            return found + differences(([cache.ask("GET", f"/{name}")[0] for name in "abcde"], [200, 200, 404, 200, 200]))
+
+
 def keeps_what_it_cannot_begin_with():
     """A start with other users, or with limits that are too low, loses nothing that a later one could have."""
     with tempfile.TemporaryDirectory() as place:
