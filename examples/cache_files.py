@@ -30,7 +30,7 @@ from b3store.files import checked_line, checked_text, lock_folder, private, repl
 from cache_http import NO_FILES
 from cache_stores import Entry, report
 
-LOG = "log"
+LOG, ASIDE = "log", "aside"
 SEGMENT_NAME = re.compile("segment[.][0-9]+")
 TORN_LINE = re.compile(rb"\0*|[0-9a-f]{1,8}|[0-9a-f]{8} (?:[okd][^\n]*)?", re.DOTALL)
 """What a crash may leave of the first line of a log."""
@@ -163,9 +163,18 @@ class Files:
             self.sizes[name] = os.path.getsize(self.at(name)) if os.path.exists(self.at(name)) else 0
         for name in segments:
             if name not in self.sizes:
-                os.remove(self.at(name))
+                self.remove_unnamed(name, has_lines=bool(texts))
         self.remove_new_log()
         return len(content) - end
+
+    def remove_unnamed(self, name, has_lines):
+        """Removes a segment that the log doesn't name. One with content is moved aside if the log has no line: it may have been emptied."""
+        if has_lines or os.path.getsize(self.at(name)) == 0:
+            os.remove(self.at(name))
+            return
+        os.makedirs(self.at(ASIDE), exist_ok=True)
+        os.replace(self.at(name), self.at(os.path.join(ASIDE, name)))
+        report(f"the log has no line for {name}, which is moved to {self.at(ASIDE)}")
 
     def remove_new_log(self):
         """Removes what an earlier server has left of a new log; a file of something else stays, and then the log is not written again."""
@@ -252,8 +261,8 @@ class Files:
 
     def put_aside(self, address):
         """Copies content that doesn't have its address to a separate folder, and forgets where it was."""
-        os.makedirs(self.at("aside"), exist_ok=True)
-        with open(self.at(os.path.join("aside", address)), "wb") as file:
+        os.makedirs(self.at(ASIDE), exist_ok=True)
+        with open(self.at(os.path.join(ASIDE, address)), "wb") as file:
             file.writelines(self.content(address))
         self.lose(address)
 

@@ -11,6 +11,7 @@ TOP = os.path.dirname(os.path.dirname(os.path.dirname(os.path.abspath(__file__))
 sys.path[1:1] = [os.path.join(TOP, "python", "tests"), os.path.join(TOP, "tests", "common")]
 import backups
 import cache_disk
+import cache_folders
 import cache_moves
 import cache_quotas
 import cache_requests
@@ -48,10 +49,10 @@ CASES = (
     ("a cache that is killed", cache_disk.loses_a_second),
     ("a cache of many clients that is killed", cache_disk.loses_a_second_of_many),
     ("a cache whose files end early", cache_disk.reads_to_the_last_whole_record),
-    ("a cache with a pipe for a segment", cache_disk.begins_beside_a_pipe),
-    ("a cache whose log is damaged", cache_disk.refuses_a_damaged_log),
-    ("a cache in a folder with other keys", cache_disk.refuses_other_keys),
-    ("a cache whose first line is torn", cache_disk.begins_after_a_torn_first_line),
+    ("a cache with a pipe for a segment", cache_folders.begins_beside_a_pipe),
+    ("a cache whose log is damaged", cache_folders.refuses_a_damaged_log),
+    ("a cache in a folder with other keys", cache_folders.refuses_other_keys),
+    ("a cache whose first line is torn", cache_folders.begins_after_a_torn_first_line),
     ("a cache that gives disk back", cache_disk.gives_disk_back),
     ("a cache that ends while it begins", cache_disk.ends_while_it_loads),
     ("a cache that stops", cache_disk.stops_at_once),
@@ -59,8 +60,8 @@ CASES = (
     ("a cache that is interrupted", cache_disk.keeps_all_at_an_interrupt),
     ("a cache that is ended with its store", cache_disk.tells_what_a_dead_store_had),
     ("a cache that can't read its files", cache_disk.keeps_what_it_cannot_read),
-    ("a cache with an older folder", cache_disk.begins_from_an_older_folder),
-    ("a cache without its folder", cache_disk.ends_without_its_folder),
+    ("a cache with an older folder", cache_folders.begins_from_an_older_folder),
+    ("a cache without its folder", cache_folders.ends_without_its_folder),
     ("a cache that can't write", cache_disk.ends_where_nothing_can_be_written),
     ("a cache whose segments were removed", cache_disk.writes_again_what_was_removed),
     ("a cache that has not read all its files", cache_disk.lives_with_what_it_has_not_read),
@@ -71,7 +72,7 @@ CASES = (
     ("a cache without descriptors", cache_disk.lives_without_descriptors),
     ("a cache's new log", cache_disk.writes_its_log_in_steps),
     ("a cache that can't write a new log", cache_disk.lives_without_a_new_log),
-    ("a cache in a folder with another new log", cache_disk.leaves_another_new_log),
+    ("a cache in a folder with another new log", cache_folders.leaves_another_new_log),
     ("a cache's keys that were removed", cache_disk.keeps_a_removal),
     ("a cache that begins with a lower limit", cache_disk.begins_with_the_last_keys),
     ("a cache that begins with other users", cache_disk.keeps_what_it_cannot_begin_with),
