@@ -2,6 +2,7 @@
 import io
 import itertools
 import operator
+import os
 import sys
 from types import TracebackType
 from typing import Any, BinaryIO, Callable, Iterator, List, Optional, Type, Union
@@ -341,12 +342,31 @@ def parts_of(file: Any, rooms: List[memoryview], first: List[memoryview], limit:
 
 
 def length_of(file: Any, count: int) -> Optional[int]:
-    """The number of a file's bytes, of which `count` were read, if the file is seekable and has more than these."""
+    """The number of a file's bytes, of which `count` were read, if the file is seekable and has more than these. Raises what the file does if it can't go
+    back from its end: its bytes would be lost."""
+    if is_stream(file):
+        return None
     try:
         position = file.tell()
         end = file.seek(0, io.SEEK_END)
-        file.seek(position)
-        length = int(end) - int(position) + count
     except (AttributeError, OSError, TypeError, ValueError):
         return None
+    file.seek(position)
+    try:
+        length = int(end) - int(position) + count
+    except (TypeError, ValueError):
+        return None
     return length if length > count else None
+
+
+def is_stream(file: Any) -> bool:
+    """Whether a file has a descriptor that can't seek. One of gzip over a pipe goes to its end, and never back."""
+    try:
+        number = operator.index(file.fileno())
+    except (AttributeError, OSError, TypeError, ValueError):
+        return False
+    try:
+        os.lseek(number, 0, os.SEEK_CUR)
+        return False
+    except OSError:
+        return True

@@ -1,5 +1,6 @@
 """Uploads of any content, and objects as files."""
 import asyncio
+import gzip
 import io
 import mmap
 import os
@@ -112,6 +113,26 @@ def uploads_that_fail():
         found += differences((refusal(lambda: store.upload(Reader(b"abc"), tenant, max_len=2)), ("F4", None)))
         found += differences((refusal(store.upload, b"abc", 7), ("S1", None)), (store.uploads(tenant), []), (store.usage(tenant).reserved, 0), (store.alive, True))
         return found + differences((store.upload(io.BytesIO(large), tenant).length, len(large)), (store.upload(b"abc", tenant, address=ABC).address, ABC))
+
+
+class OneWay(io.BytesIO):
+    """A file that goes to its end, but not back."""
+
+    def seek(self, offset, whence=io.SEEK_SET):
+        if whence == io.SEEK_SET:
+            raise io.UnsupportedOperation("it can't seek back")
+        return super().seek(offset, whence)
+
+
+def files_that_go_one_way():
+    """A file of gzip says that it can seek, also over a pipe. No byte is lost by going to its end."""
+    content = os.urandom(1000) * 9000
+    with Store(PROGRAM, sessions=1) as store:
+        tenant = store.tenant(LIMIT)
+        with read_end_of_pipe(gzip.compress(content, 1)) as pipe, gzip.open(pipe) as file:
+            address = store.upload(file, tenant).address
+        found = differences((store.fetch(tenant, address) == content, True), (raised(store.upload, OneWay(content), tenant), io.UnsupportedOperation))
+        return found + differences((store.stat().objects, 1), (store.uploads(tenant), []), (store.usage(tenant).reserved, 0))
 
 
 def writes_after_a_refusal():
