@@ -77,32 +77,62 @@ def get(store: Client, words: Any) -> int:
 def output_to(path: Optional[str]) -> Iterator[Callable[[memoryview], None]]:
     """A function that writes to a file, or to standard output. A regular file gets its name when all is written, so that no half of one is left; it has the
     owner, the group and the mode of the file that it replaces. What is no regular file, such as a pipe, is written to as it is."""
-    if path is None:
-        yield writer(1, "standard output")
-        return
-    # a link stays one: what it leads to is replaced
-    path = os.path.realpath(path) if os.path.islink(path) else path
-    is_special = os.path.exists(path) and not os.path.isfile(path)
+    if path is None or is_standard_output(path):
+        yield writer(1, path or "standard output")
+    elif is_special(path):
+        with opened(path, "wb", path) as file:
+            yield writer(file.fileno(), path)
+    else:
+        # a link stays one: what it leads to is replaced
+        with replacing(os.path.realpath(path) if os.path.islink(path) else path) as file:
+            yield writer(file.fileno(), path)
+
+
+def is_standard_output(path: str) -> bool:
+    """Whether a path is a link to standard output, as /dev/stdout is."""
     try:
-        aside, file = (path, open(path, "wb", buffering=0)) if is_special else open_beside(path)
+        return os.path.islink(path) and os.path.samestat(os.stat(path), os.fstat(1))
+    except OSError:
+        return False
+
+
+def is_special(path: str) -> bool:
+    """Whether a path leads to something that is no regular file."""
+    try:
+        return not stat.S_ISREG(os.stat(path).st_mode)
+    except FileNotFoundError:
+        return False
     except OSError as fault:
         raise named(fault, path) from None
+
+
+def opened(name: str, mode: str, path: str) -> Any:
+    """Opens a file. Raises OSError with a path, which may be another one."""
     try:
-        with file:
-            yield writer(file.fileno(), path)
-        if not is_special:
-            rename(aside, path)
+        return open(name, mode, buffering=0, opener=private)
+    except OSError as fault:
+        raise named(fault, path) from None
+
+
+@contextlib.contextmanager
+def replacing(path: str) -> Iterator[BinaryIO]:
+    """A new file in the folder of a path, which gets this name once it is written."""
+    aside = os.path.join(os.path.dirname(path), f".{secrets.token_hex(8)}.part")
+    try:
+        with opened(aside, "xb", path) as file:
+            give_rights(file.fileno(), path)
+            yield file
+        rename(aside, path)
     except BaseException:
-        if not is_special:
+        # a signal can come before it is made, or when it has its name
+        with contextlib.suppress(OSError):
             os.unlink(aside)
         raise
 
 
-def open_beside(path: str) -> Tuple[str, BinaryIO]:
-    """A new file in the folder of a path, and its name."""
-    name = os.path.join(os.path.dirname(path), f".{secrets.token_hex(8)}.part")
-    file = open(name, "xb", buffering=0, opener=private)
-    number, mask = file.fileno(), os.umask(0)
+def give_rights(number: int, path: str) -> None:
+    """Gives a new file the owner, the group and the mode of a file that it will replace, or the mode of any new file."""
+    mask = os.umask(0)
     os.umask(mask)
     try:
         old = os.stat(path)
@@ -115,7 +145,6 @@ def open_beside(path: str) -> Tuple[str, BinaryIO]:
     # not every file system has modes
     with contextlib.suppress(OSError):
         os.fchmod(number, mode)
-    return name, file
 
 
 def gives(number: int, owner: int, group: int) -> bool:

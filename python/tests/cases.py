@@ -51,6 +51,7 @@ CASES = (
     ("clients that are closed", served.clients_that_are_closed),
     *hostile.CASES,
     ("the command line", programs.puts_and_gets),
+    ("outputs of the command line", programs.outputs_of_all_kinds),
     ("messages of the command line", programs.says_what_is_wrong),
     ("an interrupt of the command line", programs.ends_on_an_interrupt),
     ("an interrupt while a program starts", programs.ends_while_it_starts),

@@ -1,4 +1,5 @@
 """The command line, `python -m b3store`."""
+import contextlib
 import os
 import pty
 import re
@@ -9,11 +10,13 @@ import subprocess
 import sys
 import tempfile
 import time
+import unittest.mock
 
 from bridge import Bridge
 from shared import ABC, EMPTY, FOUR, PROGRAM, SECONDS, TOP, differences
 from served import server_of
 from transfers import PART_LEN, content_of
+from b3store.__main__ import output_to
 
 PACKAGE = os.path.join(TOP, "python")
 
@@ -66,6 +69,33 @@ def puts_and_gets():
         status, out, err = client("journal")
         found += differences((out.splitlines()[0], f"tenant 0 {1 << 46}".encode()), (client("journal", "--from", "1", "--count", "2"), (0, b"\n".join(out.splitlines()[1:3]) + b"\n", "")))
         return found + differences((run(["--socket", server.path, "has", ABC])[0], 0), (run(["has", "--socket", server.path, ABC])[0], 0), (sorted(os.listdir(place)), ["a\\b", "copy", "large"]))
+
+
+def outputs_of_all_kinds():
+    """Links to standard output and to pipes are written to as they are; a link that leads nowhere stays as it is, and no part of a file is left."""
+    with tempfile.TemporaryDirectory() as place, Bridge() as server:
+        def get(to, **options):
+            words = [sys.executable, "-m", "b3store", "--socket", server.path, "get", ABC, "-o", to]
+            return subprocess.run(words, stderr=subprocess.PIPE, timeout=SECONDS, env={**os.environ, "PYTHONPATH": PACKAGE}, **options)
+
+        run(["--socket", server.path, "put", "-"], b"abc")
+        ran, log, loop = get("/dev/stdout", stdout=subprocess.PIPE), os.path.join(place, "log"), os.path.join(place, "loop")
+        found = differences((ran.stdout, b"abc"), (ran.stderr, b""), (ran.returncode, 0))
+        with open(log, "ab") as file:
+            file.write(b"old ")
+            file.flush()
+            found += differences((get("/dev/stdout", stdout=file).returncode, 0), (open(log, "rb").read(), b"old abc"))
+        reading, writing = os.pipe()
+        with os.fdopen(reading, "rb") as pipe:
+            ran = get(f"/dev/fd/{writing}", pass_fds=[writing])
+            os.close(writing)
+            found += differences((ran.stderr, b""), (ran.returncode, 0), (pipe.read(), b"abc"))
+        os.symlink("loop", loop)
+        ran = get(loop)
+        found += differences((ran.stderr.decode(), f"b3store: {loop}: too many levels of symbolic links\n"), (ran.returncode, 3), (os.readlink(loop), "loop"))
+        with unittest.mock.patch("os.umask", side_effect=KeyboardInterrupt), contextlib.suppress(KeyboardInterrupt), output_to(os.path.join(place, "file")):
+            found.append("nothing is raised")
+        return found + differences((sorted(os.listdir(place)), ["log", "loop"]))
 
 
 def says_what_is_wrong():
