@@ -81,11 +81,11 @@ class Session:
     def __init__(self, sending: Any, reading: BinaryIO, ended: Callable[..., Ended]) -> None:
         self._sending, self._reading, self._ended = sending, reading, ended
 
-    def has_answer(self, seconds: float) -> bool:
+    def has_answer(self, seconds: Optional[float]) -> bool:
         """Whether an answer arrives within some time."""
         poll = select.poll()
         poll.register(self._reading, select.POLLIN)
-        return bool(poll.poll(1000 * seconds))
+        return bool(poll.poll(None if seconds is None else 1000 * seconds))
 
     def answer_within(self, kind: str, seconds: float) -> List[str]:
         """Returns the words of an answer after its kind. The whole answer has to arrive within some time. Raises TimeoutError, ValueError and Refused."""
@@ -240,6 +240,8 @@ class Session:
                     end = end or time.monotonic() + SECONDS_FOR_ROOM
                     if not can_write(target, max(0, end - time.monotonic())):
                         break
+                    # it may be the source that has no bytes: for a pipe the system waits at neither end
+                    self.has_answer(None)
         except OSError as error:
             fault = error
         try:

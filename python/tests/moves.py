@@ -72,7 +72,28 @@ def ends_within_an_object():
     return found
 
 
+def waits_for_a_slow_store():
+    """A store that is slow is waited for, and not asked again and again, where its bytes go into a pipe."""
+    found, calls, splice = [], [], sessions._splice
+
+    def counted(*words):
+        calls.append(words)
+        return splice(*words)
+
+    answer = r"read -r line; printf 'bytes 9000\n'; for part in 1 2 3; do sleep 0.3; head -c 3000 /dev/zero; done; read -r line"
+    reading, writing = os.pipe()
+    with open(reading, "rb") as pipe, tempfile.TemporaryDirectory() as place, Store(script_of(place, answer), sessions=1) as store:
+        sessions._splice = splice and counted
+        try:
+            found += differences((store.fetch_to(0, FOUR, writing, 0, 9000), 9000))
+        finally:
+            sessions._splice = splice
+            os.close(writing)
+        return found + differences((pipe.read(), bytes(9000)), (len(calls) < 100, True))
+
+
 CASES = (
     ("objects written to descriptors", writes_to_descriptors),
     ("stores that end within an object", ends_within_an_object),
+    ("objects from a slow store", waits_for_a_slow_store),
 )
