@@ -113,8 +113,8 @@ class Session:
                     count -= views.pop(0).nbytes
                 if count:
                     views[0] = views[0][count:]
-        except OSError:
-            raise self._ended() from None
+        except OSError as fault:
+            raise self._broken(fault) from None
 
     def ask(self, kinds: Kinds, line: str, content: Buffer = b"") -> List[str]:
         """Sends a command, and returns the words of its answer."""
@@ -176,8 +176,8 @@ class Session:
         """Reads a line, and returns it without its newline."""
         try:
             line = self._reading.readline(MAX_LINE_LEN)
-        except OSError:
-            line = b""
+        except OSError as fault:
+            raise self._broken(fault) from None
         if len(line) == MAX_LINE_LEN:
             raise ValueError("a line is too long")
         if not line.endswith(b"\n"):
@@ -191,8 +191,8 @@ class Session:
             raise ValueError(f"{count} bytes instead of {max_len}")
         try:
             content = self._reading.read(count)
-        except OSError:
-            content = b""
+        except OSError as fault:
+            raise self._broken(fault) from None
         if len(content) < count:
             raise self._ended()
         return content
@@ -204,8 +204,8 @@ class Session:
             raise ValueError(f"{count} bytes instead of {room.nbytes}")
         try:
             got = self._reading.readinto(room[:count])  # type: ignore[attr-defined]
-        except OSError:
-            got = 0
+        except OSError as fault:
+            raise self._broken(fault) from None
         if got < count:
             raise self._ended()
         return count
@@ -243,11 +243,13 @@ class Session:
                     # it may be the source that has no bytes: for a pipe the system waits at neither end
                     self.has_answer(None)
         except OSError as error:
+            if error.errno is None:
+                raise
             fault = error
         try:
             rest = first + self._reading.read(left) if left else first
-        except OSError:
-            raise self._ended() from None
+        except OSError as error:
+            raise self._broken(error) from None
         if len(rest) < len(first) + left:
             raise self._ended()
         return rest, fault
@@ -262,11 +264,15 @@ class Session:
         """Reads up to `count` bytes that are there, and none ahead of them."""
         try:
             got = os.read(self._reading.fileno(), count)
-        except OSError:
-            got = b""
+        except OSError as fault:
+            raise self._broken(fault) from None
         if not got:
             raise self._ended()
         return got
+
+    def _broken(self, fault: OSError) -> Exception:
+        """What to raise for an error at an end: the other side has ended. One without a number isn't the system's: a signal's handler has raised it."""
+        return fault if fault.errno is None else self._ended()
 
     def close(self) -> None:
         """Closes both ends."""

@@ -151,6 +151,35 @@ def commands_that_are_broken_off():
         return found + differences((told, ("a command was interrupted by Interrupted", None, "")), (store.alive, False), (store.close(), -signal.SIGKILL))
 
 
+def give_up(*_):
+    raise TimeoutError("it takes too long")
+
+
+def commands_that_take_too_long():
+    """A handler may raise an OSError, as TimeoutError: it reaches the caller, and isn't taken for the end of the store."""
+    found, sink = [], os.open(os.devnull, os.O_WRONLY)
+    calls = (
+        lambda store: store.stat(), lambda store: store.put(0, 0, bytes(1 << 24)), lambda store: store.fetch(0, ABC), lambda store: store.fetch_to(0, ABC, sink),
+        lambda store: store.fetch_into(0, ABC, bytearray(5)),
+    )
+    for call in calls:
+        for answer in "", "bytes 5", "bytes 5\\nabc":
+            text = f"read -r line; printf '{answer}'; kill -ALRM $PPID; exec sleep 60"
+            with tempfile.TemporaryDirectory() as place, Store(script_of(place, text), sessions=1) as store:
+                found += differences((raised_by_alarm(call, store), TimeoutError), (ended(store.stat), ("a command was interrupted by TimeoutError", None, "")))
+    os.close(sink)
+    return found
+
+
+def raised_by_alarm(call, store):
+    """The type of what a call raises, when a signal comes whose handler gives up."""
+    before = signal.signal(signal.SIGALRM, give_up)
+    try:
+        return raised(call, store)
+    finally:
+        signal.signal(signal.SIGALRM, before)
+
+
 def refusals_of_the_page():
     """The module's table has the refusals that docs/FORMATS.md says of a session's lines."""
     with open(os.path.join(TOP, "docs", "FORMATS.md"), encoding="utf-8") as page:
