@@ -4,7 +4,6 @@ import os
 import queue
 import re
 import socket
-import threading
 from types import TracebackType
 from typing import Any, List, Optional, Type, Union
 
@@ -35,7 +34,7 @@ class Client(Transfers):
         super().__init__()
         count = check_number("sessions", sessions, 1, MAX_SESSIONS)
         self._name, self._connect = check_place(path, host, port, token)
-        self._token, self._closing = token, threading.Lock()
+        self._token = token
         self._sockets: List[socket.socket] = []
         opened: List[Session] = []
         try:

@@ -6,7 +6,9 @@ import queue
 import select
 import socket
 import sys
+import threading
 import time
+import weakref
 from types import TracebackType
 from typing import Any, BinaryIO, Callable, List, Optional, Sequence, Tuple, Type, Union
 
@@ -280,23 +282,31 @@ class Session:
             with contextlib.suppress(OSError):
                 end.close()
 
+    def leave(self, nowhere: int) -> None:
+        """Puts another descriptor in place of both ends', which this process has inherited."""
+        for end in self._sending, self._reading:
+            with contextlib.suppress(OSError, ValueError):
+                os.dup2(nowhere, end.fileno(), False)
+
 
 class Sessions:
     """The sessions of a store. Each command and its answer take a free one, and wait for it if there is none."""
 
     def __init__(self) -> None:
         self._free: "queue.SimpleQueue[Session]" = queue.SimpleQueue()
-        self._count = 0
+        self._all: List[Session] = []
+        self._closing = threading.Lock()
         self._fault: Optional[Ended] = None
         """Why the sessions can't be used any more."""
         self._process_id = os.getpid()
+        _opened.add(self)
 
     def close(self) -> Any:
         """Ends all sessions."""
         raise NotImplementedError
 
     def _add(self, sessions: Sequence[Session]) -> None:
-        self._count += len(sessions)
+        self._all += sessions
         self._give_back(sessions)
 
     def _ended(self, reason: str = "the store has ended", seconds: float = 0) -> Ended:
@@ -307,7 +317,7 @@ class Sessions:
         """Takes all sessions, once their commands are done; none if that is interrupted."""
         taken: List[Session] = []
         try:
-            while len(taken) < self._count:
+            while len(taken) < len(self._all):
                 taken.append(self._free.get())
         except BaseException:
             self._give_back(taken)
@@ -318,6 +328,13 @@ class Sessions:
         """Makes sessions free."""
         for session in sessions:
             self._free.put(session)
+
+    def _leave(self, nowhere: int) -> None:
+        """Leaves the sessions to the process that opened them. Here, `close` waits for no thread of that one."""
+        for session in self._all:
+            session.leave(nowhere)
+        self._free, self._closing = queue.SimpleQueue(), threading.Lock()
+        self._give_back(self._all)
 
     def _turn(self) -> "Turn":
         """A free session, for a command and its answer."""
@@ -334,6 +351,21 @@ class Sessions:
             raise self._fault from None
         else:
             self._fault = Ended(f"a command was interrupted by {type(fault).__name__}")
+
+
+_opened: "weakref.WeakSet[Sessions]" = weakref.WeakSet()
+
+
+def leave_all() -> None:
+    """Leaves all sessions to the parent of a new process: while another process has copies of them, what the parent closes doesn't end."""
+    with contextlib.suppress(OSError):
+        nowhere = os.open(os.devnull, os.O_RDWR)
+        for sessions in list(_opened):
+            sessions._leave(nowhere)
+        os.close(nowhere)
+
+
+os.register_at_fork(after_in_child=leave_all)
 
 
 class Turn:

@@ -5,7 +5,6 @@ import fcntl
 import os
 import subprocess
 import tempfile
-import threading
 import time
 from types import TracebackType
 from typing import BinaryIO, Callable, Optional, Type, TypeVar, cast
@@ -44,7 +43,6 @@ class Store(Transfers):
         """Starts the program. Raises OSError if it can't be started, and Ended if it opens no sessions."""
         super().__init__()
         count = check_number("sessions", sessions, 1, MAX_SESSIONS)
-        self._closing = threading.Lock()
         if count == 1:
             self._next_upload = 0
         self._stderr = tempfile.TemporaryFile()

@@ -130,6 +130,43 @@ def processes_that_inherit():
         return found + differences((store.upload(b"abc", tenant).address, ABC), (store.alive, True))
 
 
+def closes_beside_a_fork():
+    """What a process closes ends although a new process lives, which in turn waits for no thread of its parent."""
+    found = []
+    with socket.create_server(("127.0.0.1", 0)) as listener:
+        for make in (lambda: Store(PROGRAM, sessions=1), lambda: Store(PROGRAM, sessions=3), lambda: Client(host="127.0.0.1", port=listener.getsockname()[1])):
+            store = make()
+            taken = store._turn()
+            taken.__enter__()
+            waiting, going = os.pipe()
+            child = os.fork()
+            if child == 0:
+                close_and_wait(store, going)
+            os.close(going)
+            with open(waiting, "rb") as told:
+                found += differences((told.read(2), b"ok"))
+                taken.__exit__(None, None, None)
+                closing = threading.Thread(target=store.close, daemon=True)
+                closing.start()
+                is_noticed = not isinstance(store, Client) or listener.accept()[0].recv(1) == b""
+                closing.join(SECONDS / 2)
+                found += differences((closing.is_alive(), False), (is_noticed, True))
+                os.kill(child, signal.SIGKILL)
+                os.waitpid(child, 0)
+    return found
+
+
+def close_and_wait(store, going):
+    """Closes a store that was inherited, tells it, and goes on."""
+    signal.alarm(SECONDS)
+    try:
+        store.close()
+        os.write(going, b"ok")
+        time.sleep(SECONDS)
+    finally:
+        os._exit(0)
+
+
 class Interrupted:
     """Free sessions, for which no one waits: an interrupt comes first."""
 
@@ -198,6 +235,7 @@ CASES = (
     ("gets that are ended", gets_that_are_ended),
     ("tokens without an answer", tokens_without_answer),
     ("processes that inherit a store", processes_that_inherit),
+    ("closes beside a fork", closes_beside_a_fork),
     ("closes that are interrupted", closes_that_are_interrupted),
     ("a store for asyncio that is closed", lambda: asyncio.run(close_beside_a_pipe())),
     ("odd numbers", odd_numbers),
