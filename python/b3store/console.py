@@ -18,6 +18,8 @@ SECONDS_BETWEEN = 0.2
 PLAIN_NUMBER = re.compile("[0-9]{1,15}(?:[.][0-9]{1,15})?")
 CONTROLS = re.compile(r"[\x00-\x1f\x7f-\x9f]")
 ESCAPES = {"\\": "\\\\", "\n": "\\n", "\r": "\\r"}
+ENDED_BY = signal.SIGTERM, signal.SIGHUP
+"""The signals that end a program as Ctrl-C does."""
 FAILED = 3
 """The exit status when reading, writing or the connection fails."""
 
@@ -92,11 +94,12 @@ def finish(run: Callable[[], int]) -> int:
         return FAILED
     if hasattr(sys.stdout, "reconfigure"):
         sys.stdout.reconfigure(errors="surrogateescape")
-    is_program = raise_again()
-    for number in signal.SIGTERM, signal.SIGHUP:
-        if is_program and signal.getsignal(number) is signal.SIG_DFL:
-            signal.signal(number, terminate)
+    is_program = False
     try:
+        is_program = raise_again()
+        for number in ENDED_BY:
+            if is_program and signal.getsignal(number) is signal.SIG_DFL:
+                signal.signal(number, terminate)
         status = run()
         sys.stdout.flush()
         return status
@@ -114,9 +117,17 @@ def finish(run: Callable[[], int]) -> int:
         report("out of memory" if isinstance(fault, MemoryError) else error_text(fault))
     finally:
         if is_program:
-            end_at_once()
+            stop_raising()
     drop_output()
     return FAILED
+
+
+def stop_raising() -> None:
+    """Lets signals end the process at once again: while the interpreter ends, what they raise would be shown with a traceback."""
+    for number in ENDED_BY:
+        if signal.getsignal(number) is terminate:
+            signal.signal(number, signal.SIG_DFL)
+    end_at_once()
 
 
 def open_standard_files() -> bool:

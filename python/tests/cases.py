@@ -56,6 +56,7 @@ CASES = (
     ("messages of the command line", programs.says_what_is_wrong),
     ("an interrupt of the command line", programs.ends_on_an_interrupt),
     ("an interrupt while a program starts", programs.ends_while_it_starts),
+    ("a signal while a program ends", programs.ends_while_it_ends),
     ("progress of the command line", programs.shows_progress),
     ("the package installed", installing.installs),
     ("the names of the package", installing.names),

@@ -13,6 +13,7 @@ import time
 import unittest.mock
 
 from bridge import Bridge
+from hostile import listen_to_signals
 from shared import ABC, EMPTY, FOUR, PROGRAM, SECONDS, TOP, differences
 from served import server_of
 from transfers import PART_LEN, content_of
@@ -172,6 +173,17 @@ def ends_while_it_starts():
         for words in programs:
             ran = subprocess.run([sys.executable, *words], capture_output=True, timeout=SECONDS, env=environment, preexec_fn=lambda: signal.signal(signal.SIGINT, signal.SIG_DFL))
             found += differences(((words, ran.returncode, ran.stdout, ran.stderr), (words, -signal.SIGINT, b"", b"")))
+    return found
+
+
+def ends_while_it_ends():
+    """A signal while the interpreter ends is no traceback either: an exit handler sends it."""
+    found = []
+    for number in signal.SIGTERM, signal.SIGHUP, signal.SIGINT:
+        text = f"import atexit, os, sys; from b3store import console, programs; programs.end_at_once(); atexit.register(os.kill, os.getpid(), {int(number)})"
+        words = [sys.executable, "-c", text + "; sys.exit(console.finish(lambda: print('done') or 0))"]
+        ran = subprocess.run(words, capture_output=True, timeout=SECONDS, env={**os.environ, "PYTHONPATH": PACKAGE}, preexec_fn=listen_to_signals)
+        found += differences((ran.returncode, -number), (ran.stdout, b"done\n"), (ran.stderr, b""))
     return found
 
 
