@@ -5,7 +5,8 @@ from typing import Callable, Dict, Iterable, Iterator, List, Optional, Sequence,
 from .sessions import MAX_FILED_AHEAD, Kinds, Session, Sessions, write_all
 from .values import (
     MAX_LIMIT, MAX_UPLOAD_LEN, PART_LEN, RANGE_LEN, Buffer, Filed, Held, ObjectRow, OpenUpload, Refused, Totals, Usage, check_address, check_bytes,
-    check_number, check_room, check_seconds, parse_asked, parse_digits, parse_filed, parse_held, parse_number, parse_object, parse_open_upload, parse_usage,
+    check_number, check_room, check_seconds, parse_asked, parse_digits, parse_filed, parse_held, parse_labelled, parse_number, parse_object,
+    parse_open_upload, parse_usage,
 )
 
 Value = TypeVar("Value")
@@ -173,7 +174,7 @@ class Commands(Sessions):
 
     def usage(self, tenant: int) -> Usage:
         """Returns how many bytes a tenant uses and reserves, and its limit. Refusals: S1."""
-        return self._ask(lambda words: parse_usage(words[0::2]), "used", f"usage {check_number('tenant', tenant)}")
+        return self._ask(lambda words: Usage(*parse_labelled(words, ["reserved", "limit"])), "used", f"usage {check_number('tenant', tenant)}")
 
     def list(self, tenant: int) -> Dict[str, int]:
         """Returns the lengths of the objects that a tenant holds, by address, in the order in which they were filed. Refusals: S1, S14."""
@@ -202,7 +203,7 @@ class Commands(Sessions):
 
     def stat(self) -> Totals:
         """Returns what the store contains."""
-        return self._ask(lambda words: Totals(*map(parse_digits, words[0::2])), "objects", "stat")
+        return self._ask(lambda words: Totals(*parse_labelled(words, ["bytes", "uploads", "held", "parts"])), "objects", "stat")
 
     def entries(self, start: int = 0, count: Optional[int] = None) -> List[str]:
         """Returns the journal's entries from number `start` on, up to `count` of them, as lines without a newline. Refusals: S14."""

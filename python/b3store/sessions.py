@@ -134,7 +134,7 @@ class Session:
             return words
         if words == ["busy"]:
             raise self._ended("the server is busy: each of its sessions has a client", 0)
-        if words[0] != kinds:
+        if words[0] != kinds or kinds == "ok" and len(words) > 1:
             raise self._ended(f"the store answers {' '.join(words)[:60]!r}", 0)
         return words[1:]
 

@@ -205,9 +205,16 @@ def check_room(room: Any) -> memoryview:
 
 def parse_digits(text: str) -> int:
     """The number that decimal digits are. Raises ValueError for anything else, also for what `int` would accept."""
-    if not (text.isdigit() and text.isascii() and len(text) <= MAX_DIGITS):
+    if not (text.isdigit() and text.isascii() and len(text) <= MAX_DIGITS and int(text) <= MAX_NUMBER):
         raise ValueError(f"{text[:30]!r} is not a number")
     return int(text)
+
+
+def parse_labelled(words: List[str], labels: List[str]) -> List[int]:
+    """Numbers with words between them, which must be these. Raises ValueError for others, and for words after the last number."""
+    if words[1::2] != labels:
+        raise ValueError(f"{' '.join(words)[:60]!r} has other words than {labels}")
+    return [*map(parse_digits, words[0::2])]
 
 
 def parse_refusal(words: List[str]) -> Refused:
@@ -219,8 +226,9 @@ def parse_refusal(words: List[str]) -> Refused:
 
 
 def parse_number(words: List[str]) -> int:
-    """The number that an answer starts with."""
-    return parse_digits(words[0])
+    """The number that an answer is."""
+    (number,) = words
+    return parse_digits(number)
 
 
 def parse_filed(words: List[str]) -> Filed:
@@ -239,7 +247,9 @@ def parse_asked(words: List[str], address: Optional[str] = None, length: Optiona
 
 def parse_held(words: List[str]) -> Held:
     """The answer to a part."""
-    return Held(parse_digits(words[0]), None if words[1:] == ["all"] else parse_digits(words[2]))
+    if words[1:] == ["all"]:
+        return Held(parse_digits(words[0]), None)
+    return Held(*parse_labelled(words, ["missing"]))
 
 
 def parse_usage(numbers: List[str]) -> Usage:

@@ -54,6 +54,22 @@ def answers_that_lie():
     return found
 
 
+def answers_with_more():
+    """Words that belong to no answer, and numbers that no store has."""
+    found = []
+    cases = (
+        (b"tenant 0 1\n", lambda store: store.tenant()), (b"ok but\n", lambda store: store.abort(0)), (b"has 3 or more\n", lambda store: store.size(0, ABC)),
+        (b"held 3 of 5\n", lambda store: store.put(0, 0, b"abc")), (b"held 3 missing 5 6\n", lambda store: store.put(0, 0, b"abc")),
+        (b"used 1 limit 2 reserved 3\n", lambda store: store.usage(0)), (b"objects 1 bytes 2 uploads 3 held 4 parts 5 at\n", lambda store: store.stat()),
+        (b"objects 1 bytes 2 uploads 3 parts 4 held 5\n", lambda store: store.stat()), (b"tenant %d\n" % (1 << 64), lambda store: store.tenant()),
+        (b"ok\nok but\n", lambda store: store.forget_all(0, [ABC, FOUR])),
+    )
+    for answer, call in cases:
+        with server_of(answer) as path, Client(path) as store:
+            found += differences(((answer, raised(call, store)), (answer, Ended)), ((answer, store.alive), (answer, False)))
+    return found
+
+
 def gets_that_fail():
     """The file that a link leads to stays as it is, and no part of another one is left."""
     with server_of(b"has 3\n", b"bytes 2\nab") as path, tempfile.TemporaryDirectory() as place:
@@ -231,6 +247,7 @@ def odd_numbers():
 
 CASES = (
     ("answers that lie", answers_that_lie),
+    ("answers with more", answers_with_more),
     ("gets that fail", gets_that_fail),
     ("gets that are ended", gets_that_are_ended),
     ("tokens without an answer", tokens_without_answer),
