@@ -5,7 +5,7 @@ from typing import Callable, Dict, Iterable, Iterator, List, Optional, Sequence,
 from .sessions import MAX_FILED_AHEAD, Kinds, Session, Sessions, write_all
 from .values import (
     MAX_LIMIT, MAX_UPLOAD_LEN, PART_LEN, RANGE_LEN, Buffer, Filed, Held, ObjectRow, OpenUpload, Refused, Totals, Usage, check_address, check_bytes,
-    check_number, check_room, check_seconds, parse_asked, parse_digits, parse_filed, parse_held, parse_labelled, parse_number, parse_object,
+    check_number, check_room, check_seconds, parse_asked, parse_count, parse_digits, parse_held, parse_labelled, parse_length, parse_number, parse_object,
     parse_open_upload, parse_usage,
 )
 
@@ -53,12 +53,16 @@ class Commands(Sessions):
 
     def seal(self, upload: int) -> Filed:
         """Files an upload as an object. Refusals: S7, S16, S10, S6."""
-        return self._ask(parse_filed, ("new", "known"), f"seal {check_number('upload', upload)}")
+        return self._seal(upload)
 
     def seal_as(self, upload: int, address: str) -> Filed:
         """Files an upload as an object if it has this address. Refusals: those of `seal`, and S11."""
-        line = f"sealas {check_number('upload', upload)} {check_address(address)}"
-        return self._ask(lambda words: parse_asked(words, address), ("new", "known"), line)
+        return self._seal(upload, check_address(address))
+
+    def _seal(self, upload: int, address: Optional[str] = None, length: Optional[int] = None) -> Filed:
+        """Files an upload as an object, which must have this address and this length, if they are known."""
+        line = f"seal {check_number('upload', upload)}" if address is None else f"sealas {check_number('upload', upload)} {address}"
+        return self._ask(lambda words: parse_asked(words, address, length), ("new", "known"), line)
 
     def abort(self, upload: int) -> None:
         """Ends an upload without an object. Refusals: S7."""
@@ -114,7 +118,7 @@ class Commands(Sessions):
 
     def size(self, tenant: int, address: str) -> int:
         """Returns the length of an object that a tenant holds. Refusals: S1, S12."""
-        return self._ask(parse_number, "has", f"has {check_number('tenant', tenant)} {check_address(address)}")
+        return self._ask(parse_length, "has", f"has {check_number('tenant', tenant)} {check_address(address)}")
 
     def fetch(self, tenant: int, address: str, offset: int = 0, length: int = MAX_UPLOAD_LEN) -> bytes:
         """Returns up to `length` bytes of an object, starting at `offset`; by default all. Refusals: S1, S12."""
@@ -208,7 +212,7 @@ class Commands(Sessions):
     def entries(self, start: int = 0, count: Optional[int] = None) -> List[str]:
         """Returns the journal's entries from number `start` on, up to `count` of them, as lines without a newline. Refusals: S14."""
         line = f"entries {check_number('start', start)}" + ("" if count is None else f" {check_number('count', count)}")
-        return self._lines("journal", line)
+        return self._lines("journal", line, count)
 
     def journal(self, start: int = 0, page_len: int = 1000) -> Iterator[str]:
         """Yields the journal's entries from number `start` on, which it reads in pages of `page_len`, until there are no more. Refusals: S14."""
@@ -291,9 +295,9 @@ class Commands(Sessions):
         """The same for each line of an answer that has several."""
         return self._talk(lambda session, words: [read(*session.line()) for _ in range(parse_number(words))], kind, line)
 
-    def _lines(self, kind: str, line: str) -> List[str]:
-        """The lines of an answer that has several."""
-        return self._talk(lambda session, words: [session.text() for _ in range(parse_number(words))], kind, line)
+    def _lines(self, kind: str, line: str, most: Optional[int] = None) -> List[str]:
+        """The lines of an answer that has several, up to so many."""
+        return self._talk(lambda session, words: [session.text() for _ in range(parse_count(words, most))], kind, line)
 
     def _talk(self, read: Callable[[Session, List[str]], Value], kinds: Kinds, line: str, content: Buffer = b"") -> Value:
         """The same for a session and the words of an answer."""

@@ -75,20 +75,20 @@ class Upload:
 
     def fix(self, length: int) -> None:
         """Fixes the upload's end. Refusals: S7, S5, S15."""
+        length = check_number("length", length)
         self._commands.fix(self.number, length)
         self._length = length
 
     def seal(self, address: Optional[str] = None) -> Filed:
         """Files the upload as an object. If an address is given, content with another address is refused. After a refusal the upload is aborted.
         Refusals: S7, S16, S10, S11, S6."""
-        if address is not None:
-            check_address(address)
+        address = None if address is None else check_address(address)
         try:
             if self._kept:
                 self._send_kept()
             if self._length is None and not self._has_put:
                 self.fix(self._sent)
-            filed = self._commands.seal(self.number) if address is None else self._commands.seal_as(self.number, address)
+            filed = self._commands._seal(self.number, address, self._length)
         except BaseException:
             self._abort_quietly()
             self._fault = None
@@ -192,6 +192,7 @@ class Transfers(Commands):
         if length is not None and max_len is not None:
             raise ValueError("an upload has a length or a maximum length, not both")
         if length is not None:
+            length = check_number("length", length)
             return Upload(self, self.begin(tenant, length), length)
         number = self._begin_with_free(tenant) if max_len is None else self.begin_open(tenant, max_len)
         return Upload(self, number, None)

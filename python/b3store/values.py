@@ -231,10 +231,23 @@ def parse_number(words: List[str]) -> int:
     return parse_digits(number)
 
 
+def parse_count(words: List[str], most: Optional[int]) -> int:
+    """The number that an answer is, which is at most this one."""
+    count = parse_number(words)
+    if most is not None and count > most:
+        raise ValueError(f"{count} instead of {most}")
+    return count
+
+
+def parse_length(words: List[str]) -> int:
+    """The length of an object."""
+    return parse_count(words, MAX_UPLOAD_LEN)
+
+
 def parse_filed(words: List[str]) -> Filed:
     """The answer to a seal."""
     kind, address, length = words
-    return Filed(kind == "new", check_address(address), parse_digits(length))
+    return Filed(kind == "new", check_address(address), parse_length([length]))
 
 
 def parse_asked(words: List[str], address: Optional[str] = None, length: Optional[int] = None) -> Filed:
@@ -264,4 +277,4 @@ def parse_open_upload(number: str, bound: str, end: str, covered: str) -> OpenUp
 
 def parse_object(address: str, length: str) -> ObjectRow:
     """A row of a list of objects."""
-    return ObjectRow(check_address(address), parse_digits(length))
+    return ObjectRow(check_address(address), parse_length([length]))

@@ -13,7 +13,7 @@ import time
 
 from served import server_of
 from shared import ABC, FOUR, PROGRAM, SECONDS, TOP, differences, ended, raised, wait_until
-from b3store import AsyncStore, Client, Ended, Store, client
+from b3store import MAX_UPLOAD_LEN, AsyncStore, Client, Ended, Store, client
 from b3store.sessions import MAX_LINE_LEN, Session
 
 
@@ -38,6 +38,8 @@ def answers_that_lie():
         ([filed[0], filed[1] % (FOUR.encode(), 3)], lambda store: store.file(0, b"abc", ABC)),
         ([filed[0], filed[1] % (ABC.encode(), 4)], lambda store: store.file(0, b"abc")),
         ([b"new %s 3\n" % FOUR.encode()], lambda store: store.seal_as(0, ABC)),
+        ([filed[0], b"held 3 all\n", b"new %s 4\n" % ABC.encode()], lambda store: writes(store, b"abc")),
+        ([filed[0], b"held 3 all\n", b"new %s 4\n" % ABC.encode()], lambda store: writes(store, b"abc", ABC)),
         ([b"x" * MAX_LINE_LEN], lambda store: store.stat()),
         ([b"x" * MAX_LINE_LEN], lambda store: store.fetch_to(0, ABC, sink)),
         ([b"bytes %d\n" % (1 << 63)], lambda store: store.fetch(0, ABC, 0, (1 << 64) - 1)),
@@ -54,6 +56,13 @@ def answers_that_lie():
     return found
 
 
+def writes(store, content, address=None):
+    """Writes content, and seals it."""
+    upload = store.start_upload(0, len(content))
+    upload.write(content)
+    upload.seal(address)
+
+
 def answers_with_more():
     """Words that belong to no answer, and numbers that no store has."""
     found = []
@@ -62,7 +71,9 @@ def answers_with_more():
         (b"held 3 of 5\n", lambda store: store.put(0, 0, b"abc")), (b"held 3 missing 5 6\n", lambda store: store.put(0, 0, b"abc")),
         (b"used 1 limit 2 reserved 3\n", lambda store: store.usage(0)), (b"objects 1 bytes 2 uploads 3 held 4 parts 5 at\n", lambda store: store.stat()),
         (b"objects 1 bytes 2 uploads 3 parts 4 held 5\n", lambda store: store.stat()), (b"tenant %d\n" % (1 << 64), lambda store: store.tenant()),
-        (b"ok\nok but\n", lambda store: store.forget_all(0, [ABC, FOUR])),
+        (b"ok\nok but\n", lambda store: store.forget_all(0, [ABC, FOUR])), (b"journal 3\na\nb\nc\n", lambda store: store.entries(0, 2)),
+        (b"journal 3\na\nb\nc\n", lambda store: list(store.journal(0, 2))), (b"has %d\n" % (MAX_UPLOAD_LEN + 1), lambda store: store.open(0, ABC)),
+        (b"list 1\n%s %d\n" % (ABC.encode(), MAX_UPLOAD_LEN + 1), lambda store: store.list(0)),
     )
     for answer, call in cases:
         with server_of(answer) as path, Client(path) as store:
@@ -236,6 +247,9 @@ def odd_numbers():
         file.seek(0)
         address = store.upload(file, Number(tenant), Number(5000)).address
         found = differences((b"".join(store.ranges(tenant, address, Number(2000))) == content, True))
+        with store.start_upload(tenant, Number(5000)) as upload:
+            store.put(upload.number, Number(0), content)
+        found += differences((upload.filed.address, address))
         with tempfile.TemporaryFile() as copy:
             found += differences((store.fetch_to(tenant, address, copy.fileno(), Number(10), Number(4000)), 4000), (copy.seek(0), 0), (copy.read() == content[10:4010], True))
             for seconds, kind in (-1, ValueError), (float("nan"), ValueError), (1e10, ValueError), ("1", TypeError):
