@@ -55,12 +55,21 @@ def read_words() -> argparse.Namespace:
     return words
 
 
+FUNCTIONS = (
+    "b3_hash", "b3_keyed_hash", "b3_derive_key", "b3_extended", "b3_hasher_init", "b3_hasher_update", "b3_hasher_extended", "b3_subtree", "b3_parent", "b3_root",
+)
+"""The functions of the library that this module calls."""
+
+
 def load(kind: Callable[[str], Any]) -> Any:
     """Loads the library. If there is none, the program ends with a message, and an import raises ImportError."""
     name = os.environ.get("B3_LIBRARY", "libb3.so.1")
     try:
-        return kind(name)
-    except OSError as fault:
+        found = kind(name)
+        for function in FUNCTIONS:
+            getattr(found, function)
+        return found
+    except (AttributeError, OSError) as fault:
         text = f"{fault}: install libb3 by `./install --library`, or set B3_LIBRARY to the path of libb3.so.1"
     if __name__ == "__main__":
         report(text)

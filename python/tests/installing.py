@@ -37,14 +37,16 @@ def names():
 
 
 def without_library():
-    """Hashing says what is missing, and nothing else needs the library."""
+    """Hashing says what is missing, also where the library is another one, and nothing else needs the library."""
     environment = {**os.environ, "PYTHONPATH": os.path.join(TOP, "python"), "B3_LIBRARY": "/none/libb3.so.1"}
     for words, wanted in (["import b3store, b3store.asynchronous"], b""), (["import b3store.hashing"], b"or set B3_LIBRARY to the path of libb3.so.1\n"):
         ran = subprocess.run([sys.executable, "-c", *words], capture_output=True, timeout=SECONDS, env=environment)
         if not ran.stderr.endswith(wanted) or bool(ran.returncode) != bool(wanted):
             return [ran.stderr.decode()]
     found = []
-    for words, status, line in (["--help"], 0, b""), ([], 3, b"B3_LIBRARY to the path of libb3.so.1\n"), (["--threads", "0"], 2, b"is from 1 to 1024\n"):
-        ran = subprocess.run([sys.executable, "-m", "b3store.hashing", *words], capture_output=True, timeout=SECONDS, env=environment)
+    told = b"B3_LIBRARY to the path of libb3.so.1\n"
+    for words, status, line, name in (["--help"], 0, b"", None), ([], 3, told, None), (["--threads", "0"], 2, b"is from 1 to 1024\n", None), ([], 3, told, "libc.so.6"):
+        words, environment["B3_LIBRARY"] = [sys.executable, "-m", "b3store.hashing", *words], name or environment["B3_LIBRARY"]
+        ran = subprocess.run(words, capture_output=True, timeout=SECONDS, env=environment, stdin=subprocess.DEVNULL)
         found += differences((ran.returncode, status), (ran.stderr.endswith(line), True), (b"Traceback" in ran.stderr, False))
     return found
