@@ -15,6 +15,7 @@ if __name__ == "__main__":
 import argparse
 import concurrent.futures
 import ctypes
+import errno
 import io
 import os
 import sys
@@ -327,6 +328,8 @@ def print_hash(name: str, threads: int) -> bool:
     """Prints the line of a file, and returns whether it could be read."""
     source: Union[str, int] = 0 if name == "-" else name
     try:
+        if name == "-" and sys.stdin is None:
+            raise OSError(errno.EBADF, "standard input is closed")
         with open(source, "rb", buffering=0, closefd=name != "-") as file:
             digest = file_digest(file, 1 if name == "-" else threads)
     except (OSError, ValueError) as fault:

@@ -122,7 +122,9 @@ def prints_hashes():
         for words, data, wanted in ([path], b"", (0, lines, "")), ([], b"abc", (0, ABC + "  -\n", "")), (["--threads", "3", none, "-"], b"", (1, EMPTY + "  -\n", f"b3store: {none}: no such file or directory\n")):
             ran = subprocess.run([sys.executable, "-m", "b3store.hashing", *words], input=data, capture_output=True, timeout=SECONDS, env={**os.environ, "PYTHONPATH": os.path.join(TOP, "python")})
             found += differences(((ran.returncode, ran.stdout.decode(), ran.stderr.decode()), wanted))
-        return found
+        words = ["bash", "-c", '"$0" -m b3store.hashing <&-', sys.executable]
+        ran = subprocess.run(words, capture_output=True, timeout=SECONDS, env={**os.environ, "PYTHONPATH": os.path.join(TOP, "python")})
+        return found + differences((ran.returncode, 1), (ran.stdout, b""), (ran.stderr, b"b3store: -: standard input is closed\n"))
 
 
 CASES = (
