@@ -73,10 +73,9 @@ class Commands(Sessions):
         Refusals: those of `begin`, `put` and `seal_as`; after a refusal the upload is aborted."""
         view, address = check_bytes(content), None if address is None else check_address(address)
         begin = f"begin {check_number('tenant', tenant)} {view.nbytes}"
-        with self._turn() as session:
-            if self._next_upload is None:
-                return file_begun(session, session.ask("upload", begin), view, address)
-            return self._file_ahead(session, begin, view, address)
+        if self._next_upload is None:
+            return self._in_turn(lambda session: file_begun(session, session.ask("upload", begin), view, address))
+        return self._in_turn(lambda session: self._file_ahead(session, begin, view, address))
 
     def file_all(self, tenant: int, contents: Sequence[Buffer]) -> List[Filed]:
         """Files several contents, each as `file` does. A `Store` with one session takes one turn for many of them, so for small ones this is several times
@@ -85,21 +84,21 @@ class Commands(Sessions):
         if self._next_upload is None:
             return [self.file(tenant, view) for view in views]
         begin = f"begin {check_number('tenant', tenant)}"
-        filed: List[Filed] = []
-        with self._turn() as session:
-            for start in range(0, len(views), MAX_FILED_AHEAD):
-                filed += self._file_all_ahead(session, begin, views[start : start + MAX_FILED_AHEAD])
-        return filed
+        batches = [views[start : start + MAX_FILED_AHEAD] for start in range(0, len(views), MAX_FILED_AHEAD)]
+        return self._in_turn(lambda session: [filed for batch in batches for filed in self._file_all_ahead(session, begin, batch)])
 
     def forget_all(self, tenant: int, addresses: Sequence[str]) -> None:
         """Stops holding several objects for a tenant, each as `forget` does, but in few turns. If one is refused, the others are still forgotten."""
         lines = [f"forget {check_number('tenant', tenant)} {check_address(address)}\n" for address in addresses]
         refusals: List[Refused] = []
-        with self._turn() as session:
+
+        def forget(session: Session) -> None:
             for start in range(0, len(lines), MAX_FILED_AHEAD):
                 batch = lines[start : start + MAX_FILED_AHEAD]
                 session.write("".join(batch).encode())
-                refusals += session.answers(["ok"] * len(batch))[1]
+                refusals.extend(session.answers(["ok"] * len(batch))[1])
+
+        self._in_turn(forget)
         if refusals:
             raise refusals[0]
 
@@ -152,8 +151,7 @@ class Commands(Sessions):
             while left > 0:
                 wanted = min(PART_LEN, left)
                 line = fetch_line(tenant, address, offset, wanted)
-                with self._turn() as session:
-                    count, rest, fault = session.move(line, wanted, target)
+                count, rest, fault = self._in_turn(lambda session: session.move(line, wanted, target))
                 if fault is not None:
                     raise fault
                 write_all(target, rest, seconds)
@@ -228,8 +226,7 @@ class Commands(Sessions):
 
     def _put_ahead(self, upload: int, offset: int, parts: List[memoryview]) -> Held:
         """Puts parts one after another in one turn, and sends ahead of the answers."""
-        with self._turn() as session:
-            return parse_held(session.put_ahead(upload, offset, parts))
+        return self._in_turn(lambda session: parse_held(session.put_ahead(upload, offset, parts)))
 
     def _begin(self, line: str) -> int:
         def read(words: List[str]) -> int:
@@ -301,8 +298,7 @@ class Commands(Sessions):
 
     def _talk(self, read: Callable[[Session, List[str]], Value], kinds: Kinds, line: str, content: Buffer = b"") -> Value:
         """The same for a session and the words of an answer."""
-        with self._turn() as session:
-            return read(session, session.ask(kinds, line, content))
+        return self._in_turn(lambda session: read(session, session.ask(kinds, line, content)))
 
 
 def fetch_line(tenant: int, address: str, offset: int, length: int) -> str:

@@ -1,6 +1,7 @@
 """Sessions: connections to a store, each used by one thread at a time, and the rule that a broken one is never used again."""
 import contextlib
 import errno
+import itertools
 import os
 import queue
 import select
@@ -10,7 +11,7 @@ import threading
 import time
 import weakref
 from types import TracebackType
-from typing import Any, BinaryIO, Callable, List, Optional, Sequence, Tuple, Type, Union
+from typing import Any, BinaryIO, Callable, List, Optional, Sequence, Tuple, Type, TypeVar, Union
 
 from .values import Buffer, Ended, Refused, parse_number, parse_refusal
 
@@ -29,6 +30,8 @@ SECONDS_FOR_ROOM = 0.02
 
 KEEP_ALIVE = (("TCP_KEEPIDLE", 60), ("TCP_KEEPINTVL", 10), ("TCP_KEEPCNT", 6))
 """A TCP peer that has vanished is noticed after two minutes; while it is sent to, the system notices it, after about a quarter of an hour."""
+
+Value = TypeVar("Value")
 
 Kinds = Union[str, Tuple[str, ...]]
 """The first word that an answer must have; or several, one of which it must have."""
@@ -318,7 +321,7 @@ class Sessions:
         taken: List[Session] = []
         try:
             while len(taken) < len(self._all):
-                taken.append(self._free.get())
+                self._take(taken)
         except BaseException:
             self._give_back(taken)
             raise
@@ -335,6 +338,32 @@ class Sessions:
             session.leave(nowhere)
         self._free, self._closing = queue.SimpleQueue(), threading.Lock()
         self._give_back(self._all)
+
+    def _take(self, taken: List[Session]) -> None:
+        """Waits for a free session, and adds it to a list: in one step, so that no interrupt comes between the two."""
+        taken.extend(itertools.starmap(self._free.get, ((),)))
+
+    def _in_turn(self, work: Callable[[Session], Value]) -> Value:
+        """What a function returns for a free session. As with a `Turn`; but the session is given back whenever an interrupt comes: one that comes when
+        a `with` statement calls `__exit__` would keep it."""
+        taken: List[Session] = []
+        try:
+            self._check_process()
+            self._take(taken)
+            if self._fault is not None:
+                raise Ended(*self._fault.args)
+            return work(taken[0])
+        except BaseException as fault:
+            if taken:
+                self._note(fault)
+            raise
+        finally:
+            if taken:
+                self._free.put(taken[0])
+
+    def _check_process(self) -> None:
+        if os.getpid() != self._process_id:
+            raise Ended("the connection belongs to the process that opened it: after a fork, open another one")
 
     def _turn(self) -> "Turn":
         """A free session, for a command and its answer."""
@@ -378,8 +407,7 @@ class Turn:
         self._sessions = sessions
 
     def __enter__(self) -> Session:
-        if os.getpid() != self._sessions._process_id:
-            raise Ended("the connection belongs to the process that opened it: after a fork, open another one")
+        self._sessions._check_process()
         session = self._sessions._free.get()
         fault = self._sessions._fault
         if fault is not None:

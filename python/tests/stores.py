@@ -151,6 +151,33 @@ def commands_that_are_broken_off():
         return found + differences((told, ("a command was interrupted by Interrupted", None, "")), (store.alive, False), (store.close(), -signal.SIGKILL))
 
 
+def interrupts_at_any_moment():
+    """No interrupt keeps a session: the store can be closed, by one thread too."""
+    found, before = [], signal.signal(signal.SIGALRM, interrupt)
+    try:
+        for number in range(500):
+            with Store(PROGRAM, sessions=1) as store:
+                calls = interrupted_calls(store, 0.002 + number % 100 / 20000)
+                kept = 1 - store._free.qsize()
+                store._give_back(store._all[:kept])
+                found += differences((kept, 0)) if calls else []
+    finally:
+        signal.signal(signal.SIGALRM, before)
+    return found[:1]
+
+
+def interrupted_calls(store, seconds):
+    """Calls a store until it is interrupted, and returns how often."""
+    calls = 0
+    try:
+        signal.setitimer(signal.ITIMER_REAL, seconds)
+        while True:
+            store.stat()
+            calls += 1
+    except Interrupted:
+        return calls
+
+
 def give_up(*_):
     raise TimeoutError("it takes too long")
 
