@@ -17,6 +17,7 @@ from typing import Any, BinaryIO, Callable, Iterator, List, Optional, Tuple
 from .client import Client
 from .console import Progress, check_line, error_text, finish, one_line, report
 from .files import private
+from .sessions import write_all
 from .values import MAX_NUMBER, MAX_UPLOAD_LEN, PART_LEN, Refused, check_address, check_number
 
 USAGE, MISSING = 2, 1
@@ -170,11 +171,10 @@ def named(fault: OSError, name: str) -> OSError:
 
 
 def writer(number: int, name: str) -> Callable[[memoryview], None]:
-    """A function that writes all of a buffer to a descriptor. It raises OSError with the name."""
+    """A function that writes all of a buffer to a descriptor, which need not be in blocking mode. It raises OSError with the name."""
     def write(view: memoryview) -> None:
         try:
-            while view:
-                view = view[os.write(number, view) :]
+            write_all(number, view, None)
         except OSError as fault:
             raise named(fault, name) from None
 

@@ -91,6 +91,13 @@ def outputs_of_all_kinds():
             ran = get(f"/dev/fd/{writing}", pass_fds=[writing])
             os.close(writing)
             found += differences((ran.stderr, b""), (ran.returncode, 0), (pipe.read(), b"abc"))
+        large, piped = content_of(PART_LEN), os.pipe()
+        os.set_blocking(piped[1], False)
+        address = run(["--socket", server.path, "put", "-"], large)[1][:64].decode()
+        words = [sys.executable, "-m", "b3store", "--socket", server.path, "get", address]
+        with subprocess.Popen(words, stdout=piped[1], env={**os.environ, "PYTHONPATH": PACKAGE}) as getting, os.fdopen(piped[0], "rb") as pipe:
+            os.close(piped[1])
+            found += differences((select.select([pipe], [], [], SECONDS)[0], [pipe]), (time.sleep(0.3), None), (pipe.read() == large, True), (getting.wait(SECONDS), 0))
         os.symlink("loop", loop)
         ran = get(loop)
         found += differences((ran.stderr.decode(), f"b3store: {loop}: too many levels of symbolic links\n"), (ran.returncode, 3), (os.readlink(loop), "loop"))
