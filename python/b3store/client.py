@@ -80,7 +80,7 @@ class Client(Transfers):
     def _open_session(self) -> Session:
         connection = self._connect()
         try:
-            session = Session(connection, connection.makefile("rb", READ_LEN), self._ended)
+            session = Session(connection, connection.makefile("rb", READ_LEN), self._why())
             if self._token is not None:
                 session.write(f"token {self._token}\n".encode("ascii"))
                 self._check_welcome(session)

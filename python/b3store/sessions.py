@@ -316,6 +316,16 @@ class Sessions:
         """Why the sessions can't be used any more. It waits up to `seconds` for the process to end."""
         raise NotImplementedError
 
+    def _why(self) -> Callable[..., Ended]:
+        """`_ended`, for a session, which it doesn't let keep the store: one that is dropped closes its sessions at once."""
+        method = weakref.WeakMethod(self._ended)
+
+        def ended(*words: Any) -> Ended:
+            call = method()
+            return Ended("the store was closed") if call is None else call(*words)
+
+        return ended
+
     def _take_all(self) -> List[Session]:
         """Takes all sessions, once their commands are done; none if that is interrupted."""
         taken: List[Session] = []

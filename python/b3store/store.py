@@ -97,6 +97,8 @@ class Store(Transfers):
                 words, stdin=subprocess.PIPE, stdout=subprocess.PIPE, stderr=self._stderr, bufsize=READ_LEN, start_new_session=True
             )
             opened = [self._session(self._process.stdin, self._process.stdout)]
+            # Python keeps a process object that is dropped while its process runs, which would then never read the end of its input
+            self._process.stdin = self._process.stdout = None
             try:
                 for number in range(1, count):
                     opened.append(self._open_session(at, number))
@@ -112,7 +114,7 @@ class Store(Transfers):
         for pipe in sending, reading:
             with contextlib.suppress(OSError):
                 fcntl.fcntl(cast(BinaryIO, pipe), SET_PIPE_LEN, PIPE_LEN)
-        return Session(sending, cast(BinaryIO, reading), self._ended)
+        return Session(sending, cast(BinaryIO, reading), self._why())
 
     def _open_session(self, at: str, number: int) -> Session:
         """Opens a session by the process's door: two named pipes, whose names aren't needed any more once the process has opened them too."""

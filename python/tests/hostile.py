@@ -1,6 +1,7 @@
 """Servers that lie, processes that inherit a store, closes that are interrupted, and odd numbers."""
 import asyncio
 import contextlib
+import gc
 import os
 import queue
 import signal
@@ -10,6 +11,7 @@ import sys
 import tempfile
 import threading
 import time
+import warnings
 
 from served import server_of
 from shared import ABC, FOUR, PROGRAM, SECONDS, TOP, differences, ended, raised, wait_until
@@ -194,6 +196,25 @@ def close_and_wait(store, going):
         os._exit(0)
 
 
+def stores_that_are_dropped():
+    """A store that is not closed keeps no descriptor once nothing has it, without a search for cycles of objects."""
+    with server_of(b"tenant 0\n") as path:
+        found, makes = [], (lambda: Client(path, sessions=2).alive, lambda: Store(PROGRAM, sessions=3).tenant())
+        gc.collect()
+        gc.disable()
+        try:
+            for make in makes:
+                before = len(os.listdir("/proc/self/fd"))
+                with warnings.catch_warnings():
+                    warnings.simplefilter("ignore", ResourceWarning)
+                    make()
+                # the server has an end of each connection, too
+                found += differences((wait_until(lambda before=before: len(os.listdir("/proc/self/fd")) <= before, SECONDS / 4), True))
+        finally:
+            gc.enable()
+        return found
+
+
 class Interrupted:
     """Free sessions, for which no one waits: an interrupt comes first."""
 
@@ -266,6 +287,7 @@ CASES = (
     ("gets that are ended", gets_that_are_ended),
     ("tokens without an answer", tokens_without_answer),
     ("processes that inherit a store", processes_that_inherit),
+    ("stores that are dropped", stores_that_are_dropped),
     ("closes beside a fork", closes_beside_a_fork),
     ("closes that are interrupted", closes_that_are_interrupted),
     ("a store for asyncio that is closed", lambda: asyncio.run(close_beside_a_pipe())),
