@@ -57,7 +57,8 @@ def read_words() -> argparse.Namespace:
 
 
 FUNCTIONS = (
-    "b3_hash", "b3_keyed_hash", "b3_derive_key", "b3_extended", "b3_hasher_init", "b3_hasher_update", "b3_hasher_extended", "b3_subtree", "b3_parent", "b3_root",
+    "b3_hash", "b3_keyed_hash", "b3_derive_key", "b3_extended", "b3_hasher_init", "b3_hasher_update", "b3_hasher_extended", "b3_subtree", "b3_parent",
+    "b3_root",
 )
 """The functions of the library that this module calls."""
 

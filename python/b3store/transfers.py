@@ -203,9 +203,10 @@ class Transfers(Commands):
     ) -> Filed:
         """Files content of any length: bytes, or a file object that is open for reading bytes, from its position on.
 
-        A file need not be seekable. Without a `length` it is read to its end; with one, `length` bytes are read, and ValueError is raised if it ends
-        earlier. If the length isn't known, `max_len` bytes are reserved: by default as many as the file seems to have, or all that the tenant has left.
-        With an `address`, the content is filed only if that is its address. `progress` is called with the number of bytes that were sent so far. If
+        A file need not be seekable. Without a `length` it is read to its end, and a seekable one of more than 4 MiB to the end that it had when so much
+        was read; with one, `length` bytes are read, and ValueError is raised if it ends earlier. If the length isn't known, `max_len` bytes are reserved:
+        by default as many as the file seems to have, or all that the tenant has left. With an `address`, the content is filed only if that is its
+        address. `progress` is called with the number of bytes that were sent so far, unless there are at most PART_LEN, which are filed in one turn. If
         anything is raised, the upload is aborted.
 
         Refusals: S1, S5, S6; F4 for a file that is longer than what is reserved; S11."""
