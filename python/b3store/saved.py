@@ -209,8 +209,8 @@ class SavedStore:
 
     def _remove_unused(self, tick: Tick) -> None:
         """Removes the content files that the index doesn't name. It is the old index if it could not be replaced. Before that the folder is
-        synced, and nothing is removed if this fails: after a crash of the machine the index before may be back."""
-        with contextlib.suppress(OSError, SaveError):
+        synced, and nothing is removed if this fails: after a crash of the machine the index before may be back. A later start or save removes them."""
+        with contextlib.suppress(OSError, SaveError, MemoryError):
             used = {row.file for row in read_index(self._at(INDEX), tick).objects.values()}
             os.fsync(self._folder)
             for name in os.listdir(self._path):

@@ -63,6 +63,18 @@ os.fsync, os.replace = sync, lambda *given: (replaced.append(1), replace(*given)
 """A server that can't sync a folder in which it has replaced a file."""
 NEVER_SYNCED = UNSYNCED.replace("replaced and ", "")
 """A server that can't sync folders at all."""
+NO_MEMORY = f"""
+import os
+from b3store import saved
+read, is_wanted = saved.read_index, eval(os.environ["WHEN"])
+def read_or_fail(path, tick):
+    if is_wanted(path):
+        raise MemoryError
+    return read(path, tick)
+saved.read_index = read_or_fail
+{RUN_SERVER}
+"""
+"""A server that has no memory to read an index, if the function in the variable WHEN, of its path, says so."""
 LIMITED = (
     f"import os, resource, runpy; limit = int(os.environ['LIMIT']); resource.setrlimit(resource.RLIMIT_FSIZE, (limit, limit)); {RUN_SERVER}"
 )
@@ -413,6 +425,19 @@ def folders_that_are_not_synced(program: str) -> List[str]:
         return found
 
 
+def no_memory_after_a_save(program: str) -> List[str]:
+    """A save that is there is reported as saved, though there is no memory to find the files that it doesn't need any more. The next save removes them."""
+    with _folder() as folder:
+        _saved_folder(program, folder)
+        is_saved = "lambda path: os.path.exists(os.path.join(os.path.dirname(path), 'content.2'))"
+        with Running(program, "--save", folder, python=["-c", NO_MEMORY], WHEN=is_saved) as server, server.client() as client:
+            client.file(b"new")
+            state = _state(client)
+            found = differences((client.ends(), b""), (server.end(), CLEAN), (sorted(os.listdir(folder)), ["content.1", "content.2", "index"]))
+        found += differences((_state_at(program, folder), state), (sorted(os.listdir(folder)), ["content.2", "index"]))
+        return found
+
+
 def stores_that_end(program: str) -> List[str]:
     """When the store's process is killed, the folder keeps the save before. A start whose store ends, or that is stopped, changes nothing."""
     with _folder() as folder:
@@ -497,6 +522,7 @@ SAVES = (
     ("folders that are none for a save", folders_that_are_none),
     ("saves on a full disk", full_disks),
     ("saves in a folder that can't be synced", folders_that_are_not_synced),
+    ("a save without memory at its end", no_memory_after_a_save),
     ("saves of stores that end", stores_that_end),
     ("a restoration that is stopped", stops_at_the_start),
     ("the order of saved objects", orders_of_lists),
