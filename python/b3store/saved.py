@@ -114,8 +114,8 @@ class SavedStore:
                 self._write_index(Saved([], {}), tick)
             else:
                 raise SaveError(f"{self._path} holds {min(names - IGNORED)!r} and no saved store: name a folder that is empty or doesn't exist")
-        except OSError as error:
-            raise SaveError(f"cannot use the folder {self._path}: {error.strerror}") from None
+        except (OSError, MemoryError) as error:
+            raise SaveError(f"cannot use the folder {self._path}: {reason_of(error)}") from None
 
     def _try_to_write(self) -> None:
         path = self._at(ASIDE)

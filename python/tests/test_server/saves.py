@@ -438,6 +438,16 @@ def no_memory_after_a_save(program: str) -> List[str]:
         return found
 
 
+def no_memory_at_the_start(program: str) -> List[str]:
+    """A start without memory for the index ends with a message, and changes nothing."""
+    with _folder() as folder:
+        _saved_folder(program, folder)
+        files = _files(folder)
+        with Running(program, "--save", folder, python=["-c", NO_MEMORY], WHEN="lambda path: True") as server:
+            told = f"b3store.server: cannot use the folder {folder}: out of memory\n"
+            return differences((server.status(), 1), (server.reported(), told), (server.left(), []), (_files(folder), files))
+
+
 def stores_that_end(program: str) -> List[str]:
     """When the store's process is killed, the folder keeps the save before. A start whose store ends, or that is stopped, changes nothing."""
     with _folder() as folder:
@@ -523,6 +533,7 @@ SAVES = (
     ("saves on a full disk", full_disks),
     ("saves in a folder that can't be synced", folders_that_are_not_synced),
     ("a save without memory at its end", no_memory_after_a_save),
+    ("a start without memory for a save", no_memory_at_the_start),
     ("saves of stores that end", stores_that_end),
     ("a restoration that is stopped", stops_at_the_start),
     ("the order of saved objects", orders_of_lists),
