@@ -391,24 +391,30 @@ class Restoring:
             self._file_batch()
             self._file_large(tenant, address, row)
             return
-        content = os.pread(self._open(row.file).fileno(), row.length, row.offset)
+        with self._reading(row.file) as file:
+            content = os.pread(file.fileno(), row.length, row.offset)
         self._batch.append((tenant, address, row.file, content))
         self._batch_len += row.length
         if self._batch_len >= BATCH_LEN or len(self._batch) == BATCH_COUNT:
             self._file_batch()
 
-    def _open(self, name: str) -> BinaryIO:
-        if self._name != name:
-            self._file.close()
-            self._file = open(os.path.join(self._path, name), "rb", buffering=0)
-            self._name = name
-        return self._file
+    @contextlib.contextmanager
+    def _reading(self, name: str) -> Iterator[BinaryIO]:
+        """A content file, open for reading. Raises SaveError if that fails."""
+        try:
+            if self._name != name:
+                self._file.close()
+                self._file = open(os.path.join(self._path, name), "rb", buffering=0)
+                self._name = name
+            yield self._file
+        except OSError as error:
+            raise SaveError(f"{self._path}/{name} can't be read: {error.strerror}; {ADVICE}") from None
 
     def _file_large(self, tenant: int, address: str, row: SavedObject) -> None:
-        file = self._open(row.file)
-        file.seek(row.offset)
         try:
-            self._store.upload(file, tenant, row.length, address=address, progress=lambda _: self._tick())
+            with self._reading(row.file) as file:
+                file.seek(row.offset)
+                self._store.upload(file, tenant, row.length, address=address, progress=lambda _: self._tick())
         except (Refused, ValueError) as error:
             raise self._fault(address, row.file, error) from None
         self._next_upload += 1

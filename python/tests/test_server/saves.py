@@ -75,6 +75,14 @@ saved.read_index = read_or_fail
 {RUN_SERVER}
 """
 """A server that has no memory to read an index, if the function in the variable WHEN, of its path, says so."""
+UNREADABLE = f"""
+import errno, os
+def fail(*_):
+    raise OSError(errno.EIO, os.strerror(errno.EIO))
+os.pread = fail
+{RUN_SERVER}
+"""
+"""A server whose disk fails."""
 LIMITED = (
     f"import os, resource, runpy; limit = int(os.environ['LIMIT']); resource.setrlimit(resource.RLIMIT_FSIZE, (limit, limit)); {RUN_SERVER}"
 )
@@ -328,6 +336,16 @@ def damaged_files(program: str) -> List[str]:
     return found[:5]
 
 
+def contents_that_cannot_be_read(program: str) -> List[str]:
+    """A file that can't be read is named in a message, the status is 1, and nothing in the folder changes."""
+    with _folder() as folder:
+        _saved_folder(program, folder)
+        files, wanted = _files(folder), f"b3store.server: {folder}/content.1 can't be read: Input/output error; nothing was changed"
+        with Running(program, "--save", folder, python=["-c", UNREADABLE]) as server:
+            found = differences((server.status(), 1), (server.reported()[: len(wanted)], wanted), (server.reported().count("\n"), 1))
+            return found + differences((_files(folder), files), (server.left(), []))
+
+
 def folders_that_are_none(program: str) -> List[str]:
     """A folder of something else, a file, and a place where none can be made: a message, and nothing changes."""
     found = []
@@ -529,6 +547,7 @@ SAVES = (
     ("saves that are killed at each step", saves_that_are_killed_at_each_step),
     ("two servers on one folder", one_server_alone),
     ("damaged files of a save", damaged_files),
+    ("a save that can't be read", contents_that_cannot_be_read),
     ("folders that are none for a save", folders_that_are_none),
     ("saves on a full disk", full_disks),
     ("saves in a folder that can't be synced", folders_that_are_not_synced),
