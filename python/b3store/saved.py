@@ -80,15 +80,8 @@ class SavedStore:
     def __init__(self, path: str, tick: Tick = lambda: None) -> None:
         """Opens a folder, which is made if there is none. Raises SaveError, and changes nothing, if another server has it, or if it has anything but a
         whole save."""
-        self._path = path
+        self._path, self._folder = path, open_folder(path)
         self._saved: Optional[Saved] = None
-        try:
-            make_folder(path)
-            self._folder = lock_folder(path)
-        except FolderInUse as error:
-            raise SaveError(str(error)) from None
-        except OSError as error:
-            raise SaveError(f"cannot open the folder {path}: {error.strerror}") from None
         try:
             self._open(tick)
         except BaseException:
@@ -105,15 +98,13 @@ class SavedStore:
     def _open(self, tick: Tick) -> None:
         """Reads the index, or writes the first one. A folder that can't be written to is noticed here, and not only by the save."""
         try:
-            names = set(os.listdir(self._path))
-            if INDEX in names:
+            if os.path.lexists(self._at(INDEX)):
                 self._saved = read_index(self._at(INDEX), tick)
                 check_contents(self._path, self._saved)
                 self._try_to_write()
-            elif names <= IGNORED:
-                self._write_index(Saved([], {}), tick)
             else:
-                raise SaveError(f"{self._path} holds {min(names - IGNORED)!r} and no saved store: name a folder that is empty or doesn't exist")
+                check_unused(self._path, "no saved store: name a folder that is empty or doesn't exist")
+                self._write_index(Saved([], {}), tick)
         except (OSError, MemoryError) as error:
             raise SaveError(f"cannot use the folder {self._path}: {reason_of(error)}") from None
 
@@ -136,14 +127,28 @@ class SavedStore:
     def save(self, store: Transfers, tick: Tick) -> str:
         """Saves the store, which no other thread changes meanwhile, and returns what it has. Raises SaveError; then the folder has the previous save, or both
         if the new one isn't synced."""
+        named = self._path
         try:
+            self._find()
             saved = self._save(store, tick)
         except NotSynced as error:
             fault = f"its folder can't be synced: {reason_of(error)}; after a crash of the machine the save before may be back"
             raise SaveError(f"the store is saved in {self._path}, but {fault}") from None
         except ERRORS as error:
             raise SaveError(f"the store can't be saved in {self._path}, which keeps the save before: {reason_of(error)}") from None
-        return saved.text()
+        return saved.text() + ("" if self._path == named else f" in {self._path}")
+
+    def _find(self) -> None:
+        """Finds the folder that is locked, if it was moved: another one that has its path may be in use. If it was removed, one is made and locked."""
+        if is_at(self._folder, self._path):
+            return
+        moved = os.readlink(f"/proc/self/fd/{self._folder}")
+        if is_at(self._folder, moved):
+            self._path = moved
+            return
+        folder, self._folder = self._folder, open_folder(self._path)
+        os.close(folder)
+        check_unused(self._path, "is not the folder that the server had locked, which was removed: nothing is saved")
 
     def _save(self, store: Transfers, tick: Tick) -> Saved:
         limits, lists, lengths = [], {}, {}
@@ -223,6 +228,32 @@ def reason_of(error: BaseException) -> str:
     if isinstance(error, MemoryError):
         return "out of memory"
     return getattr(error, "strerror", None) or str(error)
+
+
+def open_folder(path: str) -> int:
+    """Opens and locks a folder, which is made if there is none. Raises SaveError."""
+    try:
+        make_folder(path)
+        return lock_folder(path)
+    except FolderInUse as error:
+        raise SaveError(str(error)) from None
+    except OSError as error:
+        raise SaveError(f"cannot open the folder {path}: {error.strerror}") from None
+
+
+def is_at(folder: int, path: str) -> bool:
+    """Whether a path names an open folder."""
+    try:
+        return os.path.samestat(os.fstat(folder), os.stat(path))
+    except OSError:
+        return False
+
+
+def check_unused(path: str, fault: str) -> None:
+    """Raises SaveError if a folder has files."""
+    names = set(os.listdir(path)) - IGNORED
+    if names:
+        raise SaveError(f"{path} holds {min(names)!r} and {fault}")
 
 
 def make_folder(path: str) -> None:

@@ -283,6 +283,47 @@ def one_server_alone(program: str) -> List[str]:
         return found + differences((_state_at(program, folder), {}))
 
 
+def folders_that_are_moved(program: str) -> List[str]:
+    """A server whose folder is moved saves the store there, and leaves the folder of another server, which has the path now, as it is."""
+    with _folder() as folder:
+        with Running(program, "--save", folder) as server, server.client() as client:
+            client.ask("tenant 100000")
+            client.file(b"first")
+            state = _state(client)
+            client.ends()
+            os.rename(folder, f"{folder}-moved")
+            with Running(program, "--save", folder) as other, other.client() as client:
+                client.ask("tenant 77")
+                client.file(b"second")
+                state_of_other = _state(client)
+                found = differences((client.ends(), b""), (other.end(), CLEAN), (server.end(), CLEAN))
+            told = server.process.stdout.read() if server.process.stdout else b""
+            found += differences((told.decode(), f"b3store.server: saved 1 object and 1 tenant in {folder}-moved\n"))
+        return found + differences((_state_at(program, folder), state_of_other), (_state_at(program, f"{folder}-moved"), state))
+
+
+def folders_that_are_removed(program: str) -> List[str]:
+    """A server whose folder is removed saves the store at its path again, also in an empty folder, but never over another save."""
+    found = []
+    for is_made in False, True:
+        with _folder() as folder, Running(program, "--save", folder) as server, server.client() as client:
+            client.ask("tenant 100000")
+            client.file(b"kept")
+            state = _state(client)
+            shutil.rmtree(folder)
+            if is_made:
+                os.mkdir(folder)
+            found += differences((client.ends(), b""), (server.end(), CLEAN), (_state_at(program, folder), state))
+    with _folder() as folder, Running(program, "--save", folder) as server, server.client() as client:
+        client.ask("tenant 100000")
+        client.ends()
+        shutil.rmtree(folder)
+        _saved_folder(program, folder)
+        files, wanted = _files(folder), f"b3store.server: {folder} holds 'content.1' and is not the folder that the server had locked"
+        status, told, left = server.end()
+        return found + differences((status, 4), (told[: len(wanted)], wanted), (left, []), (_files(folder), files))
+
+
 def _saved_folder(program: str, folder: str) -> None:
     with Running(program, "--save", folder) as server:
         with server.client() as client:
@@ -546,6 +587,8 @@ SAVES = (
     ("saves that are killed", saves_that_are_killed),
     ("saves that are killed at each step", saves_that_are_killed_at_each_step),
     ("two servers on one folder", one_server_alone),
+    ("a folder that is moved", folders_that_are_moved),
+    ("a folder that is removed", folders_that_are_removed),
     ("damaged files of a save", damaged_files),
     ("a save that can't be read", contents_that_cannot_be_read),
     ("folders that are none for a save", folders_that_are_none),
