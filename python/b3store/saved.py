@@ -257,14 +257,29 @@ def check_unused(path: str, fault: str) -> None:
 
 
 def make_folder(path: str) -> None:
-    """Makes a folder that only this user can enter, if there is none."""
-    if not os.path.isdir(path):
-        os.makedirs(path, 0o700)
-        parent = os.open(os.path.dirname(os.path.abspath(path)), os.O_RDONLY | os.O_DIRECTORY)
+    """Makes a folder that only this user can enter, and those above it, if there are none. Each folder that gets one is synced."""
+    missing, above = [], path.rstrip("/")
+    while above and not is_there(above):
+        missing.append(above)
+        above = os.path.dirname(above)
+    for new in reversed(missing):
+        # a/. and a/.. are there once a is
+        with contextlib.suppress(FileExistsError):
+            os.mkdir(new, 0o700 if new == missing[0] else 0o777)
+        parent = os.open(os.path.dirname(new) or ".", os.O_RDONLY | os.O_DIRECTORY)
         try:
             os.fsync(parent)
         finally:
             os.close(parent)
+
+
+def is_there(path: str) -> bool:
+    """Whether there is a file. Raises OSError if a path can't be followed."""
+    try:
+        os.stat(path)
+    except FileNotFoundError:
+        return False
+    return True
 
 
 def number_of(name: str) -> int:

@@ -17,7 +17,7 @@ from running import AS_MODULE, CLEAN, PACKAGE, SECONDS, Client, Running, environ
 
 sys.path.insert(1, PACKAGE)
 from b3store.files import checked_line, lock_folder
-from b3store.saved import in_filing_order
+from b3store.saved import in_filing_order, make_folder
 
 LENGTHS = (1, 2, 1023, 1024, 1025, 4096, 70_000)
 LONG = (1 << 20) + 5
@@ -399,7 +399,7 @@ def folders_that_are_none(program: str) -> List[str]:
             before = _files(folder)
             wanted = f"b3store.server: {folder} holds '{min(before)}' and no saved store: name a folder that is empty or doesn't exist\n"
             found += differences((fails(*words, folder), (1, wanted)), (_files(folder), before))
-        found += differences((fails(*words, f"{folder}/notes"), (1, f"b3store.server: cannot open the folder {folder}/notes: File exists\n")))
+        found += differences((fails(*words, f"{folder}/notes"), (1, f"b3store.server: cannot open the folder {folder}/notes: Not a directory\n")))
         found += differences((fails(*words, f"{folder}/notes/a"), (1, f"b3store.server: cannot open the folder {folder}/notes/a: Not a directory\n")))
         found += differences((fails(*words, "")[0], 1), (_files(folder), before))
         with _folder() as other:
@@ -418,6 +418,25 @@ def folders_that_are_none(program: str) -> List[str]:
                 found += differences((status, 1), (told.startswith(f"b3store.server: {other}/index is not a file; "), True))
         found += differences((fails("--program", f"{folder}/none", "--socket", f"{folder}-socket", "--save", f"{folder}-new")[0], 1))
         return found + differences((_state_at(program, f"{folder}-new"), {}))
+
+
+def folders_that_are_made(program: str) -> List[str]:
+    """Each folder that gets another one is synced. A path of very many folders is refused with a message."""
+    sync, synced = os.fsync, []
+    with _folder() as folder:
+        above, last = os.path.dirname(folder), f"{folder}/a//b/../c/"
+        os.fsync = lambda file: synced.append(os.fstat(file).st_ino)  # type: ignore[assignment,misc]
+        try:
+            make_folder(last)
+            make_folder(last)
+        finally:
+            os.fsync = sync
+        found = differences((sorted(os.listdir(f"{folder}/a")), ["b", "c"]), (os.stat(last).st_mode & 0o777, 0o700))
+        found += differences(({os.stat(name).st_ino for name in (above, folder, f"{folder}/a")} <= set(synced), True))
+        long = f"{above}/long" + "/a" * 3000
+        told = f"b3store.server: cannot open the folder {long}: File name too long\n"
+        found += differences((fails("--program", program, "--socket", f"{above}/s", "--save", long), (1, told)))
+        return found + differences((os.listdir(above), ["saved"]))
 
 
 def _fails_to_save(program: str, folder: str, **more: Any) -> List[str]:
@@ -592,6 +611,7 @@ SAVES = (
     ("damaged files of a save", damaged_files),
     ("a save that can't be read", contents_that_cannot_be_read),
     ("folders that are none for a save", folders_that_are_none),
+    ("folders that are made for a save", folders_that_are_made),
     ("saves on a full disk", full_disks),
     ("saves in a folder that can't be synced", folders_that_are_not_synced),
     ("a save without memory at its end", no_memory_after_a_save),
