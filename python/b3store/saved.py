@@ -15,6 +15,7 @@ import collections
 import contextlib
 import os
 import re
+import sys
 from typing import BinaryIO, Callable, Counter, Dict, Iterable, Iterator, List, NamedTuple, Optional, Tuple, TypeVar
 
 from .commands import fetch_line
@@ -155,7 +156,8 @@ class SavedStore:
         for tenant, usage in store.tenants().items():
             rows = list(ticking(store.objects(tenant), tick))
             limits.append(usage.limit)
-            lists[tenant] = [row.address for row in rows]
+            # tenants that hold the same objects share their addresses in memory
+            lists[tenant] = [sys.intern(row.address) for row in rows]
             lengths.update(rows)
         holders = dict(ticking(in_filing_order(lists), tick))
         if len(holders) != len(lengths):

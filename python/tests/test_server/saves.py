@@ -83,6 +83,21 @@ os.pread = fail
 {RUN_SERVER}
 """
 """A server whose disk fails."""
+MEASURED = f"""
+import os, resource
+from b3store.saved import SavedStore
+save = SavedStore.save
+def measured(*given):
+    before = resource.getrusage(resource.RUSAGE_SELF).ru_maxrss
+    try:
+        return save(*given)
+    finally:
+        with open(os.environ["GROWTH"], "w") as file:
+            file.write(str(resource.getrusage(resource.RUSAGE_SELF).ru_maxrss - before))
+SavedStore.save = measured
+{RUN_SERVER}
+"""
+"""A server that writes the KiB of memory that a save needs to the file in the variable GROWTH."""
 LIMITED = (
     f"import os, resource, runpy; limit = int(os.environ['LIMIT']); resource.setrlimit(resource.RLIMIT_FSIZE, (limit, limit)); {RUN_SERVER}"
 )
@@ -526,6 +541,25 @@ def no_memory_at_the_start(program: str) -> List[str]:
             return differences((server.status(), 1), (server.reported(), told), (server.left(), []), (_files(folder), files))
 
 
+def many_holders(program: str) -> List[str]:
+    """A save of objects that many tenants hold needs little memory for each holder. (It needed about 170 bytes.)"""
+    tenants, objects = 60, 2000
+    with _folder() as folder:
+        growth = f"{folder}-growth"
+        with Running(program, "--save", folder, python=["-c", MEASURED], GROWTH=growth) as server, server.client() as client:
+            found = differences(([client.number("tenant 1000000") for _ in range(tenants)], list(range(tenants))))
+            for number in range(objects):
+                content, first = _content(number), number * tenants
+                parts = ((first + at, at) for at in range(tenants))
+                lines = (b"begin %d %d\nputb %d 0 %d\n%bseal %d\n" % (at, len(content), up, len(content), content, up) for up, at in parts)
+                client.send(b"".join(lines))
+                answers = [client.line() for _ in range(3 * tenants)]
+            found += differences((answers[-1][:5], b"known"), (client.ends(), b""), (server.end(), CLEAN))
+        with open(growth, encoding="ascii") as file:
+            kib = int(file.read())
+        return found + ([] if kib < 64 * tenants * objects // 1024 else [f"a save needs {kib} KiB for {tenants * objects} holders"])
+
+
 def stores_that_end(program: str) -> List[str]:
     """When the store's process is killed, the folder keeps the save before. A start whose store ends, or that is stopped, changes nothing."""
     with _folder() as folder:
@@ -616,6 +650,7 @@ SAVES = (
     ("saves in a folder that can't be synced", folders_that_are_not_synced),
     ("a save without memory at its end", no_memory_after_a_save),
     ("a start without memory for a save", no_memory_at_the_start),
+    ("a save of many holders", many_holders),
     ("saves of stores that end", stores_that_end),
     ("a restoration that is stopped", stops_at_the_start),
     ("the order of saved objects", orders_of_lists),
