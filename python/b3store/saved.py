@@ -63,6 +63,14 @@ class SavedObject(NamedTuple):
     holders: Tuple[int, ...]
 
 
+class Stamp(NamedTuple):
+    """What changes when a file is written to or replaced."""
+
+    inode: int
+    size: int
+    time: int
+
+
 class Saved(NamedTuple):
     """What an index has: the tenants' limits, and the objects by address, in the order in which they were filed."""
 
@@ -83,6 +91,8 @@ class SavedStore:
         whole save."""
         self._path, self._folder = path, open_folder(path)
         self._saved: Optional[Saved] = None
+        self._stamps: Dict[str, Stamp] = {}
+        """Those of the files that are restored."""
         try:
             self._open(tick)
         except BaseException:
@@ -100,8 +110,9 @@ class SavedStore:
         """Reads the index, or writes the first one. A folder that can't be written to is noticed here, and not only by the save."""
         try:
             if os.path.lexists(self._at(INDEX)):
+                stamp = stamp_of(self._at(INDEX))
                 self._saved = read_index(self._at(INDEX), tick)
-                check_contents(self._path, self._saved)
+                self._stamps = {**check_contents(self._path, self._saved), INDEX: stamp}
                 self._try_to_write()
             else:
                 check_unused(self._path, "no saved store: name a folder that is empty or doesn't exist")
@@ -179,25 +190,27 @@ class SavedStore:
         return saved
 
     def _usable_places(self, wanted: Dict[str, Tuple[int, ...]], tick: Tick) -> Dict[str, Tuple[str, int]]:
-        """Where the bytes of objects are already, in files that are worth keeping. None if the index was damaged meanwhile: then everything is written again."""
+        """Where the bytes of objects are already, in files that are worth keeping. None if the index was changed meanwhile: then everything is written again.
+        So are the objects of other files that were changed: their bytes may be other ones."""
+        if not self._is_unchanged(INDEX):
+            return {}
         try:
             old = {address: row for address, row in read_index(self._at(INDEX), tick).objects.items() if address in wanted}
         except (OSError, SaveError):
             return {}
         live: Counter[str] = collections.Counter()
-        ends: Counter[str] = collections.Counter()
         for row in old.values():
             live[row.file] += row.length
-            ends[row.file] = max(ends[row.file], row.offset + row.length)
-        sizes = {name: self._size(name) for name in live}
-        kept = {name for name, size in sizes.items() if size >= max(SMALL_CONTENT, ends[name]) and 2 * live[name] >= size}
+        sizes = {name: self._stamps[name].size for name in live if self._is_unchanged(name)}
+        kept = {name for name, size in sizes.items() if size >= SMALL_CONTENT and 2 * live[name] >= size}
         return {address: (row.file, row.offset) for address, row in old.items() if row.file in kept}
 
-    def _size(self, name: str) -> int:
+    def _is_unchanged(self, name: str) -> bool:
+        """Whether a file is the one that was restored."""
         try:
-            return os.stat(self._at(name)).st_size
+            return name in self._stamps and stamp_of(self._at(name)) == self._stamps[name]
         except OSError:
-            return 0
+            return False
 
     def _write_content(self, store: Transfers, wanted: List[Tuple[int, str, int]], tick: Tick) -> Dict[str, Tuple[str, int]]:
         """Writes the bytes of objects to a new file, and returns where they are."""
@@ -256,6 +269,12 @@ def check_unused(path: str, fault: str) -> None:
     names = set(os.listdir(path)) - IGNORED
     if names:
         raise SaveError(f"{path} holds {min(names)!r} and {fault}")
+
+
+def stamp_of(path: str) -> Stamp:
+    """The stamp of a file. Raises OSError."""
+    found = os.stat(path)
+    return Stamp(found.st_ino, found.st_size, found.st_mtime_ns)
 
 
 def make_folder(path: str) -> None:
@@ -340,18 +359,20 @@ def note_line(saved: Saved, text: str) -> bool:
     return bool(found)
 
 
-def check_contents(path: str, saved: Saved) -> None:
-    """Checks that the content files are as long as they have to be. Raises SaveError."""
+def check_contents(path: str, saved: Saved) -> Dict[str, Stamp]:
+    """Checks that the content files are as long as they have to be, and returns their stamps. Raises SaveError."""
     ends: Counter[str] = collections.Counter()
+    stamps: Dict[str, Stamp] = {}
     for row in saved.objects.values():
         ends[row.file] = max(ends[row.file], row.offset + row.length)
     for name, end in ends.items():
         try:
-            size = os.stat(os.path.join(path, name)).st_size
+            stamps[name] = stamp_of(os.path.join(path, name))
         except FileNotFoundError:
             raise SaveError(f"{path}/{name} is missing; {ADVICE}") from None
-        if size < end:
-            raise SaveError(f"{path}/{name} is truncated: it has {size} of {end} bytes; {ADVICE}")
+        if stamps[name].size < end:
+            raise SaveError(f"{path}/{name} is truncated: it has {stamps[name].size} of {end} bytes; {ADVICE}")
+    return stamps
 
 
 def in_filing_order(lists: Dict[int, List[str]]) -> Iterator[Tuple[str, Tuple[int, ...]]]:

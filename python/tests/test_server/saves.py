@@ -298,6 +298,25 @@ def one_server_alone(program: str) -> List[str]:
         return found + differences((_state_at(program, folder), {}))
 
 
+def contents_that_are_changed(program: str) -> List[str]:
+    """What another program does to the files while the server runs doesn't get into a save: their bytes are written again."""
+    found = []
+    for name, change in ("content.1", lambda content: _flipped(content, 70)), ("content.1", lambda _: b""), ("index", lambda content: content):
+        with _folder() as folder:
+            with Running(program, "--save", folder) as server, server.client() as client:
+                client.ask("tenant 100000000")
+                for number in range(4):
+                    client.file(b"%d" % number * 300_000)
+                state = _state(client)
+                found += differences((client.ends(), b""), (server.end(), CLEAN))
+            with Running(program, "--save", folder) as server:
+                content = _files(folder)[name]
+                with open(os.path.join(folder, name), "wb") as file:
+                    file.write(change(content))
+                found += differences((server.end(), CLEAN), (sorted(os.listdir(folder)), ["content.2", "index"]), (_state_at(program, folder), state))
+    return found
+
+
 def folders_that_are_moved(program: str) -> List[str]:
     """A server whose folder is moved saves the store there, and leaves the folder of another server, which has the path now, as it is."""
     with _folder() as folder:
@@ -640,6 +659,7 @@ SAVES = (
     ("saves that are killed", saves_that_are_killed),
     ("saves that are killed at each step", saves_that_are_killed_at_each_step),
     ("two servers on one folder", one_server_alone),
+    ("files that are changed before a save", contents_that_are_changed),
     ("a folder that is moved", folders_that_are_moved),
     ("a folder that is removed", folders_that_are_removed),
     ("damaged files of a save", damaged_files),
