@@ -137,7 +137,7 @@ class Store:
         """Makes the temporary folder of the door."""
         self._numbers = itertools.count(1)
         self._lock = threading.Lock()
-        self._is_started = self._is_closing = False
+        self._is_started = self._is_closing = self._is_behind = False
         self._folder, self._locked = tempfile.mkdtemp(prefix=FOLDER_PREFIX), -1
         # what removes old files from /tmp leaves a locked folder alone
         with contextlib.suppress(OSError, FolderInUse):
@@ -241,30 +241,42 @@ class Store:
         return line[:-1]
 
     @contextlib.contextmanager
+    def _exchange(self) -> Iterator[None]:
+        """Is held while commands are sent and their answers are read. What an error left unread, as when memory runs out, is read by the next exchange."""
+        with self._lock:
+            if self._is_behind:
+                self._ask([b"stat"])
+                while not self._line().startswith(b"objects "):
+                    pass
+            self._is_behind = True
+            yield
+            self._is_behind = False
+
+    @contextlib.contextmanager
     def own_session(self) -> Iterator[Transfers]:
         """The server's own session, which nothing else uses meanwhile."""
-        with self._lock:
+        with self._exchange():
             for pipe in self._commands, self._answers:
                 with contextlib.suppress(OSError):
                     fcntl.fcntl(pipe, SET_PIPE_SIZE, MAX_PIPE_BYTES)
             yield OwnSession(Session(self._commands, self._answers, lambda reason="the store has ended", seconds=0: Ended(reason)))
 
-    def _rows(self, line: bytes, kind: bytes) -> Optional[List[List[bytes]]]:
-        """The words of each row of an answer that starts with the number of its rows. None if the question is refused."""
+    def _numbers_of(self, line: bytes, kind: bytes) -> Optional[List[int]]:
+        """The first number of each row of an answer that starts with the number of its rows. None if the question is refused."""
         self._ask([line])
         words = self._line().split()
-        return [self._line().split() for _ in range(int(words[1]))] if words[:1] == [kind] else None
+        return [int(self._line().split(b" ", 1)[0]) for _ in range(int(words[1]))] if words[:1] == [kind] else None
 
     def open_uploads(self) -> Optional[Set[int]]:
         """The numbers of all open uploads of all tenants, or None if the store is out of memory for the answer."""
         found: Set[int] = set()
-        with self._lock:
-            tenants = self._rows(b"tenants", b"tenants")
+        with self._exchange():
+            tenants = self._numbers_of(b"tenants", b"tenants")
             for tenant in tenants or []:
-                rows = self._rows(b"uploads " + tenant[0], b"uploads")
-                if rows is None:
+                uploads = self._numbers_of(b"uploads %d" % tenant, b"uploads")
+                if uploads is None:
                     return None
-                found.update(int(row[0]) for row in rows)
+                found.update(uploads)
         return None if tenants is None else found
 
     def abort(self, uploads: Iterable[int]) -> List[str]:
@@ -272,7 +284,7 @@ class Store:
         numbers, failures = sorted(uploads), []
         for start in range(0, len(numbers), ABORTS_AT_ONCE):
             some = numbers[start : start + ABORTS_AT_ONCE]
-            with self._lock:
+            with self._exchange():
                 self._ask([b"abort %d" % number for number in some])
                 answers = [self._line() for _ in some]
             failures += [

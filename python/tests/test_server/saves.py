@@ -98,6 +98,18 @@ SavedStore.save = measured
 {RUN_SERVER}
 """
 """A server that writes the KiB of memory that a save needs to the file in the variable GROWTH."""
+FORGETFUL = f"""
+from b3store import relay, server_store
+relay.MAX_KEPT, relay.MAX_BEGUN, line, left = 1, 4, server_store.Store._line, [6]
+def line_or_fail(store):
+    left[0] -= 1
+    if not left[0]:
+        raise MemoryError
+    return line(store)
+server_store.Store._line = line_or_fail
+{RUN_SERVER}
+"""
+"""A server that asks soon which uploads are open, and has once no memory for one of them."""
 LIMITED = (
     f"import os, resource, runpy; limit = int(os.environ['LIMIT']); resource.setrlimit(resource.RLIMIT_FSIZE, (limit, limit)); {RUN_SERVER}"
 )
@@ -560,6 +572,21 @@ def no_memory_at_the_start(program: str) -> List[str]:
             return differences((server.status(), 1), (server.reported(), told), (server.left(), []), (_files(folder), files))
 
 
+def no_memory_for_uploads(program: str) -> List[str]:
+    """When memory runs out while the server reads which uploads are open, it reads its later answers right, also those of the save."""
+    with _folder() as folder, Running(program, "--save", folder, python=["-c", FORGETFUL]) as server:
+        with server.client() as client:
+            client.ask("tenant 100000")
+            client.file(b"kept")
+            state = _state(client)
+            client.send(b"begin 0 5\n" * 20)
+            client.remaining()
+        with server.client() as client:
+            found = differences((client.ask("begin 0 5")[:7], b"upload "), (client.ends(), b""))
+        told = "b3store.server: a connection is closed: MemoryError: \n"
+        return found + differences((server.end(), (0, told, [])), (_state_at(program, folder), state))
+
+
 def many_holders(program: str) -> List[str]:
     """A save of objects that many tenants hold needs little memory for each holder. (It needed about 170 bytes.)"""
     tenants, objects = 60, 2000
@@ -670,6 +697,7 @@ SAVES = (
     ("saves in a folder that can't be synced", folders_that_are_not_synced),
     ("a save without memory at its end", no_memory_after_a_save),
     ("a start without memory for a save", no_memory_at_the_start),
+    ("a save after memory ran out for uploads", no_memory_for_uploads),
     ("a save of many holders", many_holders),
     ("saves of stores that end", stores_that_end),
     ("a restoration that is stopped", stops_at_the_start),
