@@ -39,11 +39,11 @@ import sys
 import threading
 import time
 import warnings
-from typing import Callable, Dict, List, NamedTuple, Optional, Set, TextIO
+from typing import Callable, Dict, List, NamedTuple, Optional, Set, TextIO, Tuple
 
 from .console import number, one_line, open_standard_files
 from .listening import Listener, ListenError, inherited, listen_at, listen_tcp, more_time, notify, read_token
-from .relay import Relays, serve_connection
+from .relay import SECONDS_TO_BEGIN, Relays, serve_connection
 from .saved import SavedStore, SaveError
 from .server_store import Store, StoreError, remove_left_folders, status_text
 from .sessions import can_write
@@ -127,6 +127,8 @@ class Connections:
         self._open: Set[socket.socket] = set()
         self._strangers: Dict[socket.socket, None] = {}
         """Those that have not sent the token, the oldest first."""
+        self._starting: Dict[socket.socket, Tuple[Optional[threading.Event], float]] = {}
+        """Those whose threads don't run yet, with their turns, and the times when they are closed."""
         self._lock = threading.Lock()
 
     def count(self) -> int:
@@ -140,16 +142,32 @@ class Connections:
 
     def add(self, connection: socket.socket, needs_token: bool) -> None:
         """Serves a connection by a thread. It lines up for its turn now, unless it has to send the token first."""
+        turn = None if needs_token else self._turns.line_up()
         with self._lock:
             self._open.add(connection)
+            self._starting[connection] = turn, time.monotonic() + SECONDS_TO_BEGIN
             if needs_token:
                 self._add_stranger(connection)
-        turn = None if needs_token else self._turns.line_up()
         try:
             # the start of a `Thread` waits forever if its memory runs out before it runs
             _thread.start_new_thread(self._serve, (connection, turn))
         except (RuntimeError, MemoryError) as error:
-            report(f"a connection is closed: {str(error) or 'out of memory'}")
+            self._give_up(connection, str(error) or "out of memory")
+
+    def close_unstarted(self) -> None:
+        """Closes the connections whose threads have ended before they ran, out of memory."""
+        now = time.monotonic()
+        with self._lock:
+            late = [connection for connection, (_, end) in self._starting.items() if now >= end]
+        for connection in late:
+            self._give_up(connection, "out of memory")
+
+    def _give_up(self, connection: socket.socket, reason: str) -> None:
+        """Closes a connection, unless its thread runs by now."""
+        with self._lock:
+            turn, end = self._starting.pop(connection, (None, 0.0))
+        if end:
+            report(f"a connection is closed: {reason}")
             if turn is not None and self._turns.wait(turn, 0):
                 self._turns.give_back()
             self._remove(connection)
@@ -198,6 +216,9 @@ class Connections:
         return True
 
     def _serve(self, connection: socket.socket, turn: Optional[threading.Event]) -> None:
+        with self._lock:
+            if not self._starting.pop(connection, None):
+                return
         try:
             if turn is None and not self._is_trusted(connection):
                 report("a connection is closed: its first line is not the token")
@@ -286,6 +307,7 @@ class Server:
                 return self._end()
             if self._deadline is not None:
                 self._more_time()
+            self._connections.close_unstarted()
             for key, _ in self._selector.select(SECONDS_AT_REST if self._deadline is None else SECONDS_BETWEEN_LOOKS):
                 if key.data is None:
                     self._read_signals()

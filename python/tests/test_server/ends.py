@@ -35,6 +35,19 @@ runpy.run_module('b3store.server', run_name='__main__', alter_sys=True)
 """A server in the processes of whose connections threads end before they run, as they do without memory."""
 
 
+STARVED_ONCE = """
+import _thread, runpy
+from b3store import relay
+start, left = _thread.start_new_thread, [1]
+def start_later(*given):
+    left[0] -= 1
+    return start(*given) if left[0] < 0 else 0
+_thread.start_new_thread, relay.SECONDS_TO_BEGIN = start_later, 0.5
+runpy.run_module('b3store.server', run_name='__main__', alter_sys=True)
+"""
+"""A server whose first thread ends before it runs, and which notices this soon."""
+
+
 def _token_file(folder: str, text: str = TOKEN + "\n", mode: int = 0o600) -> str:
     path = os.path.join(folder, "token")
     with open(path, "w", encoding="ascii") as file:
@@ -168,6 +181,15 @@ def threads_without_memory(program: str) -> List[str]:
         told = "the process of a connection ended with status 1; uploads that the connection began may be left open"
         found += differences((wait_until(lambda: server.reported() == 2 * f"b3store.server: {told}\n"), True))
         return found + differences((server.relays(), set()), (server.end()[::2], (0, [])))
+
+
+def threads_that_never_run(program: str) -> List[str]:
+    """A connection whose thread in the server ends before it runs is closed, and its turn is free."""
+    with Running(program, "--sessions", "1", python=["-c", STARVED_ONCE]) as server, server.client() as client:
+        time.sleep(2 * SHORTLY)
+        with server.client() as other:
+            found = differences((other.ask("tenants"), b"tenants 0\n"), (client.remaining(), b""), (other.ends(), b""))
+        return found + differences((server.end(), (0, "b3store.server: a connection is closed: out of memory\n", [])))
 
 
 def closed_streams(program: str) -> List[str]:
@@ -572,6 +594,7 @@ ENDS = (
     ("too few files", too_few_files),
     ("too little memory", too_little_memory),
     ("threads without memory", threads_without_memory),
+    ("a thread that never runs", threads_that_never_run),
     ("closed streams", closed_streams),
     ("streams without room", streams_without_room),
     ("tokens", tokens),
