@@ -291,7 +291,12 @@ def serve_connection(store: Store, relays: Relays, connection: socket.socket, ke
         finally:
             pipes.close()
         relays.add(process)
-        uploads.read(reading)
+        try:
+            uploads.read(reading)
+        except BaseException:
+            os.kill(process, signal.SIGKILL)
+            relays.wait(process)
+            raise
         status = relays.wait(process)
         if relays.is_fault(status):
             report(f"the process of a connection ended with {status_text(status)}; uploads that the connection began may be left open")

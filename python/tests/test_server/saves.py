@@ -573,7 +573,8 @@ def no_memory_at_the_start(program: str) -> List[str]:
 
 
 def no_memory_for_uploads(program: str) -> List[str]:
-    """When memory runs out while the server reads which uploads are open, it reads its later answers right, also those of the save."""
+    """When memory runs out while the server reads which uploads are open, the process of the connection ends, and later answers are read right, also those of
+    the save."""
     with _folder() as folder, Running(program, "--save", folder, python=["-c", FORGETFUL]) as server:
         with server.client() as client:
             client.ask("tenant 100000")
@@ -581,8 +582,9 @@ def no_memory_for_uploads(program: str) -> List[str]:
             state = _state(client)
             client.send(b"begin 0 5\n" * 20)
             client.remaining()
+        found = differences((wait_until(lambda: not server.relays()), True))
         with server.client() as client:
-            found = differences((client.ask("begin 0 5")[:7], b"upload "), (client.ends(), b""))
+            found += differences((client.ask("begin 0 5")[:7], b"upload "), (client.ends(), b""))
         told = "b3store.server: a connection is closed: MemoryError: \n"
         return found + differences((server.end(), (0, told, [])), (_state_at(program, folder), state))
 
