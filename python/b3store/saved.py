@@ -38,6 +38,8 @@ BATCH_LEN = 1 << 20
 BATCH_COUNT = 32
 """How many bytes, and how many objects, are read or filed in one turn. The commands without the contents, and the answers without them, each fit into the
 smallest pipe, of 4096 bytes: Linux gives such ones to a user who has many."""
+PAGE_LEN = 1 << 8
+"""How many entries of the journal are read at once, if the store has memory for them."""
 ROWS_BETWEEN_TICKS = 1 << 12
 SYNC_LEN = 1 << 28
 """How many bytes are written between two syncs."""
@@ -163,14 +165,10 @@ class SavedStore:
         check_unused(self._path, "is not the folder that the server had locked, which was removed: nothing is saved")
 
     def _save(self, store: Transfers, tick: Tick) -> Saved:
-        limits, lists, lengths = [], {}, {}
-        for tenant, usage in store.tenants().items():
-            rows = list(ticking(store.objects(tenant), tick))
-            limits.append(usage.limit)
-            # tenants that hold the same objects share their addresses in memory
-            lists[tenant] = [sys.intern(row.address) for row in rows]
-            lengths.update(rows)
-        holders = dict(ticking(in_filing_order(lists), tick))
+        try:
+            limits, holders, lengths = listed(store, tick)
+        except Refused:
+            limits, holders, lengths = replayed(store, tick)
         if len(holders) != len(lengths):
             raise SaveError(f"the store can't be saved in {self._path}: it changes meanwhile")
         places = self._usable_places(holders, tick)
@@ -373,6 +371,59 @@ def check_contents(path: str, saved: Saved) -> Dict[str, Stamp]:
         if stamps[name].size < end:
             raise SaveError(f"{path}/{name} is truncated: it has {stamps[name].size} of {end} bytes; {ADVICE}")
     return stamps
+
+
+def listed(store: Transfers, tick: Tick) -> Tuple[List[int], Dict[str, Tuple[int, ...]], Dict[str, int]]:
+    """The tenants' limits, the holders of each object in filing order, and its length. Raises Refused if the store has no memory for a list."""
+    limits: List[int] = []
+    lists: Dict[int, List[str]] = {}
+    lengths: Dict[str, int] = {}
+    for tenant, usage in store.tenants().items():
+        rows = list(ticking(store.objects(tenant), tick))
+        limits.append(usage.limit)
+        # tenants that hold the same objects share their addresses in memory
+        lists[tenant] = [sys.intern(row.address) for row in rows]
+        lengths.update(rows)
+    return limits, dict(ticking(in_filing_order(lists), tick)), lengths
+
+
+def replayed(store: Transfers, tick: Tick) -> Tuple[List[int], Dict[str, Tuple[int, ...]], Dict[str, int]]:
+    """The same from the journal, in pages for which the store has memory. This takes longer."""
+    tenants, tenant_of = 0, {}
+    holders: Dict[str, Tuple[int, ...]] = {}
+    for entry in ticking(entries_of(store), tick):
+        word, number, *rest = entry.split(" ")
+        if word == "tenant":
+            tenants += 1
+        elif word in ("begin", "open"):
+            tenant_of[number] = int(rest[0])
+        elif word == "abort":
+            del tenant_of[number]
+        elif word == "seal":
+            holders[rest[0]] = tuple(sorted({*holders.get(rest[0], ()), tenant_of.pop(number)}))
+        elif word == "forget":
+            holders[rest[0]] = tuple(tenant for tenant in holders[rest[0]] if tenant != int(number))
+            if not holders[rest[0]]:
+                del holders[rest[0]]
+    lengths = {address: store.size(held[0], address) for address, held in ticking(holders.items(), tick)}
+    return [store.usage(tenant).limit for tenant in range(tenants)], holders, lengths
+
+
+def entries_of(store: Transfers) -> Iterator[str]:
+    """Yields the journal's entries, from pages that get shorter when the store has no memory for one."""
+    start, count = 0, PAGE_LEN
+    while True:
+        try:
+            page = store.entries(start, count)
+        except Refused:
+            if count == 1:
+                raise
+            count //= 4
+            continue
+        yield from page
+        if len(page) < count:
+            return
+        start += count
 
 
 def in_filing_order(lists: Dict[int, List[str]]) -> Iterator[Tuple[str, Tuple[int, ...]]]:

@@ -110,6 +110,17 @@ server_store.Store._line = line_or_fail
 {RUN_SERVER}
 """
 """A server that asks soon which uploads are open, and has once no memory for one of them."""
+FULL = f"""
+from b3store import Refused
+from b3store.transfers import Transfers
+entries = Transfers.entries
+def refuse(*_):
+    raise Refused("S14")
+Transfers.objects = refuse
+Transfers.entries = lambda store, start, count: entries(store, start, count) if count < 16 else refuse()
+{RUN_SERVER}
+"""
+"""A server whose store has no memory to list its objects, nor for long pages of its journal."""
 LIMITED = (
     f"import os, resource, runpy; limit = int(os.environ['LIMIT']); resource.setrlimit(resource.RLIMIT_FSIZE, (limit, limit)); {RUN_SERVER}"
 )
@@ -589,6 +600,16 @@ def no_memory_for_uploads(program: str) -> List[str]:
         return found + differences((server.end(), (0, told, [])), (_state_at(program, folder), state))
 
 
+def full_stores(program: str) -> List[str]:
+    """A store that has no memory to list its objects is saved all the same."""
+    with _folder() as folder, Running(program, "--save", folder, "--keep-uploads", python=["-c", FULL]) as server, server.client() as client:
+        _fill(client)
+        state = _state(client)
+        client.ask(f"abort {client.number('open 0 5')}")
+        client.ask("begin 0 5")
+        return differences((client.ends(), b""), (server.end(), CLEAN), (_state_at(program, folder), state))
+
+
 def many_holders(program: str) -> List[str]:
     """A save of objects that many tenants hold needs little memory for each holder. (It needed about 170 bytes.)"""
     tenants, objects = 60, 2000
@@ -700,6 +721,7 @@ SAVES = (
     ("a save without memory at its end", no_memory_after_a_save),
     ("a start without memory for a save", no_memory_at_the_start),
     ("a save after memory ran out for uploads", no_memory_for_uploads),
+    ("a save of a full store", full_stores),
     ("a save of many holders", many_holders),
     ("saves of stores that end", stores_that_end),
     ("a restoration that is stopped", stops_at_the_start),
