@@ -20,7 +20,7 @@ from typing import BinaryIO, Callable, Counter, Dict, Iterable, Iterator, List, 
 
 from .commands import fetch_line
 from .files import FolderInUse, NotSynced, checked_line, checked_text, lock_folder, private, replace_file
-from .sessions import Kinds
+from .sessions import Kinds, Session
 from .transfers import Transfers
 from .values import Ended, Refused
 
@@ -459,9 +459,12 @@ def pieces_of(store: Transfers, wanted: Iterable[Tuple[int, str, int]]) -> Itera
 
 def fetched(store: Transfers, lines: List[str], lengths: List[int]) -> List[bytes]:
     """Sends commands that fetch ranges, and returns the bytes of each."""
-    with store._turn() as session:
+
+    def fetch(session: Session) -> List[bytes]:
         session.write("".join(f"{line}\n" for line in lines).encode())
-        found = [session.content(session.answer("bytes"), length) for length in lengths]
+        return [session.content(session.answer("bytes"), length) for length in lengths]
+
+    found = store._in_turn(fetch)
     if [len(piece) for piece in found] != lengths:
         raise SaveError("the store can't be saved: an object is shorter than its length")
     return found
@@ -545,16 +548,18 @@ class Restoring:
         for number, (tenant, address, _, content) in enumerate(batch, self._next_upload):
             put = f"putb {number} 0 {len(content)}\n" if content else ""
             pieces += [f"begin {tenant} {len(content)}\n{put}".encode(), content, f"sealas {number} {address}\n".encode()]
-        with self._store._turn() as session:
-            session.write(b"".join(pieces))
-            for _, address, name, content in batch:
-                kinds: List[Kinds] = ["upload", *["held"] * bool(content), ("new", "known")]
-                refusals = session.answers(kinds)[1]
-                if refusals:
-                    raise self._fault(address, name, refusals[0])
+        self._store._in_turn(lambda session: self._exchange_batch(session, pieces))
         self._next_upload += len(batch)
         self._batch, self._batch_len = [], 0
         self._tick()
+
+    def _exchange_batch(self, session: Session, pieces: List[bytes]) -> None:
+        session.write(b"".join(pieces))
+        for _, address, name, content in self._batch:
+            kinds: List[Kinds] = ["upload", *["held"] * bool(content), ("new", "known")]
+            refusals = session.answers(kinds)[1]
+            if refusals:
+                raise self._fault(address, name, refusals[0])
 
     def _fault(self, address: str, name: str, error: Exception) -> Exception:
         """The error of an object that isn't filed."""

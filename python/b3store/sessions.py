@@ -10,8 +10,7 @@ import sys
 import threading
 import time
 import weakref
-from types import TracebackType
-from typing import Any, BinaryIO, Callable, List, Optional, Sequence, Tuple, Type, TypeVar, Union
+from typing import Any, BinaryIO, Callable, List, Optional, Sequence, Tuple, TypeVar, Union
 
 from .values import Buffer, Ended, Refused, parse_number, parse_refusal
 
@@ -354,11 +353,13 @@ class Sessions:
         taken.extend(itertools.starmap(self._free.get, ((),)))
 
     def _in_turn(self, work: Callable[[Session], Value]) -> Value:
-        """What a function returns for a free session. As with a `Turn`; but the session is given back whenever an interrupt comes: one that comes when
-        a `with` statement calls `__exit__` would keep it."""
+        """What a function returns for a free session, which it waits for. Raises Ended if they can't be used any more, or if this process has inherited them:
+        both would read the same answers. The session is given back whenever an interrupt comes: one that comes when a `with` statement calls `__exit__` would
+        keep it."""
+        if os.getpid() != self._process_id:
+            raise Ended("the connection belongs to the process that opened it: after a fork, open another one")
         taken: List[Session] = []
         try:
-            self._check_process()
             self._take(taken)
             if self._fault is not None:
                 raise Ended(*self._fault.args)
@@ -370,14 +371,6 @@ class Sessions:
         finally:
             if taken:
                 self._free.put(taken[0])
-
-    def _check_process(self) -> None:
-        if os.getpid() != self._process_id:
-            raise Ended("the connection belongs to the process that opened it: after a fork, open another one")
-
-    def _turn(self) -> "Turn":
-        """A free session, for a command and its answer."""
-        return Turn(self)
 
     def _note(self, fault: BaseException) -> None:
         """Notes what interrupted a command: after anything but a refusal no session is used again. Raises Ended in place of what a wrong answer raised."""
@@ -405,30 +398,3 @@ def leave_all() -> None:
 
 
 os.register_at_fork(after_in_child=leave_all)
-
-
-class Turn:
-    """A free session, taken for a command and its answer. It waits for one, and raises Ended if they can't be used any more, or if this process has
-    inherited them: both would read the same answers."""
-
-    __slots__ = ("_sessions", "_session")
-
-    def __init__(self, sessions: Sessions) -> None:
-        self._sessions = sessions
-
-    def __enter__(self) -> Session:
-        self._sessions._check_process()
-        session = self._sessions._free.get()
-        fault = self._sessions._fault
-        if fault is not None:
-            self._sessions._free.put(session)
-            raise Ended(*fault.args)
-        self._session = session
-        return session
-
-    def __exit__(self, kind: Optional[Type[BaseException]], fault: Optional[BaseException], trace: Optional[TracebackType]) -> None:
-        try:
-            if fault is not None:
-                self._sessions._note(fault)
-        finally:
-            self._sessions._free.put(self._session)

@@ -165,8 +165,7 @@ def closes_beside_a_fork():
     with socket.create_server(("127.0.0.1", 0)) as listener:
         for make in (lambda: Store(PROGRAM, sessions=1), lambda: Store(PROGRAM, sessions=3), lambda: Client(host="127.0.0.1", port=listener.getsockname()[1])):
             store = make()
-            taken = store._turn()
-            taken.__enter__()
+            free, taken = store._free, store._free.get()
             waiting, going = os.pipe()
             child = os.fork()
             if child == 0:
@@ -174,7 +173,7 @@ def closes_beside_a_fork():
             os.close(going)
             with open(waiting, "rb") as told:
                 found += differences((told.read(2), b"ok"))
-                taken.__exit__(None, None, None)
+                free.put(taken)
                 closing = threading.Thread(target=store.close, daemon=True)
                 closing.start()
                 is_noticed = not isinstance(store, Client) or listener.accept()[0].recv(1) == b""
@@ -228,11 +227,11 @@ def closes_that_are_interrupted():
         found = []
         for make in (lambda: Client(path, sessions=3), lambda: Store(PROGRAM, sessions=3)):
             store = make()
-            free = store._free
-            with store._turn():
-                store._free = Interrupted(free)
-                found += differences((raised(store.close), queue.Empty))
-                store._free = free
+            free, taken = store._free, store._free.get()
+            store._free = Interrupted(free)
+            found += differences((raised(store.close), queue.Empty))
+            store._free = free
+            free.put(taken)
             closing = threading.Thread(target=store.close, daemon=True)
             closing.start()
             closing.join(SECONDS / 2)

@@ -42,8 +42,8 @@ def over_several_connections():
             return all(store.fetch(tenant, store.file(tenant, content).address) == content for content in contents) and address in store.list(tenant)
 
         found = differences((in_threads(work, 8), [True] * 8), (store.stat().objects, 8), (store.alive, True))
-        with store._turn(), store._turn(), store._turn(), store._turn():
-            return found + differences((store.alive, True))
+        store._give_back([store._free.get(timeout=SECONDS) for _ in range(4)])
+        return found + differences((store.alive, True))
 
 
 def over_tcp():

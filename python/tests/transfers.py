@@ -328,6 +328,7 @@ def scales():
     """A thread's uploads do not wait for another thread's: with two sessions, one that is stuck does not stop the other."""
     with Store(PROGRAM, sessions=2) as store:
         tenant = store.tenant(LIMIT)
-        with store._turn():
-            found = differences((store.upload(b"abc", tenant).address, ABC), (store.stat(), Totals(1, 3, 0, 0, 0)), (store.usage(tenant), Usage(3, 0, LIMIT)))
+        taken = store._free.get()
+        found = differences((store.upload(b"abc", tenant).address, ABC), (store.stat(), Totals(1, 3, 0, 0, 0)), (store.usage(tenant), Usage(3, 0, LIMIT)))
+        store._free.put(taken)
         return found
