@@ -285,10 +285,13 @@ class Session:
                 end.close()
 
     def leave(self, nowhere: int) -> None:
-        """Puts another descriptor in place of both ends', which this process has inherited."""
+        """Puts another descriptor in place of both ends', which this process has inherited. The buffer is dropped: it stays locked here if a thread of the
+        parent was reading."""
         for end in self._sending, self._reading:
             with contextlib.suppress(OSError, ValueError):
                 os.dup2(nowhere, end.fileno(), False)
+        with contextlib.suppress(OSError, ValueError):
+            self._reading = self._reading.detach()  # type: ignore[attr-defined]
 
 
 class Sessions:

@@ -184,6 +184,28 @@ def closes_beside_a_fork():
     return found
 
 
+def closes_beside_a_reading_thread():
+    """A new process also closes a store from which a thread of its parent was reading."""
+    with socket.create_server(("127.0.0.1", 0)) as listener:
+        store = Client(host="127.0.0.1", port=listener.getsockname()[1])
+        reader = threading.Thread(target=ended, args=(store.stat,), daemon=True)
+        reader.start()
+        connection = listener.accept()[0]
+        found = differences((connection.recv(5), b"stat\n"))
+        time.sleep(0.1)
+        waiting, going = os.pipe()
+        child = os.fork()
+        if child == 0:
+            close_and_wait(store, going)
+        os.close(going)
+        with connection, open(waiting, "rb") as told:
+            found += differences((told.read(2), b"ok"))
+        os.kill(child, signal.SIGKILL)
+        os.waitpid(child, 0)
+        reader.join(SECONDS / 2)
+        return found + differences((reader.is_alive(), False))
+
+
 def close_and_wait(store, going):
     """Closes a store that was inherited, tells it, and goes on."""
     signal.alarm(SECONDS)
@@ -288,6 +310,7 @@ CASES = (
     ("processes that inherit a store", processes_that_inherit),
     ("stores that are dropped", stores_that_are_dropped),
     ("closes beside a fork", closes_beside_a_fork),
+    ("closes beside a thread that reads", closes_beside_a_reading_thread),
     ("closes that are interrupted", closes_that_are_interrupted),
     ("a store for asyncio that is closed", lambda: asyncio.run(close_beside_a_pipe())),
     ("odd numbers", odd_numbers),
