@@ -1,7 +1,6 @@
 """A client of a running server (`python -m b3store.server`)."""
 import contextlib
 import os
-import queue
 import re
 import socket
 from types import TracebackType
@@ -56,26 +55,19 @@ class Client(Transfers):
     def alive(self) -> bool:
         """Whether the client can be used, as far as it knows: no command was interrupted, and the server has not closed a connection that is free, nor
         sent anything over it."""
-        if self._fault is not None:
-            return False
-        sessions = self._take_free()
-        try:
-            return all(session.is_at_rest() for session in sessions)
-        finally:
-            self._give_back(sessions)
+        return self._fault is None and self._with_all(self._free.get_nowait, lambda sessions: all(session.is_at_rest() for session in sessions))
 
     def close(self) -> None:
         """Closes the connections, once the commands of other threads are done; those of a client that can't be used any more at once."""
         with self._closing:
             if self._fault is not None:
                 self._shut_down()
-            sessions = self._take_all()
-            try:
-                for session in sessions:
-                    session.close()
-                self._fault = self._fault or Ended("the client was closed")
-            finally:
-                self._give_back(sessions)
+            self._with_all(self._free.get, self._end)
+
+    def _end(self, sessions: List[Session]) -> None:
+        for session in sessions:
+            session.close()
+        self._fault = self._fault or Ended("the client was closed")
 
     def _open_session(self) -> Session:
         connection = self._connect()
@@ -103,14 +95,6 @@ class Client(Transfers):
             if "closed" in fault.reason:
                 raise Ended(f"{self._name} closes the connection: is the token right?") from None
             raise
-
-    def _take_free(self) -> List[Session]:
-        """Takes the sessions that no thread uses now."""
-        taken: List[Session] = []
-        with contextlib.suppress(queue.Empty):
-            while True:
-                taken.append(self._free.get_nowait())
-        return taken
 
     def _shut_down(self) -> None:
         """Ends the commands that wait."""

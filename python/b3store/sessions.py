@@ -328,16 +328,17 @@ class Sessions:
 
         return ended
 
-    def _take_all(self) -> List[Session]:
-        """Takes all sessions, once their commands are done; none if that is interrupted."""
+    def _with_all(self, get: Callable[[], Session], work: Callable[[List[Session]], Value]) -> Value:
+        """What a function returns for the sessions that `get` takes: all of them, or those until it raises queue.Empty. They are given back in one step."""
         taken: List[Session] = []
+        giving = map(self._free.put, taken)
         try:
-            while len(taken) < len(self._all):
-                self._take(taken)
-        except BaseException:
-            self._give_back(taken)
-            raise
-        return taken
+            with contextlib.suppress(queue.Empty):
+                while len(taken) < len(self._all):
+                    self._take(taken, get)
+            return work(taken)
+        finally:
+            list(giving)
 
     def _give_back(self, sessions: Sequence[Session]) -> None:
         """Makes sessions free."""
@@ -351,9 +352,10 @@ class Sessions:
         self._free, self._closing = queue.SimpleQueue(), threading.Lock()
         self._give_back(self._all)
 
-    def _take(self, taken: List[Session]) -> None:
-        """Waits for a free session, and adds it to a list: in one step, so that no interrupt comes between the two."""
-        taken.extend(itertools.starmap(self._free.get, ((),)))
+    @staticmethod
+    def _take(taken: List[Session], get: Callable[[], Session]) -> None:
+        """Takes a session, and adds it to a list: in one step, so that no interrupt comes between the two."""
+        taken.extend(itertools.starmap(get, ((),)))
 
     def _in_turn(self, work: Callable[[Session], Value]) -> Value:
         """What a function returns for a free session, which it waits for. Raises Ended if they can't be used any more, or if this process has inherited them:
@@ -363,7 +365,7 @@ class Sessions:
             raise Ended("the connection belongs to the process that opened it: after a fork, open another one")
         taken: List[Session] = []
         try:
-            self._take(taken)
+            self._take(taken, self._free.get)
             if self._fault is not None:
                 raise Ended(*self._fault.args)
             return work(taken[0])

@@ -7,7 +7,7 @@ import subprocess
 import tempfile
 import time
 from types import TracebackType
-from typing import BinaryIO, Callable, Optional, Type, TypeVar, cast
+from typing import BinaryIO, Callable, List, Optional, Type, TypeVar, cast
 
 from .sessions import READ_LEN, Session
 from .transfers import Transfers
@@ -73,16 +73,15 @@ class Store(Transfers):
         with self._closing:
             if self._fault is not None:
                 self._process.kill()
-            sessions = self._take_all()
-            try:
-                for session in sessions:
-                    session.close()
-                status = self._process.wait()
-                self._stderr.close()
-                self._fault = self._fault or Ended("the store was closed", status)
-            finally:
-                self._give_back(sessions)
-            return status
+            return self._with_all(self._free.get, self._end)
+
+    def _end(self, sessions: List[Session]) -> int:
+        for session in sessions:
+            session.close()
+        status = self._process.wait()
+        self._stderr.close()
+        self._fault = self._fault or Ended("the store was closed", status)
+        return status
 
     def _start(self, program: str, count: int) -> None:
         """Starts the process, and opens its sessions."""

@@ -22,6 +22,7 @@ CASES = (
     ("answers that are too long", transfers.answers_that_are_too_long),
     ("commands that are interrupted", stores.commands_that_are_broken_off),
     ("interrupts at any moment", stores.interrupts_at_any_moment),
+    ("interrupts of a look", stores.interrupts_of_a_look),
     ("commands that take too long", stores.commands_that_take_too_long),
     ("the refusals of the page", stores.refusals_of_the_page),
     ("a store that threads share", stores.by_threads),

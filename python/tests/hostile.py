@@ -240,7 +240,14 @@ class Interrupted:
     """Free sessions, for which no one waits: an interrupt comes first."""
 
     def __init__(self, free):
-        self.get, self.put, self.get_nowait = free.get_nowait, free.put, free.get_nowait
+        self._free, self.put = free, free.put
+
+    def get(self):
+        """A free session."""
+        try:
+            return self._free.get_nowait()
+        except queue.Empty:
+            raise InterruptedError from None
 
 
 def closes_that_are_interrupted():
@@ -251,7 +258,7 @@ def closes_that_are_interrupted():
             store = make()
             free, taken = store._free, store._free.get()
             store._free = Interrupted(free)
-            found += differences((raised(store.close), queue.Empty))
+            found += differences((raised(store.close), InterruptedError))
             store._free = free
             free.put(taken)
             closing = threading.Thread(target=store.close, daemon=True)

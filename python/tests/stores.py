@@ -6,12 +6,13 @@ import os
 import pickle
 import re
 import signal
+import socket
 import sys
 import tempfile
 import threading
 
 from shared import ABC, EMPTY, FOUR, PROGRAM, TOP, differences, ended, raised, refusal, script_of
-from b3store import REFUSALS, Ended, Filed, Held, OpenUpload, Refused, Store, Totals, Usage
+from b3store import REFUSALS, Client, Ended, Filed, Held, OpenUpload, Refused, Store, Totals, Usage
 
 JOURNAL = ["tenant 0 4096", "begin 0 0 3", "put 0 0 3", f"seal 0 {ABC} new"]
 
@@ -160,7 +161,7 @@ def interrupts_at_any_moment():
     try:
         for number in range(500):
             with Store(PROGRAM, sessions=1) as store:
-                calls = interrupted_calls(store, 0.002 + number % 100 / 20000)
+                calls = interrupted_calls(store.stat, 0.002 + number % 100 / 20000)
                 kept = 1 - store._free.qsize()
                 store._give_back(store._all[:kept])
                 found += differences((kept, 0)) if calls else []
@@ -169,13 +170,31 @@ def interrupts_at_any_moment():
     return found[:1]
 
 
-def interrupted_calls(store, seconds):
-    """Calls a store until it is interrupted, and returns how often."""
+def interrupts_of_a_look():
+    """No interrupt of `alive`, which takes all sessions that are free, keeps one."""
+    if sys.version_info < (3, 11):
+        return []
+    found, before = [], signal.signal(signal.SIGALRM, interrupt)
+    try:
+        with socket.create_server(("127.0.0.1", 0)) as listener:
+            with Client(host="127.0.0.1", port=listener.getsockname()[1], sessions=3) as store:
+                for number in range(1000):
+                    interrupted_calls(lambda: store.alive, 0.0001 + number / 10000000)
+                    kept = 3 - store._free.qsize()
+                    store._give_back(store._all[:kept])
+                    found += differences((kept, 0))
+    finally:
+        signal.signal(signal.SIGALRM, before)
+    return found[:1]
+
+
+def interrupted_calls(call, seconds):
+    """Calls a function until it is interrupted, and returns how often."""
     calls = 0
     try:
         signal.setitimer(signal.ITIMER_REAL, seconds)
         while True:
-            store.stat()
+            call()
             calls += 1
     except Interrupted:
         return calls
