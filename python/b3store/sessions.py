@@ -79,6 +79,9 @@ def write_all(target: int, content: bytes, seconds: Optional[float]) -> None:
                 raise TimeoutError("the descriptor takes no bytes") from None
 
 
+INTERRUPTED = Ended("a command was interrupted")
+
+
 class Session:
     """Two ends: commands are written to one, and answers read from the other."""
 
@@ -364,17 +367,24 @@ class Sessions:
         if os.getpid() != self._process_id:
             raise Ended("the connection belongs to the process that opened it: after a fork, open another one")
         taken: List[Session] = []
+        is_noted = False
         try:
             self._take(taken, self._free.get)
             if self._fault is not None:
                 raise Ended(*self._fault.args)
-            return work(taken[0])
+            found = work(taken[0])
+            is_noted = True
+            return found
         except BaseException as fault:
             if taken:
                 self._note(fault)
+                is_noted = True
             raise
         finally:
             if taken:
+                # another interrupt may come before the first one is noted
+                if not is_noted and self._fault is None:
+                    self._fault = INTERRUPTED
                 self._free.put(taken[0])
 
     def _note(self, fault: BaseException) -> None:

@@ -153,6 +153,15 @@ def commands_that_are_broken_off():
         return found + differences((told, ("a command was interrupted by Interrupted", None, "")), (store.alive, False), (store.close(), -signal.SIGKILL))
 
 
+def commands_that_are_interrupted_twice():
+    """If a second interrupt comes before the first one is noted, the store isn't used again, either: an answer is unread."""
+    with tempfile.TemporaryDirectory() as place, Store(script_of(place, "read -r line; echo 'tenant x'; cat"), sessions=1) as store:
+        store._note = interrupt
+        found = differences((raised(store.tenant), Interrupted))
+        del store._note
+        return found + differences((ended(store.stat), ("a command was interrupted", None, "")), (store.alive, False))
+
+
 def interrupts_at_any_moment():
     """No interrupt keeps a session. Older versions of Python look for signals before nearly each step, also of a finally: there it is only rarer."""
     if sys.version_info < (3, 11):
