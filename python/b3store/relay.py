@@ -290,8 +290,8 @@ def serve_connection(store: Store, relays: Relays, connection: socket.socket, ke
                 os.close(writing)
         finally:
             pipes.close()
-        relays.add(process)
         try:
+            relays.add(process)
             uploads.read(reading)
         except BaseException:
             os.kill(process, signal.SIGKILL)

@@ -138,6 +138,8 @@ class Store:
         self._numbers = itertools.count(1)
         self._lock = threading.Lock()
         self._is_started = self._is_closing = self._is_behind = False
+        self._due = 0
+        """How many answers to `stat` follow what is unread: more than one if memory runs out again."""
         self._folder, self._locked = tempfile.mkdtemp(prefix=FOLDER_PREFIX), -1
         # what removes old files from /tmp leaves a locked folder alone
         with contextlib.suppress(OSError, FolderInUse):
@@ -235,10 +237,11 @@ class Store:
         self._commands.flush()
 
     def _line(self) -> bytes:
+        """Reads a line, with its newline: to remove that needs memory, and without it the line would be lost."""
         line = self._answers.readline()
         if not line.endswith(b"\n"):
             raise StoreError("the store has ended")
-        return line[:-1]
+        return line
 
     @contextlib.contextmanager
     def _exchange(self) -> Iterator[None]:
@@ -246,8 +249,9 @@ class Store:
         with self._lock:
             if self._is_behind:
                 self._ask([b"stat"])
-                while not self._line().startswith(b"objects "):
-                    pass
+                self._due += 1
+                while self._due:
+                    self._due -= self._line().startswith(b"objects ")
             self._is_behind = True
             yield
             self._is_behind = False
@@ -288,9 +292,9 @@ class Store:
                 self._ask([b"abort %d" % number for number in some])
                 answers = [self._line() for _ in some]
             failures += [
-                f"upload {number} is not aborted: {answer.decode('ascii', 'replace')}"
+                f"upload {number} is not aborted: {answer[:-1].decode('ascii', 'replace')}"
                 for number, answer in zip(some, answers)
-                if answer not in (b"ok", b"refused S7")
+                if answer not in (b"ok\n", b"refused S7\n")
             ]
         return failures
 

@@ -103,13 +103,13 @@ from b3store import relay, server_store
 relay.MAX_KEPT, relay.MAX_BEGUN, line, left = 1, 4, server_store.Store._line, [6]
 def line_or_fail(store):
     left[0] -= 1
-    if not left[0]:
+    if left[0] in (0, -1):
         raise MemoryError
     return line(store)
 server_store.Store._line = line_or_fail
 {RUN_SERVER}
 """
-"""A server that asks soon which uploads are open, and has once no memory for one of them."""
+"""A server that asks soon which uploads are open, and has no memory for one of them, and none for the next answer."""
 FULL = f"""
 from b3store import Refused
 from b3store.transfers import Transfers
