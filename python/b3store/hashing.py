@@ -30,6 +30,7 @@ SPAN_LEN = 1 << 20
 SMALL_LEN = 1 << 12
 """Up to this many bytes are kept, and hashed by one call that keeps the interpreter's lock."""
 HASH_LEN = 32
+START = 0
 KEY_LEN = 32
 HASH, KEYED_HASH, DERIVE_KEY = range(3)
 EPILOG = """\
@@ -149,7 +150,7 @@ def call(function: Any, *words: Any) -> None:
 
 def output_of(length: int, function: Any, *words: Any) -> bytes:
     """The bytes that a function writes as its last argument."""
-    out = ctypes.create_string_buffer(max(check_number("length", length), 1))
+    out = ctypes.create_string_buffer(max(length, 1))
     call(function, *words, ctypes.addressof(out), length)
     return out.raw[:length]
 
@@ -200,7 +201,7 @@ class blake3:  # named as hashlib's classes are
 
     def digest(self, length: int = HASH_LEN, *, position: int = 0) -> bytes:
         """Returns the hash, or `length` bytes of the extended output from a position on. Raises TypeError or ValueError."""
-        if self._hasher is None and length == HASH_LEN and position == 0:
+        if self._hasher is None and length is HASH_LEN and position is START:
             out, kept = Output(), self._kept
             if self._mode:
                 self._hash_small(out)
@@ -208,7 +209,7 @@ class blake3:  # named as hashlib's classes are
                 raise ValueError(FAULTS[1])
             digest: bytes = out.raw
             return digest
-        check_number("position", position)
+        length, position = check_number("length", length), check_number("position", position)
         if self._hasher is not None:
             return output_of(length, library.b3_hasher_extended, self._hasher, position)
         word, given = Bytes(self._word), Bytes(self._kept)
