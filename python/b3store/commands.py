@@ -9,6 +9,7 @@ from .values import (
     parse_open_upload, parse_usage,
 )
 
+Key = TypeVar("Key")
 Value = TypeVar("Value")
 
 MAX_DESCRIPTOR = (1 << 31) - 1
@@ -180,7 +181,7 @@ class Commands(Sessions):
 
     def list(self, tenant: int) -> Dict[str, int]:
         """Returns the lengths of the objects that a tenant holds, by address, in the order in which they were filed. Refusals: S1, S14."""
-        return dict(self._rows(parse_object, "list", f"list {check_number('tenant', tenant)}"))
+        return self._table(parse_object, "list", f"list {check_number('tenant', tenant)}")
 
     def objects(self, tenant: int) -> Iterator[ObjectRow]:
         """Yields the objects that a tenant holds, as of one moment, in the order in which they were filed. Refusals: S1, S14."""
@@ -201,7 +202,7 @@ class Commands(Sessions):
 
     def tenants(self) -> Dict[int, Usage]:
         """Returns how many bytes each tenant uses and reserves, and its limit, by number."""
-        return dict(self._rows(lambda tenant, *row: (parse_digits(tenant), parse_usage([*row])), "tenants", "tenants"))
+        return self._table(lambda tenant, *row: (parse_digits(tenant), parse_usage([*row])), "tenants", "tenants")
 
     def stat(self) -> Totals:
         """Returns what the store contains."""
@@ -244,6 +245,7 @@ class Commands(Sessions):
         session.write(f"{begin}\n".encode() + put, content, seal)
         kinds: List[Kinds] = ["upload", *["held"] * bool(content.nbytes), ("new", "known")]
         answers, refusals = session.answers(kinds)
+        check_begun(answers, number)
         self._next_upload = number + bool(answers)
         if refusals and answers:
             session.ask("ok", f"abort {number}")
@@ -267,11 +269,12 @@ class Commands(Sessions):
         for content in contents:
             kinds: List[Kinds] = ["upload", *["held"] * bool(content.nbytes), ("new", "known")]
             answers, refused = session.answers(kinds)
-            begun += bool(answers)
+            check_begun(answers, number + begun)
             if not refused:
                 filed.append(parse_asked(answers[-1], None, content.nbytes))
             elif answers:
-                unfiled.append(parse_number(answers[0]))
+                unfiled.append(number + begun)
+            begun += bool(answers)
             refusals += refused
         self._next_upload = number + begun
         for upload in unfiled:
@@ -292,6 +295,18 @@ class Commands(Sessions):
         """The same for each line of an answer that has several."""
         return self._talk(lambda session, words: [read(*session.line()) for _ in range(parse_number(words))], kind, line)
 
+    def _table(self, read: Callable[..., Tuple[Key, Value]], kind: str, line: str) -> Dict[Key, Value]:
+        """The same for lines that each have another key."""
+
+        def read_all(session: Session, words: List[str]) -> Dict[Key, Value]:
+            count = parse_number(words)
+            table = dict(read(*session.line()) for _ in range(count))
+            if len(table) < count:
+                raise ValueError("two lines have the same key")
+            return table
+
+        return self._talk(read_all, kind, line)
+
     def _lines(self, kind: str, line: str, most: Optional[int] = None) -> List[str]:
         """The lines of an answer that has several, up to so many."""
         return self._talk(lambda session, words: [session.text() for _ in range(parse_count(words, most))], kind, line)
@@ -311,6 +326,12 @@ def put_and_seal(upload: int, content: memoryview, address: Optional[str]) -> Tu
     put = f"putb {upload} 0 {content.nbytes}\n" if content.nbytes else ""
     seal = f"seal {upload}\n" if address is None else f"sealas {upload} {address}\n"
     return put.encode(), seal.encode()
+
+
+def check_begun(answers: List[List[str]], expected: int) -> None:
+    """Checks the number of an upload in the first answer, unless all are refusals. Raises ValueError."""
+    if answers and parse_number(answers[0]) != expected:
+        raise ValueError(f"upload {answers[0][0]} instead of {expected}")
 
 
 def file_begun(session: Session, begun: List[str], content: memoryview, address: Optional[str]) -> Filed:

@@ -21,6 +21,7 @@ CASES = (
     ("answers that don't fit", stores.answers_that_do_not_fit),
     ("answers that are too long", transfers.answers_that_are_too_long),
     ("commands that are interrupted", stores.commands_that_are_broken_off),
+    ("numbers of uploads that are others", stores.numbers_that_are_others),
     ("commands that are interrupted twice", stores.commands_that_are_interrupted_twice),
     ("interrupts at any moment", stores.interrupts_at_any_moment),
     ("interrupts of a look", stores.interrupts_of_a_look),

@@ -153,6 +153,18 @@ def commands_that_are_broken_off():
         return found + differences((told, ("a command was interrupted by Interrupted", None, "")), (store.alive, False), (store.close(), -signal.SIGKILL))
 
 
+def numbers_that_are_others():
+    """A store with one session knows the number of its next upload: the answer to `begin` has no other one."""
+    found = []
+    for call in (lambda store: store.file(0, b""), lambda store: store.file_all(0, [b""])):
+        with tempfile.TemporaryDirectory() as place:
+            text = f"read -r line; read -r line; echo upload 1; echo new {EMPTY} 0; cat"
+            with Store(script_of(place, text), sessions=1) as store:
+                told = ended(call, store)
+                found += differences((told, ("the store's answer makes no sense: upload 1 instead of 0", None, "")), (store.alive, False))
+    return found
+
+
 def commands_that_are_interrupted_twice():
     """If a second interrupt comes before the first one is noted, the store isn't used again, either: an answer is unread."""
     with tempfile.TemporaryDirectory() as place, Store(script_of(place, "read -r line; echo 'tenant x'; cat"), sessions=1) as store:
