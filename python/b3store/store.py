@@ -78,7 +78,8 @@ class Store(Transfers):
     def _end(self, sessions: List[Session]) -> int:
         for session in sessions:
             session.close()
-        status = self._process.wait()
+        # a process that has inherited the store has no status to wait for, and a thread of its parent may have locked the wait
+        status = self._process.wait() if os.getpid() == self._process_id else 0
         self._stderr.close()
         self._fault = self._fault or Ended("the store was closed", status)
         return status

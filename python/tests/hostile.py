@@ -14,7 +14,7 @@ import time
 import warnings
 
 from served import server_of
-from shared import ABC, FOUR, PROGRAM, SECONDS, TOP, differences, ended, raised, wait_until
+from shared import ABC, FOUR, PROGRAM, SECONDS, TOP, differences, ended, raised, script_of, wait_until
 from b3store import MAX_UPLOAD_LEN, AsyncStore, Client, Ended, Store, client
 from b3store.sessions import MAX_LINE_LEN, Session
 
@@ -197,17 +197,37 @@ def closes_beside_a_reading_thread():
         connection = listener.accept()[0]
         found = differences((connection.recv(5), b"stat\n"))
         time.sleep(0.1)
-        waiting, going = os.pipe()
-        child = os.fork()
-        if child == 0:
-            close_and_wait(store, going)
-        os.close(going)
-        with connection, open(waiting, "rb") as told:
-            found += differences((told.read(2), b"ok"))
-        os.kill(child, signal.SIGKILL)
-        os.waitpid(child, 0)
+        with connection:
+            found += differences((closed_in_a_fork(store), b"ok"))
         reader.join(SECONDS / 2)
         return found + differences((reader.is_alive(), False))
+
+
+def closes_beside_a_close():
+    """A new process also closes a store that a thread of its parent was closing."""
+    with tempfile.TemporaryDirectory() as place:
+        store = Store(script_of(place, "exec sleep 1000"), sessions=1)
+        closing = threading.Thread(target=store.close, daemon=True)
+        closing.start()
+        time.sleep(0.2)
+        found = differences((closed_in_a_fork(store), b"ok"), (closing.is_alive(), True))
+        os.kill(store.pid, signal.SIGKILL)
+        closing.join(SECONDS / 2)
+        return found + differences((closing.is_alive(), False))
+
+
+def closed_in_a_fork(store):
+    """What a new process tells after it has closed a store."""
+    waiting, going = os.pipe()
+    child = os.fork()
+    if child == 0:
+        close_and_wait(store, going)
+    os.close(going)
+    with open(waiting, "rb") as told:
+        answer = told.read(2)
+    os.kill(child, signal.SIGKILL)
+    os.waitpid(child, 0)
+    return answer
 
 
 def close_and_wait(store, going):
@@ -322,6 +342,7 @@ CASES = (
     ("stores that are dropped", stores_that_are_dropped),
     ("closes beside a fork", closes_beside_a_fork),
     ("closes beside a thread that reads", closes_beside_a_reading_thread),
+    ("closes beside a close", closes_beside_a_close),
     ("closes that are interrupted", closes_that_are_interrupted),
     ("a store for asyncio that is closed", lambda: asyncio.run(close_beside_a_pipe())),
     ("odd numbers", odd_numbers),
