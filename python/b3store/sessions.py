@@ -391,11 +391,12 @@ class Sessions:
         """Notes what interrupted a command: after anything but a refusal no session is used again. Raises Ended in place of what a wrong answer raised."""
         if isinstance(fault, Refused):
             return
+        # what is raised isn't what is kept: the frames of its traceback would keep the store
         if isinstance(fault, Ended):
-            self._fault = fault
+            self._fault = Ended(*fault.args)
         elif isinstance(fault, (ValueError, TypeError, IndexError)):
             self._fault = self._ended(f"the store's answer makes no sense: {fault}", 0)
-            raise self._fault from None
+            raise Ended(*self._fault.args) from None
         else:
             self._fault = Ended(f"a command was interrupted by {type(fault).__name__}")
 

@@ -243,8 +243,11 @@ def close_and_wait(store, going):
 
 def stores_that_are_dropped():
     """A store that is not closed keeps no descriptor once nothing has it, without a search for cycles of objects."""
-    with server_of(b"tenant 0\n") as path:
-        found, makes = [], (lambda: Client(path, sessions=2).alive, lambda: Store(PROGRAM, sessions=3).tenant())
+    with server_of(b"tenant 0\n") as path, server_of(b"tenant x\n") as other:
+        found, makes = [], (
+            lambda: Client(path, sessions=2).alive, lambda: Store(PROGRAM, sessions=3).tenant(), lambda: raised(Client(path).stat),
+            lambda: raised(Client(other).tenant),
+        )
         gc.collect()
         gc.disable()
         try:
