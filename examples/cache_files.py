@@ -528,6 +528,9 @@ class Rewriting:
                 self.files.places.pop(address, None)
         for (user, key), address in keys.items():
             yield f"key {user} {address} {key}"
+        if not keys:
+            # a start takes a log without a line for one that was emptied; no key is the empty one
+            yield "drop - "
 
     def write_some(self):
         """Writes some lines, and syncs them. Returns whether the new log is whole."""

@@ -72,6 +72,7 @@ CASES = (
     ("a cache without descriptors", cache_disk.lives_without_descriptors),
     ("a cache's new log", cache_disk.writes_its_log_in_steps),
     ("a cache that can't write a new log", cache_disk.lives_without_a_new_log),
+    ("a cache that begins without keys", cache_folders.begins_without_keys),
     ("a cache in a folder with another new log", cache_folders.leaves_another_new_log),
     ("a cache's keys that were removed", cache_disk.keeps_a_removal),
     ("a cache that begins with a lower limit", cache_disk.begins_with_the_last_keys),

@@ -17,7 +17,7 @@ from shared import ABC, EMPTY, FOUR, PROGRAM, SECONDS, differences
 from servers import SERVER, Cache, wait_until
 import cache_files
 from b3store.files import checked_line
-from cache_stores import User
+from cache_stores import Entry, User
 
 
 def begins_beside_a_pipe():
@@ -108,6 +108,24 @@ def begins_after_a_torn_first_line():
         return found
 
 
+def begins_without_keys():
+    """Once all keys were dropped, and the log was written again, a start finds no segment that it doesn't know: none is moved aside."""
+    with tempfile.TemporaryDirectory() as place:
+        files, user = begun_files(place), User("ann", None, 1000)
+        files.write(None, [(user, "/k", Entry(None, ABC, 3), b"abc", False)], moves=True)
+        log = files.log
+        with mock.patch.object(cache_files, "IDLE_LINES", 0):
+            for _ in range(6):
+                files.write(None, [(user, "/k", None, None, True)], moves=True)
+        found = differences((files.log is log, False), (len(contents_of(place)[files.name]), 3))
+        os.close(files.folder)
+        files = cache_files.Files(place)
+        with contextlib.redirect_stderr(io.StringIO()) as told:
+            files.read()
+        os.close(files.folder)
+        return found + differences((told.getvalue(), ""), (files.keys, {}), (os.listdir(place), ["log"]))
+
+
 def leaves_another_new_log():
     """A file `log.new` of something else stays as it is; what is left of a new log is removed."""
     with tempfile.TemporaryDirectory() as place:
@@ -116,10 +134,11 @@ def leaves_another_new_log():
             with open(path, "wb") as file:
                 file.write(content)
             files = begun_files(place)
+            log = files.log
             with mock.patch.object(cache_files, "IDLE_LINES", 0):
                 for _ in range(6):
                     files.write(None, [(User("ann", None, 1000), "/k", None, None, False)], moves=True)
-            found += differences(("log.new" in os.listdir(place), stays), (os.path.getsize(files.at("log")) > 0, stays))
+            found += differences(("log.new" in os.listdir(place), stays), (files.log is log, stays))
             if stays:
                 found += differences((contents_of(place)["log.new"], content))
             os.close(files.folder)
