@@ -2,6 +2,7 @@
 import collections
 import contextlib
 import fcntl
+import functools
 import io
 import os
 import re
@@ -274,8 +275,9 @@ def length_fault(line, length):
     return None if int(wanted) == length else f"its pieces have {count_text(length, 'byte')}, not {wanted}"
 
 
+@functools.lru_cache(maxsize=1)
 def path_of(text):
-    """The path in a word of a line, in its shortest form; None if it leads out of the folder."""
+    """The path in a word of a line, in its shortest form; None if it leads out of the folder. The path of a line is needed several times."""
     path = unquoted(text)
     return None if os.path.isabs(path) or ".." in path.split("/") else os.path.normpath(path)
 
