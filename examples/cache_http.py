@@ -191,7 +191,7 @@ class Server(http.server.HTTPServer):
         self.waiting, self.lock, self.has_stopped = 0, threading.Lock(), False
         """How many threads wait for a connection."""
         self.idle = {}
-        """The connections that wait for a whole head of a request, in the order in which they began to."""
+        """The connections that wait for a whole head of a request, or to be closed by the client, in the order in which they began to."""
 
     def start_thread(self):
         """Starts a thread that waits for connections."""
@@ -246,7 +246,7 @@ class Server(http.server.HTTPServer):
             self.idle.update({connection: None} if is_idle else {})
 
     def end_oldest(self):
-        """Ends the connection that has waited for a request for the longest time, if there is one: another needs its descriptor."""
+        """Ends the connection that has been idle for the longest time, if there is one: another needs its descriptor."""
         with self.lock, contextlib.suppress(OSError, StopIteration):
             oldest = next(iter(self.idle))
             del self.idle[oldest]
@@ -264,11 +264,13 @@ class Server(http.server.HTTPServer):
         """Closes a connection once the client has, or sends no more. If bytes of the client were unread then, the system would take back what the client
         has not yet received of the answer."""
         left = MAX_LEFT
+        self.note_idle(request, True)
         with contextlib.suppress(OSError):
             request.shutdown(socket.SHUT_WR)
             request.setsockopt(socket.SOL_SOCKET, socket.SO_RCVTIMEO, struct.pack("ll", SECONDS_TO_LEAVE, 0))
             while left > 0:
                 left -= len(request.recv(MAX_LINE)) or left
+        self.note_idle(request, False)
         self.close_request(request)
 
     def handle_error(self, request, client_address):

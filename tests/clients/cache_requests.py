@@ -3,6 +3,7 @@ import contextlib
 import os
 import socket
 import tempfile
+import threading
 import time
 
 from servers import USERS, Cache, SlowPut, metrics, raw_answer, wait_until
@@ -113,6 +114,30 @@ def answers_beside_idle_clients():
                 stack.enter_context(socket.create_connection(("127.0.0.1", cache.port), timeout=SECONDS)).sendall(begun)
             found += differences((cache.ask("PUT", "/k", b"abc")[0], 201), (cache.ask("GET", "/k"), (200, b"abc")))
         return found + differences((slow.end(), 201), (cache.ask("GET", "/slow") == (200, bytes(2000000)), True), (cache.stop()[1], ""))
+
+
+def answers_beside_refused_clients():
+    """Where clients whose requests were refused take all descriptors, and send on, those that have done so for the longest time are ended."""
+    with tempfile.TemporaryDirectory() as place, Cache(os.path.join(place, "cache"), server=["-c", FEW_FILES]) as cache, contextlib.ExitStack() as stack:
+        refused, has_ended = [], threading.Event()
+
+        def send_on():
+            while not has_ended.wait(0.2):
+                for connection in refused:
+                    with contextlib.suppress(OSError):
+                        connection.send(b"x")
+
+        for _ in range(60):
+            refused.append(stack.enter_context(socket.create_connection(("127.0.0.1", cache.port), timeout=SECONDS)))
+            refused[-1].sendall(b"x\r\n\r\n")
+        sender = threading.Thread(target=send_on)
+        sender.start()
+        try:
+            time.sleep(3)
+            return differences((cache.ask("PUT", "/k", b"abc")[0], 201), (cache.ask("GET", "/k"), (200, b"abc")))
+        finally:
+            has_ended.set()
+            sender.join()
 
 
 def keeps_keys_apart():
@@ -251,6 +276,7 @@ CASES = (
     ("a cache's half requests", does_nothing_for_half_a_request),
     ("a cache's clients that send too much", answers_whole_before_it_closes),
     ("a cache beside idle clients", answers_beside_idle_clients),
+    ("a cache beside refused clients", answers_beside_refused_clients),
     ("a cache's keys that differ in a byte", keeps_keys_apart),
     ("a cache's clients that wait to be asked", asks_for_the_body),
     ("a cache's chunks with more words", takes_long_extensions),
