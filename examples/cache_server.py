@@ -43,7 +43,7 @@ token. All other paths are keys.
 | 404 | there is no such key |
 | 405 | `/healthz` and `/metrics` can't be keys |
 | 400 | the request is malformed, or its body is truncated or isn't what `--compare` wants, or a PUT has `Content-Range`: it would store a part |
-| 411, 413, 414 | the body has no length; it is longer than `--most`, or in chunks than 16 GiB; the key of a PUT has more than 4096 bytes |
+| 411, 413, 414 | the body has no length; it is longer than `--most`, or than 16 GiB if it is in chunks; the key of a PUT has more than 4096 bytes |
 | 431, 501, 505 | a header or all headers are too long; the server has no such method or coding; the version isn't HTTP/1 |
 | 412 | what the key leads to isn't what `If-Match` or, for PUT and DELETE, `If-None-Match` wants; nothing is changed |
 | 503, 507 | the store is out of memory, or has ended, or FOLDER can't be written to; the store or the user's quota is full, or the user has too many keys |
