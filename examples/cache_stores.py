@@ -312,12 +312,12 @@ class Cache:
             return next((backend for backend in self.backends() if address in backend.counts[user]), None)
 
     def drop(self, user, key, permits=always):
-        """Removes a key, also one that a start has left out. Returns whether there was one."""
+        """Removes a key, and returns whether there was one. One that a start has left out is removed too, unless the condition wants some content."""
         with self.lock:
             found = key in user.keys
             if found:
                 self.admit(user, key, permits)
-            if found or self.files is not None and (user.name, key) in self.files.keys:
+            if found or permits(None) and self.files is not None and (user.name, key) in self.files.keys:
                 self.lead(user, key, None)
             return found
 

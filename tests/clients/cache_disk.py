@@ -587,13 +587,13 @@ def keeps_a_removal():
 
 
 def deletes_what_was_left_out():
-    """A key that a start could not load is not found, and a DELETE of it stays."""
+    """A key that a start could not load is not found, and a DELETE of it stays, unless it wants some content there: then nothing is changed."""
     with tempfile.TemporaryDirectory() as place:
         folder = os.path.join(place, "cache")
         with Cache(folder) as cache:
             found = differences((cache.ask("PUT", "/a", b"abc")[0], 201), (cache.ask("PUT", "/b", b"four")[0], 201))
         with Cache(folder, server=["-c", UNREADABLE]) as cache:
-            found += differences((cache.ask("DELETE", "/a")[0], 404))
+            found += differences((cache.ask("DELETE", "/a")[0], 404), (cache.ask("DELETE", "/b", headers={"If-Match": '"x"'})[0], 404))
         with Cache(folder) as cache:
             return found + differences((cache.begun.split(", ", 1)[1], "has 1 key, 1 object\n"), (cache.ask("GET", "/a")[0], 404), (cache.ask("GET", "/b"), (200, b"four")))
 
