@@ -170,21 +170,13 @@ def closes_beside_a_fork():
         for make in (lambda: Store(PROGRAM, sessions=1), lambda: Store(PROGRAM, sessions=3), lambda: Client(host="127.0.0.1", port=listener.getsockname()[1])):
             store = make()
             free, taken = store._free, store._free.get()
-            waiting, going = os.pipe()
-            child = os.fork()
-            if child == 0:
-                close_and_wait(store, going)
-            os.close(going)
-            with open(waiting, "rb") as told:
-                found += differences((told.read(2), b"ok"))
+            with closed_in_a_fork(store) as told:
                 free.put(taken)
                 closing = threading.Thread(target=store.close, daemon=True)
                 closing.start()
                 is_noticed = not isinstance(store, Client) or listener.accept()[0].recv(1) == b""
                 closing.join(SECONDS / 2)
-                found += differences((closing.is_alive(), False), (is_noticed, True))
-                os.kill(child, signal.SIGKILL)
-                os.waitpid(child, 0)
+                found += differences((told, b"ok"), (closing.is_alive(), False), (is_noticed, True))
     return found
 
 
@@ -197,8 +189,8 @@ def closes_beside_a_reading_thread():
         connection = listener.accept()[0]
         found = differences((connection.recv(5), b"stat\n"))
         time.sleep(0.1)
-        with connection:
-            found += differences((closed_in_a_fork(store), b"ok"))
+        with connection, closed_in_a_fork(store) as told:
+            found += differences((told, b"ok"))
         reader.join(SECONDS / 2)
         return found + differences((reader.is_alive(), False))
 
@@ -210,24 +202,27 @@ def closes_beside_a_close():
         closing = threading.Thread(target=store.close, daemon=True)
         closing.start()
         time.sleep(0.2)
-        found = differences((closed_in_a_fork(store), b"ok"), (closing.is_alive(), True))
+        with closed_in_a_fork(store) as told:
+            found = differences((told, b"ok"), (closing.is_alive(), True))
         os.kill(store.pid, signal.SIGKILL)
         closing.join(SECONDS / 2)
         return found + differences((closing.is_alive(), False))
 
 
+@contextlib.contextmanager
 def closed_in_a_fork(store):
-    """What a new process tells after it has closed a store."""
+    """What a new process tells after it has closed a store. It lives until the block is left."""
     waiting, going = os.pipe()
     child = os.fork()
     if child == 0:
         close_and_wait(store, going)
     os.close(going)
-    with open(waiting, "rb") as told:
-        answer = told.read(2)
-    os.kill(child, signal.SIGKILL)
-    os.waitpid(child, 0)
-    return answer
+    try:
+        with open(waiting, "rb") as told:
+            yield told.read(2)
+    finally:
+        os.kill(child, signal.SIGKILL)
+        os.waitpid(child, 0)
 
 
 def close_and_wait(store, going):
