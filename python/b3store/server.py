@@ -394,6 +394,10 @@ def read_words() -> argparse.Namespace:
     add("--save", metavar="FOLDER", help="after SIGTERM, save the store in FOLDER; at the start, restore the store that is saved there")
     add("--keep-uploads", action="store_true", help="when a connection ends, leave the uploads that it began open")
     words = parser.parse_args()
+    for name, value in vars(words).items():
+        # as the value of an unset variable is
+        if value == "":
+            parser.error(f"--{name.replace('_', '-')} is empty")
     if words.token_file and not words.tcp and "LISTEN_FDS" not in os.environ:
         parser.error("--token-file is for --tcp")
     if words.tcp and not words.token_file:
@@ -420,7 +424,7 @@ def open_listeners(words: argparse.Namespace, token: Optional[bytes], ending: co
 
 def check_places(words: argparse.Namespace) -> None:
     """Raises ListenError if the socket is to be in the folder that the server saves in, which it locks."""
-    if words.socket and words.save is not None and os.path.realpath(os.path.dirname(words.socket) or ".") == os.path.realpath(words.save):
+    if words.socket and words.save and os.path.realpath(os.path.dirname(words.socket) or ".") == os.path.realpath(words.save):
         raise ListenError(f"{words.socket} can't be in the folder of --save")
 
 
@@ -452,7 +456,7 @@ def serve(words: argparse.Namespace) -> int:
     # The process that is forked for a connection uses nothing that another thread may have locked.
     warnings.filterwarnings("ignore", ".*multi-threaded, use of fork", DeprecationWarning)
     with contextlib.ExitStack() as ending:
-        saved = ending.enter_context(contextlib.closing(SavedStore(words.save, more_time()))) if words.save is not None else None
+        saved = ending.enter_context(contextlib.closing(SavedStore(words.save, more_time()))) if words.save else None
         listeners = open_listeners(words, token, ending)
         with contextlib.suppress(OSError):
             remove_left_folders()

@@ -347,6 +347,11 @@ def wrong_words(program: str) -> List[str]:
         (["--frob"], "--frob"),
         (["--tcp", "127.0.0.1:0"], "requires --token-file"),
         (["--token-file", "f"], "--tcp"),
+        (["--tcp", ""], "--tcp is empty"),
+        (["--token-file", ""], "--token-file is empty"),
+        (["--save", ""], "--save is empty"),
+        (["--socket", ""], "--socket is empty"),
+        (["--program", ""], "--program is empty"),
         (["more"], "more"),
     ):
         status, told = fails("--program", program, "--socket", "/nowhere/at/all", *words)

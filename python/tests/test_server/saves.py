@@ -458,7 +458,7 @@ def folders_that_are_none(program: str) -> List[str]:
             found += differences((fails(*words, folder), (1, wanted)), (_files(folder), before))
         found += differences((fails(*words, f"{folder}/notes"), (1, f"b3store.server: cannot open the folder {folder}/notes: Not a directory\n")))
         found += differences((fails(*words, f"{folder}/notes/a"), (1, f"b3store.server: cannot open the folder {folder}/notes/a: Not a directory\n")))
-        found += differences((fails(*words, "")[0], 1), (_files(folder), before))
+        found += differences((fails(*words, "")[0], 2), (_files(folder), before))
         with _folder() as other:
             told = f"b3store.server: {other}/socket can't be in the folder of --save\n"
             found += differences((fails("--program", program, "--socket", f"{other}/socket", "--save", other), (1, told)), (os.path.exists(other), False))
