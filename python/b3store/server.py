@@ -14,8 +14,8 @@ which speaks the lines of `b3store serve` and nothing else. A separate process m
 - Up to N connections are served at a time. Others wait for their turn, in the order in which they came. One that has waited for `--wait` seconds is sent the
   line `busy` and closed: no answer begins with this word. None of its commands was executed.
 - Over TCP a client's first line is `token HEX`, with the digits of the token file. The server answers `ok`, or closes the connection.
-- On SIGTERM, SIGINT or SIGHUP the server stops accepting connections, and waits up to `--grace` seconds for the open ones to end. A second signal ends the
-  wait.
+- On SIGTERM, SIGINT or SIGHUP the server stops accepting connections, sends `busy` to those that wait for their turn, and waits up to `--grace` seconds for
+  the others to end. A second signal ends the wait.
 - The store lives in memory: when the server exits, everything in the store is lost, unless it was started with `--save FOLDER`. Then it saves the objects and
   the tenants in the folder after that wait, and a server that is started with the same folder restores them. Open uploads are not saved.
 
