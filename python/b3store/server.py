@@ -14,8 +14,8 @@ which speaks the lines of `b3store serve` and nothing else. A separate process m
 - Up to N connections are served at a time. Others wait for their turn, in the order in which they came. One that has waited for `--wait` seconds is sent the
   line `busy` and closed: no answer begins with this word. None of its commands was executed.
 - Over TCP a client's first line is `token HEX`, with the digits of the token file. The server answers `ok`, or closes the connection.
-- On SIGTERM, SIGINT or SIGHUP the server stops accepting connections, sends `busy` to those that wait for their turn, and waits up to `--grace` seconds for
-  the others to end. A second signal ends the wait.
+- On SIGTERM, SIGINT or SIGHUP the server stops accepting connections, sends `busy` to those that wait for their turn, closes those that have not sent the
+  token, and waits up to `--grace` seconds for the others to end. A second signal ends the wait.
 - The store lives in memory: when the server exits, everything in the store is lost, unless it was started with `--save FOLDER`. Then it saves the objects and
   the tenants in the folder after that wait, and a server that is started with the same folder restores them. Open uploads are not saved.
 
@@ -181,8 +181,13 @@ class Connections:
         self._strangers[connection] = None
 
     def close_waiting(self) -> None:
-        """Sends `busy` to the connections that wait, and to any that come later."""
+        """Sends `busy` to the connections that wait, and to any that come later. Closes those that have not sent the token."""
         self._turns.close()
+        with self._lock:
+            for stranger in self._strangers:
+                with contextlib.suppress(OSError):
+                    # a token that has arrived is still read
+                    stranger.shutdown(socket.SHUT_RD)
 
     def end_all(self, tick: Callable[[], None]) -> None:
         """Ends all connections, and waits until their sessions have ended: their clients change nothing any more."""

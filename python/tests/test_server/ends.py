@@ -281,6 +281,18 @@ def strangers(program: str) -> List[str]:
         return found + differences((time.monotonic() - start < SECONDS / 6, True))
 
 
+def strangers_at_the_end(program: str) -> List[str]:
+    """Peers that send no token don't delay the end of a server."""
+    with tempfile.TemporaryDirectory() as folder:
+        words = ("--tcp", "127.0.0.1:0", "--token-file", _token_file(folder), "--grace", "60")
+        with Running(program, *words) as server, Client(("127.0.0.1", server.port()), socket.AF_INET) as silent:
+            silent.send(b"token ")
+            found = differences((wait_until(lambda: server.threads() == 2), True))
+            start = time.monotonic()
+            found += differences((server.end()[::2], (0, [])), (silent.remaining(), b""))
+            return found + differences((time.monotonic() - start < SECONDS / 6, True))
+
+
 def urgent_bytes(program: str) -> List[str]:
     """What TCP sends as urgent data is left out, and what follows is answered."""
     with tempfile.TemporaryDirectory() as folder:
@@ -605,6 +617,7 @@ ENDS = (
     ("tokens", tokens),
     ("TCP alone", tcp_alone),
     ("strangers over TCP", strangers),
+    ("strangers over TCP at the end", strangers_at_the_end),
     ("urgent bytes over TCP", urgent_bytes),
     ("files of tokens, and addresses", token_files),
     ("wrong words", wrong_words),
