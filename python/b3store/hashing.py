@@ -251,8 +251,13 @@ def hash_spans(key: Bytes, length: int, threads: int, hash_span: Callable[[int, 
             hash_span(start, min(start + SPAN_LEN, length), values[start // SPAN_LEN])
 
     with concurrent.futures.ThreadPoolExecutor(threads) as pool:
-        for worker in [pool.submit(work) for _ in range(threads)]:
-            worker.result()
+        try:
+            for worker in [pool.submit(work) for _ in range(threads)]:
+                worker.result()
+        finally:
+            # after an interrupt no thread begins another span
+            for _ in starts:
+                pass
     while len(values) > 2:
         values = [parent_of(key, values[at : at + 2]) for at in range(0, len(values), 2)]
     return output_of(HASH_LEN, library.b3_root, *key.whole(), *values)

@@ -5,13 +5,16 @@ import hashlib
 import io
 import os
 import random
+import signal
 import subprocess
 import sys
 import tempfile
 import timeit
+import unittest.mock
 
 from shared import ABC, EMPTY, SECONDS, TOP, differences, raised
 from judging import judged
+from stores import Interrupted, interrupt
 
 LENGTHS = (0, 1, 63, 64, 65, 1023, 1024, 1025, 4095, 4096, 4097, 10000, 1 << 20, (1 << 20) + 1, 3 << 20, (5 << 20) + 77)
 KEY = b"whats the Elvish word for friend"
@@ -99,6 +102,38 @@ def files_without_bytes():
         return found + differences((file_digest(file).hex(), ABC))
 
 
+def files_that_are_interrupted():
+    """After an interrupt the threads end: they don't read the rest of a file first."""
+    from b3store.hashing import SPAN_LEN, file_digest
+
+    spans, before = [], signal.signal(signal.SIGALRM, interrupt)
+
+    def read(_, rooms, at):
+        spans.append(at)
+        if at == 9 * SPAN_LEN:
+            os.kill(os.getpid(), signal.SIGALRM)
+        return len(rooms[0])
+
+    try:
+        with tempfile.TemporaryFile() as file, unittest.mock.patch("os.preadv", read):
+            file.truncate(10000 * SPAN_LEN)
+            return differences((raised(file_digest, file, 3), Interrupted), (len(spans) < 9000, True))
+    finally:
+        signal.signal(signal.SIGALRM, before)
+
+
+def positions_of_files():
+    """A large regular file keeps its position, where threads read it; another is at its end."""
+    from b3store.hashing import SPAN_LEN, file_digest
+
+    found = []
+    for length, threads, wanted in (SPAN_LEN, 3, SPAN_LEN), (SPAN_LEN + 1, 3, 0), (SPAN_LEN + 1, 1, SPAN_LEN + 1):
+        with tempfile.TemporaryFile() as file:
+            file.truncate(length)
+            found += differences((file_digest(file, threads), file_digest(io.BytesIO(bytes(length)))), (file.tell(), wanted))
+    return found
+
+
 def small_calls():
     """They take microseconds, and threads do not disturb each other."""
     from b3store.hashing import blake3
@@ -131,7 +166,7 @@ def prints_hashes():
 
 CASES = (
     ("hashes of bytes given in many ways", equal_ways), ("copies of hashers", copies), ("wrong values for hashers", wrong_values), ("small calls of hashers", small_calls),
-    ("hashes of files without bytes", files_without_bytes),
+    ("hashes of files without bytes", files_without_bytes), ("hashes of files that are interrupted", files_that_are_interrupted), ("positions of hashed files", positions_of_files),
     ("the program b3store.hashing", prints_hashes),
 )
 
