@@ -209,7 +209,7 @@ class blake3:  # named as hashlib's classes are
                 raise ValueError(FAULTS[1])
             digest: bytes = out.raw
             return digest
-        length, position = check_number("length", length), check_number("position", position)
+        length, position = check_number("length", length, 0, sys.maxsize), check_number("position", position)
         if self._hasher is not None:
             return output_of(length, library.b3_hasher_extended, self._hasher, position)
         word, given = Bytes(self._word), Bytes(self._kept)
@@ -285,9 +285,11 @@ def digest_by_threads(data: Buffer, threads: Optional[int] = None, key: Buffer =
 
 
 def file_digest(file: BinaryIO, threads: Optional[int] = None) -> bytes:
-    """Returns the hash of a file's bytes from its position on. A regular file at its start is read by `threads` threads (default: one for
-    each processor), and its position stays; others are read by this thread. Raises OSError, also if the file is truncated meanwhile, and
-    BlockingIOError if it is not in blocking mode and has no bytes."""
+    """Returns the hash of a file's bytes from its position on. A regular file of more than 1 MiB at its start is read by `threads` threads (default:
+    one for each processor), and its position stays; others, and all if `threads` is 1, are read to their end by this thread. Raises OSError, also if
+    the file is truncated meanwhile, BlockingIOError if it is not in blocking mode and has no bytes, and TypeError if it doesn't return bytes."""
+    if not hasattr(file, "read"):
+        raise TypeError(f"a file must be open for reading bytes, unlike {type(file).__name__}")
     threads, size = thread_count(threads), size_at_start(file)
     if threads > 1 and size > SPAN_LEN:
         return digest_of_descriptor(file.fileno(), size, threads)

@@ -82,6 +82,7 @@ def wrong_values():
     calls += [(ValueError, lambda: blake3(key=b"short")), (ValueError, lambda: blake3(key=b"")), (TypeError, lambda: blake3(key=32)), (TypeError, lambda: blake3(key="k" * 32))]
     calls += [(ValueError, lambda: blake3(key=KEY, context="c")), (TypeError, lambda: blake3(context=b"c")), (ValueError, lambda: hasher.digest(-1)), (TypeError, lambda: hasher.digest("5"))]
     calls += [(TypeError, lambda: blake3().digest(32.0)), (TypeError, lambda: blake3().digest(position=0.0))]
+    calls += [(ValueError, lambda: hasher.digest(1 << 63)), (ValueError, lambda: blake3(bytes(5000)).digest((1 << 64) - 1)), (TypeError, lambda: file_digest("name"))]
     calls += [(None, lambda: blake3().digest(position=type("Number", (), {"__index__": lambda _: 5})()))]
     calls += [(ValueError, lambda: hasher.digest(5, position=-1)), (ValueError, lambda: hasher.digest(5, position=1 << 64)), (ValueError, lambda: hasher.digest(2, position=(1 << 64) - 2))]
     calls += [(ValueError, lambda: digest_by_threads(b"abc", 0)), (TypeError, lambda: digest_by_threads("abc")), (ValueError, lambda: file_digest(io.BytesIO(), 0))]
