@@ -93,7 +93,8 @@ def finish(run: Callable[[], int]) -> int:
         report("cannot write: standard output is closed")
         return FAILED
     if hasattr(sys.stdout, "reconfigure"):
-        sys.stdout.reconfigure(errors="surrogateescape")
+        # names have the bytes that the command line has, whatever PYTHONIOENCODING says
+        sys.stdout.reconfigure(encoding=sys.getfilesystemencoding(), errors="surrogateescape")
     is_program = False
     try:
         is_program = raise_again()

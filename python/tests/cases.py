@@ -56,6 +56,7 @@ CASES = (
     ("clients that are closed", served.clients_that_are_closed),
     *hostile.CASES,
     ("the command line", programs.puts_and_gets),
+    ("names of the command line", programs.names_of_all_bytes),
     ("outputs of the command line", programs.outputs_of_all_kinds),
     ("messages of the command line", programs.says_what_is_wrong),
     ("an interrupt of the command line", programs.ends_on_an_interrupt),

@@ -72,6 +72,18 @@ def puts_and_gets():
         return found + differences((run(["--socket", server.path, "has", ABC])[0], 0), (run(["has", "--socket", server.path, ABC])[0], 0), (sorted(os.listdir(place)), ["a\\b", "copy", "large"]))
 
 
+def names_of_all_bytes():
+    """A line has the bytes of the name that was given, whatever encoding Python is told to write."""
+    found = []
+    with tempfile.TemporaryDirectory() as place, Bridge() as server:
+        path = os.path.join(os.fsencode(place), b"\xc3\xa9\xff")
+        with open(path, "wb") as file:
+            file.write(b"abc")
+        for encoding in "utf-8", "latin-1", "ascii":
+            found += differences((run(["--socket", server.path, "put", path], PYTHONIOENCODING=encoding), (0, ABC.encode() + b"  " + path + b"\n", "")))
+    return found
+
+
 def outputs_of_all_kinds():
     """Links to standard output and to pipes are written to as they are; a link that leads nowhere stays as it is, and no part of a file is left."""
     with tempfile.TemporaryDirectory() as place, Bridge() as server:
