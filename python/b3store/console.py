@@ -101,9 +101,7 @@ def finish(run: Callable[[], int]) -> int:
         for number in ENDED_BY:
             if is_program and signal.getsignal(number) is signal.SIG_DFL:
                 signal.signal(number, terminate)
-        status = run()
-        sys.stdout.flush()
-        return status
+        return written(run)
     except BrokenPipeError:
         pass
     except KeyboardInterrupt:
@@ -121,6 +119,17 @@ def finish(run: Callable[[], int]) -> int:
             stop_raising()
     drop_output()
     return FAILED
+
+
+def written(run: Callable[[], int]) -> int:
+    """What a program returns, once all that it has printed is written: also a help, after which it doesn't return."""
+    try:
+        status = run()
+    except SystemExit:
+        sys.stdout.flush()
+        raise
+    sys.stdout.flush()
+    return status
 
 
 def stop_raising() -> None:
