@@ -51,13 +51,17 @@ def one_line(text: str) -> str:
 
 
 def report(text: str) -> None:
-    """Writes a message of one line to standard error. Bytes of names that are not text are escaped."""
-    line = f"b3store: {one_line(text)}\n".encode("utf-8", "backslashreplace").decode("utf-8")
+    """Writes a message of one line to standard error."""
+    show(f"b3store: {one_line(text)}\n")
+
+
+def show(text: str) -> None:
+    """Writes to standard error, if that can be written to. Bytes of names that are not text are escaped."""
     try:
-        sys.stderr.write(line)
+        sys.stderr.write(text.encode("utf-8", "backslashreplace").decode("utf-8"))
         sys.stderr.flush()
     except OSError:
-        pass
+        drop_output(2)
 
 
 def error_text(fault: BaseException) -> str:
@@ -152,9 +156,9 @@ def open_standard_files() -> bool:
     return sys.stdout is not None
 
 
-def drop_output() -> None:
-    """Drops what could not be written, so that the interpreter doesn't try again when it ends."""
-    os.dup2(os.open(os.devnull, os.O_WRONLY), 1)
+def drop_output(number: int = 1) -> None:
+    """Drops what could not be written to standard output or error, so that the interpreter doesn't try again when it ends."""
+    os.dup2(os.open(os.devnull, os.O_WRONLY), number)
 
 
 class Progress:
@@ -173,12 +177,9 @@ class Progress:
         self._last, self._has_line = now, True
         of = "" if self._total is None else f" of {self._total >> 20}"
         seconds = now - self._start
-        text = f"b3store: {self._name}: {count >> 20}{of} MiB in {seconds:.0f} s, {count / seconds / (1 << 20):.0f} MiB/s"
-        sys.stderr.write(f"\r\x1b[K{text.encode('utf-8', 'backslashreplace').decode('utf-8')}")
-        sys.stderr.flush()
+        show(f"\r\x1b[Kb3store: {self._name}: {count >> 20}{of} MiB in {seconds:.0f} s, {count / seconds / (1 << 20):.0f} MiB/s")
 
     def close(self) -> None:
         """Removes the line."""
         if self._has_line:
-            sys.stderr.write("\r\x1b[K")
-            sys.stderr.flush()
+            show("\r\x1b[K")

@@ -63,6 +63,7 @@ CASES = (
     ("an interrupt while a program starts", programs.ends_while_it_starts),
     ("a signal while a program ends", programs.ends_while_it_ends),
     ("progress of the command line", programs.shows_progress),
+    ("progress on a terminal that goes away", programs.goes_on_without_a_terminal),
     ("the package installed", installing.installs),
     ("the names of the package", installing.names),
     ("the package without the library", installing.without_library),

@@ -228,3 +228,15 @@ def shows_progress():
         os.close(main_end)
         is_shown = bool(re.search(rb"b3store: -: [0-9]+ MiB in ", shown))
         return differences((put.returncode, 0), (line[64:], b"  -\n"), (is_shown, True), (shown.endswith(b"\r\x1b[K"), True))
+
+
+def goes_on_without_a_terminal():
+    """What is stored isn't given up because its progress can't be shown any more."""
+    text = "from b3store import console; console.SECONDS_TO_PROGRESS = console.SECONDS_BETWEEN = 0; progress = console.Progress('-', None)"
+    words = [sys.executable, "-c", text + "; print(flush=True); input(); progress(1); progress.close(); print('done')"]
+    main_end, terminal = pty.openpty()
+    with subprocess.Popen(words, stdin=subprocess.PIPE, stdout=subprocess.PIPE, stderr=terminal, env={**os.environ, "PYTHONPATH": PACKAGE}) as put:
+        os.close(terminal)
+        found = differences((put.stdout.readline(), b"\n"))
+        os.close(main_end)
+        return found + differences((put.communicate(b"\n", SECONDS)[0], b"done\n"), (put.returncode, 0))
