@@ -23,6 +23,8 @@ class AsyncStore:
     unless it waits for a thread: then it isn't run."""
 
     def __init__(self, store: Transfers, threads: int = 4) -> None:
+        if not isinstance(store, Transfers):
+            raise TypeError(f"a store must be a Store or a Client, not {type(store).__name__}")
         self.store, self._is_closed = store, False
         self._threads = concurrent.futures.ThreadPoolExecutor(check_number("threads", threads, 1, MAX_SESSIONS), "b3store")
 

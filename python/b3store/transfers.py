@@ -214,6 +214,10 @@ class Transfers(Commands):
             check_address(address)
         if length is not None:
             length = check_number("length", length, 0, MAX_UPLOAD_LEN)
+        if max_len is not None:
+            max_len = check_number("max_len", max_len)
+        if progress is not None and not callable(progress):
+            raise TypeError(f"progress must be a function, not {type(progress).__name__}")
         if is_file(content):
             return self._upload_file(content, tenant, length, address, max_len, progress)
         view = check_bytes(content)

@@ -166,10 +166,9 @@ def check_seconds(name: str, value: Any) -> Optional[float]:
         return None
     if not isinstance(value, numbers.Real):
         raise TypeError(f"{name} must be a number, not {type(value).__name__}")
-    seconds = float(value)
-    if not 0 <= seconds <= MAX_SECONDS:
-        raise ValueError(f"{name} must be from 0 to {MAX_SECONDS}, not {seconds}")
-    return seconds
+    if not 0 <= value <= MAX_SECONDS:
+        raise ValueError(f"{name} must be from 0 to {MAX_SECONDS}")
+    return float(value)
 
 
 def shortened(value: int) -> str:

@@ -106,6 +106,9 @@ def uploads_that_fail():
         found = []
         for wanted, source, length in cases:
             found += differences((raised(store.upload, source, tenant, length), wanted), (store.uploads(tenant), []), (store.usage(tenant).reserved, 0))
+        for source in b"abc", io.BytesIO(b"abc"):
+            for wanted, options in (TypeError, {"max_len": "3"}), (ValueError, {"max_len": -1}), (TypeError, {"progress": 5}):
+                found += differences((raised(lambda: store.upload(source, tenant, **options)), wanted))
         for source in b"abc", large, io.BytesIO(large), Reader(b"abc"):
             found += differences((raised(lambda: store.upload(source, tenant, address=FOUR)), Refused), (raised(lambda: store.upload(source, tenant, address="4")), ValueError))
         for wanted, max_len in ("F4", 1024), ("S6", 20 * PART_LEN), ("F4", PART_LEN):
@@ -319,7 +322,7 @@ def by_asyncio():
         async with AsyncStore(Store(PROGRAM, sessions=4)) as store:
             found = await work(store)
         await store.close()
-        return found + differences((store.store.alive, False))
+        return found + differences((store.store.alive, False), (raised(AsyncStore, PROGRAM), TypeError))
 
     return asyncio.run(run())
 
