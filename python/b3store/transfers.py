@@ -15,6 +15,8 @@ from .values import (
 PARTS_AT_ONCE = 4
 """How many parts of a file are read before they are sent in one turn, so that a slow file keeps no session from other threads."""
 MAX_TRIES = 10
+OPEN_LEN = 1 << 40
+"""How many bytes an upload whose length isn't known reserves at most: 64 of them fit into a tenant of the maximum limit."""
 
 
 class Upload:
@@ -188,7 +190,7 @@ class Transfers(Commands):
 
     def start_upload(self, tenant: int, length: Optional[int] = None, max_len: Optional[int] = None) -> Upload:
         """Begins an upload, to be used in a `with` statement. If the length isn't known, `max_len` bytes are reserved until it is sealed, by default all
-        that the tenant has left. Refusals: S1, S5, S6."""
+        that the tenant has left, up to 1 TiB. Refusals: S1, S5, S6."""
         if length is not None and max_len is not None:
             raise ValueError("an upload has a length or a maximum length, not both")
         if length is not None:
@@ -205,8 +207,8 @@ class Transfers(Commands):
 
         A file need not be seekable. Without a `length` it is read to its end, and a seekable one of more than 4 MiB to the end that it had when so much
         was read; with one, `length` bytes are read, and ValueError is raised if it ends earlier. If the length isn't known, `max_len` bytes are reserved:
-        by default as many as the file seems to have, or all that the tenant has left. With an `address`, the content is filed only if that is its
-        address. `progress` is called with the number of bytes that were sent so far, unless there are at most PART_LEN, which are filed in one turn. If
+        by default as many as the file seems to have, or all that the tenant has left, up to 1 TiB. With an `address`, the content is filed only if that
+        is its address. `progress` is called with the number of bytes that were sent so far, unless there are at most PART_LEN, which are filed in one turn. If
         anything is raised, the upload is aborted.
 
         Refusals: S1, S5, S6; F4 for a file that is longer than what is reserved; S11."""
@@ -234,14 +236,14 @@ class Transfers(Commands):
         raw = StoredObject(self, tenant, check_address(address))
         return io.BufferedReader(raw, buffering) if buffering else raw
 
-    def _begin_with_free(self, tenant: int) -> int:
-        """Begins an upload whose bound is all that the tenant has left."""
-        max_len = MAX_UPLOAD_LEN
+    def _begin_with_free(self, tenant: int, min_len: int = 0) -> int:
+        """Begins an upload whose bound is all that the tenant has left, up to OPEN_LEN. Refused if that is less than `min_len`."""
+        max_len = OPEN_LEN
         for tries in range(MAX_TRIES):
             try:
                 return self.begin_open(tenant, max_len)
             except Refused as refusal:
-                if refusal.number != "S6" or not isinstance(refusal.value, int) or tries == MAX_TRIES - 1:
+                if refusal.number != "S6" or not isinstance(refusal.value, int) or refusal.value < min_len or tries == MAX_TRIES - 1:
                     raise
                 max_len = refusal.value
         raise AssertionError("not reached")
@@ -260,7 +262,10 @@ class Transfers(Commands):
         limit = length_of(file, count) if length is None else length
         if max_len is None and limit is not None:
             max_len = -(-limit // CHUNK_LEN) * CHUNK_LEN
-        upload = self.start_upload(tenant, length, None if length is not None else max_len)
+        if max_len is None:
+            upload = Upload(self, self._begin_with_free(tenant, count), None)
+        else:
+            upload = self.start_upload(tenant, length, None if length is not None else max_len)
         return self._upload_parts(upload, parts_of(file, rooms, first, limit, length), address, progress)
 
     def _upload_parts(

@@ -37,6 +37,7 @@ CASES = (
     ("stores that are none", stores.stores_that_are_none),
     ("uploads from bytes and files of all kinds", transfers.uploads_of_all_sources),
     ("uploads that fail", transfers.uploads_that_fail),
+    ("uploads side by side", transfers.uploads_side_by_side),
     ("uploads from files that go one way", transfers.files_that_go_one_way),
     ("uploads with blocks", transfers.uploads_with_blocks),
     ("an upload that is written to after a refusal", transfers.writes_after_a_refusal),

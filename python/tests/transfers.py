@@ -118,6 +118,20 @@ def uploads_that_fail():
         return found + differences((store.upload(io.BytesIO(large), tenant).length, len(large)), (store.upload(b"abc", tenant, address=ABC).address, ABC))
 
 
+def uploads_side_by_side():
+    """An upload whose length isn't known leaves room for others in a large tenant. In a small one, the next is refused for want of room."""
+    with Store(PROGRAM, sessions=1) as store:
+        tenant, small = store.tenant(), store.tenant(8 * PART_LEN)
+        uploads = [store.start_upload(tenant) for _ in range(63)]
+        content = content_of(5 * PART_LEN)
+        found = differences((store.upload(Reader(content), tenant).length, len(content)), ({upload.bound for upload in store.uploads(tenant)}, {1 << 40}))
+        store.upload(Reader(content), small)
+        found += differences((refusal(store.upload, Reader(content + b"more"), small), ("S6", 3 * PART_LEN)), (store.uploads(small), []))
+        for upload in uploads:
+            upload.abort()
+        return found + differences((store.usage(small).reserved, 0), (store.usage(tenant).reserved, 0))
+
+
 class OneWay(io.BytesIO):
     """A file that goes to its end, but not back."""
 
