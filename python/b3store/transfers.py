@@ -28,7 +28,7 @@ class Upload:
             upload.write(b"of bytes")
         print(upload.filed.address)
 
-    `write` adds bytes at the end. `put` adds parts at any offset instead; then `fix` is needed, unless the last part is not a whole number of chunks."""
+    `write` adds bytes at the end. `put` adds parts at any offset instead; then `fix` is needed, unless the length was given or the last part is not a whole number of chunks."""
 
     def __init__(self, commands: "Transfers", number: int, length: Optional[int]) -> None:
         self._commands, self.number, self._length = commands, number, length
@@ -83,7 +83,7 @@ class Upload:
 
     def seal(self, address: Optional[str] = None) -> Filed:
         """Files the upload as an object. If an address is given, content with another address is refused. After a refusal the upload is aborted.
-        Refusals: S7, S16, S10, S11, S6."""
+        Refusals: S7, S16, S10, S11, S6, and those of `Commands.put`, since the last bytes that were written are sent now."""
         address = None if address is None else check_address(address)
         try:
             if self._kept:
