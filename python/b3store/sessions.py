@@ -336,9 +336,9 @@ class Sessions:
         taken: List[Session] = []
         giving = map(self._free.put, taken)
         try:
+            # no loop: from Python 3.12 on, an interrupt at its end would pass by the finally
             with contextlib.suppress(queue.Empty):
-                while len(taken) < len(self._all):
-                    self._take(taken, get)
+                self._take(taken, get, len(self._all))
             return work(taken)
         finally:
             list(giving)
@@ -356,9 +356,9 @@ class Sessions:
         self._give_back(self._all)
 
     @staticmethod
-    def _take(taken: List[Session], get: Callable[[], Session]) -> None:
-        """Takes a session, and adds it to a list: in one step, so that no interrupt comes between the two."""
-        taken.extend(itertools.starmap(get, ((),)))
+    def _take(taken: List[Session], get: Callable[[], Session], count: int = 1) -> None:
+        """Takes sessions, and adds them to a list: each in one step, so that no interrupt comes between the two."""
+        taken.extend(itertools.starmap(get, itertools.repeat((), count)))
 
     def _in_turn(self, work: Callable[[Session], Value]) -> Value:
         """What a function returns for a free session, which it waits for. Raises Ended if they can't be used any more, or if this process has inherited them:
