@@ -58,21 +58,18 @@ class Upload:
         return self._commands.put(self.number, offset, part)
 
     def write(self, content: Buffer) -> int:
-        """Adds bytes, any number of them, after those of earlier calls, and returns their number. If it can't send them, the upload is aborted, and the end
-        of the block raises the same again. Refusals: those of `Commands.put`. Raises ValueError if the upload isn't open."""
-        view, start = check_bytes(content), 0
+        """Adds bytes, any number of them, after those of earlier calls, and returns their number. If it can't send them, or is interrupted, the upload is
+        aborted, and the end of the block raises the same again. Refusals: those of `Commands.put`. Raises ValueError if the upload isn't open."""
+        view = check_bytes(content)
         if not self.is_open:
             raise ValueError("the upload isn't open")
-        if self._kept:
-            start = min(PART_LEN - len(self._kept), view.nbytes)
-            self._kept += view[:start]
-            if len(self._kept) < PART_LEN:
-                return view.nbytes
-            self._send_kept()
-        end = start + (view.nbytes - start) // PART_LEN * PART_LEN
-        if end > start:
-            self._send([view[at : at + PART_LEN] for at in range(start, end, PART_LEN)])
-        self._kept += view[end:]
+        try:
+            self._write(view)
+        except BaseException as fault:
+            # it isn't known which of them are put
+            self._fault = fault
+            self._abort_quietly()
+            raise
         return view.nbytes
 
     def fix(self, length: int) -> None:
@@ -111,18 +108,26 @@ class Upload:
         except (Refused, Ended):
             pass
 
+    def _write(self, view: memoryview) -> None:
+        start = 0
+        if self._kept:
+            start = min(PART_LEN - len(self._kept), view.nbytes)
+            self._kept += view[:start]
+            if len(self._kept) < PART_LEN:
+                return
+            self._send_kept()
+        end = start + (view.nbytes - start) // PART_LEN * PART_LEN
+        if end > start:
+            self._send([view[at : at + PART_LEN] for at in range(start, end, PART_LEN)])
+        self._kept += view[end:]
+
     def _send_kept(self) -> None:
         kept, self._kept = self._kept, bytearray()
         self._send([memoryview(kept)])
 
     def _send(self, parts: List[memoryview]) -> None:
-        """Sends parts. After a failure it isn't known which of them are put, so the upload is aborted."""
-        try:
-            self._commands._put_ahead(self.number, self._sent, parts)
-        except BaseException as fault:
-            self._fault = fault
-            self._abort_quietly()
-            raise
+        """Sends parts. After a failure the upload has to be aborted."""
+        self._commands._put_ahead(self.number, self._sent, parts)
         self._sent += sum(part.nbytes for part in parts)
 
 

@@ -9,6 +9,7 @@ import tempfile
 import threading
 
 from shared import ABC, EMPTY, FOUR, PROGRAM, SECONDS, differences, raised, refusal, script_of
+from stores import Interrupted, interrupt
 from b3store import MAX_PART_LEN, MAX_UPLOAD_LEN, PART_LEN, AsyncStore, Ended, Filed, Held, ObjectRow, Refused, Store, Totals, Usage
 
 LIMIT = 1 << 30
@@ -165,11 +166,21 @@ def writes_after_a_refusal():
             with store.start_upload(tenant, max_len=PART_LEN) as upload:
                 refusal(upload.write, bytes(2 * PART_LEN))
 
-        found += differences((refusal(write_on), ("F4", None)))
+        found += differences((refusal(write_on), ("F4", None)), (raised(write_after_an_interrupt, store, tenant), Interrupted), (store.uploads(tenant), []))
         with store.start_upload(tenant) as upload:
             upload.write(b"abc")
             upload.seal()
             return found + differences((raised(upload.write, b"d"), ValueError), (store.fetch(tenant, upload.filed.address), b"abc"))
+
+
+def write_after_an_interrupt(store, tenant):
+    """Writes to an upload, one of whose writes is interrupted before it sends the bytes that were kept."""
+    with store.start_upload(tenant) as upload:
+        upload.write(bytes(PART_LEN - 1))
+        upload._send = interrupt
+        raised(upload.write, b"a")
+        del upload._send
+        raised(upload.write, b"b")
 
 
 def uploads_with_blocks():
