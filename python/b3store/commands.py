@@ -143,22 +143,27 @@ class Commands(Sessions):
         """Writes up to `length` bytes of an object, starting at `offset`, to the descriptor of a file, a pipe or a socket, and returns how many. The system
         moves them if it can, so that Python copies none. Bytes that the descriptor has no room for are read into memory before this waits for room, so
         other commands can run meanwhile. Raises OSError if it can't be written to, TimeoutError if it has no room for `seconds`. Refusals: S1, S12."""
-        first, left = check_number("offset", offset), check_number("length", length)
+        offset, length = check_number("offset", offset), check_number("length", length)
         target, seconds = check_number("target", target, 0, MAX_DESCRIPTOR), check_seconds("seconds", seconds)
-        offset = first
         is_blocking = os.get_blocking(target)
-        os.set_blocking(target, False)
         try:
-            while left > 0:
-                wanted = min(PART_LEN, left)
-                line = fetch_line(tenant, address, offset, wanted)
-                count, rest, fault = self._in_turn(lambda session: session.move(line, wanted, target))
-                if fault is not None:
-                    raise fault
-                write_all(target, rest, seconds)
-                offset, left = offset + count, left - count if count == wanted else 0
+            os.set_blocking(target, False)
+            # no loop: from Python 3.12 on, an interrupt at its end would pass by the finally
+            return self._move(tenant, address, target, offset, length, seconds)
         finally:
             os.set_blocking(target, is_blocking)
+
+    def _move(self, tenant: int, address: str, target: int, first: int, left: int, seconds: Optional[float]) -> int:
+        """Does what `fetch_to` does, to a descriptor that doesn't block."""
+        offset = first
+        while left > 0:
+            wanted = min(PART_LEN, left)
+            line = fetch_line(tenant, address, offset, wanted)
+            count, rest, fault = self._in_turn(lambda session: session.move(line, wanted, target))
+            if fault is not None:
+                raise fault
+            write_all(target, rest, seconds)
+            offset, left = offset + count, left - count if count == wanted else 0
         return offset - first
 
     def ranges(self, tenant: int, address: str, length: int = RANGE_LEN) -> Iterator[bytes]:

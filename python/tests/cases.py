@@ -25,6 +25,7 @@ CASES = (
     ("commands that are interrupted twice", stores.commands_that_are_interrupted_twice),
     ("interrupts at any moment", stores.interrupts_at_any_moment),
     ("interrupts of a look", stores.interrupts_of_a_look),
+    ("interrupts of a move", stores.interrupts_of_a_move),
     ("commands that take too long", stores.commands_that_take_too_long),
     ("the refusals of the page", stores.refusals_of_the_page),
     ("a store that threads share", stores.by_threads),

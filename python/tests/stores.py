@@ -12,7 +12,7 @@ import tempfile
 import threading
 
 from shared import ABC, EMPTY, FOUR, PROGRAM, TOP, differences, ended, raised, refusal, script_of
-from b3store import REFUSALS, Client, Ended, Filed, Held, OpenUpload, Refused, Store, Totals, Usage
+from b3store import PART_LEN, REFUSALS, Client, Ended, Filed, Held, OpenUpload, Refused, Store, Totals, Usage
 
 JOURNAL = ["tenant 0 4096", "begin 0 0 3", "put 0 0 3", f"seal 0 {ABC} new"]
 
@@ -206,6 +206,25 @@ def interrupts_of_a_look():
                     found += differences((kept, 0))
     finally:
         signal.signal(signal.SIGALRM, before)
+    return found[:1]
+
+
+def interrupts_of_a_move():
+    """No interrupt of `fetch_to` leaves its descriptor out of blocking mode."""
+    if sys.version_info < (3, 11):
+        return []
+    found, before, sink = [], signal.signal(signal.SIGALRM, interrupt), os.open(os.devnull, os.O_WRONLY)
+    try:
+        with Store(PROGRAM, sessions=1) as store:
+            store._in_turn = lambda _: (PART_LEN, b"", None)
+            for number in range(1000):
+                interrupted_calls(lambda: store.fetch_to(0, ABC, sink), 0.0001 + number / 10000000)
+                found += differences((os.get_blocking(sink), True))
+                os.set_blocking(sink, True)
+            del store._in_turn
+    finally:
+        signal.signal(signal.SIGALRM, before)
+        os.close(sink)
     return found[:1]
 
 
