@@ -336,15 +336,24 @@ class Files:
         return has_ended
 
     def write(self, cache, batch, moves):
-        """Writes some changes of keys, some bytes at a time, and moves some content to the last segment."""
+        """Writes some changes of keys, some bytes at a time. Then frees a segment, and one more for each that it has begun: otherwise the folder would grow for
+        as long as much is written."""
+        begun = 0
         for changes in in_turns(batch):
+            name = self.name
             self.write_lines([text for change in changes for text in self.texts_of(cache, *change)])
-        emptied = self.emptiest() if moves else None
+            begun += self.name != name
+        for _ in range(1 + begun if moves else 0):
+            self.free_some()
+        self.rewrite(goes_on=moves)
+
+    def free_some(self):
+        """Moves some content to the last segment from the one of which keys lead to the fewest bytes, and removes that if it has no other."""
+        emptied = self.emptiest()
         if emptied:
             self.write_lines(self.move(emptied))
-        if emptied and not self.live_objects(emptied):
-            self.remove(emptied)
-        self.rewrite(goes_on=moves)
+            if not self.live_objects(emptied):
+                self.remove(emptied)
 
     def write_lines(self, texts):
         """Syncs the last segment, and appends lines to the log, which refer to what is there now. Begins a new segment if this one is long enough:

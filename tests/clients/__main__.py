@@ -54,6 +54,7 @@ CASES = (
     ("a cache in a folder with other keys", cache_folders.refuses_other_keys),
     ("a cache whose first line is torn", cache_folders.begins_after_a_torn_first_line),
     ("a cache that gives disk back", cache_disk.gives_disk_back),
+    ("a cache that gives disk back while it writes", cache_disk.frees_as_much_as_it_writes),
     ("a cache that ends while it begins", cache_disk.ends_while_it_loads),
     ("a cache that stops", cache_disk.stops_at_once),
     ("a cache that stops while it is used", cache_disk.stops_while_it_is_used),

@@ -243,6 +243,22 @@ def gives_disk_back():
             return found + differences(*((cache.ask("GET", f"/{number % 10}") == (200, bytes([number]) * (1 << 20)), True) for number in range(240, 250)))
 
 
+def frees_as_much_as_it_writes():
+    """While contents are stored over others without a pause, the folder has about twice what keys lead to, also where one batch begins several segments."""
+    found = []
+    for length, count in (4000, 6), (1000, 40):
+        limits = mock.patch.multiple(cache_files, SEGMENT=3000, SMALL_SEGMENT=1000, MOVED_AT_ONCE=750)
+        with tempfile.TemporaryDirectory() as place, limits, mock.patch.object(os, "fdatasync"):
+            files, user, chance, most = begun_files(place), User("ann", None, 1 << 20), random.Random(1), 0
+            for number in range(40):
+                rows = [(f"/{chance.randrange(count)}", address_of(1000 * number + at)) for at in range(12000 // length)]
+                files.write(None, cache_files.last_changes([(user, key, Entry(None, address, length), address.encode().ljust(length)) for key, address in rows]), moves=True)
+                most = max(most, sum(files.sizes.values()))
+            found += [f"contents of {length}: {most} bytes"] if most > 2 * length * count + 12000 else []
+            os.close(files.folder)
+    return found
+
+
 def stops_at_once():
     """Content is written as it arrives, so that a stop has nothing more to write. The content is less than a segment: a full one is followed by a new one
     after the log's last line."""
