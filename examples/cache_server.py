@@ -383,7 +383,8 @@ class Stop:
     def wait(self, seconds):
         """Whether it is set within some time."""
         with contextlib.suppress(queue.Empty):
-            self.told.get(timeout=seconds)
+            # before Python 3.11, a wait of no time may never end
+            self.told.get(seconds > 0, seconds)
             self.told.put(None)
         return not self.told.empty()
 

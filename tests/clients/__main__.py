@@ -99,6 +99,7 @@ CASES = (
     ("a cluster that ends while it begins", caches.ends_while_servers_start),
     ("two caches on one folder", caches.keeps_others_out),
     ("a cache that hangs up", caches.lives_on_after_a_hang_up),
+    ("a cache that looks for signals", caches.looks_for_signals),
     ("a cache with wrong words", caches.refuses_wrong_words),
     ("a cache's keys of any bytes", caches.keys_of_any_bytes),
     ("a cache whose store ends", caches.ends_with_its_store),

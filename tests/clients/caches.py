@@ -2,6 +2,7 @@
 import contextlib
 import http.client
 import os
+import queue
 import re
 import shlex
 import signal
@@ -10,9 +11,11 @@ import subprocess
 import sys
 import tempfile
 import time
+from unittest import mock
 
 from shared import ABC, FOUR, PROGRAM, SECONDS, TOP, differences
 from servers import USERS, Cache, ask, ask_without_store, free_port, is_answered, metrics, raw_answer, wait_until
+import cache_server
 
 
 def caches_keys():
@@ -204,6 +207,22 @@ def lives_on_after_a_hang_up():
         finally:
             signal.signal(signal.SIGHUP, before)
     return found
+
+
+def looks_for_signals():
+    """Whether a signal has arrived is asked without a wait of no time: before Python 3.11 that may never end."""
+    waits = []
+
+    class Queue(queue.SimpleQueue):
+        def get(self, block=True, timeout=None):
+            waits.append(timeout if block else None)
+            return super().get(block, timeout)
+
+    with mock.patch.object(queue, "SimpleQueue", Queue):
+        stopping = cache_server.Stop()
+        found = differences((stopping.wait(0), False), (stopping.wait(0.01), False))
+        stopping.set()
+        return found + differences((stopping.wait(0), True), (stopping.wait(SECONDS), True), (waits, [None, 0.01, None, SECONDS]))
 
 
 def refuses_wrong_words():
