@@ -22,6 +22,7 @@ if __name__ == "__main__":
 import argparse
 import re
 import select
+import signal
 import subprocess
 
 from cache_server import SECONDS_BETWEEN_LOOKS, stop_signals
@@ -35,7 +36,7 @@ example:
   cluster: ports 40001 40002
   $ CCACHE_REMOTE_STORAGE=http://127.0.0.1:8080 ccache gcc -c file.c
 
-exit status: 0 after a signal; 1 a server or nginx can't start, or nginx has ended; 2 usage error
+exit status: 0 after a signal; 1 a server or nginx can't start, nginx has ended, or a server fails at the end; 2 usage error
 """
 NGINX = """\
 daemon off;
@@ -128,11 +129,12 @@ def main():
     except (OSError, ValueError) as fault:
         print(f"cluster: {one_line(fault_text(fault))}", file=sys.stderr)
         status = 1
-    for process in reversed(processes):
+    running = [process for process in reversed(processes) if process.poll() is None]
+    for process in running:
         process.terminate()
-    for process in processes:
-        process.wait()
-    return status
+    # the signal itself ends one that has only just started
+    has_failed = {process.wait() for process in running} - {0, -signal.SIGTERM}
+    return 1 if has_failed else status
 
 
 if __name__ == "__main__":

@@ -97,6 +97,7 @@ CASES = (
     ("a cache whose reports nobody reads", cache_moves.moves_where_nobody_reads),
     *cache_requests.CASES,
     ("a cluster that ends while it begins", caches.ends_while_servers_start),
+    ("a cluster whose servers lose something", caches.tells_what_servers_lose),
     ("two caches on one folder", caches.keeps_others_out),
     ("a cache that hangs up", caches.lives_on_after_a_hang_up),
     ("a cache that looks for signals", caches.looks_for_signals),

@@ -11,10 +11,11 @@ import subprocess
 import sys
 import tempfile
 import time
+from types import SimpleNamespace
 from unittest import mock
 
 from shared import ABC, FOUR, PROGRAM, SECONDS, TOP, differences
-from servers import USERS, Cache, ask, ask_without_store, free_port, is_answered, metrics, raw_answer, wait_until
+from servers import USERS, Cache, ask, ask_without_store, children, free_port, has_ended, is_answered, metrics, raw_answer, wait_until
 import cache_server
 
 
@@ -339,6 +340,27 @@ def ends_while_servers_start():
         words = [sys.executable, os.path.join(TOP, "examples", "cluster.py"), os.path.join(place, "cache"), "--port", str(free_port()), "--program", program]
         run = subprocess.run(words, capture_output=True, timeout=SECONDS, start_new_session=True)
         return differences((run.returncode, 0), (run.stdout + run.stderr, b""))
+
+
+def tells_what_servers_lose():
+    """If a server can't save its content at the end, the cluster's status isn't that of success. It starts a program that does nothing in place of nginx."""
+    with tempfile.TemporaryDirectory() as place:
+        with open(os.path.join(place, "nginx"), "w", encoding="ascii") as file:
+            file.write("#!/bin/sh\nexec sleep 600\n")
+        os.chmod(file.name, 0o700)
+        words, found = [sys.executable, os.path.join(TOP, "examples", "cluster.py"), os.path.join(place, "cache"), "--servers", "2", "--program", PROGRAM], []
+        for ends_store in False, True:
+            path = {**os.environ, "PATH": f"{place}:{os.environ['PATH']}"}
+            with subprocess.Popen(words, stdout=subprocess.PIPE, stderr=subprocess.PIPE, env=path) as cluster:
+                lines = [cluster.stdout.readline().decode() for _ in range(3)]
+                if ends_store:
+                    store = children(SimpleNamespace(pid=lines[1].split()[-1]))[0]
+                    os.kill(store, signal.SIGKILL)
+                    wait_until(lambda store=store: has_ended(store))
+                cluster.send_signal(signal.SIGTERM)
+                err = cluster.communicate(timeout=SECONDS)[1].decode()
+            found += differences((cluster.returncode, int(ends_store)), (err, "cache_server: the store has ended; its exit status is -9\n" * ends_store))
+        return found
 
 
 def compiles_twice():
