@@ -574,8 +574,8 @@ class Loader:
 
     def __init__(self, cache, files, has_to_stop=lambda: False):
         self.cache, self.files, self.has_to_stop = cache, files, has_to_stop
-        self.wrong = []
-        """The users and keys whose objects have other addresses."""
+        self.altered, self.wrong = {}, []
+        """Why the objects that have other addresses can't be stored, and the users and keys that lead to them."""
 
     def load(self):
         """Stores what is on disk, and reports what can't be stored or isn't as it was stored. Returns what is there now, or None if it has to stop before."""
@@ -594,7 +594,8 @@ class Loader:
             elif seen[name] > self.cache.max_keys:
                 fault = "its user has too many keys"
             else:
-                fault = self.load_key(users[name], key, address)
+                fault = self.altered.get(address) or self.load_key(users[name], key, address)
+                self.wrong += [(users[name], key)] if address in self.altered else []
             count += fault is None
             loaded.update([address] if fault is None else [])
             faults.update([fault] if fault else [])
@@ -619,7 +620,7 @@ class Loader:
         except Refused as refusal:
             if refusal.number == "S11":
                 self.files.put_aside(address)
-                self.wrong.append((user, key))
+                self.altered[address] = str(refusal)
             return str(refusal)
         except (OSError, ValueError) as fault:
             if address in self.files.places:

@@ -46,6 +46,7 @@ CASES = (
     ("a cache, and what is too long", caches.refuses_what_is_too_long),
     ("a cache, and connections that end", caches.aborts_what_is_cut),
     ("a cache that begins again", cache_disk.begins_again),
+    ("a cache's keys of altered content", cache_disk.drops_all_keys_of_altered_content),
     ("a cache that is killed", cache_disk.loses_a_second),
     ("a cache of many clients that is killed", cache_disk.loses_a_second_of_many),
     ("a cache whose files end early", cache_disk.reads_to_the_last_whole_record),

@@ -46,6 +46,23 @@ def begins_again():
         return found + differences((cache.begun.split(", ", 1)[1], "has 0 keys, 0 objects\n"), ("2 keys left out: its user doesn't exist" in err, True), ("1 key left out: S11" in err, True))
 
 
+def drops_all_keys_of_altered_content():
+    """If content was altered, all keys that lead to it are reported once, and the next start knows none of them."""
+    with tempfile.TemporaryDirectory() as place:
+        folder = os.path.join(place, "cache")
+        with Cache(folder, USERS) as cache:
+            found = differences(*((cache.ask("PUT", f"/{name}", b"abc", token)[0], 201) for name in "ab" for token in ("token-a", "token-b")))
+        segment, offset, _ = places_of(folder)[ABC]
+        with open(os.path.join(folder, segment), "r+b") as file:
+            file.seek(offset)
+            file.write(b"abd")
+        for told in "4 keys left out: S11: ", "":
+            with Cache(folder, USERS) as cache:
+                err = cache.stop()[1]
+                found += differences((told in err, True), (err.count("\n"), int(told != "")), ("begins empty" in cache.begun, told == ""))
+        return found
+
+
 def texts_of_log(folder):
     """The lines of a cache's log, without what is in front of each."""
     with open(os.path.join(folder, "log"), encoding="latin-1", newline="\n") as log:
