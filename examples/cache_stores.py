@@ -170,11 +170,14 @@ class Cache:
             raise Declined(507)
 
     def add(self, user, key, entry, content):
-        """Lets a key lead to an object. If its user has too many keys then, evicts the least recently used one."""
-        self.lead(user, key, entry, content)
-        if len(user.keys) > self.max_keys:
+        """Lets a key lead to an object. If its user would have too many keys then, first evicts the least recently used one: in this order the log has no more
+        keys either, wherever it ends. Meanwhile the object is in use, as the evicted key may lead to it too."""
+        self.use(user, entry)
+        if len(user.keys) >= self.max_keys and key not in user.keys:
             self.lead(user, next(iter(user.keys)), None)
             self.evictions += 1
+        self.lead(user, key, entry, content)
+        self.leave(user, entry)
 
     def put_small(self, user, key, content, address, permits):
         def file():

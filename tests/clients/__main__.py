@@ -90,6 +90,7 @@ CASES = (
     ("a cache's evictions for what arrives", cache_quotas.evicts_for_what_arrives),
     ("a cache's content without room", cache_quotas.looks_through_no_keys_in_vain),
     ("a cache's evictions of many keys", cache_quotas.evicts_in_turns),
+    ("a cache's number of recorded keys", cache_quotas.records_no_more_keys),
     ("a cache's number of keys", cache_quotas.keeps_as_many_keys),
     ("a cache's quota without memory for a move", cache_quotas.grants_nothing_without_memory),
     ("a cache's full quotas in moves", cache_quotas.keeps_full_quotas),

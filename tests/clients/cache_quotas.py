@@ -138,6 +138,21 @@ def evicts_for_what_arrives():
     return found[:5]
 
 
+def records_no_more_keys():
+    """The key that is evicted for another one is recorded before that: wherever the log ends, it has no more keys than a user may have. Both may have the same
+    content."""
+    user, notes = User("ann", None, QUOTA), []
+    cache = cache_of(user, max_keys=2)
+    try:
+        cache.files = mock.Mock(note=lambda user, key, entry, content=None: notes.append((key, entry is not None)))
+        for key, content in ("/a", b"abc"), ("/b", b"four"), ("/a", b"abc"), ("/c", b"four"), ("/d", b"abc"):
+            cache.put(user, key, len(content), [content])
+        found = differences((notes[3:], [("/b", False), ("/c", True), ("/a", False), ("/d", True)]), (cache.evictions, 2))
+        return found + differences(*((b"".join(cache.pieces(user, entry, 0, entry.length)), {"/c": b"four", "/d": b"abc"}[key]) for key, entry in user.keys.items()))
+    finally:
+        cache.close_stores()
+
+
 def keeps_as_many_keys():
     """A user has no more keys than are allowed, also of no content: the least recently used one is evicted, or the next one is refused. A start that allows
     fewer loads the last ones, and leaves the others on disk."""
