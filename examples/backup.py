@@ -59,7 +59,7 @@ import stat
 import time
 
 from b3store import MAX_LIMIT, Ended, Refused, Store
-from b3store.console import drop_output, error_text, fault_text, one_line, open_standard_files
+from b3store.console import drop_output, error_text, fault_text, one_line, open_standard_files, show
 from backup_check import check
 from backup_packs import WriteFailed
 from backup_repository import ADDRESS, ITSELF, MORE, Damaged, Repository, length_fault, line_fault, path_of, quoted, unquoted
@@ -433,7 +433,7 @@ def run(options):
 
 def main():
     if not open_standard_files():
-        print("backup: standard output is closed", file=sys.stderr)
+        show("backup: standard output is closed\n")
         return 1
     sys.stdout.reconfigure(errors="surrogateescape")
     options = read_options()
@@ -451,7 +451,7 @@ def main():
         status, text = 128 + signal.SIGINT, "interrupted"
     finally:
         end_at_once()
-    print(f"backup: {one_line(text)}", file=sys.stderr)
+    show(f"backup: {one_line(text)}\n")
     drop_output()
     return status
 

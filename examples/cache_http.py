@@ -62,7 +62,7 @@ class Connection(http.server.BaseHTTPRequestHandler):
     date = (0, "")
     """A second, and its text."""
     is_old = False
-    """Whether the request is one of HTTP/1.0, whose client has to be told that the connection is kept."""
+    """Whether the request is one of HTTP/1.0, to whose client the answer says that the connection is kept."""
 
     def setup(self):
         super().setup()
@@ -277,7 +277,8 @@ class Server(http.server.HTTPServer):
         """Reports what ended a connection, unless the client or its silence did."""
         fault = sys.exc_info()[1]
         if not isinstance(fault, OSError):
-            print(f"cache_server: a request failed: {type(fault).__name__}: {fault}", file=sys.stderr, flush=True)
+            with contextlib.suppress(OSError):
+                print(f"cache_server: a request failed: {type(fault).__name__}: {fault}", file=sys.stderr, flush=True)
 
 
 def http_chunks(file):

@@ -67,7 +67,7 @@ import signal
 import time
 
 from b3store import MAX_LIMIT, MAX_SESSIONS, Ended, Refused, Store
-from b3store.console import count_text, fault_text, number, one_line, open_standard_files
+from b3store.console import count_text, drop_unwritten, fault_text, number, one_line, open_standard_files
 from b3store.files import FolderInUse
 from cache_files import Files, Loader
 from cache_http import SECONDS_OF_SILENCE, WRITTEN_AT_ONCE, Connection, Cut, Server
@@ -375,18 +375,18 @@ class Stop:
     """An event, which a handler of signals can set at any moment: threading's takes a lock that the same thread may hold."""
 
     def __init__(self):
-        self.told = queue.SimpleQueue()
+        self.signals = queue.SimpleQueue()
 
     def set(self):
-        self.told.put(None)
+        self.signals.put(None)
 
     def wait(self, seconds):
         """Whether it is set within some time."""
         with contextlib.suppress(queue.Empty):
             # before Python 3.11, a wait of no time may never end
-            self.told.get(seconds > 0, seconds)
-            self.told.put(None)
-        return not self.told.empty()
+            self.signals.get(seconds > 0, seconds)
+            self.signals.put(None)
+        return not self.signals.empty()
 
 
 def stop_signals():
@@ -472,8 +472,9 @@ def main():
         report(one_line(fault_text(fault)))
         return 1
     finally:
-        # a signal that comes while the interpreter ends doesn't change the status
+        # neither a signal that comes while the interpreter ends nor a line that nobody reads changes the status
         handle_ending(signal.SIG_IGN)
+        drop_unwritten()
 
 
 if __name__ == "__main__":

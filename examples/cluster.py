@@ -26,7 +26,7 @@ import signal
 import subprocess
 
 from cache_server import SECONDS_BETWEEN_LOOKS, stop_signals
-from b3store.console import fault_text, number, one_line, open_standard_files
+from b3store.console import fault_text, number, one_line, open_standard_files, show
 
 EXAMPLE = """\
 example:
@@ -76,7 +76,7 @@ class Server:
         self.process, self.port = subprocess.Popen(words, stdout=subprocess.PIPE), None
 
     def wait(self, stopping):
-        """Waits until the server has loaded its content and told its port. Returns False if a signal arrives before. Raises ValueError if it doesn't start."""
+        """Waits until the server has loaded its content and printed its port. Returns False if a signal arrives before. Raises ValueError if it doesn't start."""
         while not stopping.wait(0):
             if select.select([self.process.stdout], [], [], SECONDS_BETWEEN_LOOKS)[0]:
                 found = re.search("port ([0-9]+),", self.process.stdout.readline().decode())
@@ -127,7 +127,7 @@ def main():
             if processes[-1].poll() is not None:
                 raise ValueError("nginx has ended")
     except (OSError, ValueError) as fault:
-        print(f"cluster: {one_line(fault_text(fault))}", file=sys.stderr)
+        show(f"cluster: {one_line(fault_text(fault))}\n")
         status = 1
     running = [process for process in reversed(processes) if process.poll() is None]
     for process in running:

@@ -161,6 +161,16 @@ def drop_output(number: int = 1) -> None:
     os.dup2(os.open(os.devnull, os.O_WRONLY), number)
 
 
+def drop_unwritten() -> None:
+    """Drops what standard output and error can't write at the end of a program."""
+    for number, stream in enumerate((sys.stdout, sys.stderr), 1):
+        try:
+            if stream is not None:
+                stream.flush()
+        except OSError:
+            drop_output(number)
+
+
 class Progress:
     """Reports on a terminal how much of something long is done."""
 

@@ -1,4 +1,5 @@
 """Runs the cases of a test, and counts them; and what cases need to judge by."""
+import os
 import time
 
 SECONDS_TO_WAIT = 60
@@ -8,6 +9,8 @@ SECONDS_BETWEEN_LOOKS = 0.02
 
 def judged(cases):
     """Runs each case, which gives what is not as wanted, and prints the failures and the line of the counts. It gives the exit status."""
+    # users' shells don't set it, and what a program couldn't write would not be left to its end
+    os.environ.pop("PYTHONUNBUFFERED", None)
     passed = failed = 0
     for name, case in cases:
         try:
