@@ -6,7 +6,7 @@ CONTENT_TYPE = "text/plain; version=0.0.4; charset=utf-8"
 METHODS = ("GET", "HEAD", "PUT", "DELETE")
 COUNTERS = {
     "received_bytes": "Bytes in the bodies of requests.",
-    "sent_bytes": "Bytes in the bodies of answers.",
+    "sent_bytes": "Bytes in the bodies of answers, except large ones that a client broke off.",
     "hits": "GET and HEAD requests for a key that exists.",
     "misses": "GET and HEAD requests for a key that doesn't exist.",
 }

@@ -6,7 +6,8 @@
 Server K keeps its content in FOLDER/K. If a server ends, nginx asks others for its keys, which are misses until they are stored again; other keys stay where
 they are. At the next start it answers for its keys again, with the content that it had, so use keys that name their content, as caches of compilers do. The
 number of servers of a folder has to stay the same. The first line of output has the port of nginx, the second the process id of each server, and the third the
-port of each. On SIGTERM, SIGINT or SIGHUP it ends, and each server saves its content first.
+port of each. On SIGTERM, SIGINT or SIGHUP it ends, and each server saves its content first. If it is killed by SIGKILL, the servers and nginx go on, and have
+to be ended by their process ids.
 
 `/healthz` and `/metrics` at the port of nginx are answered by one of the servers, for itself alone. To monitor all, ask each server at its own port.
 """
