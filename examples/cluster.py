@@ -77,7 +77,8 @@ class Server:
         self.process, self.port = subprocess.Popen(words, stdout=subprocess.PIPE), None
 
     def wait(self, stopping):
-        """Waits until the server has loaded its content and printed its port. Returns False if a signal arrives before. Raises ValueError if it doesn't start."""
+        """Waits until the server has loaded its content and printed its port. Returns False if a signal arrives before that. Raises ValueError if it doesn't
+        start."""
         while not stopping.wait(0):
             if select.select([self.process.stdout], [], [], SECONDS_BETWEEN_LOOKS)[0]:
                 found = re.search("port ([0-9]+),", self.process.stdout.readline().decode())

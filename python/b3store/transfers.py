@@ -28,7 +28,8 @@ class Upload:
             upload.write(b"of bytes")
         print(upload.filed.address)
 
-    `write` adds bytes at the end. `put` adds parts at any offset instead; then `fix` is needed, unless the length was given or the last part is not a whole number of chunks."""
+    `write` adds bytes at the end. `put` adds parts at any offset instead; then `fix` is needed, unless the length was given or the last part is not a whole
+    number of chunks."""
 
     def __init__(self, commands: "Transfers", number: int, length: Optional[int]) -> None:
         self._commands, self.number, self._length = commands, number, length
