@@ -435,7 +435,8 @@ def main():
     if not open_standard_files():
         show("backup: standard output is closed\n")
         return 1
-    sys.stdout.reconfigure(errors="surrogateescape")
+    # paths have the bytes that the system gives, whatever PYTHONIOENCODING says
+    sys.stdout.reconfigure(encoding=sys.getfilesystemencoding(), errors="surrogateescape")
     options = read_options()
     os.umask(PRIVATE)
     try:

@@ -33,6 +33,7 @@ CASES = (
     ("a file whose restoring is broken off", backups.leaves_no_part_of_a_file),
     ("files that are replaced while they are saved", backups.opens_what_it_has_seen),
     ("a backup of deep folders", backups.keeps_deep_folders),
+    ("a backup of names of all bytes", backups.prints_all_names),
     ("a backup's last words", backups.ends_with_a_sentence),
     ("a backup's pieces", backups.splits_by_content),
     *packs.CASES,

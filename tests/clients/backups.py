@@ -332,6 +332,18 @@ def keeps_deep_folders():
             subprocess.run(["rm", "-rf", folder, restored], check=True)
 
 
+def prints_all_names():
+    """A line has the bytes of a path, whatever encoding Python is told to write."""
+    with tempfile.TemporaryDirectory() as place:
+        folder, repository = folder_of_abc(place)
+        os.mkfifo(os.path.join(os.fsencode(folder), b"\xc3\xa9\xff"))
+        found = []
+        for encoding in "utf-8", "latin-1", "ascii":
+            run = subprocess.run([*BACKUP, "save", folder, repository], capture_output=True, timeout=SECONDS, env={**os.environ, "PYTHONIOENCODING": encoding})
+            found += differences((run.returncode, 1), (run.stdout.split(b"\n")[0], b"left out: \xc3\xa9\xff: not a file, folder or link"), (run.stderr, b""))
+        return found
+
+
 def ends_with_a_sentence():
     """Output that can't be written, and an interrupt, are reported in one line."""
     with tempfile.TemporaryDirectory() as place:
