@@ -84,13 +84,14 @@ def whole_lines(content, path):
 
 
 def last_changes(batch):
-    """The last change of each key, in their order, each with whether the key was removed by it or before it."""
-    changes, removed = {}, set()
-    for change in batch:
-        changes.pop(change[:2], None)
-        changes[change[:2]] = change
-        removed.update([change[:2]] if change[2] is None else [])
-    return [(*change, which in removed) for which, change in changes.items()]
+    """The first removal of each key, and the last change of each key that is there at the end, in their order. So after each of their lines the log has only
+    keys that the cache had after that change."""
+    removals, last = {}, {}
+    for at, (user, key, entry, _) in enumerate(batch):
+        if entry is None:
+            removals.setdefault((user, key), at)
+        last[user, key] = at
+    return [batch[at] for at in sorted({*removals.values(), *(at for at in last.values() if batch[at][2] is not None)})]
 
 
 def in_turns(batch):
@@ -374,17 +375,15 @@ class Files:
             if not os.path.exists(self.at(name)) or not os.path.samestat(os.stat(self.at(name)), os.fstat(file.fileno())):
                 raise OSError(f"{name} was removed or replaced")
 
-    def texts_of(self, cache, user, key, entry, content, was_removed):
-        """The lines of a key that has changed. If a store has ended with its content, there are none, unless the key was removed before. If no store holds
-        its content any more and it isn't on disk, a later change has undone this one."""
+    def texts_of(self, cache, user, key, entry, content):
+        """The lines of a key that has changed. If a store has ended with its content, there are none. If no store holds its content any more and it isn't on
+        disk, a later change has undone this one."""
         texts = []
         if entry is not None and (entry.address not in self.places or entry.address in self.unread or entry.address in self.unchecked):
             try:
                 line = self.append_held(cache, user, entry.address, content)
             except Ended:
-                if not was_removed:
-                    return []
-                line = None
+                return []
             if line is None:
                 entry = None
             else:

@@ -78,6 +78,7 @@ CASES = (
     ("a cache that begins without keys", cache_folders.begins_without_keys),
     ("a cache in a folder with another new log", cache_folders.leaves_another_new_log),
     ("a cache's keys that were removed", cache_disk.keeps_a_removal),
+    ("a cache's keys at any line of its log", cache_disk.has_no_more_keys_at_any_line),
     ("a cache that begins with a lower limit", cache_disk.begins_with_the_last_keys),
     ("a cache that begins with other users", cache_disk.keeps_what_it_cannot_begin_with),
     ("a cache's metrics", cache_moves.reports_its_counts),

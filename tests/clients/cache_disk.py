@@ -464,7 +464,7 @@ def writes_its_log_in_steps():
         under_way, logs = sum(is_rewriting for is_rewriting, _ in steps), sum(before[1] != after[1] for before, after in zip(steps, steps[1:]))
         found += [] if logs >= 2 and under_way >= 5 * logs else [f"{logs} logs were begun in {under_way} steps"]
         while files.rewriting is None:
-            files.write(None, [(user, "/again", Entry(None, address_of(1), 64), address_of(1).encode(), False)], moves=True)
+            files.write(None, [(user, "/again", Entry(None, address_of(1), 64), address_of(1).encode())], moves=True)
         found += differences(("log.new" in os.listdir(folder), True))
         files.write(None, [], moves=False)
         found += differences((files.rewriting, None), ("log.new" in os.listdir(folder), False), (len(texts_of_log(folder)), files.lines))
@@ -562,7 +562,7 @@ def writes_in_front_of_long_content():
             write_pieces(pieces)
 
         def write(*rows):
-            files.write(None, [(user, key, length and Entry(None, address_of(length), length), length and bytes(length), False) for key, length in rows], moves=True)
+            files.write(None, [(user, key, length and Entry(None, address_of(length), length), length and bytes(length)) for key, length in rows], moves=True)
 
         files.write_pieces = note_and_write
         write(("/a", 1), ("/b", 2), ("/c", 150), ("/d", 3), ("/e", 170))
@@ -579,7 +579,7 @@ def lives_without_descriptors():
         files = begun_files(folder)
 
         def write(*rows):
-            batch = [(user, key, address and Entry(None, address, 64), address and address.encode(), False) for key, address in rows]
+            batch = [(user, key, address and Entry(None, address, 64), address and address.encode()) for key, address in rows]
             files.write(None, batch, moves=True)
 
         for first in 0, 100, 200:
@@ -617,6 +617,27 @@ def keeps_a_removal():
             texts = [text for change in cache_files.last_changes(batch) for text in files.texts_of(None, *change)]
             found += differences((texts, wanted))
         return found
+
+
+def has_no_more_keys_at_any_line():
+    """If some keys are evicted for others and stored again before that is written, a log that ends within these lines has no more keys than there were, in
+    their order."""
+    user, chance, keys, logged, found = User("ann", None, 1000), random.Random(5), collections.OrderedDict(), {}, []
+    for _ in range(100):
+        batch = []
+        for _ in range(chance.randrange(8)):
+            key = chance.choice("abcde")
+            if len(keys) == 2 and key not in keys:
+                batch.append((user, keys.popitem(last=False)[0], None, None))
+            keys.pop(key, None)
+            keys[key] = Entry(None, ABC, 3)
+            batch.append((user, key, keys[key], b"abc"))
+        for _, key, entry, _ in cache_files.last_changes(batch):
+            logged.pop(key, None)
+            logged.update({key: entry} if entry is not None else {})
+            found += differences((len(logged) <= 2, True))
+        found += differences((list(logged), list(keys)))
+    return found[:5]
 
 
 def deletes_what_was_left_out():

@@ -112,11 +112,11 @@ def begins_without_keys():
     """Once all keys were dropped, and the log was written again, a start finds no segment that it doesn't know: none is moved aside."""
     with tempfile.TemporaryDirectory() as place:
         files, user = begun_files(place), User("ann", None, 1000)
-        files.write(None, [(user, "/k", Entry(None, ABC, 3), b"abc", False)], moves=True)
+        files.write(None, [(user, "/k", Entry(None, ABC, 3), b"abc")], moves=True)
         log = files.log
         with mock.patch.object(cache_files, "IDLE_LINES", 0):
             for _ in range(6):
-                files.write(None, [(user, "/k", None, None, True)], moves=True)
+                files.write(None, [(user, "/k", None, None)], moves=True)
         found = differences((files.log is log, False), (len(contents_of(place)[files.name]), 3))
         os.close(files.folder)
         files = cache_files.Files(place)
@@ -137,7 +137,7 @@ def leaves_another_new_log():
             log = files.log
             with mock.patch.object(cache_files, "IDLE_LINES", 0):
                 for _ in range(6):
-                    files.write(None, [(User("ann", None, 1000), "/k", None, None, False)], moves=True)
+                    files.write(None, [(User("ann", None, 1000), "/k", None, None)], moves=True)
             found += differences(("log.new" in os.listdir(place), stays), (files.log is log, stays))
             if stays:
                 found += differences((contents_of(place)["log.new"], content))
