@@ -173,11 +173,13 @@ class Cache:
         """Lets a key lead to an object. If its user would have too many keys then, first evicts the least recently used one: in this order the log has no more
         keys either, wherever it ends. Meanwhile the object is in use, as the evicted key may lead to it too."""
         self.use(user, entry)
-        if len(user.keys) >= self.max_keys and key not in user.keys:
-            self.lead(user, next(iter(user.keys)), None)
-            self.evictions += 1
-        self.lead(user, key, entry, content)
-        self.leave(user, entry)
+        try:
+            if len(user.keys) >= self.max_keys and key not in user.keys:
+                self.lead(user, next(iter(user.keys)), None)
+                self.evictions += 1
+            self.lead(user, key, entry, content)
+        finally:
+            self.leave(user, entry)
 
     def put_small(self, user, key, content, address, permits):
         def file():

@@ -93,6 +93,7 @@ CASES = (
     ("a cache's content without room", cache_quotas.looks_through_no_keys_in_vain),
     ("a cache's evictions of many keys", cache_quotas.evicts_in_turns),
     ("a cache's number of recorded keys", cache_quotas.records_no_more_keys),
+    ("a cache's content that replaces no key", cache_quotas.frees_what_replaces_no_key),
     ("a cache's number of keys", cache_quotas.keeps_as_many_keys),
     ("a cache's quota without memory for a move", cache_quotas.grants_nothing_without_memory),
     ("a cache's full quotas in moves", cache_quotas.keeps_full_quotas),

@@ -7,7 +7,7 @@ import threading
 import time
 from unittest import mock
 
-from shared import PROGRAM, SECONDS, differences, refusal
+from shared import FOUR, PROGRAM, SECONDS, differences, refusal
 from b3store import Refused, Store
 import cache_stores
 from cache_stores import Cache, User
@@ -149,6 +149,22 @@ def records_no_more_keys():
             cache.put(user, key, len(content), [content])
         found = differences((notes[3:], [("/b", False), ("/c", True), ("/a", False), ("/d", True)]), (cache.evictions, 2))
         return found + differences(*((b"".join(cache.pieces(user, entry, 0, entry.length)), {"/c": b"four", "/d": b"abc"}[key]) for key, entry in user.keys.items()))
+    finally:
+        cache.close_stores()
+
+
+def frees_what_replaces_no_key():
+    """If the store has no memory to forget what is evicted, the new content is freed: otherwise a move would wait for it for ever."""
+    user = User("ann", None, QUOTA)
+    cache = cache_of(user, max_keys=1)
+    try:
+        found = differences((put(cache, user, "/a", b"abc"), None))
+        forget = cache.backend.store.forget
+        cache.backend.store.forget = mock.Mock(side_effect=[Refused("S14"), None])
+        found += differences((put(cache, user, "/b", b"four"), ("S14", None)), (list(user.keys), []), (dict(cache.backend.counts[user]), {}))
+        found += differences((cache.backend.store.forget.call_args[0], (cache.backend.tenants[user], FOUR)))
+        cache.backend.store.forget = forget
+        return found + differences((put(cache, user, "/b", b"four"), None), (list(user.keys), ["/b"]))
     finally:
         cache.close_stores()
 
