@@ -59,7 +59,7 @@ import stat
 import time
 
 from b3store import MAX_LIMIT, Ended, Refused, Store
-from b3store.console import drop_output, error_text, fault_text, one_line, open_standard_files, show
+from b3store.console import drop_output, error_text, fault_text, one_line, open_standard_files, show, written
 from backup_check import check
 from backup_packs import WriteFailed
 from backup_repository import ADDRESS, ITSELF, MORE, Damaged, Repository, length_fault, line_fault, path_of, quoted, unquoted
@@ -426,9 +426,7 @@ def read_options():
 def run(options):
     with Store(options.program, sessions=1) as store:
         repository = Repository(options.repository, store, options.memory)
-        is_right = options.work(repository, options)
-        sys.stdout.flush()
-        return 0 if is_right else 1
+        return 0 if options.work(repository, options) else 1
 
 
 def main():
@@ -437,11 +435,10 @@ def main():
         return 1
     # paths have the bytes that the system gives, whatever PYTHONIOENCODING says
     sys.stdout.reconfigure(encoding=sys.getfilesystemencoding(), errors="surrogateescape")
-    options = read_options()
     os.umask(PRIVATE)
     try:
         raise_again()
-        return run(options)
+        return written(lambda: run(read_options()))
     except (Refused, OSError, Damaged, WriteFailed) as fault:
         status, text = 1, fault_text(fault)
     except MemoryError:

@@ -351,8 +351,9 @@ def ends_with_a_sentence():
         os.mkdir(folder)
         found = differences((backup("save", folder, repository)[0], 0))
         for output, text in (">&-", "standard output is closed"), ("> /dev/full", "no space left on device"):
-            run = subprocess.run(["sh", "-c", f'"$@" {output}', "sh", *BACKUP, "check", repository], stderr=subprocess.PIPE, timeout=SECONDS)
-            found += differences((run.returncode, 1), (run.stderr.decode(), f"backup: {text}\n"))
+            for words in ["check", repository], ["--help"]:
+                run = subprocess.run(["sh", "-c", f'"$@" {output}', "sh", *BACKUP, *words], stderr=subprocess.PIPE, timeout=SECONDS)
+                found += differences((run.returncode, 1), (run.stderr.decode(), f"backup: {text}\n"))
         words = [*BACKUP[:-1], script_of(place, "touch begun; exec sleep 60"), "check", repository]
         with subprocess.Popen(words, cwd=place, stdout=subprocess.PIPE, stderr=subprocess.PIPE) as waiting:
             while not os.path.exists(os.path.join(place, "begun")):
