@@ -15,7 +15,7 @@ from backup_packs import BATCH, MAX_BATCH_ITEMS, Packs, Writer, make_folder, ope
 from backup_pieces import pieces_of
 
 ADDRESS = re.compile("[0-9a-f]{64}")
-BACKUP = re.compile(r"([0-9a-f]{64}) (\d+) (\S+)")
+BACKUP = re.compile(r"([0-9a-f]{64}) (\d+) ([!-~]+)")
 """A line of `backups`: address, seconds since 1970, and the folder."""
 LINE = re.compile(r"(file|folder|link|same) (\S+) ([0-7]+)(?::(\d+):(\d+))? (-?\d+)((?: \S+)*)")
 """A line of a backup: kind, path, mode, owner and group, time, and what the kind has: a file its length and the addresses of its pieces, a link where it

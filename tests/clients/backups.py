@@ -146,9 +146,15 @@ def odd_files_in_a_repository():
         fcntl.flock(holding, fcntl.LOCK_EX)
         found += differences((backup("save", folder, repository)[0], 1), (backup("check", repository)[0], 1))
         os.close(holding)
-        with open(os.path.join(repository, "backups"), "a", encoding="ascii") as file:
-            file.write("frob\n")
-        return found + differences((backup("check", repository)[0], 1), (backup("save", folder, repository)[0], 1))
+        with open(os.path.join(repository, "backups"), "rb") as file:
+            lines = file.read()
+        for line in b"frob\n", lines.replace(b"/", b"\xaf"):
+            with open(os.path.join(repository, "backups"), "wb") as file:
+                file.write(lines + line)
+            for words in ["check", repository], ["save", folder, repository], ["save", "--all", folder, repository]:
+                run = subprocess.run([*BACKUP, *words], capture_output=True, timeout=SECONDS)
+                found += differences((run.returncode, 1), (run.stdout, b""), (re.sub(b":.*/backups |: '.*", b" ", run.stderr), b"backup has a line that names no backup \n"))
+        return found
 
 
 def refuses_wrong_words():
