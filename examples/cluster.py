@@ -74,7 +74,8 @@ class Server:
 
     def __init__(self, folder, program):
         words = [sys.executable, os.path.join(os.path.dirname(os.path.abspath(__file__)), "cache_server.py"), folder, "--port", "0", "--program", program]
-        self.process, self.port = subprocess.Popen(words, stdout=subprocess.PIPE), None
+        # in its own session, so that an interrupt at a terminal reaches the cluster alone
+        self.process, self.port = subprocess.Popen(words, stdout=subprocess.PIPE, start_new_session=True), None
 
     def wait(self, stopping):
         """Waits until the server has loaded its content and printed its port. Returns False if a signal arrives before that. Raises ValueError if it doesn't
@@ -113,7 +114,7 @@ def start_all(options, processes, stopping):
     lines = "\n".join(f"    server 127.0.0.1:{server.port} max_fails=0;" for server in servers)
     with open(os.path.join(folder, "nginx.conf"), "w", encoding="utf-8") as file:
         file.write(NGINX.format(servers=lines, port=options.port))
-    processes.append(subprocess.Popen(["nginx", "-p", folder, "-c", file.name, "-e", os.path.join(folder, "nginx.log")]))
+    processes.append(subprocess.Popen(["nginx", "-p", folder, "-c", file.name, "-e", os.path.join(folder, "nginx.log")], start_new_session=True))
     print(f"cluster: port {options.port}", flush=True)
     print(f"cluster: servers {' '.join(str(server.process.pid) for server in servers)}", flush=True)
     print(f"cluster: ports {' '.join(str(server.port) for server in servers)}", flush=True)

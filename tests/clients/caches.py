@@ -331,15 +331,20 @@ def parts_the_keys():
 
 
 def ends_while_servers_start():
-    """A signal that arrives before all servers of a cluster have started ends it, with those that have."""
-    with tempfile.TemporaryDirectory() as place:
-        program = os.path.join(place, "program")
-        with open(program, "w", encoding="ascii") as file:
-            file.write(f'#!/bin/bash\nread -r -a stat < "/proc/$PPID/stat"\nkill -TERM "${{stat[3]}}"\nexec {shlex.quote(os.path.abspath(PROGRAM))} "$@"\n')
-        os.chmod(program, 0o700)
-        words = [sys.executable, os.path.join(TOP, "examples", "cluster.py"), os.path.join(place, "cache"), "--port", str(free_port()), "--program", program]
-        run = subprocess.run(words, capture_output=True, timeout=SECONDS, start_new_session=True)
-        return differences((run.returncode, 0), (run.stdout + run.stderr, b""))
+    """A signal that arrives before all servers of a cluster have started ends it, with those that have; also Ctrl-C, which a terminal sends to all processes
+    of the job."""
+    found = []
+    for kill in "kill -s TERM -- ", "kill -s INT -- -":
+        with tempfile.TemporaryDirectory() as place:
+            program, job = os.path.join(place, "program"), os.path.join(place, "job")
+            with open(program, "w", encoding="ascii") as file:
+                file.write(f'#!/bin/sh\n{kill}"$(cat {shlex.quote(job)})"\nexec {shlex.quote(os.path.abspath(PROGRAM))} "$@"\n')
+            os.chmod(program, 0o700)
+            words = [sys.executable, os.path.join(TOP, "examples", "cluster.py"), os.path.join(place, "cache"), "--port", str(free_port()), "--program", program]
+            words = ["sh", "-c", 'echo $$ > "$0"; exec "$@"', job, *words]
+            run = subprocess.run(words, capture_output=True, timeout=SECONDS, start_new_session=True)
+            found += differences((run.returncode, 0), (run.stdout + run.stderr, b""))
+    return found
 
 
 def tells_what_servers_lose():
