@@ -152,7 +152,7 @@ def fails_to_write(server, place):
         line = f'"$0" -m b3store --socket {server.path} {" ".join(words)} > /dev/full'
         ran = subprocess.run(["bash", "-c", line, sys.executable], capture_output=True, timeout=SECONDS, env={**os.environ, "PYTHONPATH": PACKAGE})
         found += differences((ran.returncode, 3), (ran.stderr.decode().endswith(": no space left on device\n"), True), (ran.stderr.count(b"\n"), 1))
-    ran = subprocess.run(["bash", "-c", '"$0" -m b3store --help > /dev/full', sys.executable], capture_output=True, timeout=SECONDS, env={**os.environ, "PYTHONPATH": PACKAGE, "PYTHONUNBUFFERED": ""})
+    ran = subprocess.run(["bash", "-c", '"$0" -m b3store --help > /dev/full', sys.executable], capture_output=True, timeout=SECONDS, env={**os.environ, "PYTHONPATH": PACKAGE})
     found += differences((ran.returncode, 3), (ran.stderr, b"b3store: cannot write: no space left on device\n"))
     line = f'"$0" -m b3store --socket {server.path} get {address} | head -c 5 | wc -c'
     ran = subprocess.run(["bash", "-c", line, sys.executable], capture_output=True, timeout=SECONDS, env={**os.environ, "PYTHONPATH": PACKAGE})
