@@ -182,6 +182,8 @@ def interrupts_at_any_moment():
     try:
         for number in range(500):
             with Store(PROGRAM, sessions=1) as store:
+                # one that is none ends before there is an alarm
+                store.stat()
                 calls = interrupted_calls(store.stat, 0.002 + number % 100 / 20000)
                 kept = 1 - store._free.qsize()
                 store._give_back(store._all[:kept])
@@ -216,6 +218,7 @@ def interrupts_of_a_move():
     found, before, sink = [], signal.signal(signal.SIGALRM, interrupt), os.open(os.devnull, os.O_WRONLY)
     try:
         with Store(PROGRAM, sessions=1) as store:
+            store.stat()
             store._in_turn = lambda _: (PART_LEN, b"", None)
             for number in range(1000):
                 interrupted_calls(lambda: store.fetch_to(0, ABC, sink), 0.0001 + number / 10000000)
@@ -238,6 +241,9 @@ def interrupted_calls(call, seconds):
             calls += 1
     except Interrupted:
         return calls
+    finally:
+        # if the call has raised something else, the alarm would end the tests once it has no handler
+        signal.setitimer(signal.ITIMER_REAL, 0)
 
 
 def give_up(*_):
