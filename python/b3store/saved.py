@@ -13,6 +13,7 @@ has the previous save. Finally it removes the content files that the index doesn
 object any more, isn't used again: its objects are written to the new one. Open uploads are not saved."""
 import collections
 import contextlib
+import itertools
 import os
 import re
 import sys
@@ -28,7 +29,7 @@ INDEX = "index"
 HEADER = "b3store-saved 1"
 TENANT = re.compile("tenant ([0-9]{1,14})")
 OBJECT = re.compile(r"object ([0-9a-f]{64}) ([0-9]{1,14}) (content\.[0-9]{1,19}) ([0-9]{1,19}) ([0-9]{1,5}(?:,[0-9]{1,5})*)")
-CONTENT = re.compile(r"content\.([0-9]{1,19})")
+CONTENT = re.compile(r"content\.[0-9]{1,19}")
 ASIDE = INDEX + ".new"
 IGNORED = frozenset((ASIDE, "lost+found"))
 """Names that an unused folder may have: what a first save that was interrupted leaves, and what a new file system has."""
@@ -212,7 +213,7 @@ class SavedStore:
 
     def _write_content(self, store: Transfers, wanted: List[Tuple[int, str, int]], tick: Tick) -> Dict[str, Tuple[str, int]]:
         """Writes the bytes of objects to a new file, and returns where they are."""
-        name = f"content.{max((number_of(other) for other in os.listdir(self._path)), default=0) + 1}"
+        name = free_name(os.listdir(self._path))
         places, offset = {}, 0
         for _, address, length in wanted:
             places[address] = (name, offset)
@@ -301,10 +302,10 @@ def is_there(path: str) -> bool:
     return True
 
 
-def number_of(name: str) -> int:
-    """The number of a content file; 0 for another name."""
-    found = CONTENT.fullmatch(name)
-    return int(found.group(1)) if found else 0
+def free_name(names: Iterable[str]) -> str:
+    """The name of a new content file in a folder that has these names: the first one that is free, so that its number has few digits."""
+    taken = frozenset(names)
+    return next(name for name in map("content.{}".format, itertools.count(1)) if name not in taken)
 
 
 def index_texts(saved: Saved) -> Iterator[str]:

@@ -340,6 +340,21 @@ def contents_that_are_changed(program: str) -> List[str]:
     return found
 
 
+def contents_of_others(program: str) -> List[str]:
+    """A file with the name of a content file that another program has made, whatever its number, isn't written to, and a save beside it is restored."""
+    found = []
+    for other in "content.1", f"content.{10 ** 19 - 1}":
+        with _folder() as folder:
+            with Running(program, "--save", folder) as server, server.client() as client:
+                client.ask("tenant 100000000")
+                client.file(b"abc")
+                state = _state(client)
+                with open(os.path.join(folder, other), "wb"):
+                    pass
+                found += differences((client.ends(), b""), (server.end(), CLEAN), (_state_at(program, folder), state))
+    return found
+
+
 def folders_that_are_moved(program: str) -> List[str]:
     """A server whose folder is moved saves the store there, and leaves the folder of another server, which has the path now, as it is."""
     with _folder() as folder:
@@ -710,6 +725,7 @@ SAVES = (
     ("saves that are killed at each step", saves_that_are_killed_at_each_step),
     ("two servers on one folder", one_server_alone),
     ("files that are changed before a save", contents_that_are_changed),
+    ("content files of another program", contents_of_others),
     ("a folder that is moved", folders_that_are_moved),
     ("a folder that is removed", folders_that_are_removed),
     ("damaged files of a save", damaged_files),
