@@ -8,7 +8,7 @@ import sys
 import time
 from typing import Any, Callable, Optional
 
-from .programs import end_at_once, raise_again
+from .programs import ENDING
 from .values import StoreError
 
 SECONDS_TO_PROGRESS = 1
@@ -18,8 +18,8 @@ SECONDS_BETWEEN = 0.2
 PLAIN_NUMBER = re.compile("[0-9]{1,15}(?:[.][0-9]{1,15})?")
 CONTROLS = re.compile(r"[\x00-\x1f\x7f-\x9f]")
 ESCAPES = {"\\": "\\\\", "\n": "\\n", "\r": "\\r"}
-ENDED_BY = signal.SIGTERM, signal.SIGHUP
-"""The signals that end a program as Ctrl-C does."""
+SECONDS_TO_TIDY_UP = 1
+"""For how long a signal that ends a program keeps further ones from having an effect."""
 FAILED = 3
 """The exit status when reading, writing or the connection fails."""
 
@@ -86,9 +86,33 @@ class Terminated(BaseException):
     """A signal has told the program to end."""
 
 
-def terminate(number: int, _: Any) -> None:
-    """Ends a program at a signal as Ctrl-C does, so that it leaves no half of a file."""
-    raise Terminated(number)
+class Terminator:
+    """A handler of signals, which end a program by Terminated, so that it leaves no half of a file. One that comes soon after another has no effect: it would
+    interrupt what is tidied up."""
+
+    def __init__(self) -> None:
+        self._next = 0.0
+        """When a signal has an effect again."""
+
+    def __call__(self, number: int, _: Any) -> None:
+        now = time.monotonic()
+        if now >= self._next:
+            self._next = now + SECONDS_TO_TIDY_UP
+            raise Terminated(number)
+
+    def begin(self) -> None:
+        """Handles the signals that end this process. Those of a program that has called this one are its own: it handles Ctrl-C, as Python does."""
+        if signal.getsignal(signal.SIGINT) in (signal.SIG_DFL, signal.SIG_IGN):
+            for number in ENDING:
+                if signal.getsignal(number) is signal.SIG_DFL:
+                    signal.signal(number, self)
+
+    def end(self) -> None:
+        """Lets signals end the process at once again: while the interpreter ends, what they raise would be shown with a traceback."""
+        self._next = math.inf
+        for number in ENDING:
+            if signal.getsignal(number) is self:
+                signal.signal(number, signal.SIG_DFL)
 
 
 def finish(run: Callable[[], int]) -> int:
@@ -99,28 +123,33 @@ def finish(run: Callable[[], int]) -> int:
     if hasattr(sys.stdout, "reconfigure"):
         # names have the bytes that the command line has, whatever PYTHONIOENCODING says
         sys.stdout.reconfigure(encoding=sys.getfilesystemencoding(), errors="surrogateescape")
-    is_program = False
+    terminator = Terminator()
     try:
-        is_program = raise_again()
-        for number in ENDED_BY:
-            if is_program and signal.getsignal(number) is signal.SIG_DFL:
-                signal.signal(number, terminate)
+        terminator.begin()
+        status = status_of(run)
+        terminator.end()
+        return status
+    except KeyboardInterrupt:
+        number = int(signal.SIGINT)
+    except Terminated as fault:
+        number = int(fault.args[0])
+    terminator.end()
+    drop_output()
+    return 128 + number
+
+
+def status_of(run: Callable[[], int]) -> int:
+    """The exit status of a program, which an error ends with a message."""
+    try:
         return written(run)
+    except SystemExit as end:
+        return int(end.code or 0)
     except BrokenPipeError:
         pass
-    except KeyboardInterrupt:
-        drop_output()
-        return 128 + signal.SIGINT
-    except Terminated as fault:
-        drop_output()
-        return 128 + int(fault.args[0])
     except OSError as fault:
         report("cannot write: " + error_text(fault) if fault.filename is None else fault_text(fault))
     except (StoreError, MemoryError, ValueError) as fault:
         report("out of memory" if isinstance(fault, MemoryError) else error_text(fault))
-    finally:
-        if is_program:
-            stop_raising()
     drop_output()
     return FAILED
 
@@ -134,14 +163,6 @@ def written(run: Callable[[], int]) -> int:
         raise
     sys.stdout.flush()
     return status
-
-
-def stop_raising() -> None:
-    """Lets signals end the process at once again: while the interpreter ends, what they raise would be shown with a traceback."""
-    for number in ENDED_BY:
-        if signal.getsignal(number) is terminate:
-            signal.signal(number, signal.SIG_DFL)
-    end_at_once()
 
 
 def open_standard_files() -> bool:

@@ -8,7 +8,7 @@ import sys
 from typing import Any, Iterator
 
 ENDING = (signal.SIGTERM, signal.SIGINT, signal.SIGHUP)
-"""The signals that end a server."""
+"""The signals that end a program."""
 
 
 def end_at_once() -> None:
@@ -26,7 +26,7 @@ def raise_again() -> bool:
 
 
 def handle_ending(handler: Any) -> None:
-    """Sets the handler of the signals that end a server. SIGHUP stays ignored if it is, as `nohup` wants it."""
+    """Sets a server's handler of the signals that end a program. SIGHUP stays ignored if it is, as `nohup` wants it."""
     for number in ENDING:
         if number != signal.SIGHUP or signal.getsignal(number) is not signal.SIG_IGN:
             signal.signal(number, handler)

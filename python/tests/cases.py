@@ -64,6 +64,7 @@ CASES = (
     ("an interrupt of the command line", programs.ends_on_an_interrupt),
     ("an interrupt while a program starts", programs.ends_while_it_starts),
     ("a signal while a program ends", programs.ends_while_it_ends),
+    ("signals while a program ends at another", programs.ends_at_signals_while_it_ends),
     ("progress of the command line", programs.shows_progress),
     ("progress on a terminal that goes away", programs.goes_on_without_a_terminal),
     ("the package installed", installing.installs),

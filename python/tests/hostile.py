@@ -102,16 +102,29 @@ def gets_that_fail():
 
 
 def gets_that_are_ended():
-    """A signal leaves no part of a file."""
-    found = []
+    """A signal leaves no part of a file, also if a second one comes while it is removed, and of a background job, which Ctrl-C doesn't reach."""
+    found, twice = [], "import os, runpy; unlink, kill = os.unlink, os.kill; os.unlink = lambda name: (kill(os.getpid(), %d), unlink(name)); "
+    run = "runpy.run_module('b3store', run_name='__main__', alter_sys=True)"
     for number in signal.SIGTERM, signal.SIGHUP, signal.SIGINT:
-        with server_of(b"has 3\n", None) as path, tempfile.TemporaryDirectory() as place:
-            words = [sys.executable, "-m", "b3store", "--socket", path, "get", "--tenant", "0", ABC, "-o", os.path.join(place, "file")]
-            with subprocess.Popen(words, cwd=os.path.join(TOP, "python"), stdout=subprocess.PIPE, stderr=subprocess.PIPE, preexec_fn=listen_to_signals) as ended_one:
-                found += differences((wait_until(lambda place=place: os.listdir(place)), True))
-                ended_one.send_signal(number)
-                found += differences((ended_one.communicate(timeout=SECONDS), (b"", b"")), (ended_one.returncode, 128 + number), (os.listdir(place), []))
-    return found
+        for python in ["-m", "b3store"], *(["-c", twice % second + run] for second in (signal.SIGINT, signal.SIGTERM)):
+            found += ended_get(python, number, listen_to_signals)
+    return found + ended_get(["-m", "b3store"], signal.SIGTERM, work_in_the_background)
+
+
+def ended_get(python, number, prepare):
+    """What is wrong with the end of a `get` into a file, which these words run, at a signal."""
+    with server_of(b"has 3\n", None) as path, tempfile.TemporaryDirectory() as place:
+        words = [sys.executable, *python, "--socket", path, "get", "--tenant", "0", ABC, "-o", os.path.join(place, "file")]
+        with subprocess.Popen(words, cwd=os.path.join(TOP, "python"), stdout=subprocess.PIPE, stderr=subprocess.PIPE, preexec_fn=prepare) as get:
+            found = differences((wait_until(lambda: os.listdir(place)), True))
+            get.send_signal(number)
+            return found + differences((get.communicate(timeout=SECONDS), (b"", b"")), (get.returncode, 128 + number), (os.listdir(place), []))
+
+
+def work_in_the_background():
+    """A shell without job control lets what is in its background ignore SIGINT."""
+    listen_to_signals()
+    signal.signal(signal.SIGINT, signal.SIG_IGN)
 
 
 def listen_to_signals():

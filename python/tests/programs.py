@@ -202,10 +202,27 @@ def ends_while_it_ends():
     found = []
     for number in signal.SIGTERM, signal.SIGHUP, signal.SIGINT:
         text = f"import atexit, os, sys; from b3store import console, programs; programs.end_at_once(); atexit.register(os.kill, os.getpid(), {int(number)})"
-        words = [sys.executable, "-c", text + "; sys.exit(console.finish(lambda: print('done') or 0))"]
-        ran = subprocess.run(words, capture_output=True, timeout=SECONDS, env={**os.environ, "PYTHONPATH": PACKAGE}, preexec_fn=listen_to_signals)
-        found += differences((ran.returncode, -number), (ran.stdout, b"done\n"), (ran.stderr, b""))
+        found += differences((run_text(text + "; sys.exit(console.finish(lambda: print('done') or 0))"), (-number, b"done\n", b"")))
     return found
+
+
+def ends_at_signals_while_it_ends():
+    """No signal is a traceback that comes while a program reports an error, or while it ends at another signal."""
+    found, numbers = [], (signal.SIGTERM, signal.SIGHUP, signal.SIGINT)
+    start = "import os, sys; from b3store import console, programs; programs.end_at_once(); end = lambda number: os.kill(os.getpid(), number); "
+    for number in numbers:
+        text = f"{start}console.report = lambda _: end({int(number)}); sys.exit(console.finish(lambda: int('x')))"
+        found += differences((run_text(text), (128 + number, b"", b"")))
+        for second in numbers:
+            text = f"{start}drop = console.drop_output; console.drop_output = lambda: (end({int(second)}), drop()); sys.exit(console.finish(lambda: end({int(number)})))"
+            found += differences((run_text(text), (-second, b"", b"")))
+    return found
+
+
+def run_text(text):
+    """The status, standard output and standard error of a program of Python, which no signal finds ignored."""
+    ran = subprocess.run([sys.executable, "-c", text], capture_output=True, timeout=SECONDS, env={**os.environ, "PYTHONPATH": PACKAGE}, preexec_fn=listen_to_signals)
+    return ran.returncode, ran.stdout, ran.stderr
 
 
 def shows_progress():
