@@ -81,16 +81,17 @@ class Commands(Sessions):
     def file_all(self, tenant: int, contents: Sequence[Buffer]) -> List[Filed]:
         """Files several contents, each as `file` does. A `Store` with one session takes one turn for many of them, so for small ones this is several times
         as fast. If one is refused, those before it are filed, and some of those after it may be."""
-        views = [check_bytes(content) for content in contents]
+        tenant, views = check_number("tenant", tenant), [check_bytes(content) for content in contents]
         if self._next_upload is None:
             return [self.file(tenant, view) for view in views]
-        begin = f"begin {check_number('tenant', tenant)}"
+        begin = f"begin {tenant}"
         batches = [views[start : start + MAX_FILED_AHEAD] for start in range(0, len(views), MAX_FILED_AHEAD)]
         return self._in_turn(lambda session: [filed for batch in batches for filed in self._file_all_ahead(session, begin, batch)])
 
     def forget_all(self, tenant: int, addresses: Sequence[str]) -> None:
         """Stops holding several objects for a tenant, each as `forget` does, but in few turns. If one is refused, the others are still forgotten."""
-        lines = [f"forget {check_number('tenant', tenant)} {check_address(address)}\n" for address in addresses]
+        begin = f"forget {check_number('tenant', tenant)}"
+        lines = [f"{begin} {check_address(address)}\n" for address in addresses]
         refusals: List[Refused] = []
 
         def forget(session: Session) -> None:
@@ -156,15 +157,16 @@ class Commands(Sessions):
     def _move(self, tenant: int, address: str, target: int, first: int, left: int, seconds: Optional[float]) -> int:
         """Does what `fetch_to` does, to a descriptor that doesn't block."""
         offset = first
-        while left > 0:
+        while True:
             wanted = min(PART_LEN, left)
             line = fetch_line(tenant, address, offset, wanted)
             count, rest, fault = self._in_turn(lambda session: session.move(line, wanted, target))
             if fault is not None:
                 raise fault
             write_all(target, rest, seconds)
-            offset, left = offset + count, left - count if count == wanted else 0
-        return offset - first
+            offset, left = offset + count, left - count
+            if count < wanted or left == 0:
+                return offset - first
 
     def ranges(self, tenant: int, address: str, length: int = RANGE_LEN) -> Iterator[bytes]:
         """Yields an object's bytes in ranges of `length`. Other commands can run between two of them. Refusals: S1, S12."""

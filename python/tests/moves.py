@@ -54,7 +54,7 @@ def writes_to_descriptors():
                 for target, fault in (full.fileno(), OSError), (readable.fileno(), OSError), (broken, BrokenPipeError), (1 << 20, OSError), ("1", TypeError):
                     found += differences((raised(store.fetch_to, 0, address, target), fault))
                 os.close(broken)
-                found += differences((raised(store.fetch_to, 0, address, 1, -1), ValueError), (raised(store.fetch_to, 0, address, 1 << 64), ValueError), (raised(store.open, 0, address, 1 << 63), ValueError), (raised(lambda: store.fetch_to(0, address, 1, seconds=10 ** 400)), ValueError), (refusal(store.fetch_to, 0, FOUR, 1), ("S12", None)))
+                found += differences((raised(store.fetch_to, 0, address, 1, -1), ValueError), (raised(store.fetch_to, 0, address, 1 << 64), ValueError), (raised(store.open, 0, address, 1 << 63), ValueError), (raised(lambda: store.fetch_to(0, address, 1, seconds=10 ** 400)), ValueError), (refusal(store.fetch_to, 0, FOUR, 1), ("S12", None)), (refusal(store.fetch_to, 0, FOUR, 1, 0, 0), ("S12", None)))
                 found += differences((raised(store.fetch_to, 1, address, 1), Refused), (store.fetch(0, address) == content, True))
         finally:
             sessions._splice = splice

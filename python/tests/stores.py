@@ -78,10 +78,12 @@ def wrong_arguments():
         found += differences(*((raised(store.usage, number), ValueError) for number in (-1, 1 << 64, 10 ** 5000)))
         filed = store.file(tenant, b"abc")
         wrong = (filed.address + "\nforget 0 " + filed.address, "", ABC[:-1], ABC + "0", "g" * 64, ABC + "\n", "\u0660" * 64, " " + ABC[1:])
-        for call in store.has, store.fetch, store.forget, lambda tenant, address: store.file(tenant, b"abc", address):
+        calls = lambda tenant, address: store.file(tenant, b"abc", address), lambda tenant, address: store.fetch_to(tenant, address, 1, 0, 0)
+        for call in store.has, store.fetch, store.forget, *calls:
             found += differences(*((raised(call, tenant, address), ValueError) for address in wrong))
             found += differences(*((raised(call, tenant, address), TypeError) for address in (ABC.encode(), [], 5)))
         found += differences((raised(store.ranges, tenant, ABC, 0), ValueError), (raised(store.file, tenant, "abc"), TypeError))
+        found += differences(*((raised(call, "0", []), TypeError) for call in (store.file_all, store.forget_all)))
         found += differences((store.has(tenant, Text(ABC)), 3), (store.file(tenant, array.array("I")).length, 0), (store.forget(tenant, EMPTY), None))
         return found + differences(
             (store.has(tenant, ABC.upper()), 3), (store.stat(), Totals(2, 11, 0, 0, 0)), (store.usage(True - 1).used, 11), (store.alive, True),
