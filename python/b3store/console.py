@@ -196,7 +196,7 @@ class Progress:
     """Reports on a terminal how much of something long is done."""
 
     def __init__(self, name: str, total: Optional[int], is_quiet: bool = False) -> None:
-        self._name, self._total = name, total
+        self._name, self._total = one_line(name), total
         self._start = self._last = time.monotonic()
         self._is_shown = sys.stderr.isatty() and not is_quiet
         self._has_line = False

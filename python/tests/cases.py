@@ -66,6 +66,7 @@ CASES = (
     ("a signal while a program ends", programs.ends_while_it_ends),
     ("signals while a program ends at another", programs.ends_at_signals_while_it_ends),
     ("progress of the command line", programs.shows_progress),
+    ("names in the progress of the command line", programs.shows_names_on_one_line),
     ("progress on a terminal that goes away", programs.goes_on_without_a_terminal),
     ("the package installed", installing.installs),
     ("the names of the package", installing.names),

@@ -247,6 +247,15 @@ def shows_progress():
         return differences((put.returncode, 0), (line[64:], b"  -\n"), (is_shown, True), (shown.endswith(b"\r\x1b[K"), True))
 
 
+def shows_names_on_one_line():
+    """What a terminal would take as a command, or as another line, is escaped in the names of progress."""
+    text = "from b3store import console; console.SECONDS_TO_PROGRESS = console.SECONDS_BETWEEN = 0; console.Progress('a\\n\\x1b[2Jb', None)(1)"
+    main_end, terminal = pty.openpty()
+    with open(main_end, "rb", buffering=0) as shown, open(terminal, "wb", buffering=0) as stderr:
+        ran = subprocess.run([sys.executable, "-c", text], stderr=stderr, timeout=SECONDS, env={**os.environ, "PYTHONPATH": PACKAGE})
+        return differences((ran.returncode, 0), (shown.read(1000).startswith(b"\r\x1b[Kb3store: a\\n\\x1b[2Jb: 0 MiB in "), True))
+
+
 def goes_on_without_a_terminal():
     """What is stored isn't given up because its progress can't be shown any more."""
     text = "from b3store import console; console.SECONDS_TO_PROGRESS = console.SECONDS_BETWEEN = 0; progress = console.Progress('-', None)"
