@@ -339,7 +339,8 @@ def connect(parser: argparse.ArgumentParser, words: Any) -> Client:
     tcp, token_file = getattr(words, "tcp", None), getattr(words, "token_file", None)
     path = getattr(words, "socket", None)
     if tcp is None:
-        path = path or os.environ.get("B3STORE_SOCKET")
+        path = os.environ.get("B3STORE_SOCKET") if path is None else path
+        # an empty one is the value of an unset variable
         if not path:
             parser.error("no server is named: use --socket PATH, or set B3STORE_SOCKET")
         if token_file is not None:

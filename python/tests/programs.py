@@ -137,6 +137,8 @@ def says_what_is_wrong():
         for status, text, words in cases:
             got, out, err = run(words)
             found += differences(((words[-3:], got, out), (words[-3:], status, b"")), ((text, text in err, "Traceback" in err), (text, True, False)))
+        status, out, err = run(["--socket", "", "stat"], B3STORE_SOCKET=server.path)
+        found += differences((status, 2), (out, b""), ("no server is named" in err, True))
         found += differences((os.listdir(place), []), (run(["--help"])[0], 0))
         return found + fails_to_write(server, place)
 
