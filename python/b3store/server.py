@@ -44,7 +44,7 @@ from typing import Callable, Dict, List, NamedTuple, Optional, Set, TextIO, Tupl
 from .console import number, one_line, open_standard_files
 from .listening import Listener, ListenError, inherited, listen_at, listen_tcp, more_time, notify, read_token
 from .relay import SECONDS_TO_BEGIN, Relays, serve_connection
-from .saved import SavedStore, SaveError
+from .saved import SavedStore, SaveError, reason_of
 from .server_store import Store, StoreError, remove_left_folders, status_text
 from .sessions import can_write
 from .turns import Turns
@@ -340,6 +340,9 @@ class Server:
                 text = saved.save(session, self._more_time)
         except SaveError as error:
             report(str(error))
+            return False
+        except (StoreError, MemoryError) as error:
+            report(f"the store can't be saved: {reason_of(error)}")
             return False
         write_line(sys.stdout, f"saved {text}")
         return True

@@ -231,10 +231,14 @@ class Store:
             os.close(door)
 
     def _ask(self, lines: List[bytes]) -> None:
+        """Sends commands. Raises StoreError if the store has ended."""
         if self._is_closing:
             raise StoreError("the store has ended")
-        self._commands.write(b"".join(line + b"\n" for line in lines))
-        self._commands.flush()
+        try:
+            self._commands.write(b"".join(line + b"\n" for line in lines))
+            self._commands.flush()
+        except OSError:
+            raise StoreError("the store has ended") from None
 
     def _line(self) -> bytes:
         """Reads a line, with its newline: to remove that needs memory, and without it the line would be lost."""

@@ -661,6 +661,14 @@ def stores_that_end(program: str) -> List[str]:
             time.sleep(SHORTLY)
             os.kill(server.store(), signal.SIGKILL)
             found += differences((server.status() in (3, 4), True), ("Traceback" in server.reported(), False), (_files(folder), files))
+        with Running(program, "--save", folder, "--grace", "0") as server, server.client() as client:
+            client.ask("begin 0 5")
+            os.kill(server.store(), signal.SIGSTOP)
+            server.signal()
+            found += differences((wait_until(lambda: "the server ends while 1 connection is open" in server.reported()), True))
+            os.kill(server.store(), signal.SIGKILL)
+            found += differences((server.status(), 4), (server.reported().splitlines()[1:2], ["b3store.server: the store can't be saved: the store has ended"]))
+            found += differences((len(server.reported().splitlines()), 3), (_files(folder), files))
         return found + differences((_state_at(program, folder), state))
 
 
