@@ -374,14 +374,13 @@ class Server:
             return
         try:
             connection, _ = listener.socket.accept()
+            listener.prepare(connection)
+            self._connections.add(connection, listener.needs_token)
         except (BlockingIOError, ConnectionAbortedError):
             return
-        except OSError as error:
-            report(f"a connection can't be accepted: {error.strerror}")
+        except (OSError, MemoryError) as error:
+            report(f"a connection can't be accepted: {reason_of(error)}")
             time.sleep(1)
-            return
-        listener.prepare(connection)
-        self._connections.add(connection, listener.needs_token)
 
 
 def read_words() -> argparse.Namespace:

@@ -48,6 +48,20 @@ runpy.run_module('b3store.server', run_name='__main__', alter_sys=True)
 """A server whose first thread ends before it runs, and which notices this soon."""
 
 
+STARVED_AT_FIRST = """
+import runpy, socket
+accept, left = socket.socket.accept, [1]
+def accept_or_fail(listening):
+    left[0] -= 1
+    if left[0] >= 0:
+        raise MemoryError
+    return accept(listening)
+socket.socket.accept = accept_or_fail
+runpy.run_module('b3store.server', run_name='__main__', alter_sys=True)
+"""
+"""A server that has no memory for its first connection when it is to be accepted."""
+
+
 def _token_file(folder: str, text: str = TOKEN + "\n", mode: int = 0o600) -> str:
     path = os.path.join(folder, "token")
     with open(path, "w", encoding="ascii") as file:
@@ -190,6 +204,13 @@ def threads_that_never_run(program: str) -> List[str]:
         with server.client() as other:
             found = differences((other.ask("tenants"), b"tenants 0\n"), (client.remaining(), b""), (other.ends(), b""))
         return found + differences((server.end(), (0, "b3store.server: a connection is closed: out of memory\n", [])))
+
+
+def connections_without_memory(program: str) -> List[str]:
+    """A connection for which there is no memory at first is accepted later, and what the store has is kept."""
+    with Running(program, python=["-c", STARVED_AT_FIRST]) as server, server.client() as client:
+        found = differences((client.ask("tenants"), b"tenants 0\n"), (client.ends(), b""))
+        return found + differences((server.end(), (0, "b3store.server: a connection can't be accepted: out of memory\n", [])))
 
 
 def closed_streams(program: str) -> List[str]:
@@ -612,6 +633,7 @@ ENDS = (
     ("too little memory", too_little_memory),
     ("threads without memory", threads_without_memory),
     ("a thread that never runs", threads_that_never_run),
+    ("a connection without memory", connections_without_memory),
     ("closed streams", closed_streams),
     ("streams without room", streams_without_room),
     ("tokens", tokens),
