@@ -17,12 +17,10 @@ def end_at_once() -> None:
         signal.signal(signal.SIGINT, signal.SIG_DFL)
 
 
-def raise_again() -> bool:
-    """Lets Ctrl-C raise KeyboardInterrupt again, after `end_at_once`. Returns whether it ended the process until now."""
-    ended = signal.getsignal(signal.SIGINT) is signal.SIG_DFL
-    if ended:
+def raise_again() -> None:
+    """Lets Ctrl-C raise KeyboardInterrupt again, after `end_at_once`."""
+    if signal.getsignal(signal.SIGINT) is signal.SIG_DFL:
         signal.signal(signal.SIGINT, signal.default_int_handler)
-    return ended
 
 
 def handle_ending(handler: Any) -> None:

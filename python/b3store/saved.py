@@ -20,6 +20,7 @@ import sys
 from typing import BinaryIO, Callable, Counter, Dict, Iterable, Iterator, List, NamedTuple, Optional, Tuple, TypeVar
 
 from .commands import fetch_line
+from .console import count_text
 from .files import FolderInUse, NotSynced, checked_line, checked_text, lock_folder, private, replace_file
 from .sessions import Kinds, Session
 from .transfers import Transfers
@@ -82,8 +83,7 @@ class Saved(NamedTuple):
 
     def text(self) -> str:
         """Says how much it is."""
-        objects, tenants = len(self.objects), len(self.limits)
-        return f"{objects} {'object' if objects == 1 else 'objects'} and {tenants} {'tenant' if tenants == 1 else 'tenants'}"
+        return f"{count_text(len(self.objects), 'object')} and {count_text(len(self.limits), 'tenant')}"
 
 
 class SavedStore:

@@ -1,7 +1,6 @@
 """The store's process: starts it, opens a session for each connection, and asks the server's own questions."""
 import contextlib
 import errno
-import fcntl
 import itertools
 import os
 import re
@@ -15,7 +14,7 @@ import time
 from typing import Iterable, Iterator, List, NamedTuple, Optional, Set
 
 from .files import FolderInUse, lock_folder
-from .sessions import Session
+from .sessions import Session, set_pipe_size
 from .transfers import Transfers
 from .values import Ended
 
@@ -35,8 +34,6 @@ ABORTS_AT_ONCE = 128
 MAX_PIPE_BYTES = 1 << 20
 MAX_PIPES_BYTES = 1 << 25
 """The maximum capacity of all pipes together. Linux grants a user 64 MiB by default."""
-SET_PIPE_SIZE = getattr(fcntl, "F_SETPIPE_SZ", 1031)
-"""Python has this name since 3.10."""
 
 
 class StoreError(Exception):
@@ -209,8 +206,7 @@ class Store:
     def _enter(self, number: int, pipes: Pipes) -> None:
         """Writes a session's number to the door, and waits until the store serves it."""
         for pipe in pipes.requests, pipes.answers:
-            with contextlib.suppress(OSError):
-                fcntl.fcntl(pipe, SET_PIPE_SIZE, self._size)
+            set_pipe_size(pipe, self._size)
         self._knock(b"%d\n" % number)
         os.write(pipes.requests, b"stat\n")
         self._expect_totals(pipes.answers, "a session")
@@ -265,8 +261,7 @@ class Store:
         """The server's own session, which nothing else uses meanwhile."""
         with self._exchange():
             for pipe in self._commands, self._answers:
-                with contextlib.suppress(OSError):
-                    fcntl.fcntl(pipe, SET_PIPE_SIZE, MAX_PIPE_BYTES)
+                set_pipe_size(pipe, MAX_PIPE_BYTES)
             yield OwnSession(Session(self._commands, self._answers, lambda reason="the store has ended", seconds=0: Ended(reason)))
 
     def _numbers_of(self, line: bytes, kind: bytes) -> Optional[List[int]]:

@@ -1,6 +1,7 @@
 """Sessions: connections to a store, each used by one thread at a time, and the rule that a broken one is never used again."""
 import contextlib
 import errno
+import fcntl
 import itertools
 import os
 import queue
@@ -27,6 +28,9 @@ MAX_FILED_AHEAD = 24
 SECONDS_FOR_ROOM = 0.02
 """How long a session waits, in all, for a descriptor that bytes are moved to."""
 
+SET_PIPE_SIZE = 1031
+"""The number of F_SETPIPE_SZ, which `fcntl` has from Python 3.10 on."""
+
 KEEP_ALIVE = (("TCP_KEEPIDLE", 60), ("TCP_KEEPINTVL", 10), ("TCP_KEEPCNT", 6))
 """A TCP peer that has vanished is noticed after two minutes; while it is sent to, the system notices it, after about a quarter of an hour."""
 
@@ -49,6 +53,12 @@ def splice(source: int, target: int, count: int) -> Optional[int]:
         if error.errno in (errno.EINVAL, errno.ENOSYS):
             return None
         raise
+
+
+def set_pipe_size(pipe: Any, size: int) -> None:
+    """Sets the capacity of a pipe, if the system allows it."""
+    with contextlib.suppress(OSError):
+        fcntl.fcntl(pipe, SET_PIPE_SIZE, size)
 
 
 def prepare_tcp(connection: socket.socket) -> None:

@@ -1,7 +1,6 @@
 """A store in its own process, which this one starts and ends."""
 import contextlib
 import errno
-import fcntl
 import os
 import subprocess
 import tempfile
@@ -9,7 +8,7 @@ import time
 from types import TracebackType
 from typing import BinaryIO, Callable, List, Optional, Type, TypeVar, cast
 
-from .sessions import READ_LEN, Session
+from .sessions import READ_LEN, Session, set_pipe_size
 from .transfers import Transfers
 from .values import MAX_SESSIONS, Ended, check_number
 
@@ -22,8 +21,6 @@ SECONDS_TO_END = 1
 SECONDS_TO_START = 30
 """How long a store is given to open its sessions."""
 SECONDS_BETWEEN_TRIES = 0.01
-SET_PIPE_LEN = 1031
-"""The number of F_SETPIPE_SZ, which `fcntl` has from Python 3.10 on."""
 
 Value = TypeVar("Value")
 
@@ -112,8 +109,7 @@ class Store(Transfers):
 
     def _session(self, sending: object, reading: object) -> Session:
         for pipe in sending, reading:
-            with contextlib.suppress(OSError):
-                fcntl.fcntl(cast(BinaryIO, pipe), SET_PIPE_LEN, PIPE_LEN)
+            set_pipe_size(pipe, PIPE_LEN)
         return Session(sending, cast(BinaryIO, reading), self._why())
 
     def _open_session(self, at: str, number: int) -> Session:

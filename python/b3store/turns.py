@@ -13,10 +13,6 @@ class Turns:
         self._waiting: Deque[threading.Event] = collections.deque()
         self._lock = threading.Lock()
 
-    def take(self, seconds: float) -> bool:
-        """Waits for a turn. False if there is none in time, or the turns are closed."""
-        return self.wait(self.line_up(), seconds)
-
     def line_up(self) -> threading.Event:
         """Takes a place in the line. Another thread may wait there."""
         turn = threading.Event()

@@ -94,20 +94,24 @@ def turns(program: str) -> List[str]:
     """Turns are given back to the first that waits, are not given after a time, and not at all once they are closed."""
     del program
     given = Turns(2)
-    found = differences((given.take(0), True), (given.take(0), True), (given.take(0), False), (given.take(0.01), False))
+
+    def take(seconds: float) -> bool:
+        return given.wait(given.line_up(), seconds)
+
+    found = differences((take(0), True), (take(0), True), (take(0), False), (take(0.01), False))
     given.give_back()
-    found += differences((given.take(0), True), (given.take(0), False))
+    found += differences((take(0), True), (take(0), False))
     given.give_back()
     given.give_back()
-    found += differences((given.take(0), True), (given.take(0), True), (given.take(0), False))
+    found += differences((take(0), True), (take(0), True), (take(0), False))
     given.give_back()
     places = [given.line_up() for _ in range(3)]
     found += differences((given.wait(places[0], 0), True), (given.wait(places[1], 0), False))
     given.give_back()
-    found += differences((given.take(0), False), (given.wait(places[2], 0), True))
+    found += differences((take(0), False), (given.wait(places[2], 0), True))
     given.give_back()
     given.close()
-    return found + differences((given.take(0), False))
+    return found + differences((take(0), False))
 
 
 def turns_by_arrival(program: str) -> List[str]:
