@@ -11,9 +11,12 @@
         filed = store.upload(open("file", "rb"), tenant)
         print(filed.address, store.fetch(tenant, filed.address, 0, 10))
 """
-import typing
+TYPE_CHECKING = False
+"""True for a checker of types. To import that from `typing` takes long, and until it is done Ctrl-C would be a traceback (programs.py)."""
 
-if typing.TYPE_CHECKING:
+if TYPE_CHECKING:
+    import typing
+
     from .asynchronous import AsyncStore
     from .client import Client
     from .store import Store
@@ -33,7 +36,7 @@ _MODULES = {"AsyncStore": "asynchronous", "Client": "client", "Store": "store", 
 """Where a name is defined, unless that is `values`."""
 
 
-def __getattr__(name: str) -> typing.Any:
+def __getattr__(name: str) -> "typing.Any":
     """Imports a module when a name of it is used first. So a program of this package can begin before they are imported (programs.py), and asyncio is
     imported only if it is used."""
     if name not in __all__:
@@ -45,5 +48,5 @@ def __getattr__(name: str) -> typing.Any:
     return value
 
 
-def __dir__() -> typing.List[str]:
+def __dir__() -> "typing.List[str]":
     return sorted({*globals(), *__all__})

@@ -1,11 +1,16 @@
 """How the programs of this package start: `b3store-client` and `b3store-server`, which pip installs; Ctrl-C until a program handles it; and the signals that
 end a server.
 
-While modules are imported, Python would raise KeyboardInterrupt in the middle of an import, and print a traceback. This module imports little itself."""
+While modules are imported, Python would raise KeyboardInterrupt in the middle of an import, and print a traceback. This module imports little itself, and the
+package nothing before it."""
 import contextlib
 import signal
 import sys
-from typing import Any, Iterator
+
+from . import TYPE_CHECKING
+
+if TYPE_CHECKING:
+    from typing import Any, Iterator
 
 ENDING = (signal.SIGTERM, signal.SIGINT, signal.SIGHUP)
 """The signals that end a program."""
@@ -23,7 +28,7 @@ def raise_again() -> None:
         signal.signal(signal.SIGINT, signal.default_int_handler)
 
 
-def handle_ending(handler: Any) -> None:
+def handle_ending(handler: "Any") -> None:
     """Sets a server's handler of the signals that end a program. SIGHUP stays ignored if it is, as `nohup` wants it."""
     for number in ENDING:
         if number != signal.SIGHUP or signal.getsignal(number) is not signal.SIG_IGN:
@@ -34,7 +39,7 @@ def exit_at_ending() -> None:
     """Lets the first signal that ends a server raise SystemExit. Later ones have no effect, so that they interrupt nothing that is tidied up."""
     is_ending = False
 
-    def end(*_: Any) -> None:
+    def end(*_: "Any") -> None:
         nonlocal is_ending
         if not is_ending:
             is_ending = True
@@ -44,7 +49,7 @@ def exit_at_ending() -> None:
 
 
 @contextlib.contextmanager
-def signals_held() -> Iterator[None]:
+def signals_held() -> "Iterator[None]":
     """Holds these signals back, so that none interrupts what is made until it is noted that it has to be removed."""
     held = signal.pthread_sigmask(signal.SIG_BLOCK, ENDING)
     try:

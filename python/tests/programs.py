@@ -189,14 +189,20 @@ def ends_while_it_starts():
     programs += [["-c", f"from b3store.programs import {name}; {name}()"] for name in ("client", "server")]
     programs += [[os.path.join(TOP, "examples", name + ".py")] for name in ("backup", "cache_server", "cluster")]
     found = []
-    with tempfile.TemporaryDirectory() as place:
-        with open(os.path.join(place, "argparse.py"), "w", encoding="ascii") as file:
-            file.write("import os, signal\nos.kill(os.getpid(), signal.SIGINT)\n")
-        environment = {**os.environ, "PYTHONPATH": f"{place}:{PACKAGE}", "PYTHONDONTWRITEBYTECODE": "1"}
-        for words in programs:
-            ran = subprocess.run([sys.executable, *words], capture_output=True, timeout=SECONDS, env=environment, preexec_fn=lambda: signal.signal(signal.SIGINT, signal.SIG_DFL))
-            found += differences(((words, ran.returncode, ran.stdout, ran.stderr), (words, -signal.SIGINT, b"", b"")))
+    for module in "argparse", *(["typing"] if starts_without("typing") else []):
+        with tempfile.TemporaryDirectory() as place:
+            with open(os.path.join(place, module + ".py"), "w", encoding="ascii") as file:
+                file.write("import os, signal\nos.kill(os.getpid(), signal.SIGINT)\n")
+            environment = {**os.environ, "PYTHONPATH": f"{place}:{PACKAGE}", "PYTHONDONTWRITEBYTECODE": "1"}
+            for words in programs:
+                ran = subprocess.run([sys.executable, *words], capture_output=True, timeout=SECONDS, env=environment, preexec_fn=lambda: signal.signal(signal.SIGINT, signal.SIG_DFL))
+                found += differences(((module, words, ran.returncode, ran.stdout, ran.stderr), (module, words, -signal.SIGINT, b"", b"")))
     return found
+
+
+def starts_without(module):
+    """Whether Python runs a module without importing this one itself."""
+    return subprocess.run([sys.executable, "-c", f"import runpy, sys; sys.exit({module!r} in sys.modules)"], check=False).returncode == 0
 
 
 def ends_while_it_ends():
