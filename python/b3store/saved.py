@@ -232,8 +232,9 @@ class SavedStore:
         with contextlib.suppress(OSError, SaveError, MemoryError):
             used = {row.file for row in read_index(self._at(INDEX), tick).objects.values()}
             os.fsync(self._folder)
-            for name in os.listdir(self._path):
-                if CONTENT.fullmatch(name) and name not in used:
+            for name in filter(CONTENT.fullmatch, set(os.listdir(self._path)) - used):
+                # one that can't be removed keeps no others
+                with contextlib.suppress(OSError):
                     os.unlink(self._at(name))
 
 

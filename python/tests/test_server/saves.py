@@ -355,6 +355,21 @@ def contents_of_others(program: str) -> List[str]:
     return found
 
 
+def contents_that_stay(program: str) -> List[str]:
+    """A file that can't be removed, here a folder with the name of one, is passed by, whichever name comes first: the others that no save needs are removed."""
+    found: List[str] = []
+    with _folder() as folder:
+        for number in range(3):
+            with Running(program, "--save", folder) as server, server.client() as client:
+                client.ask("tenant 100000000")
+                client.file(_content(number))
+                found += differences((client.ends(), b""), (server.end(), CLEAN))
+            if not number:
+                for other in range(100, 120):
+                    os.mkdir(os.path.join(folder, f"content.{other}"))
+        return found + differences((len(os.listdir(folder)), 22))
+
+
 def folders_that_are_moved(program: str) -> List[str]:
     """A server whose folder is moved saves the store there, and leaves the folder of another server, which has the path now, as it is."""
     with _folder() as folder:
@@ -734,6 +749,7 @@ SAVES = (
     ("two servers on one folder", one_server_alone),
     ("files that are changed before a save", contents_that_are_changed),
     ("content files of another program", contents_of_others),
+    ("content files that can't be removed", contents_that_stay),
     ("a folder that is moved", folders_that_are_moved),
     ("a folder that is removed", folders_that_are_removed),
     ("damaged files of a save", damaged_files),
