@@ -19,7 +19,7 @@ PLAIN_NUMBER = re.compile("[0-9]{1,15}(?:[.][0-9]{1,15})?")
 CONTROLS = re.compile(r"[\x00-\x1f\x7f-\x9f]")
 ESCAPES = {"\\": "\\\\", "\n": "\\n", "\r": "\\r"}
 SECONDS_TO_TIDY_UP = 1
-"""For how long a signal that ends a program keeps further ones from having an effect."""
+"""Signals that come within this time after one that ends a program have no effect."""
 FAILED = 3
 """The exit status when reading, writing or the connection fails."""
 
@@ -87,12 +87,12 @@ class Terminated(BaseException):
 
 
 class Terminator:
-    """A handler of signals, which end a program by Terminated, so that it leaves no half of a file. One that comes soon after another has no effect: it would
-    interrupt what is tidied up."""
+    """A handler of signals that raises Terminated, so that a program removes an incomplete file before it ends. A signal that comes soon after another has no
+    effect: it would interrupt this."""
 
     def __init__(self) -> None:
         self._next = 0.0
-        """When a signal has an effect again."""
+        """The earliest time at which a signal has an effect."""
 
     def __call__(self, number: int, _: Any) -> None:
         now = time.monotonic()
@@ -101,7 +101,7 @@ class Terminator:
             raise Terminated(number)
 
     def begin(self) -> None:
-        """Handles the signals that end this process. Those of a program that has called this one are its own: it handles Ctrl-C, as Python does."""
+        """Handles the signals that would end this process, unless Python handles Ctrl-C: then the program that has called this one handles signals."""
         if signal.getsignal(signal.SIGINT) in (signal.SIG_DFL, signal.SIG_IGN):
             for number in ENDING:
                 if signal.getsignal(number) is signal.SIG_DFL:

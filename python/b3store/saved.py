@@ -233,7 +233,7 @@ class SavedStore:
             used = {row.file for row in read_index(self._at(INDEX), tick).objects.values()}
             os.fsync(self._folder)
             for name in filter(CONTENT.fullmatch, set(os.listdir(self._path)) - used):
-                # one that can't be removed keeps no others
+                # if one can't be removed, the others are
                 with contextlib.suppress(OSError):
                     os.unlink(self._at(name))
 

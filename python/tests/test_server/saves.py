@@ -356,7 +356,7 @@ def contents_of_others(program: str) -> List[str]:
 
 
 def contents_that_stay(program: str) -> List[str]:
-    """A file that can't be removed, here a folder with the name of one, is passed by, whichever name comes first: the others that no save needs are removed."""
+    """If a content file can't be removed, here a folder with such a name, the others that no save needs are removed, whichever comes first."""
     found: List[str] = []
     with _folder() as folder:
         for number in range(3):
