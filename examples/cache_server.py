@@ -265,7 +265,8 @@ class Handler(Connection):
     def user(self):
         """The user with the request's token, or None."""
         scheme, _, given = self.headers.get("authorization", "").partition(" ")
-        token = given.strip().encode("latin-1")
+        # bytes of a token may be white space in Latin-1
+        token = given.strip(" ").encode("latin-1")
         if scheme.lower() == "basic":
             with contextlib.suppress(ValueError):
                 token = base64.b64decode(token).partition(b":")[2]

@@ -1,4 +1,5 @@
 """Requests to examples/cache_server.py that are wrong, by mistake or on purpose."""
+import base64
 import contextlib
 import os
 import socket
@@ -73,6 +74,18 @@ def refuses_other_tokens():
         found = differences(*((cache.ask("PUT", "/k", bytes(length), token)[0], 401) for length in (3, 8000000) for token in (None, "token-c")))
         found += differences((cache.ask("PUT", "/k", iter([bytes(8000000)]), "token-c", chunked)[0], 401))
         return found + differences((cache.ask("GET", "/k", token="token-a")[0], 404), (cache.ask("PUT", "/k", b"abc", "token-a")[0], 201))
+
+
+def takes_tokens_of_any_letters():
+    """A token is the bytes that the file of users has, also if its last byte is white space in Latin-1."""
+    tokens = "voilà", "Å", "λ", "plain"
+    with tempfile.TemporaryDirectory() as place, Cache(os.path.join(place, "cache"), "".join(f"{number} {token} 1000\n" for number, token in enumerate(tokens))) as cache:
+        found = []
+        for sent in (token.encode() for token in tokens):
+            for words in b"Bearer " + sent, b"bearer  " + sent, b"Basic " + base64.b64encode(b"user:" + sent):
+                status = cache.ask("PUT", "/k", b"abc", headers={"Authorization": words.decode("latin-1")})[0]
+                found += [] if status == 201 else [f"{words}: {status}"]
+        return found + differences((cache.stop()[0], "cache_server: saved 4 keys, 1 object\n"))
 
 
 def does_nothing_for_half_a_request():
@@ -288,3 +301,4 @@ CASES = (
     ("a cache's changes on condition", changes_on_condition),
     ("a cache's first PUT of several", lets_one_store_first),
 )
+    ("a cache's clients with odd tokens", takes_tokens_of_any_letters),

@@ -24,7 +24,7 @@ class Cache:
         command = [sys.executable, *server, folder, "--port", "0", "--program", PROGRAM, *words]
         if users is not None:
             path = os.path.join(os.path.dirname(folder), "users")
-            with open(path, "w", encoding="ascii") as file:
+            with open(path, "w", encoding="utf-8") as file:
                 file.write(users)
             command += ["--users", path]
         self.process = subprocess.Popen(command, stdout=subprocess.PIPE, stderr=subprocess.PIPE, start_new_session=True)
