@@ -359,7 +359,8 @@ def users_of(options):
         for number, line in enumerate(lines.read().decode(errors="replace").splitlines(), 1):
             found = re.fullmatch(r"(\S+)\s+(\S+)\s+([0-9]{1,14})\s*", line)
             if not found or "\ufffd" in line or int(found[3]) > MAX_LIMIT:
-                raise ValueError(f"{options.users}, line {number}: {line.strip()[:60]!r} is not NAME TOKEN LIMIT, with a limit of up to {MAX_LIMIT} bytes")
+                # the line isn't printed, since it may have a token
+                raise ValueError(f"{options.users}, line {number} is not NAME TOKEN LIMIT, with a limit of up to {MAX_LIMIT} bytes")
             if max(found[1]) > LAST_OF_NAMES:
                 raise ValueError(f"{options.users}, line {number}: the name {found[1][:60]!r} has a character that isn't in ISO 8859-1")
             users.append(User(found[1], found[2], int(found[3])))

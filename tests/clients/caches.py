@@ -227,10 +227,10 @@ def looks_for_signals():
 
 
 def refuses_wrong_words():
-    """Wrong arguments and users end the server at once, with one line that has what is wrong."""
+    """Wrong arguments and users end the server at once, with one line that has what is wrong, and no token."""
     with tempfile.TemporaryDirectory() as place, socket.create_server(("127.0.0.1", 0)) as taken:
         found, port = [], str(taken.getsockname()[1])
-        users = {"short": b"ann token\n", "digits": b"ann token 5x\n", "high": b"ann token 99999999999999\n", "twice": b"a t 5\na u 6\n", "both": b"a t 5\nb u 6\nc t 7\n", "bytes": b"a t 5\n\xff t 5\n", "greek": "a t 5\nλ t 5\n".encode(), "empty": b""}
+        users = {"short": b"ann s3cret\n", "digits": b"ann s3cret 5x\n", "high": b"ann s3cret 99999999999999\n", "twice": b"a t 5\na u 6\n", "both": b"a t 5\nb u 6\nc t 7\n", "bytes": b"a t 5\n\xff t 5\n", "greek": "a t 5\nλ t 5\n".encode(), "empty": b""}
         for name, content in users.items():
             with open(os.path.join(place, name), "wb") as file:
                 file.write(content)
@@ -245,7 +245,7 @@ def refuses_wrong_words():
             command = [sys.executable, os.path.join(TOP, "examples", "cache_server.py"), os.path.join(place, "cache"), "--port", "0", "--program", PROGRAM, *words]
             run = subprocess.run(command, capture_output=True, timeout=SECONDS)
             lines = run.stderr.decode().splitlines()
-            found += differences((run.returncode, status), (run.stdout, b""))
+            found += differences((run.returncode, status), (run.stdout, b""), (b"s3cret" in run.stderr, False))
             found += [] if part in lines[-1] and (status == 2 or len(lines) == 1) else [f"{words}: {lines[-1]}"]
         return found
 
