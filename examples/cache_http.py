@@ -208,9 +208,11 @@ class Server(http.server.HTTPServer):
         while self.begin_waiting():
             found = self.next_connection()
             if self.end_waiting() == 0 and found is not None:
-                # without one, connections wait until this thread has answered
-                with contextlib.suppress(RuntimeError):
+                try:
                     self.start_thread()
+                except RuntimeError:
+                    # the system has no more threads: connections wait until one that there is has answered
+                    self.end_oldest()
             if found is None:
                 return
             self.answer(*found)
@@ -246,7 +248,7 @@ class Server(http.server.HTTPServer):
             self.idle.update({connection: None} if is_idle else {})
 
     def end_oldest(self):
-        """Ends the connection that has been idle for the longest time, if there is one: another needs its descriptor."""
+        """Ends the connection that has been idle for the longest time, if there is one: another needs its descriptor or its thread."""
         with self.lock, contextlib.suppress(OSError, StopIteration):
             oldest = next(iter(self.idle))
             del self.idle[oldest]

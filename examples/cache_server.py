@@ -25,7 +25,7 @@ reported, and stays in FOLDER with its object for a later start; an object that 
 only truncated, keys may be older than they were: the server refuses to start, and changes nothing. Only the server's user can read what it writes in FOLDER.
 One server at a time uses a folder. If the store ends, the server answers 503 and exits with status 3; if FOLDER is removed or moved, with status 1.
 
-If the server has too many open files, the connections that have waited longest for a request are closed.
+If the server has too many open files or threads, the connections that have waited longest for a request are closed.
 
 A store keeps a journal of its commands in memory. When it has more than `--journal-limit` entries, the content moves into a second store, to which the
 server switches while it answers requests (cache_stores.py). A limit that is less than twice what the content needs is raised to that.

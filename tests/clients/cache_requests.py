@@ -9,7 +9,7 @@ import time
 
 from servers import USERS, Cache, SlowPut, metrics, raw_answer, wait_until
 from cache_disk import FEW_FILES
-from shared import ABC, FOUR, SECONDS, differences
+from shared import ABC, FOUR, SECONDS, TOP, differences
 
 CLOSE = b"Connection: close\r\n"
 WRONG = (
@@ -126,6 +126,29 @@ def answers_beside_idle_clients():
             for _ in range(60):
                 stack.enter_context(socket.create_connection(("127.0.0.1", cache.port), timeout=SECONDS)).sendall(begun)
             found += differences((cache.ask("PUT", "/k", b"abc")[0], 201), (cache.ask("GET", "/k"), (200, b"abc")))
+        return found + differences((slow.end(), 201), (cache.ask("GET", "/slow") == (200, bytes(2000000)), True), (cache.stop()[1], ""))
+
+
+FEW_THREADS = f"""import sys; sys.path[:0] = {[os.path.join(TOP, name) for name in ("examples", "python")]!r}
+import threading, cache_server
+start = threading.Thread.start
+def start_few(thread):
+    if threading.active_count() >= 12:
+        raise RuntimeError("can't start new thread")
+    start(thread)
+threading.Thread.start = start_few
+sys.exit(cache_server.main())"""
+
+
+def answers_with_few_threads():
+    """If the system has no more threads, idle connections are ended long before their silence would end them; one on which a body arrives isn't."""
+    with tempfile.TemporaryDirectory() as place, Cache(os.path.join(place, "cache"), server=["-c", FEW_THREADS]) as cache, contextlib.ExitStack() as stack:
+        slow = SlowPut(cache, "/slow", bytes(2000000), {"Content-Length": "2000000"})
+        found = differences((wait_until(lambda: metrics(cache)["received_bytes_total"] > 0), True))
+        for _ in range(60):
+            stack.enter_context(socket.create_connection(("127.0.0.1", cache.port), timeout=SECONDS))
+        begun = time.monotonic()
+        found += differences((cache.ask("PUT", "/k", b"abc")[0], 201), (cache.ask("GET", "/k"), (200, b"abc")), (time.monotonic() - begun < SECONDS / 2, True))
         return found + differences((slow.end(), 201), (cache.ask("GET", "/slow") == (200, bytes(2000000)), True), (cache.stop()[1], ""))
 
 
@@ -286,10 +309,12 @@ def etag(port, key):
 CASES = (
     ("a cache's wrong requests", refuses_wrong_requests),
     ("a cache's clients with other tokens", refuses_other_tokens),
+    ("a cache's clients with odd tokens", takes_tokens_of_any_letters),
     ("a cache's half requests", does_nothing_for_half_a_request),
     ("a cache's clients that send too much", answers_whole_before_it_closes),
     ("a cache beside idle clients", answers_beside_idle_clients),
     ("a cache beside refused clients", answers_beside_refused_clients),
+    ("a cache without threads", answers_with_few_threads),
     ("a cache's keys that differ in a byte", keeps_keys_apart),
     ("a cache's clients that wait to be asked", asks_for_the_body),
     ("a cache's chunks with more words", takes_long_extensions),
@@ -301,4 +326,3 @@ CASES = (
     ("a cache's changes on condition", changes_on_condition),
     ("a cache's first PUT of several", lets_one_store_first),
 )
-    ("a cache's clients with odd tokens", takes_tokens_of_any_letters),
