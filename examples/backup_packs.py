@@ -70,9 +70,12 @@ def remove(folder, name):
 
 
 def make_folder(path):
-    """Makes a folder, and those that it is in, unless they are there."""
-    if not os.path.isdir(path):
-        make_folder(os.path.dirname(path))
+    """Makes a folder, and those that it is in, unless they are there. The path begins with a slash."""
+    missing = []
+    while not os.path.isdir(path):
+        missing.append(path)
+        path = os.path.dirname(path)
+    for path in reversed(missing):
         with contextlib.suppress(FileExistsError):
             os.mkdir(path, 0o700)
         with opened_folder(os.path.dirname(path), 0) as folder:

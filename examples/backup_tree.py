@@ -80,12 +80,16 @@ class Tree:
 def new_folder(place):
     """Makes a folder, and those that it is in unless they are there, which only this user may enter. Returns a descriptor by which it isn't read. No link that
     takes the place of a new folder is followed."""
-    above, name = os.path.split(place.rstrip("/"))
-    if name == ".":
-        return new_folder(above)
-    folder = os.open(above or ".", os.O_PATH | os.O_DIRECTORY) if os.path.isdir(above or ".") else new_folder(above)
-    try:
-        os.mkdir(name, 0o700, dir_fd=folder)
-        return os.open(name, os.O_PATH | os.O_DIRECTORY | os.O_NOFOLLOW, dir_fd=folder)
-    finally:
-        os.close(folder)
+    above, names = place, []
+    while not names or above and not os.path.isdir(above):
+        above, name = os.path.split(above.rstrip("/"))
+        names += [name] if name != "." else []
+    folder = os.open(above or ".", os.O_PATH | os.O_DIRECTORY)
+    for name in reversed(names):
+        try:
+            os.mkdir(name, 0o700, dir_fd=folder)
+            below = os.open(name, os.O_PATH | os.O_DIRECTORY | os.O_NOFOLLOW, dir_fd=folder)
+        finally:
+            os.close(folder)
+        folder = below
+    return folder

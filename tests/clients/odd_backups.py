@@ -535,6 +535,20 @@ def changes_no_other_file():
         return found
 
 
+def makes_folders_on_long_paths():
+    """A repository, and a folder to restore into, may be in more new folders than Python's functions may call each other. A new folder isn't there before."""
+    with tempfile.TemporaryDirectory() as place:
+        folder, _ = folder_of_abc(place)
+        repository, restored = (os.path.join(place, name, "a/" * 1100) for name in ("repository", "restored"))
+        try:
+            status, lines = backup("save", folder, repository)
+            found = differences((status, 0))
+            found += differences((backup("restore", repository, lines[-1].split()[1], restored), (0, []))) if not found else []
+            return found or differences((content_of(restored, "file"), b"abc"), (raised(backup_tree.new_folder, place), FileExistsError))
+        finally:
+            subprocess.run(["rm", "-rf", *(os.path.join(place, name) for name in ("repository", "restored"))], check=True)
+
+
 INTERRUPTED = f"""import sys; sys.path[:0] = {[os.path.join(TOP, name) for name in ("examples", "python")]!r}
 import builtins, os, signal, backup
 def open_and_interrupt(*words, **options):
@@ -639,4 +653,5 @@ CASES = (
     ("folders that are replaced while they are restored", changes_no_other_folder),
     ("files that are replaced while they are restored", changes_no_other_file),
     ("a restore into folders that are there", keeps_folders_that_are_there),
+    ("folders on long paths", makes_folders_on_long_paths),
 )
