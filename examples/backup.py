@@ -27,7 +27,8 @@ mode and time. It doesn't keep extended attributes, access lists and holes in fi
 repository that is in FOLDER is left out too: that is reported, but doesn't change the status. It doesn't compress or encrypt, and removes no backups.
 
 `save` and `restore` open each folder from the one that it is in. So if someone replaces a folder by a link meanwhile, nothing is read or written where the
-link leads, and what is in the folder is reported.
+link leads, and what is in the folder is reported. What takes the place of a file or a link while it is restored keeps its owner, mode and time; so does what
+takes the place of a folder, unless it is an empty folder. Links get theirs through /proc.
 
 What it writes is readable only by the user who runs it: the files of a repository, and each restored file and folder until it has its owner and mode.
 
@@ -63,7 +64,7 @@ from b3store.console import drop_output, error_text, fault_text, one_line, open_
 from backup_check import check
 from backup_packs import WriteFailed
 from backup_repository import ADDRESS, ITSELF, MORE, Damaged, Repository, length_fault, line_fault, path_of, quoted, unquoted
-from backup_tree import Tree, new_folder
+from backup_tree import Tree, check_new, new_folder
 
 MIN_MEMORY = 1 << 23
 """The least `--memory`."""
@@ -269,6 +270,7 @@ class Restoring:
                 if not stat.S_ISDIR(self.tree.status(path).st_mode):
                     raise
                 return
+            check_new(self.tree.folder(path))
         self.folders.append((path, line, number_of(self.tree.folder(path))))
 
     def make_hard_link(self, path, _, words):
@@ -286,7 +288,13 @@ class Restoring:
     def make_link(self, path, line, words):
         folder, name = self.tree.parent(path)
         os.symlink(unquoted(words[0]), name, dir_fd=folder)
-        self.finish(name, line, dir_fd=folder, follow_symlinks=False)
+        link = os.open(name, os.O_PATH | os.O_NOFOLLOW, dir_fd=folder)
+        try:
+            if not stat.S_ISLNK(os.fstat(link).st_mode):
+                raise OSError("another file has taken its place while it was restored")
+            self.finish(f"/proc/self/fd/{link}", line, has_mode=False)
+        finally:
+            os.close(link)
 
     def make_file(self, path, line, words):
         with self.write(*self.tree.parent(path), words[1:]) as file:
@@ -325,16 +333,17 @@ class Restoring:
         finally:
             os.close(folder)
 
-    def finish(self, place, line, **how):
-        """Sets the owner, mode and time of what was restored. `place` is its descriptor, or the name of a link, which isn't followed."""
+    def finish(self, place, line, has_mode=True):
+        """Sets the owner, mode and time of what was restored. `place` is its descriptor, or for a link, which has no mode, the path of the descriptor: the
+        system follows that to the link itself, whatever has taken the link's place meanwhile."""
         _, _, mode, owner, group, moment, _ = line.groups()
         mode = int(mode, 8)
-        if owner is None or not is_given(place, int(owner), int(group), **how):
+        if owner is None or not is_given(place, int(owner), int(group)):
             self.unowned += 1
             mode &= ~(stat.S_ISUID | stat.S_ISGID)
-        if not how:
+        if has_mode:
             os.chmod(place, mode)
-        os.utime(place, ns=(int(moment), int(moment)), **how)
+        os.utime(place, ns=(int(moment), int(moment)))
 
     def try_to(self, work, line, *words):
         try:
@@ -353,10 +362,10 @@ def number_of(folder):
     return status.st_dev, status.st_ino
 
 
-def is_given(place, owner, group, **how):
+def is_given(place, owner, group):
     """Gives a file to an owner and a group, and returns whether that is possible here."""
     try:
-        os.chown(place, owner, group, **how)
+        os.chown(place, owner, group)
         return True
     except OSError as fault:
         if fault.errno in NOT_ALLOWED:

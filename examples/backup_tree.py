@@ -78,8 +78,8 @@ class Tree:
 
 
 def new_folder(place):
-    """Makes a folder, and those that it is in unless they are there, which only this user may enter. Returns a descriptor by which it isn't read. No link that
-    takes the place of a new folder is followed."""
+    """Makes a folder, and those that it is in unless they are there, which only this user may enter. Returns a descriptor by which it isn't read. No link or
+    other folder that takes the place of a new one is entered."""
     above, names = place, []
     while not names or above and not os.path.isdir(above):
         above, name = os.path.split(above.rstrip("/"))
@@ -92,4 +92,15 @@ def new_folder(place):
         finally:
             os.close(folder)
         folder = below
+        check_new(folder)
     return folder
+
+
+def check_new(folder):
+    """Raises OSError if a folder that was made just now has anything: then another folder has taken its place."""
+    opened = os.open(".", os.O_RDONLY | os.O_DIRECTORY, dir_fd=folder)
+    try:
+        if os.listdir(opened):
+            raise OSError("another folder has taken its place while it was restored")
+    finally:
+        os.close(opened)

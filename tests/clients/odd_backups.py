@@ -535,6 +535,40 @@ def changes_no_other_file():
         return found
 
 
+def changes_nothing_in_place_of_a_link():
+    """If another file takes the place of a link that is restored, its owner and time stay as they were, before the link is opened and after that."""
+    owner, found = 1234 if os.geteuid() == 0 else os.getuid(), []
+    for name, told in ("symlink", ["not restored: l: another file has taken its place while it was restored"]), ("chown", []):
+        with tempfile.TemporaryDirectory() as place:
+            repository, address = made_backup(place, f"folder . 755:{os.getuid()}:{os.getgid()} 0", f"link l 777:{owner}:{os.getgid()} 5000000000 nothing")
+            restored, aside, own = (os.path.join(place, name) for name in ("restored", "aside", "own"))
+            write(own, b"own")
+            before = os.stat(own)
+            with mock.patch.object(os, name, with_change(getattr(os, name), lambda *_: replace_once(os.path.join(restored, "l"), aside, os.link, own))):
+                found += differences((restore(repository, address, restored), (not told, told)))
+            after = os.stat(own)
+            found += differences(((after.st_uid, after.st_mtime_ns, after.st_nlink), (before.st_uid, before.st_mtime_ns, 2)))
+            found += differences((os.readlink(aside), "nothing"), (os.lstat(aside).st_mtime_ns == 5000000000, not told))
+    return found
+
+
+def changes_no_folder_in_place_of_a_new_one():
+    """If another folder takes the place of one that was made just now, also of the new folder to restore into, it keeps its mode and time."""
+    found = []
+    for name in "restored", "restored/d":
+        with tempfile.TemporaryDirectory() as place:
+            repository, address = made_backup(place, *(f"folder {path} 755:{os.getuid()}:{os.getgid()} 0" for path in (".", "d")))
+            other, aside = os.path.join(place, "other"), os.path.join(place, "aside")
+            os.mkdir(other, 0o711)
+            write(os.path.join(other, "own"), b"own")
+            os.utime(other, ns=(5, 5))
+            with mock.patch("os.mkdir", with_change(os.mkdir, lambda *_: replace_once(os.path.join(place, name), aside, os.rename, other))):
+                result, lines = restore(repository, address, os.path.join(place, "restored"))
+            told = [] if name == "restored" else ["not restored: d: another folder has taken its place while it was restored"]
+            found += differences((result, False if told else OSError), (lines, told), (private_state(os.path.join(place, name)), (0o711, 5, ["own"])))
+    return found
+
+
 def makes_folders_on_long_paths():
     """A repository, and a folder to restore into, may be in more new folders than Python's functions may call each other. A new folder isn't there before."""
     with tempfile.TemporaryDirectory() as place:
@@ -652,6 +686,8 @@ CASES = (
     ("links to elsewhere that replace folders while they are saved", reads_through_no_link),
     ("folders that are replaced while they are restored", changes_no_other_folder),
     ("files that are replaced while they are restored", changes_no_other_file),
+    ("links that are replaced while they are restored", changes_nothing_in_place_of_a_link),
+    ("new folders that are replaced while they are restored", changes_no_folder_in_place_of_a_new_one),
     ("a restore into folders that are there", keeps_folders_that_are_there),
     ("folders on long paths", makes_folders_on_long_paths),
 )
