@@ -30,7 +30,7 @@ class Checking:
             self.right[address] = len(content)
             return True
         except (Refused, OSError) as fault:
-            self.faults.append((address, self.relative(path), reason(fault)))
+            self.faults.append((address, self.relative(path), error_text(fault)))
             return False
 
     def check_pack(self, pack):
@@ -39,7 +39,7 @@ class Checking:
         if pack.lacks_index and pack.fault is None:
             print(f"missing: {self.relative(pack.index)}, which the next save makes from its pack")
         elif pack.index_fault is not None:
-            self.report_pack(pack, pack.index, reason(pack.index_fault))
+            self.report_pack(pack, pack.index, error_text(pack.index_fault))
         if pack.fault is not None:
             self.report_pack(pack, pack.path, pack.fault)
         elif pack.length > end:
@@ -54,7 +54,7 @@ class Checking:
         try:
             fault = None if self.repository.packs.read(pack, at, len(row)) == row else f"before object {address} is a wrong row"
         except OSError as error:
-            fault = reason(error)
+            fault = error_text(error)
         if fault is not None:
             self.report_pack(pack, pack.path, fault)
 
@@ -85,7 +85,7 @@ class Checking:
         try:
             lists, lines = self.repository.pieces_of_backup(backup), self.repository.lines_of(backup)
         except (Refused, OSError, Damaged) as fault:
-            print(f"backup {backup} can't be restored: {reason(fault)}")
+            print(f"backup {backup} can't be restored: {error_text(fault)}")
             return False
         self.used.update([backup], lists)
         is_whole, kinds = True, {ITSELF: "folder"}
@@ -121,10 +121,6 @@ def place_fault(line, kinds):
     if source is not None and kinds.get(path_of(source)) != "file":
         return f"it is a hard link of {unquoted(source)}, which can't be restored"
     return None
-
-
-def reason(fault):
-    return error_text(fault)
 
 
 def check(repository, _):

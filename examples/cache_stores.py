@@ -20,7 +20,7 @@ import sys
 import threading
 import time
 
-from b3store import MAX_LIMIT, RANGE_LEN, Ended, Refused, Store
+from b3store import MAX_LIMIT, RANGE_LEN, Ended, Refused
 
 PART = 1 << 20
 """The length of a part: an upload takes this much memory in the server's process."""
@@ -511,17 +511,14 @@ class Fixed:
     """An upload of a known length."""
 
     def __init__(self, cache, user, target, length):
-        self.cache, self.user, self.target, self.number = cache, user, target, None
-        self.open(Store.begin, length)
+        self.cache, self.user, self.number = cache, user, None
+        cache.with_room(user, target, length, lambda: self.begin(length))
 
-    def open(self, command, length):
-        """Begins an upload in the store that content is put into, and evicts keys if needed."""
-        self.cache.with_room(self.user, self.target, length, lambda: self.begin(command, length))
-
-    def begin(self, command, length):
+    def begin(self, length):
+        """Begins an upload in the store that content is put into."""
         with self.cache.lock:
             self.backend, self.count = self.cache.backend, 0
-            self.number = command(self.backend.store, self.backend.tenants[self.user], length)
+            self.number = self.backend.store.begin(self.backend.tenants[self.user], length)
             self.backend.uploads += 1
 
     def put(self, part):
