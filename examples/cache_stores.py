@@ -21,6 +21,7 @@ import threading
 import time
 
 from b3store import MAX_LIMIT, RANGE_LEN, Ended, Refused
+from b3store.console import fault_text, one_line
 
 PART = 1 << 20
 """The length of a part: an upload takes this much memory in the server's process."""
@@ -382,7 +383,7 @@ class Cache:
         except (OSError, Refused, Ended) as fault:
             if self.old is None:
                 self.next_limit = 2 * self.backend.entries
-                report(f"cannot start a second store, so the journal grows: {fault}")
+                report(one_line(f"cannot start a second store, so the journal grows: {fault_text(fault)}"))
 
     def move(self):
         has_reported = False

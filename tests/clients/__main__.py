@@ -100,6 +100,7 @@ CASES = (
     ("a cache that writes from two stores", cache_moves.writes_from_both_stores),
     ("a cache's metrics while its content moves", cache_moves.counts_while_content_moves),
     ("a cache whose reports nobody reads", cache_moves.moves_where_nobody_reads),
+    ("a cache without a second store", cache_moves.tells_why_no_store_starts),
     *cache_requests.CASES,
     ("a cluster that ends while it begins", caches.ends_while_servers_start),
     ("a cluster whose servers lose something", caches.tells_what_servers_lose),

@@ -1,6 +1,8 @@
 """The counts of caches, and caches whose content moves to a new store."""
 import collections
+import contextlib
 import http.client
+import io
 import os
 import random
 import signal
@@ -284,6 +286,21 @@ def moves_where_nobody_reads():
             cache.told = "", ""
         with Cache(folder) as cache:
             return found + differences((cache.begun.split(", ", 1)[1], "has 60 keys, 60 objects\n"))
+
+
+def tells_why_no_store_starts():
+    """If no second store can be started, the first one goes on, and the reason is reported in the words of all other reports."""
+    user, found = User("all", None, 1 << 30), []
+    cache = Stores(lambda: Store(PROGRAM, sessions=2), [user], 1 << 30)
+    for start, told in (lambda: Store("/no/program"), "/no/program: no such file or directory"), (lambda: Store("true"), "the store has ended; its exit status is 0"):
+        cache.start = start
+        with contextlib.redirect_stderr(io.StringIO()) as reported:
+            cache.try_to_move()
+        found += differences((reported.getvalue(), f"cache_server: cannot start a second store, so the journal grows: {told}\n"))
+        cache.put(user, "/a", 3, [b"abc"])
+    found += differences((cache.old, None), (len(user.keys), 1))
+    cache.close_stores()
+    return found
 
 
 def counts_while_content_moves():
