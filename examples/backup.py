@@ -43,7 +43,7 @@ store has ended; 130 after Ctrl-C.
 import os
 import sys
 
-sys.path.insert(0, os.path.join(os.path.dirname(os.path.dirname(os.path.abspath(__file__))), "python"))
+sys.path.insert(0, os.path.join(os.path.dirname(os.path.dirname(os.path.realpath(__file__))), "python"))
 from b3store.programs import end_at_once, raise_again
 
 if __name__ == "__main__":

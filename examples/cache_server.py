@@ -51,7 +51,7 @@ token. All other paths are keys.
 import os
 import sys
 
-sys.path.insert(0, os.path.join(os.path.dirname(os.path.dirname(os.path.abspath(__file__))), "python"))
+sys.path.insert(0, os.path.join(os.path.dirname(os.path.dirname(os.path.realpath(__file__))), "python"))
 from b3store.programs import end_at_once, handle_ending
 
 if __name__ == "__main__":

@@ -14,7 +14,7 @@ to be ended by their process ids.
 import os
 import sys
 
-sys.path.insert(0, os.path.join(os.path.dirname(os.path.dirname(os.path.abspath(__file__))), "python"))
+sys.path.insert(0, os.path.join(os.path.dirname(os.path.dirname(os.path.realpath(__file__))), "python"))
 from b3store.programs import end_at_once
 
 if __name__ == "__main__":
@@ -73,7 +73,7 @@ class Server:
     """A cache server in its own process."""
 
     def __init__(self, folder, program):
-        words = [sys.executable, os.path.join(os.path.dirname(os.path.abspath(__file__)), "cache_server.py"), folder, "--port", "0", "--program", program]
+        words = [sys.executable, os.path.join(os.path.dirname(os.path.realpath(__file__)), "cache_server.py"), folder, "--port", "0", "--program", program]
         # in its own session, so that an interrupt at a terminal reaches the cluster alone
         self.process, self.port = subprocess.Popen(words, stdout=subprocess.PIPE, start_new_session=True), None
 

@@ -104,6 +104,7 @@ CASES = (
     *cache_requests.CASES,
     ("a cluster that ends while it begins", caches.ends_while_servers_start),
     ("a cluster whose servers lose something", caches.tells_what_servers_lose),
+    ("programs that links lead to", caches.begins_by_links),
     ("two caches on one folder", caches.keeps_others_out),
     ("a cache that hangs up", caches.lives_on_after_a_hang_up),
     ("a cache that looks for signals", caches.looks_for_signals),

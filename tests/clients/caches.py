@@ -347,15 +347,36 @@ def ends_while_servers_start():
     return found
 
 
-def tells_what_servers_lose():
-    """If a server can't save its content at the end, the cluster's status isn't that of success. It starts a program that does nothing in place of nginx."""
+def path_without_nginx(place):
+    """An environment in which a program that does nothing is found in place of nginx."""
+    with open(os.path.join(place, "nginx"), "w", encoding="ascii") as file:
+        file.write("#!/bin/sh\nexec sleep 600\n")
+    os.chmod(file.name, 0o700)
+    return {**os.environ, "PATH": f"{place}:{os.environ['PATH']}"}
+
+
+def begins_by_links():
+    """Links to the programs, in another folder, start them as their own paths do; a cluster finds the program of its servers."""
     with tempfile.TemporaryDirectory() as place:
-        with open(os.path.join(place, "nginx"), "w", encoding="ascii") as file:
-            file.write("#!/bin/sh\nexec sleep 600\n")
-        os.chmod(file.name, 0o700)
-        words, found = [sys.executable, os.path.join(TOP, "examples", "cluster.py"), os.path.join(place, "cache"), "--servers", "2", "--program", PROGRAM], []
+        found, links = [], {name: os.path.join(place, name) for name in ("backup", "cache_server", "cluster")}
+        for name, link in links.items():
+            os.symlink(os.path.join(TOP, "examples", f"{name}.py"), link)
+            run = subprocess.run([sys.executable, link, "--help"], stdout=subprocess.DEVNULL, stderr=subprocess.PIPE, timeout=SECONDS)
+            found += differences((run.returncode, 0), (run.stderr, b""))
+        words = [sys.executable, links["cluster"], os.path.join(place, "cache"), "--servers", "1", "--program", PROGRAM]
+        with subprocess.Popen(words, stdout=subprocess.PIPE, stderr=subprocess.PIPE, env=path_without_nginx(place)) as cluster:
+            line = cluster.stdout.readline()
+            cluster.send_signal(signal.SIGTERM)
+            err = cluster.communicate(timeout=SECONDS)[1]
+        return found + differences((line, b"cluster: port 8080\n"), (cluster.returncode, 0), (err, b""))
+
+
+def tells_what_servers_lose():
+    """If a server can't save its content at the end, the cluster's status isn't that of success."""
+    with tempfile.TemporaryDirectory() as place:
+        path, found = path_without_nginx(place), []
+        words = [sys.executable, os.path.join(TOP, "examples", "cluster.py"), os.path.join(place, "cache"), "--servers", "2", "--program", PROGRAM]
         for ends_store in False, True:
-            path = {**os.environ, "PATH": f"{place}:{os.environ['PATH']}"}
             with subprocess.Popen(words, stdout=subprocess.PIPE, stderr=subprocess.PIPE, env=path) as cluster:
                 lines = [cluster.stdout.readline().decode() for _ in range(3)]
                 if ends_store:
