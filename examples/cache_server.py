@@ -333,12 +333,14 @@ class CacheServer(Server):
         return found and found[1]
 
     def look(self):
-        """Ends if a store has ended, or nothing can be written. Starts a move if the journal is too long."""
+        """Ends if a store has ended, or nothing can be written. Starts a move if the journal is too long, and frees what the store could not free before."""
         if self.cache.files.fault is not None:
             self.end(self.cache.files.fault)
         try:
             self.cache.check()
             self.cache.move_if_due()
+            with self.cache.lock:
+                self.cache.free_again()
         except Ended as fault:
             self.end(fault)
         except (Refused, RuntimeError):

@@ -84,6 +84,8 @@ class Backend:
         """How many keys and requests of a user use an object."""
         self.uploads, self.entries = 0, 0
         """How many uploads are open; the least number of entries that the journal has."""
+        self.unforgotten, self.unaborted = set(), set()
+        """The objects, by user and address, and the uploads that the store has no memory to free: it is asked again later."""
 
     def limit(self, user, limit):
         """Changes a tenant's limit, unless that is below what the tenant uses and reserves."""
@@ -91,6 +93,12 @@ class Backend:
             with contextlib.suppress(Refused):
                 self.store.limit(self.tenants[user], limit)
                 self.limits[user] = limit
+
+    def abort(self, number):
+        """Ends an upload without an object. If the store refuses that, it is asked again later."""
+        self.unaborted.add(number)
+        self.store.abort(number)
+        self.unaborted.discard(number)
 
     def is_used(self):
         return self.uploads > 0 or any(self.counts.values())
@@ -140,6 +148,8 @@ class Cache:
         """Stores the content of some parts, whose total length may not be known before. Content that hasn't the address, if one is given, is refused. `permits`
         says of an entry, or of None, whether a key that leads there may be changed."""
         with self.lock:
+            # no key is evicted while the store has no memory to free its content
+            self.free_again()
             self.admit(user, key, permits)
         if length is None:
             length, parts = with_length(parts)
@@ -270,14 +280,35 @@ class Cache:
         if counts[address] > 0:
             return
         del counts[address]
+        self.forget(backend, user, address)
+        if shares:
+            self.share_quota(user)
+
+    def forget(self, backend, user, address):
+        """Lets a store forget an object that nothing uses. If the store refuses that, it is asked again later."""
+        backend.unforgotten.add((user, address))
         try:
             backend.store.forget(backend.tenants[user], address)
         except Refused:
             # a store that is about to be closed need not forget
             if backend is not self.old:
                 raise
+        backend.unforgotten.discard((user, address))
         self.twins[user].pop(address, None)
-        if shares:
+
+    def free_again(self):
+        """Lets the store that content is put into free what it had no memory to free before. Raises Refused if it still has none."""
+        backend = self.backend
+        if not backend.unaborted and not backend.unforgotten:
+            return
+        for number in list(backend.unaborted):
+            backend.abort(number)
+        for user, address in list(backend.unforgotten):
+            if address in backend.counts[user]:
+                backend.unforgotten.discard((user, address))
+            else:
+                self.forget(backend, user, address)
+        for user in self.users:
             self.share_quota(user)
 
     def share_quota(self, user):
@@ -474,8 +505,8 @@ class Cache:
         except Refused:
             with self.lock:
                 if number is not None:
-                    store.abort(number)
                     self.copying[user] -= entry.length
+                    self.backend.abort(number)
                     self.share_quota(user)
             raise
 
@@ -545,7 +576,7 @@ class Fixed:
             return
         with self.cache.lock, contextlib.suppress(Refused, Ended):
             try:
-                self.backend.store.abort(self.number)
+                self.backend.abort(self.number)
             finally:
                 self.end()
             self.cache.share_quota(self.user)
@@ -593,7 +624,7 @@ class Growing(Fixed):
             return
         holder, self.holder = self.holder, None
         holder.uploads -= 1
-        holder.store.abort(self.held)
+        holder.abort(self.held)
         self.cache.share_quota(self.user)
 
     def fix(self):
@@ -624,7 +655,7 @@ class Growing(Fixed):
             if self.draft is not None:
                 self.source.uploads -= 1
                 with contextlib.suppress(Refused, Ended):
-                    self.source.store.abort(self.draft)
+                    self.source.abort(self.draft)
 
 
 def with_length(parts):

@@ -7,7 +7,7 @@ import threading
 import time
 from unittest import mock
 
-from shared import FOUR, PROGRAM, SECONDS, differences, refusal
+from shared import FOUR, PROGRAM, SECONDS, differences, raised, refusal
 from b3store import Refused, Store
 import cache_stores
 from cache_stores import Cache, User
@@ -165,6 +165,83 @@ def frees_what_replaces_no_key():
         found += differences((cache.backend.store.forget.call_args[0], (cache.backend.tenants[user], FOUR)))
         cache.backend.store.forget = forget
         return found + differences((put(cache, user, "/b", b"four"), None), (list(user.keys), ["/b"]))
+    finally:
+        cache.close_stores()
+
+
+def free_again(cache):
+    with cache.lock:
+        cache.free_again()
+
+
+def frees_later_what_it_could_not_free():
+    """What a store has no memory to forget or to abort is freed later, unless it is used again by then: otherwise it would count for the quota for ever."""
+    user, found = User("ann", None, 4 << 20), []
+    cache = cache_of(user)
+
+    def broken(length):
+        yield bytes(length)
+        raise Broken
+
+    def drop_all():
+        found.extend(differences(*((refusal(cache.drop, user, key), ("S14", None)) for key in ("/a", "/b", "/c"))))
+
+    def break_off(length):
+        found.extend(differences((raised(cache.put, user, "/d", length, broken(cache_stores.PART)), Broken)))
+
+    try:
+        found += differences(*((put(cache, user, key, content), None) for key, content in (("/a", b"abc"), ("/b", b"four"), ("/c", b"five!"))))
+        for work, words, count in (break_off, [2 << 20], 2), (break_off, [None], 4), (drop_all, [], 2):
+            refused = mock.Mock(side_effect=Refused("S14"))
+            with mock.patch.multiple(cache.backend.store, forget=refused, abort=refused):
+                work(*words)
+                found += differences((refusal(free_again, cache), ("S14", None)), (len(left_over(cache, user) + left_over(cache, cache.drafts)), count))
+            if work is drop_all:
+                # these two are used again, and one of them no more
+                for key, content in ("/a", b"abc"), ("/b", b"four"):
+                    with mock.patch.object(cache, "free_again"):
+                        found += differences((put(cache, user, key, content), None))
+                found += differences((cache.drop(user, "/b"), True))
+            free_again(cache)
+            found += left_over(cache, user) + left_over(cache, cache.drafts)
+        return found
+    finally:
+        cache.close_stores()
+
+
+def frees_later_in_a_move():
+    """The same while content moves: of a draft, and of an object that can't be copied now."""
+    user, refused = User("ann", None, 4 << 20), mock.Mock(side_effect=Refused("S14"))
+    cache = cache_of(user, evicts=False)
+
+    def move_all():
+        return [str(refusal) for batch in cache.batches(user) for refusal in cache.move_batch(user, batch)]
+
+    try:
+        found = differences((put(cache, user, "/a", b"abc"), None))
+        cache.add_store()
+        with mock.patch.object(cache.backend.store, "forget", refused):
+            found += differences((refusal(cache.put, user, "/d", None, pieces_of(bytes(cache_stores.PART + 1))), ("S14", None)))
+        free_again(cache)
+        with mock.patch.object(cache.old.store, "fetch", refused), mock.patch.object(cache.backend.store, "abort", refused):
+            found += differences((move_all(), [str(Refused("S14"))]))
+        free_again(cache)
+        found += differences((put(cache, user, "/more", bytes((4 << 20) - 2)), ("S6", (4 << 20) - 3)), (move_all(), []), (cache.close_old(), True))
+        return found + left_over(cache, user) + left_over(cache, cache.drafts)
+    finally:
+        cache.close_stores()
+
+
+def evicts_one_key_without_memory():
+    """While the store has no memory to free what was evicted, no more keys are evicted for what has no room."""
+    user, found = User("ann", None, 100), []
+    cache = cache_of(user)
+    try:
+        found += differences(*((put(cache, user, f"/{name}", name.encode() * 40), None) for name in "ab"))
+        with mock.patch.object(cache.backend.store, "forget", side_effect=Refused("S14")):
+            found += differences(*((put(cache, user, "/c", b"c" * 40), ("S14", None)) for _ in range(3)), (list(user.keys), ["/b"]), (cache.evictions, 0))
+        found += differences((put(cache, user, "/c", b"c" * 40), None), (list(user.keys), ["/b", "/c"]))
+        return found + left_over(cache, user)
     finally:
         cache.close_stores()
 
