@@ -97,15 +97,17 @@ class Repository:
 
     def hold(self, content, address=None):
         """Puts an object into the store, and returns its address. If an address is given, an object with another one is refused."""
-        self.forget_for(len(content))
-        filed = self.store.file(self.tenant, content, address)
+        with memory_needed():
+            self.forget_for(len(content))
+            filed = self.store.file(self.tenant, content, address)
         self.note_held([filed])
         return filed.address
 
     def hold_all(self, contents):
         """Puts objects into the store, and returns their addresses."""
-        self.forget_for(sum(map(len, contents)))
-        filed = self.store.file_all(self.tenant, contents)
+        with memory_needed():
+            self.forget_for(sum(map(len, contents)))
+            filed = self.store.file_all(self.tenant, contents)
         self.note_held(filed)
         return [each.address for each in filed]
 
@@ -243,6 +245,17 @@ class Repository:
         lines = [found[0] for found in self.backups()]
         with opened_folder(self.path, 0) as folder:
             write_synced(folder, "backups", "".join(line + "\n" for line in [*lines, line]).encode("ascii"), "backups.new")
+
+
+@contextlib.contextmanager
+def memory_needed():
+    """Raises MemoryError if the store is out of memory, which ends a run: that is no fault of an object."""
+    try:
+        yield
+    except Refused as refusal:
+        if refusal.number == "S14":
+            raise MemoryError from None
+        raise
 
 
 def is_copy(content, read, words):

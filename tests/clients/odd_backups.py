@@ -301,32 +301,32 @@ def checks_hard_links():
 
 
 WITHOUT_MEMORY = f"""import sys; sys.path[:0] = {[os.path.join(TOP, name) for name in ("examples", "python")]!r}
-import threading, backup, backup_repository
-fault = MemoryError() if sys.argv.pop(1) == "memory" else RuntimeError("can't start new thread")
+import threading, b3store, backup, backup_repository
+word = sys.argv.pop(1)
 def fail(*_):
-    raise fault
-if isinstance(fault, MemoryError):
+    raise dict(memory=MemoryError(), store=b3store.Refused("S14"), thread=RuntimeError("can't start new thread"))[word]
+if word == "memory":
     backup_repository.Repository.read = backup_repository.Repository.hold_all = fail
+elif word == "store":
+    b3store.Store.file = b3store.Store.file_all = fail
 else:
     threading.Thread.start = fail
 sys.exit(backup.main())"""
 
 
 def ends_without_memory():
-    """A run without memory, or without memory for a thread, ends with one line and status 1."""
+    """A run without memory, or with a store without memory, or without memory for a thread, ends with one line and status 1. No object is wrong because of that."""
     with tempfile.TemporaryDirectory() as place:
         folder, repository = folder_of_abc(place)
         found, restored = [], os.path.join(place, "restored")
         address = backup("save", folder, repository)[1][-1].split()[1]
         write(os.path.join(folder, "more"), b"more")
         thread = f"{repository}/packs: a pack can't be written: can't start new thread"
-        cases = (
-            ("memory", ["save", "--all", folder, repository], "out of memory"), ("memory", ["restore", repository, address, restored], "out of memory"),
-            ("memory", ["check", repository], "out of memory"), ("thread", ["save", folder, repository], thread),
-        )
+        runs = ["save", "--all", folder, repository], ["restore", repository, address, restored], ["check", repository]
+        cases = [(word, words, "out of memory") for word in ("memory", "store") for words in runs] + [("thread", ["save", folder, repository], thread)]
         for word, words, told in cases:
             run = subprocess.run([sys.executable, "-c", WITHOUT_MEMORY, word, "--program", PROGRAM, *words], capture_output=True, timeout=SECONDS)
-            found += differences((run.returncode, 1), (run.stderr.decode(), f"backup: {told}\n"))
+            found += differences((run.returncode, 1), (run.stdout, b""), (run.stderr.decode(), f"backup: {told}\n"))
         return found + differences((os.path.exists(restored), False), (backup("check", repository)[0], 0))
 
 
