@@ -635,6 +635,6 @@ class Loader:
                 offset += len(piece)
             backend.store.seal_as(upload, address)
         except (Refused, OSError):
-            backend.store.abort(upload)
+            backend.abort(upload)
             raise
         return place.length

@@ -96,6 +96,7 @@ CASES = (
     ("a cache's content that replaces no key", cache_quotas.frees_what_replaces_no_key),
     ("a cache without memory to free content", cache_quotas.frees_later_what_it_could_not_free),
     ("a cache without memory to free content in a move", cache_quotas.frees_later_in_a_move),
+    ("a cache without memory to load content", cache_quotas.frees_later_what_it_could_not_load),
     ("a cache's evictions without memory", cache_quotas.evicts_one_key_without_memory),
     ("a cache's number of keys", cache_quotas.keeps_as_many_keys),
     ("a cache's quota without memory for a move", cache_quotas.grants_nothing_without_memory),

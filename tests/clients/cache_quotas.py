@@ -7,10 +7,12 @@ import threading
 import time
 from unittest import mock
 
-from shared import FOUR, PROGRAM, SECONDS, differences, raised, refusal
+from shared import ABC, FOUR, PROGRAM, SECONDS, differences, raised, refusal
 from b3store import Refused, Store
 import cache_stores
-from cache_stores import Cache, User
+from cache_disk import begun_files
+from cache_files import Loader
+from cache_stores import Cache, Entry, User
 from servers import Cache as Server
 from servers import metrics, wait_until
 
@@ -230,6 +232,25 @@ def frees_later_in_a_move():
         return found + left_over(cache, user) + left_over(cache, cache.drafts)
     finally:
         cache.close_stores()
+
+
+def frees_later_what_it_could_not_load():
+    """An upload that a start has no memory to end is ended later: otherwise it would count for the quota for ever."""
+    user, refused = User("ann", None, 1000), mock.Mock(side_effect=Refused("S14"))
+    cache = cache_of(user)
+    with tempfile.TemporaryDirectory() as place:
+        files = begun_files(place)
+        try:
+            files.write(None, [(user, "/k", Entry(None, ABC, 3), b"abc")], moves=False)
+            loader = Loader(cache, files)
+            with mock.patch.multiple(cache.backend.store, put=refused, abort=refused):
+                found = differences((loader.load_key(user, "/k", ABC), str(Refused("S14"))))
+            free_again(cache)
+            found += left_over(cache, user) + differences((loader.load_key(user, "/k", ABC), None), (list(user.keys), ["/k"]))
+            return found + left_over(cache, user)
+        finally:
+            os.close(files.folder)
+            cache.close_stores()
 
 
 def evicts_one_key_without_memory():
