@@ -1,21 +1,19 @@
-//! Scripts for one upload. `closed` and `open` begin it, `make` makes a part of the pattern and `add` also adds it, `stray` adds one with
-//! the plan that `other` set, `bytes` takes the bytes out of the made part, `fix` fixes the end, and `state`, `gaps`, `segments` and `root`
-//! return what is there.
+//! Scripts for one upload. `closed` and `open` begin it, `make` makes a part of the pattern and `add` also adds it, `bytes` takes the bytes
+//! out of the made part, `fix` fixes the end, and `state`, `gaps`, `segments` and `root` return what is there.
 
 use crate::fakes::{is_pattern, pattern};
-use crate::scripts::{Answers, cut, number, reported, two_numbers};
+use crate::helpers::{assert_script, plan_of};
+use crate::scripts::{Answers, append, cut, reported, two_numbers};
 use b3_core::{Runtime, Top, Work};
-use b3_forest::{AddFault, Forest, PartFault, Plan, Prepared, Refused, TooLong};
+use b3_forest::{AddFault, Forest, Gap, PartFault, Plan, Prepared, Refused};
 use std::alloc::{AllocError, Global};
 use std::process::Abort;
-use std::test::Fail;
 
-// A forest, another plan, the part made last, the top returned last, the compressions, and those for that part.
+// A forest, the part made last, the top returned last, the compressions, and those for that part.
 #[derive(Drop)]
 struct Upload {
     alloc: Global,
     forest: Forest,
-    other: Plan,
     part: Option<Prepared>,
     top: Option<Top>,
     work: Work,
@@ -26,14 +24,11 @@ impl Answers for Upload {
     fn answer(&mut self, command: &str) -> Result<String, AllocError> {
         let (word, rest) = cut(command);
         let (first, second) = two_numbers(rest);
-        let (plan, other) = (self.forest.plan(), self.other);
+        let plan = self.forest.plan();
         match word {
-            "closed" => self.begin(Plan::new(first)),
-            "open" => self.begin(Plan::open(first)),
+            "closed" | "open" => self.begin(word, first),
             "make" => self.make(plan, first, second),
             "add" => self.add(plan, first, second),
-            "other" => self.plan_other(cut(rest).0, number(cut(rest).1)),
-            "stray" => self.add(other, first, second),
             "fix" => self.fix(first),
             "state" => self.state(),
             "gaps" => self.gaps(),
@@ -44,29 +39,14 @@ impl Answers for Upload {
     }
 }
 
-fn kind_text(plan: &Plan) -> &'static str {
-    if plan.is_open() { "open" } else { "closed" }
-}
-
 impl Upload {
-    fn begin(&mut self, plan: Result<Plan, TooLong>) -> Result<String, AllocError> {
-        let Ok(plan) = plan else {
+    fn begin(&mut self, kind: &str, bound: u64) -> Result<String, AllocError> {
+        let Ok(plan) = plan_of(kind, bound) else {
             return format!(in self.alloc; "F1");
         };
         self.forest = Forest::new(self.alloc, plan);
-        format!(in self.alloc; "{} {}", kind_text(&plan), plan.bound())
-    }
-
-    fn plan_other(&mut self, kind: &str, bound: u64) -> Result<String, AllocError> {
-        let plan = if kind == "open" {
-            Plan::open(bound)
-        } else {
-            Plan::new(bound)
-        };
-        if let Ok(plan) = plan {
-            self.other = plan;
-        }
-        format!(in self.alloc; "{} {}", kind_text(&self.other), self.other.bound())
+        let (kind, bound) = (if plan.is_open() { "open" } else { "closed" }, plan.bound());
+        format!(in self.alloc; "{kind} {bound}")
     }
 
     // Makes a part, and records the compressions.
@@ -102,7 +82,9 @@ impl Upload {
 
     // Makes a part and keeps it, or returns why there is none, and whether its bytes were returned.
     fn make(&mut self, plan: Plan, offset: u64, size: u64) -> Result<String, AllocError> {
-        let bytes = pattern(self.alloc, offset, size)?;
+        let Ok(bytes) = pattern(self.alloc, offset, size) else {
+            return Err(AllocError);
+        };
         match self.made(plan, offset, bytes) {
             Ok(part) => {
                 let (pieces, count) = (part.pieces(), self.count);
@@ -112,7 +94,7 @@ impl Upload {
             }
             Err(refused) => {
                 let is_back = is_pattern(refused.value.as_slice(), offset, size);
-                format!(in self.alloc; "{} back {is_back}", refused.reason)
+                back_text(self.alloc, refused.reason, is_back)
             }
         }
     }
@@ -149,7 +131,9 @@ impl Upload {
 
     // Makes a part and adds it. Returns the number of merges, or why it was not added, and which part was returned.
     fn add(&mut self, plan: Plan, offset: u64, size: u64) -> Result<String, AllocError> {
-        let made = self.make(plan, offset, size)?;
+        let Ok(made) = self.make(plan, offset, size) else {
+            return Err(AllocError);
+        };
         let Some(part) = self.part.take() else {
             return Ok(made);
         };
@@ -160,15 +144,12 @@ impl Upload {
         match added {
             Ok(merges) => {
                 let is_reported = reported.is_none();
-                format!(in self.alloc; "{made}, {merges} merges by {count} {is_reported}")
+                added_text(self.alloc, made.as_str(), merges, count, is_reported)
             }
             Err(refused) => {
                 let is_back = is_part(&refused.value, &plan, offset, size);
                 let is_reported = reported == Some(refused.reason);
-                format!(in self.alloc;
-                    "{:?} by {count} back {is_back} {is_reported}",
-                    refused.reason
-                )
+                refused_text(self.alloc, refused.reason, count, is_back, is_reported)
             }
         }
     }
@@ -191,11 +172,13 @@ impl Upload {
 
     // The forest's debug text, and its gaps.
     fn gaps(&mut self) -> Result<String, AllocError> {
-        let mut text = format!(in self.alloc; "{:?}", self.forest)?;
-        for gap in self.forest.gaps(self.alloc)?.as_slice() {
-            text.push_str(format!(in self.alloc; "[{} {}]", gap.offset, gap.len)?.as_str())?;
+        let Ok(gaps) = self.forest.gaps(self.alloc) else {
+            return Err(AllocError);
+        };
+        match format!(in self.alloc; "{:?}", self.forest) {
+            Ok(text) => gaps_text(self.alloc, text, gaps.as_slice()),
+            Err(error) => Err(error),
         }
-        Ok(text)
     }
 
     // The debug text of the part made last, and whether its bytes can be taken out.
@@ -203,22 +186,20 @@ impl Upload {
         let Some(part) = self.part.take() else {
             return format!(in self.alloc; "no part");
         };
-        let (offset, size) = (part.offset(), part.bytes().len() as u64);
-        let text = format!(in self.alloc; "{part:?}")?;
-        let is_back = match part.into_bytes() {
-            Ok(bytes) => is_pattern(bytes.as_slice(), offset, size),
-            Err(_part) => false,
+        let Ok(text) = format!(in self.alloc; "{part:?}") else {
+            return Err(AllocError);
         };
+        let is_back = returns_its_bytes(part);
         format!(in self.alloc; "{text} back {is_back}")
     }
 
     fn segments(&mut self) -> Result<String, AllocError> {
         let mut text = String::new(self.alloc);
         for (offset, shared) in self.forest.segments() {
-            let bytes = shared.as_slice();
-            let size = bytes.len() as u64;
-            let is_wanted = is_pattern(bytes, *offset, size);
-            text.push_str(format!(in self.alloc; "[{offset} {size} {is_wanted}]")?.as_str())?;
+            append(
+                &mut text,
+                segment_text(self.alloc, *offset, shared.as_slice()),
+            )?;
         }
         Ok(text)
     }
@@ -236,11 +217,67 @@ impl Upload {
 
     fn root_of(&mut self, top: Top, count: u64) -> Result<String, AllocError> {
         let before = self.work.count();
-        let digest = hex::encode(self.alloc, top.root32(&mut self.work))?;
+        let digest = top.root32(&mut self.work);
         let own = self.work.count().wrapping_sub(before);
         let again = if self.top == Some(top) { " again" } else { "" };
         self.top = Some(top);
-        format!(in self.alloc; "{digest} by {count} and {own}{again}")
+        match hex::encode(self.alloc, digest) {
+            Ok(digits) => format!(in self.alloc; "{digits} by {count} and {own}{again}"),
+            Err(error) => Err(error),
+        }
+    }
+}
+
+fn back_text(alloc: Global, reason: PartFault, is_back: bool) -> Result<String, AllocError> {
+    format!(in alloc; "{reason} back {is_back}")
+}
+
+fn added_text(
+    alloc: Global,
+    made: &str,
+    merges: u64,
+    count: u64,
+    is_reported: bool,
+) -> Result<String, AllocError> {
+    format!(in alloc; "{made}, {merges} merges by {count} {is_reported}")
+}
+
+fn refused_text(
+    alloc: Global,
+    reason: AddFault,
+    count: u64,
+    is_back: bool,
+    is_reported: bool,
+) -> Result<String, AllocError> {
+    format!(in alloc; "{reason:?} by {count} back {is_back} {is_reported}")
+}
+
+// The text, and after it the gaps.
+fn gaps_text(alloc: Global, text: String, gaps: &[Gap]) -> Result<String, AllocError> {
+    let mut text = text;
+    for gap in gaps {
+        if append(&mut text, gap_text(alloc, gap)).is_err() {
+            return Err(AllocError);
+        }
+    }
+    Ok(text)
+}
+
+fn gap_text(alloc: Global, gap: &Gap) -> Result<String, AllocError> {
+    format!(in alloc; "[{} {}]", gap.offset, gap.len)
+}
+
+fn segment_text(alloc: Global, offset: u64, bytes: &[u8]) -> Result<String, AllocError> {
+    let size = bytes.len() as u64;
+    let is_wanted = is_pattern(bytes, offset, size);
+    format!(in alloc; "[{offset} {size} {is_wanted}]")
+}
+
+fn returns_its_bytes(part: Prepared) -> bool {
+    let (offset, size) = (part.offset(), part.bytes().len() as u64);
+    match part.into_bytes() {
+        Ok(bytes) => is_pattern(bytes.as_slice(), offset, size),
+        Err(_part) => false,
     }
 }
 
@@ -249,15 +286,13 @@ fn is_part(part: &Prepared, plan: &Plan, offset: u64, size: u64) -> bool {
 }
 
 // The answers to the script.
-fn reported_of<R: AllocGlobal + Runtime>(
-    rt: &R,
-    plan: Plan,
-    script: &str,
-) -> Result<String, AllocError> {
+fn reported_of<R: AllocGlobal + Runtime>(rt: &R, script: &str) -> Result<String, AllocError> {
+    let Ok(plan) = Plan::new(0) else {
+        return format!(in rt.alloc(); "F1");
+    };
     let mut on = Upload {
         alloc: rt.alloc(),
         forest: Forest::new(rt.alloc(), plan),
-        other: plan,
         part: None,
         top: None,
         work: Work::new(rt),
@@ -267,12 +302,13 @@ fn reported_of<R: AllocGlobal + Runtime>(
 }
 
 /// The answers to the script are those in the script. If an allocation of the test itself fails, everything is repeated.
-pub(crate) fn holds<R: AllocGlobal + Runtime + Abort>(rt: &R, script: &str) -> Result<(), Fail> {
-    let plan = Plan::new(0).ok().ok_or("no plan")?;
-    let reported = match reported_of(rt, plan, script) {
-        Ok(reported) => reported,
-        Err(_) => reported_of(rt, plan, script)?,
+pub(crate) fn holds<R: AllocGlobal + Runtime + Abort>(
+    rt: &R,
+    script: &str,
+) -> Result<(), AllocError> {
+    let reported = match reported_of(rt, script) {
+        Err(_) => reported_of(rt, script),
+        reported => reported,
     };
-    assert_eq!(rt; reported.as_str(), script);
-    Ok(())
+    assert_script(rt, reported, script)
 }

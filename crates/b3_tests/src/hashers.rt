@@ -1,13 +1,11 @@
 //! Hashers that are given bytes in pieces.
 
 use crate::fakes::pattern;
-use crate::helpers::{CONTEXT, KEY};
+use crate::helpers::{ABC, CONTEXT, KEY, digest};
 use b3_core::{Hasher, Mode, Runtime, Work, hash};
-use std::process::Abort;
-use std::test::Fail;
 
 // Pieces of these sizes in turn, and then the remaining bytes, result in the hash of the whole with the same number of compressions.
-fn agree<R: AllocGlobal + Runtime + Abort>(rt: &R, mode: &Mode, bytes: &[u8], sizes: &[usize]) {
+fn agree<R: Runtime>(rt: &R, mode: &Mode, bytes: &[u8], sizes: &[usize]) -> bool {
     let mut work = Work::new(rt);
     let mut hasher = Hasher::new(mode);
     let mut rest = bytes;
@@ -17,44 +15,38 @@ fn agree<R: AllocGlobal + Runtime + Abort>(rt: &R, mode: &Mode, bytes: &[u8], si
         rest = following;
     }
     hasher.update(rest, &mut work);
-    assert!(rt; hasher.count() == bytes.len() as u64);
+    let is_given = hasher.count() == bytes.len() as u64;
     let digest = hasher.digest(&mut work);
     let mut whole = Work::new(rt);
-    assert!(rt;
-        digest == hash(mode, bytes, &mut whole),
-        "{} bytes",
-        bytes.len()
-    );
-    assert!(rt; work.count() == whole.count());
+    is_given && digest == hash(mode, bytes, &mut whole) && work.count() == whole.count()
 }
 
 #[test]
-fn one_cut_in_three_modes(rt: HostRuntime) -> Result<(), Fail> {
+fn one_cut_in_three_modes(rt: HostRuntime) {
     let keyed = Mode::keyed(KEY);
     let derive = Mode::derive(CONTEXT, &mut Work::new(&rt));
-    let bytes = pattern(rt.alloc(), 0, 17_409)?;
+    let bytes = pattern(rt.alloc(), 0, 17_409).expect(&rt, "memory for the pattern");
     for cut in [
         0usize, 1, 63, 64, 1023, 1024, 1025, 8191, 8192, 8193, 17_409,
     ] {
-        agree(&rt, &Mode::hash(), &bytes, &[cut]);
-        agree(&rt, &keyed, &bytes, &[cut]);
-        agree(&rt, &derive, &bytes, &[cut, 8192 - cut % 8192]);
+        let is_plain = agree(&rt, &Mode::hash(), &bytes, &[cut]);
+        let is_keyed = agree(&rt, &keyed, &bytes, &[cut]);
+        let is_derived = agree(&rt, &derive, &bytes, &[cut, 8192 - cut % 8192]);
+        assert!(rt; is_plain && is_keyed && is_derived, "{cut}");
     }
-    Ok(())
 }
 
 #[test]
-fn many_pieces_of_one_size(rt: HostRuntime) -> Result<(), Fail> {
-    let bytes = pattern(rt.alloc(), 0, 12_289)?;
+fn many_pieces_of_one_size(rt: HostRuntime) {
+    let bytes = pattern(rt.alloc(), 0, 12_289).expect(&rt, "memory for the pattern");
     for size in [1usize, 63, 64, 1023, 1024, 1025, 2048, 3072] {
-        agree(&rt, &Mode::hash(), &bytes, &[size; 200]);
+        assert!(rt; agree(&rt, &Mode::hash(), &bytes, &[size; 200]), "{size}");
     }
-    Ok(())
 }
 
 #[test]
-fn pieces_of_many_sizes(rt: HostRuntime) -> Result<(), Fail> {
-    let bytes = pattern(rt.alloc(), 0, 70_000)?;
+fn pieces_of_many_sizes(rt: HostRuntime) {
+    let bytes = pattern(rt.alloc(), 0, 70_000).expect(&rt, "memory for the pattern");
     let mut state = 1u32;
     for _ in 0..40 {
         let mut sizes = [0usize; 40];
@@ -62,47 +54,18 @@ fn pieces_of_many_sizes(rt: HostRuntime) -> Result<(), Fail> {
             state = state.wrapping_mul(1_664_525).wrapping_add(1_013_904_223);
             *size = ((state >> 8) % 4_099) as usize;
         }
-        agree(&rt, &Mode::hash(), &bytes, &sizes);
+        assert!(rt; agree(&rt, &Mode::hash(), &bytes, &sizes));
     }
-    Ok(())
-}
-
-// The node is that of what was given so far, and more can be given afterwards.
-#[test]
-fn a_top_in_between(rt: HostRuntime) -> Result<(), Fail> {
-    let bytes = pattern(rt.alloc(), 0, 5_000)?;
-    let mut work = Work::new(&rt);
-    let mut hasher = Hasher::new(&Mode::hash());
-    let mut rest = bytes.as_slice();
-    for size in [0usize, 1, 1023, 2048, 1024, 904] {
-        let (piece, following) = rest.split_at(size.min(rest.len()));
-        hasher.update(piece, &mut work);
-        rest = following;
-        let given = bytes.len().saturating_sub(rest.len());
-        let wanted = hash(&Mode::hash(), &bytes[..given], &mut work);
-        assert!(rt;
-            hasher.top(&mut work).root32(&mut work) == wanted,
-            "{given} bytes"
-        );
-    }
-    Ok(())
 }
 
 // What a copy is given does not affect the hasher.
 #[test]
-fn a_copy_goes_on_alone(rt: HostRuntime) -> Result<(), Fail> {
-    let mode = Mode::keyed(KEY);
+fn a_copy_goes_on_alone(rt: HostRuntime) {
     let mut work = Work::new(&rt);
-    let mut hasher = Hasher::new(&mode);
+    let mut hasher = Hasher::new(&Mode::hash());
     hasher.update(b"ab", &mut work);
-    let mut copy = hasher.clone()?;
+    let mut copy = hasher.clone().expect(&rt, "a copy");
     copy.update(b"c", &mut work);
-    assert!(rt; copy.digest(&mut work) == hash(&mode, b"abc", &mut work));
-    assert!(rt; hasher.digest(&mut work) == hash(&mode, b"ab", &mut work));
-    let text = format!(in rt.alloc(); "{hasher:?} {copy:?} {work:?}")?;
-    assert_eq!(rt;
-        text.as_str(),
-        "Hasher { mode: keyed_hash, count: 2 } Hasher { mode: keyed_hash, count: 3 } Work { count: 4 }",
-    );
-    Ok(())
+    let is_alone = hasher.count() == 2 && copy.count() == 3;
+    assert!(rt; is_alone && copy.digest(&mut work) == digest(ABC));
 }

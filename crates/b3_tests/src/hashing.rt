@@ -4,8 +4,7 @@ use crate::fakes::pattern;
 use crate::helpers::{CONTEXT, KEY, digest};
 use crate::scripts::{cut, number};
 use b3_core::{Hasher, Mode, OutputReader, Runtime, Top, Work, compress, hash, hash_wide};
-use std::process::Abort;
-use std::test::Fail;
+use std::alloc::{AllocError, Global};
 
 // For lengths of the pattern: the compressions of its hash, and the hash in the three modes, from the reference implementation's command,
 // with the key and the context of the official test vectors.
@@ -52,21 +51,26 @@ fn are_all(mode: &Mode, bytes: &[u8], wanted: &[u8; 32], count: u64, work: &mut 
     is_plain && is_wide && is_output && are_pieces && is_count
 }
 
-// The pattern of this length takes this number of compressions, and has these hashes in the three modes.
-fn has_hashes<R: AllocGlobal + Runtime + Abort>(rt: &R, row: &str) -> Result<(), Fail> {
-    let (len, row) = cut(row);
-    let (count, row) = cut(row);
-    let (plain, row) = cut(row);
-    let (keyed, derived) = cut(row);
-    let (plain, keyed, derived) = (digest(plain)?, digest(keyed)?, digest(derived)?);
-    let bytes = pattern(rt.alloc(), 0, number(len))?;
-    let (bytes, count, mut work) = (bytes.as_slice(), number(count), Work::new(rt));
+// The bytes take this number of compressions, and have these hashes in the three modes.
+fn have_hashes<R: Runtime>(rt: &R, bytes: &[u8], count: u64, digests: &str) -> bool {
+    let (plain, rest) = cut(digests);
+    let (keyed, derived) = cut(rest);
+    let mut work = Work::new(rt);
     let derive = Mode::derive(CONTEXT, &mut work);
-    let is_plain = are_all(&Mode::hash(), bytes, &plain, count, &mut work);
-    let is_keyed = are_all(&Mode::keyed(KEY), bytes, &keyed, count, &mut work);
-    let is_derived = are_all(&derive, bytes, &derived, count, &mut work);
-    assert!(rt; is_plain && is_keyed && is_derived, "{len}");
-    Ok(())
+    let is_plain = are_all(&Mode::hash(), bytes, &digest(plain), count, &mut work);
+    let is_keyed = are_all(&Mode::keyed(KEY), bytes, &digest(keyed), count, &mut work);
+    let is_derived = are_all(&derive, bytes, &digest(derived), count, &mut work);
+    is_plain && is_keyed && is_derived
+}
+
+// The pattern has the length, the compressions and the hashes of the row.
+fn is_row<R: AllocGlobal + Runtime>(rt: &R, row: &str) -> bool {
+    let (len, rest) = cut(row);
+    let (count, digests) = cut(rest);
+    match pattern(rt.alloc(), 0, number(len)) {
+        Ok(bytes) => have_hashes(rt, bytes.as_slice(), number(count), digests),
+        Err(_) => false,
+    }
 }
 
 // The words of the hash of `abc`.
@@ -81,19 +85,6 @@ const HASH_OF_ABC: [u32; 8] = [
     0x859d_bdd5,
 ];
 
-// Whether node i of the eight is that of chunk i alone. The high word of the chunk's number changes in the fifth lane.
-fn are_eight_times_one(mode: &Mode, bytes: &[u8; 8192], work: &mut Work) -> bool {
-    let (chunks, _) = bytes.as_chunks::<1024>();
-    let eight = Top::of_eight(mode, bytes, 4_294_967_292, work);
-    let mut number = 4_294_967_292u64;
-    let mut are_same = true;
-    for (chunk, top) in chunks.iter().zip(eight.iter()) {
-        are_same = are_same && Top::of_chunk(mode, chunk, number, work) == *top;
-        number = number.wrapping_add(1);
-    }
-    are_same && number == 4_294_967_300
-}
-
 // The root over the nodes of eight chunks.
 fn root_of_eight(mode: &Mode, bytes: &[u8; 8192], work: &mut Work) -> [u8; 32] {
     let [n0, n1, n2, n3, n4, n5, n6, n7] = Top::of_eight(mode, bytes, 0, work);
@@ -107,21 +98,18 @@ fn root_of_eight(mode: &Mode, bytes: &[u8; 8192], work: &mut Work) -> [u8; 32] {
 }
 
 #[test]
-fn patterns_in_three_modes(rt: HostRuntime) -> Result<(), Fail> {
+fn patterns_in_three_modes(rt: HostRuntime) {
     let mut rows = 0u64;
     for row in HASHES.lines() {
-        has_hashes(&rt, row)?;
+        assert!(rt; is_row(&rt, row), "{row}");
         rows = rows.wrapping_add(1);
     }
     assert!(rt; rows == 12);
-    Ok(())
 }
 
 #[test]
 fn one_compression(rt: HostRuntime) {
     let mut work = Work::new(&rt);
-    let _derive = Mode::derive(CONTEXT, &mut work);
-    assert!(rt; work.count() == 1);
     let initial = [
         0x6a09_e667,
         0xbb67_ae85,
@@ -136,23 +124,59 @@ fn one_compression(rt: HostRuntime) {
     block[0] = 0x0063_6261;
     let words = compress(&initial, &block, 0, 3, 1 + 2 + 8, &mut work);
     let (chaining_value, _) = words.split_at(8);
-    assert!(rt; chaining_value == HASH_OF_ABC.as_slice());
-    assert!(rt; work.count() == 2);
+    assert!(rt; chaining_value == HASH_OF_ABC.as_slice() && work.count() == 1);
 }
 
+// The whole takes as many compressions as one hash of it.
 #[test]
-fn eight_chunks_are_eight_times_one(rt: HostRuntime) -> Result<(), Fail> {
-    let mut work = Work::new(&rt);
-    let keyed = Mode::keyed(KEY);
-    let derive = Mode::derive(CONTEXT, &mut work);
-    let bytes = pattern(rt.alloc(), 0, 8192)?;
+fn eight_chunks_at_a_time(rt: HostRuntime) {
+    let bytes = pattern(rt.alloc(), 0, 8192).expect(&rt, "memory for the pattern");
     let (whole, _) = bytes.as_slice().as_chunks::<8192>();
-    let whole = whole.first().ok_or("no chunks")?;
-    for mode in &[Mode::hash(), keyed, derive] {
-        assert!(rt; are_eight_times_one(mode, whole, &mut work));
-        let root = root_of_eight(mode, whole, &mut work);
-        assert!(rt; root == hash(mode, whole, &mut work));
-    }
-    assert!(rt; work.count() == 1 + 3 * (240 + 270));
-    Ok(())
+    let mut work = Work::new(&rt);
+    let root = match whole.first() {
+        Some(eight) => root_of_eight(&Mode::keyed(KEY), eight, &mut work),
+        None => [0; 32],
+    };
+    let wanted = digest("dc9637c8845a770b4cbf76b8daec0eebf7dc2eac11498517f08d44c8fc00d58a");
+    assert!(rt; root == wanted && work.count() == 135);
+}
+
+// The chaining value of the chunk `abc` with the number 2^32 in the keyed mode, from the second reading of the specification.
+const HIGH_CHUNK: [u32; 8] = [
+    0xa4be_584b,
+    0x044f_acfc,
+    0xe998_0c5c,
+    0x3f04_de4e,
+    0x6720_5d2f,
+    0x0eb5_fc20,
+    0xfe4c_fcaf,
+    0x0065_05a2,
+];
+
+#[test]
+fn a_chunk_number_of_two_words(rt: HostRuntime) {
+    let mut work = Work::new(&rt);
+    let node = Top::of_chunk(&Mode::keyed(KEY), b"abc", 1 << 32, &mut work);
+    assert!(rt; node.cv(&mut work) == HIGH_CHUNK && work.count() == 1);
+}
+
+// The chaining value of a keyed parent is the key: no text shows it.
+fn texts(alloc: Global, mode: &Mode, hasher: &Hasher, parent: Top) -> Result<String, AllocError> {
+    let reader = OutputReader::new(parent);
+    format!(in alloc; "{mode:?} {hasher:?} {parent:?} {reader:?}")
+}
+
+// The texts of a keyed mode, of a hasher of three bytes, of a parent of its nodes, and of a reader of its output.
+const TEXTS: &str =
+    "Mode(keyed_hash) Hasher { mode: keyed_hash, count: 3 } Top { counter: 0, block_len: 64, flags: 20 } OutputReader { position: 0 }";
+
+#[test]
+fn texts_show_no_key(rt: HostRuntime) {
+    let (mode, mut work) = (Mode::keyed(KEY), Work::new(&rt));
+    let mut hasher = Hasher::new(&mode);
+    hasher.update(b"abc", &mut work);
+    let node = hasher.top(&mut work);
+    let parent = Top::parent(&mode, &node, &node, &mut work);
+    let text = texts(rt.alloc(), &mode, &hasher, parent).expect(&rt, "memory for the texts");
+    assert!(rt; text.as_str() == TEXTS);
 }

@@ -19,8 +19,6 @@ mod hashing;
 #[cfg(test)]
 mod helpers;
 #[cfg(test)]
-mod nodes;
-#[cfg(test)]
 mod outputs;
 #[cfg(test)]
 mod parallel;
@@ -31,4 +29,4 @@ mod scripts;
 mod shared_parts;
 
 pub use fakes::{FailingWriter, is_pattern, pattern};
-pub use scripts::{Answers, cut, number, reported, two_numbers};
+pub use scripts::{Answers, append, cut, number, reported, two_numbers};

@@ -6,7 +6,6 @@ use b3_parallel::{HashThreads, hash_all, update};
 use std::alloc::Global;
 use std::io;
 use std::io::{ErrorKind, Read};
-use std::test::Fail;
 use std::thread::Threads;
 
 // Returns at most `most` bytes per call, and fails after it returned `fails_at`.
@@ -39,7 +38,7 @@ fn is_read_alike<T: Threads + Runtime>(
     bytes: &[u8],
     threads: Option<u32>,
     most: usize,
-) -> io::Result<bool> {
+) -> bool {
     let mode = Mode::keyed(&[7; 32]);
     let mut one = Work::new(rt);
     let mut several = Work::new(rt);
@@ -57,8 +56,11 @@ fn is_read_alike<T: Threads + Runtime>(
         alloc,
         count: threads,
     };
-    let top = hash_all(&threads, &mode, &mut reader, &mut several)?;
-    Ok(top == wanted && several.count() == one.count() && reader.bytes.is_empty())
+    let is_wanted = match hash_all(&threads, &mode, &mut reader, &mut several) {
+        Ok(top) => top == wanted,
+        Err(_) => false,
+    };
+    is_wanted && several.count() == one.count() && reader.bytes.is_empty()
 }
 
 // The number of bytes of a block.
@@ -85,33 +87,39 @@ const STREAMS: &[Stream] = &[
 ];
 
 #[test]
-fn a_stream_has_the_node_of_one_thread(rt: HostRuntime) -> Result<(), Fail> {
-    let bytes = pattern(rt.alloc(), 0, 13 * 2_097_152 + 2049)?;
+fn a_stream_has_the_node_of_one_thread(rt: HostRuntime) {
+    let bytes = pattern(rt.alloc(), 0, 13 * 2_097_152 + 2049).expect(&rt, "memory for the pattern");
     for Stream(len, threads, most) in STREAMS {
-        let Some(input) = bytes.get(..*len) else {
-            return Err(Fail::new("there are so many bytes"));
-        };
-        let alike = is_read_alike(&rt, rt.alloc(), input, *threads, *most)?;
-        assert!(rt; alike, "{len} {threads:?} {most}");
+        let (input, _) = bytes.split_at((*len).min(bytes.len()));
+        let is_alike = is_read_alike(&rt, rt.alloc(), input, *threads, *most);
+        assert!(rt; is_alike, "{len} {most}");
     }
-    Ok(())
 }
 
-// The error for a reader that fails.
-fn failed_kind<T: Threads + Runtime>(
+// Whether the hash of bytes of which a read fails ends with that read's error.
+fn is_failed<T: Threads + Runtime>(
     rt: &T,
     alloc: Global,
-    reader: PieceReader<'_>,
+    bytes: &[u8],
+    fails_at: usize,
+    most: usize,
     threads: Option<u32>,
-) -> Option<ErrorKind> {
-    let mut reader = reader;
+) -> bool {
+    let mut reader = PieceReader {
+        bytes,
+        most,
+        fails_at,
+        given: 0,
+    };
     let threads = HashThreads {
         rt,
         alloc,
         count: threads,
     };
-    let reported = hash_all(&threads, &Mode::hash(), &mut reader, &mut Work::new(rt));
-    reported.err().map(|error| error.kind())
+    match hash_all(&threads, &Mode::hash(), &mut reader, &mut Work::new(rt)) {
+        Ok(_) => false,
+        Err(error) => error.kind() == ErrorKind::Other,
+    }
 }
 
 const THREADS: [Option<u32>; 4] = [None, Some(1), Some(3), Some(16)];
@@ -127,26 +135,15 @@ const FAILS_AT: &[usize] = &[
 ];
 
 #[test]
-fn a_read_that_fails_is_reported(rt: HostRuntime) -> Result<(), Fail> {
-    let bytes = pattern(rt.alloc(), 0, 3 * 2_097_152 + 1024)?;
+fn a_read_that_fails_is_reported(rt: HostRuntime) {
+    let bytes = pattern(rt.alloc(), 0, 3 * 2_097_152 + 1024).expect(&rt, "memory for the pattern");
     for threads in THREADS {
         for fails_at in FAILS_AT {
-            for most in [1000, BLOCK] {
-                let reader = PieceReader {
-                    bytes: &bytes,
-                    most,
-                    fails_at: *fails_at,
-                    given: 0,
-                };
-                let kind = failed_kind(&rt, rt.alloc(), reader, threads);
-                assert!(rt;
-                    kind == Some(ErrorKind::Other),
-                    "{threads:?} {fails_at} {most}"
-                );
-            }
+            let by_bytes = is_failed(&rt, rt.alloc(), &bytes, *fails_at, 1000, threads);
+            let by_blocks = is_failed(&rt, rt.alloc(), &bytes, *fails_at, BLOCK, threads);
+            assert!(rt; by_bytes && by_blocks, "{fails_at}");
         }
     }
-    Ok(())
 }
 
 // Whether a hasher that is given both texts by several threads is like one that is given them by one thread.
@@ -175,14 +172,13 @@ fn is_updated_alike<T: Threads + Sync + Runtime>(
 }
 
 #[test]
-fn bytes_at_hand(rt: HostRuntime) -> Result<(), Fail> {
-    let bytes = pattern(rt.alloc(), 0, 300_000)?;
+fn bytes_at_hand(rt: HostRuntime) {
+    let bytes = pattern(rt.alloc(), 0, 300_000).expect(&rt, "memory for the pattern");
     for threads in THREADS {
         for len in [0usize, 1, 1024, 131_072, 131_073, 299_999] {
             let (first, then) = bytes.split_at(len.min(bytes.len()));
             let alike = is_updated_alike(&rt, rt.alloc(), first, then, threads);
-            assert!(rt; alike, "{len} {threads:?}");
+            assert!(rt; alike, "{len}");
         }
     }
-    Ok(())
 }

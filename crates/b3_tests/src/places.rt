@@ -10,7 +10,6 @@ use std::alloc::{AllocError, Global};
 use std::io;
 use std::io::{ErrorKind, Read};
 use std::sync::Arc;
-use std::test::Fail;
 use std::thread::Threads;
 
 // Known bytes.
@@ -110,74 +109,85 @@ const LENGTHS: [u64; 4] = [
 ];
 
 // Whether several threads have the node and the count of one thread for `len` bytes.
-fn are_alike<T: Threads + Runtime + AllocGlobal>(rt: &T, len: u64) -> Result<bool, AllocError> {
-    let shelf = shelf_of(rt.alloc(), len)?;
+fn are_alike<T: Threads + Runtime + AllocGlobal>(rt: &T, len: u64) -> bool {
+    let Ok(shelf) = shelf_of(rt.alloc(), len) else {
+        return false;
+    };
     let wanted = by_one(rt, &shelf);
+    let mut are_alike = true;
     for threads in [2u32, 3, 16] {
-        if reported(rt, rt.alloc(), &shelf, len, threads, &wanted) != "alike" {
-            return Ok(false);
-        }
+        let reported = reported(rt, rt.alloc(), &shelf, len, threads, &wanted);
+        are_alike = are_alike && reported == "alike";
     }
-    Ok(true)
+    are_alike
 }
 
 #[test]
-fn each_length_has_the_node_of_one_thread(rt: HostRuntime) -> Result<(), Fail> {
+fn each_length_has_the_node_of_one_thread(rt: HostRuntime) {
     for len in LENGTHS {
-        assert!(rt; are_alike(&rt, len)?, "{len} bytes");
+        assert!(rt; are_alike(&rt, len), "{len} bytes");
     }
-    Ok(())
 }
+
+// Threads, a stated length, and the result for `LEAST + BLOCK + 5000` bytes.
+struct Stated(u32, u64, &'static str);
 
 // There is a node up to the length of all whole blocks and of the one after them.
-#[test]
-fn a_length_that_is_reported_wrong(rt: HostRuntime) -> Result<(), Fail> {
-    let len = LEAST + BLOCK + 5000;
-    let shelf = shelf_of(rt.alloc(), len)?;
-    let wanted = by_one(&rt, &shelf);
-    for (len, is_alike) in [
-        (0u64, false),
-        (LEAST - 1, false),
-        (LEAST, true),
-        (len - 1, true),
-        (LEAST + 2 * BLOCK - 1, true),
-        (LEAST + 2 * BLOCK, false),
-        (2 * LEAST, false),
-    ] {
-        let reported = reported(&rt, rt.alloc(), &shelf, len, 3, &wanted);
-        assert!(rt;
-            reported == if is_alike { "alike" } else { "none" },
-            "{len} {reported}"
-        );
+const STATED: &[Stated] = &[
+    Stated(3, 0, "none"),
+    Stated(3, LEAST - 1, "none"),
+    Stated(3, LEAST, "alike"),
+    Stated(3, LEAST + BLOCK + 4999, "alike"),
+    Stated(3, LEAST + 2 * BLOCK - 1, "alike"),
+    Stated(3, LEAST + 2 * BLOCK, "none"),
+    Stated(3, 2 * LEAST, "none"),
+    Stated(1, LEAST + BLOCK + 5000, "none"),
+];
+
+// Whether each stated length has its result.
+fn are_reported<T: Threads + Runtime>(rt: &T, alloc: Global, shelf: &Shelf) -> bool {
+    let wanted = by_one(rt, shelf);
+    let mut are_all = true;
+    for Stated(threads, len, result) in STATED {
+        are_all = are_all && reported(rt, alloc, shelf, *len, *threads, &wanted) == *result;
     }
-    let reported = reported(&rt, rt.alloc(), &shelf, len, 1, &wanted);
-    assert!(rt; reported == "none", "{reported}");
-    Ok(())
+    are_all
 }
 
 #[test]
-fn a_read_that_fails(rt: HostRuntime) -> Result<(), Fail> {
-    let len = LEAST + BLOCK;
-    let shelf = shelf_of(rt.alloc(), len)?;
-    let wanted = by_one(&rt, &shelf);
-    for threads in [2u32, 3, 16] {
-        for (fails_at, is_alike) in [
-            (0u64, false),
-            (BLOCK, false),
-            (10 * BLOCK + 700, false),
-            (len, false),
-            (len + 1, true),
-        ] {
-            let source = Torn {
-                shelf: shelf.again()?,
-                fails_at,
-            };
-            let reported = reported(&rt, rt.alloc(), &source, len, threads, &wanted);
-            assert!(rt;
-                reported == if is_alike { "alike" } else { "none" },
-                "{fails_at} {threads} {reported}"
-            );
-        }
+fn a_length_that_is_reported_wrong(rt: HostRuntime) {
+    let shelf = shelf_of(rt.alloc(), LEAST + BLOCK + 5000).expect(&rt, "memory for the bytes");
+    assert!(rt; are_reported(&rt, rt.alloc(), &shelf));
+}
+
+// The offset from which no bytes are returned, and the result for `LEAST + BLOCK` bytes.
+struct FailsAt(u64, &'static str);
+
+const FAILS_AT: &[FailsAt] = &[
+    FailsAt(0, "none"),
+    FailsAt(BLOCK, "none"),
+    FailsAt(10 * BLOCK + 700, "none"),
+    FailsAt(LEAST + BLOCK, "none"),
+    FailsAt(LEAST + BLOCK + 1, "alike"),
+];
+
+// Whether each such source has its result. All have one shelf.
+fn are_torn<T: Threads + Runtime>(rt: &T, alloc: Global, shelf: Shelf, threads: u32) -> bool {
+    let wanted = by_one(rt, &shelf);
+    let mut source = Torn { shelf, fails_at: 0 };
+    let mut are_all = true;
+    for FailsAt(fails_at, result) in FAILS_AT {
+        source.fails_at = *fails_at;
+        let reported = reported(rt, alloc, &source, LEAST + BLOCK, threads, &wanted);
+        are_all = are_all && reported == *result;
     }
-    Ok(())
+    are_all
+}
+
+#[test]
+fn a_read_that_fails(rt: HostRuntime) {
+    for threads in [2u32, 3, 16] {
+        let shelf = shelf_of(rt.alloc(), LEAST + BLOCK).expect(&rt, "memory for the bytes");
+        assert!(rt; are_torn(&rt, rt.alloc(), shelf, threads), "{threads}");
+    }
 }

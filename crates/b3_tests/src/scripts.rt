@@ -12,7 +12,10 @@ pub trait Answers {
 pub fn reported<A: Answers>(alloc: Global, on: &mut A, script: &str) -> Result<String, AllocError> {
     let mut reported = String::new(alloc);
     for line in script.lines() {
-        reported.push_str(reported_line(alloc, on, command_of(line))?.as_str())?;
+        let line = reported_line(alloc, on, command_of(line));
+        if append(&mut reported, line).is_err() {
+            return Err(AllocError);
+        }
     }
     Ok(reported)
 }
@@ -22,15 +25,24 @@ fn reported_line<A: Answers>(
     on: &mut A,
     command: &str,
 ) -> Result<String, AllocError> {
-    let answer = on.answer(command)?;
-    let answer = answer.as_str();
-    format!(in alloc; "{command} > {answer}\n")
+    match on.answer(command) {
+        Ok(answer) => format!(in alloc; "{command} > {}\n", answer.as_str()),
+        Err(error) => Err(error),
+    }
 }
 
 fn command_of(line: &str) -> &str {
     match line.split_once(" > ") {
         Some((command, _)) => command,
         None => line,
+    }
+}
+
+/// Appends a text that may have run out of memory.
+pub fn append(text: &mut String, more: Result<String, AllocError>) -> Result<(), AllocError> {
+    match more {
+        Ok(more) => text.push_str(more.as_str()),
+        Err(error) => Err(error),
     }
 }
 

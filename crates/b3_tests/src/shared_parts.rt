@@ -2,123 +2,169 @@
 
 ghost use Rattle.std.specs.Prelude.{◌<◌};
 
-use crate::fakes::pattern;
+use crate::fakes::{is_pattern, pattern};
 use crate::follows::in_stretches;
-use b3_core::Work;
+use b3_core::{Runtime, Work};
 use b3_forest::{BorrowedBytes, Plan, Prepared};
 use std::alloc::{AllocError, Global};
 use std::sync::Arc;
-use std::test::Fail;
 
-// The debug text of a part, its pieces, and the compressions since the count was `before`; or its refusal.
-fn shown(
-    alloc: Global,
-    part: Option<&Prepared>,
-    before: u64,
-    work: &Work,
-) -> Result<String, AllocError> {
-    let count = work.count().wrapping_sub(before);
-    match part {
-        Some(part) => format!(in alloc; "{part:?} {} pieces by {count}", part.pieces()),
-        None => format!(in alloc; "refused by {count}"),
-    }
-}
-
-// The debug text of the part of the pattern of 2049 bytes, made with its own bytes.
-fn made(alloc: Global, offset: u64, len: u64, work: &mut Work) -> Result<String, Fail> {
-    let plan = Plan::new(2049).ok().ok_or("no plan")?;
-    let bytes = pattern(alloc, offset, len)?;
-    let before = work.count();
-    let part = Prepared::make(alloc, &plan, offset, bytes, work);
-    Ok(shown(alloc, part.ok().as_ref(), before, work)?)
-}
-
-// The same for a part that shares its bytes.
-fn shared(alloc: Global, offset: u64, len: u64, work: &mut Work) -> Result<String, Fail> {
-    let plan = Plan::new(2049).ok().ok_or("no plan")?;
-    let bytes = Arc::new(alloc, pattern(alloc, offset, len)?)
-        .ok()
-        .ok_or("no memory")?;
-    let before = work.count();
-    let part = Prepared::share(alloc, &plan, offset, Arc::try_clone(&bytes)?, work);
-    Ok(shown(alloc, part.ok().as_ref(), before, work)?)
-}
-
-// The same for a part prepared from the whole pattern in stretches of `stretch_len` bytes.
-fn prepared(
-    alloc: Global,
-    stretch_len: usize,
+// A part of the pattern of 2049 bytes: its pieces, or none if it is refused; the compressions; and the lengths of stretches of which it is
+// one.
+struct Part {
     offset: u64,
     len: u64,
-    work: &mut Work,
-) -> Result<String, Fail>
-    requires { 0 < stretch_len }
-{
-    let plan = Plan::new(2049).ok().ok_or("no plan")?;
-    let stretches = in_stretches(alloc, pattern(alloc, 0, 2049)?.as_slice(), stretch_len)?;
-    let borrowed = BorrowedBytes::Stretches(&stretches);
-    if offset > 4096 || len > 4096 || offset + len > borrowed.len() {
-        return Err(Fail::new("no such part"));
-    }
-    let before = work.count();
-    let part = borrowed.prepare(alloc, &plan, offset, len as usize, work);
-    Ok(shown(alloc, part.ok().as_ref(), before, work)?)
+    pieces: Option<usize>,
+    count: u64,
+    stretch_of: &'static [usize],
 }
 
 // Valid parts, and those refused by F2, F3 and F5.
-#[test]
-fn shared_parts_are_as_made_ones(rt: HostRuntime) -> Result<(), Fail> {
-    let alloc = rt.alloc();
-    let mut work = Work::new(&rt);
-    for (offset, len) in [
-        (0u64, 2049u64),
-        (1024, 1024),
-        (1024, 1025),
-        (2048, 1),
-        (0, 0),
-        (1, 1024),
-        (0, 1025),
-    ] {
-        let made = made(alloc, offset, len, &mut work)?;
-        assert_eq!(rt;
-            shared(alloc, offset, len, &mut work)?.as_str(),
-            made.as_str(),
-        );
-        for stretch_len in [1usize, 1000, 1024, 2048, 4096] {
-            assert_eq!(rt;
-                prepared(alloc, stretch_len, offset, len, &mut work)?.as_str(),
-                made.as_str(),
-            );
-        }
+const PARTS: &[Part] = &[
+    Part {
+        offset: 0,
+        len: 2049,
+        pieces: Some(2),
+        count: 32,
+        stretch_of: &[4096],
+    },
+    Part {
+        offset: 0,
+        len: 1024,
+        pieces: Some(1),
+        count: 15,
+        stretch_of: &[1024],
+    },
+    Part {
+        offset: 1024,
+        len: 1024,
+        pieces: Some(1),
+        count: 15,
+        stretch_of: &[1024],
+    },
+    Part {
+        offset: 1024,
+        len: 1025,
+        pieces: Some(2),
+        count: 15,
+        stretch_of: &[],
+    },
+    Part {
+        offset: 2048,
+        len: 1,
+        pieces: Some(1),
+        count: 0,
+        stretch_of: &[1, 1024, 2048],
+    },
+    Part {
+        offset: 0,
+        len: 0,
+        pieces: None,
+        count: 0,
+        stretch_of: &[],
+    },
+    Part {
+        offset: 1,
+        len: 1024,
+        pieces: None,
+        count: 0,
+        stretch_of: &[],
+    },
+    Part {
+        offset: 0,
+        len: 1025,
+        pieces: None,
+        count: 0,
+        stretch_of: &[],
+    },
+];
+
+// Whether it is this part, and whether it returns its bytes as `is_own` says.
+fn is_wanted(part: Prepared, wanted: &Part, is_own: bool) -> bool {
+    let has_bytes = is_pattern(part.bytes(), wanted.offset, wanted.len);
+    let is_there = part.offset() == wanted.offset && Some(part.pieces()) == wanted.pieces;
+    has_bytes && is_there && part.into_bytes().is_ok() == is_own
+}
+
+// The bytes of a part, which can be shared.
+fn bytes_of(alloc: Global, wanted: &Part) -> Result<Arc<Vec<u8>>, AllocError> {
+    let Ok(bytes) = pattern(alloc, wanted.offset, wanted.len) else {
+        return Err(AllocError);
+    };
+    match Arc::new(alloc, bytes) {
+        Ok(shared) => Ok(shared),
+        Err(_) => Err(AllocError),
     }
-    Ok(())
+}
+
+// Whether the part is as it should be with bytes that nothing else shares.
+fn is_shared<R: AllocGlobal + Runtime>(rt: &R, plan: &Plan, wanted: &Part) -> bool {
+    let Ok(bytes) = bytes_of(rt.alloc(), wanted) else {
+        return false;
+    };
+    let mut work = Work::new(rt);
+    let is_wanted = match Prepared::share(rt.alloc(), plan, wanted.offset, bytes, &mut work) {
+        Ok(part) => is_wanted(part, wanted, true),
+        Err(_) => wanted.pieces.is_none(),
+    };
+    is_wanted && work.count() == wanted.count
+}
+
+// Whether the part of the whole pattern is as it should be.
+fn is_prepared<R: AllocGlobal + Runtime>(
+    rt: &R,
+    plan: &Plan,
+    borrowed: BorrowedBytes<'_>,
+    wanted: &Part,
+    is_own: bool,
+) -> bool {
+    let Part { offset, len, .. } = *wanted;
+    if offset > 4096 || len > 4096 || offset + len > borrowed.len() {
+        return false;
+    }
+    let mut work = Work::new(rt);
+    let is_wanted = match borrowed.prepare(rt.alloc(), plan, offset, len as usize, &mut work) {
+        Ok(part) => is_wanted(part, wanted, is_own),
+        Err(_) => wanted.pieces.is_none(),
+    };
+    is_wanted && work.count() == wanted.count
+}
+
+// Whether all parts of the pattern in stretches of `stretch_len` bytes are as they should be.
+fn are_prepared<R: AllocGlobal + Runtime>(
+    rt: &R,
+    plan: &Plan,
+    bytes: &[u8],
+    stretch_len: usize,
+) -> bool
+    requires { 0 < stretch_len }
+{
+    let Ok(stretches) = in_stretches(rt.alloc(), bytes, stretch_len) else {
+        return false;
+    };
+    let borrowed = BorrowedBytes::Stretches(&stretches);
+    let mut are_wanted = true;
+    for part in PARTS {
+        let is_own = !part.stretch_of.contains(&stretch_len);
+        are_wanted = are_wanted && is_prepared(rt, plan, borrowed, part, is_own);
+    }
+    are_wanted
+}
+
+#[test]
+fn parts_with_shared_bytes(rt: HostRuntime) {
+    let plan = Plan::new(2049).expect(&rt, "a plan");
+    for part in PARTS {
+        assert!(rt; is_shared(&rt, &plan, part));
+    }
 }
 
 // A part that shares a stretch does not return its bytes while others hold it; a part with a copy does.
 #[test]
-fn stretches_are_shared_where_they_are_parts(rt: HostRuntime) -> Result<(), Fail> {
-    let alloc = rt.alloc();
-    let mut work = Work::new(&rt);
-    let plan = Plan::new(2049).ok().ok_or("no plan")?;
-    let bytes = pattern(alloc, 0, 2049)?;
-    for (stretch_len, is_shared) in [(1024usize, true), (1000, false), (2048, false)] {
-        let stretches = in_stretches(alloc, bytes.as_slice(), stretch_len)?;
-        let borrowed = BorrowedBytes::Stretches(&stretches);
-        if borrowed.len() != 2049 {
-            return Err(Fail::new("another length"));
-        }
-        for (offset, len) in [(0u64, 1024usize), (1024, 1024)] {
-            let part = borrowed
-                .prepare(alloc, &plan, offset, len, &mut work)
-                .ok()
-                .ok_or("refused")?;
-            assert!(rt; part.into_bytes().is_err() == is_shared);
-        }
-        let part = borrowed
-            .prepare(alloc, &plan, 2048, 1, &mut work)
-            .ok()
-            .ok_or("refused")?;
-        assert!(rt; part.into_bytes().is_err() == (stretch_len != 1000));
+fn stretches_are_shared_where_they_are_parts(rt: HostRuntime) {
+    let plan = Plan::new(2049).expect(&rt, "a plan");
+    let bytes = pattern(rt.alloc(), 0, 2049).expect(&rt, "memory for the pattern");
+    for stretch_len in [1usize, 1000, 1024, 2048, 4096] {
+        assert!(rt; are_prepared(&rt, &plan, bytes.as_slice(), stretch_len));
     }
-    Ok(())
 }
