@@ -1,11 +1,11 @@
 //! Boards, with numbers drawn by one thread and by several.
 
 ghost use Rattle.std.specs.Prelude.{◌≡◌, All, vec_len};
-ghost use Rattle.store_board.specs.Seats.{IsSeatOf};
+ghost use Rattle.store_board.specs.Seats.{IsSeatOf, seats_of};
 
 use crate::gates::zeros;
+use std::process::Abort;
 use std::sync::atomic::{AtomicU64, Ordering};
-use std::test::Fail;
 use std::thread;
 use std::thread::Threads;
 use store_board::{Board, BoardRefusal, BoardSeat, Drawn};
@@ -19,16 +19,14 @@ fn claimed(board: &Board, seat: &mut BoardSeat) -> Option<u64>
     Some(draw.number())
 }
 
-// What both seats draw in turn, three times each.
-fn drawn_in_turn(board: &Board, first: &mut BoardSeat, second: &mut BoardSeat) -> [Option<u64>; 6]
+// What both seats draw in turn, twice each.
+fn drawn_in_turn(board: &Board, first: &mut BoardSeat, second: &mut BoardSeat) -> [Option<u64>; 4]
     requires first { IsSeatOf board.now first.old }
     requires second { IsSeatOf board.now second.old }
     ensures first { IsSeatOf board.now first.new }
     ensures second { IsSeatOf board.now second.new }
 {
     [
-        claimed(board, first),
-        claimed(board, second),
         claimed(board, first),
         claimed(board, second),
         claimed(board, first),
@@ -53,42 +51,30 @@ fn seen_and_drawn(
     (before, after, claimed(board, looks))
 }
 
-// Both seats draw until they are done, and once more; the second is done before the first. Done seats see a stop, too.
-#[test]
-fn seats_draw_in_turn(rt: HostRuntime) -> Result<(), Fail> {
-    let (board, mut seats) = Board::new(rt.alloc(), 3, 2)?;
-    let mut second = seats.pop().expect(&rt, "two seats");
-    let mut first = seats.pop().expect(&rt, "two seats");
-    let drawn = drawn_in_turn(&board, &mut first, &mut second);
-    let seen = seen_and_drawn(&board, &mut first, &mut second);
-    let end = board.close(vec![in rt.alloc(); first, second]?);
-    assert!(rt; drawn == [Some(0), Some(1), Some(2), None, None, None]);
-    assert!(rt; seen == (false, true, None));
-    assert!(rt; end.handed == 3 && end.spent);
-    Ok(())
+// A board for four parts, and two seats.
+fn two_seats<R: AllocGlobal + Abort>(rt: &R) -> (Board, BoardSeat, BoardSeat)
+    ensures first { IsSeatOf result.0 result.1 }
+    ensures second { IsSeatOf result.0 result.2 }
+    ensures all { seats_of result.0 ≡ 2 }
+{
+    let (board, mut seats) = Board::new(rt.alloc(), 4, 2).expect(rt, "a board");
+    let second = seats.pop().expect(rt, "two seats");
+    let first = seats.pop().expect(rt, "two seats");
+    (board, first, second)
 }
 
+// A stop is seen by the other seat, and neither draws less for it. Both draw until they are done, the first once more.
 #[test]
-fn a_stopped_board_draws_on(rt: HostRuntime) -> Result<(), Fail> {
-    let (board, mut seats) = Board::new(rt.alloc(), 3, 2)?;
-    let mut second = seats.pop().expect(&rt, "two seats");
-    let mut first = seats.pop().expect(&rt, "two seats");
+fn seats_draw_in_turn(rt: HostRuntime) {
+    let (board, mut first, mut second) = two_seats(&rt);
     let drawn = claimed(&board, &mut first);
     let seen = seen_and_drawn(&board, &mut second, &mut first);
-    let end = board.close(vec![in rt.alloc(); first, second]?);
+    let others = drawn_in_turn(&board, &mut first, &mut second);
+    let seats = vec![in rt.alloc(); first, second].expect(&rt, "both seats");
+    let end = board.close(seats);
     assert!(rt; drawn == Some(0) && seen == (false, true, Some(1)));
-    assert!(rt; end.handed == 2 && !end.spent);
-    Ok(())
-}
-
-#[test]
-fn an_empty_board_is_spent(rt: HostRuntime) -> Result<(), Fail> {
-    let (board, mut seats) = Board::new(rt.alloc(), 0, 1)?;
-    let mut seat = seats.pop().expect(&rt, "one seat");
-    assert!(rt; claimed(&board, &mut seat) == None);
-    let drawn = board.close(vec![in rt.alloc(); seat]?);
-    assert!(rt; drawn.handed == 0 && drawn.spent);
-    Ok(())
+    assert!(rt; others == [Some(2), Some(3), None, None]);
+    assert!(rt; end.handed == 4 && end.spent);
 }
 
 // The number of seats of a board with these counts, or why there is none.
@@ -141,14 +127,15 @@ fn draw_in_four_threads<R: Threads + Sync>(
 }
 
 // Draws all numbers in four threads, and counts how often each was drawn.
-fn drawn_by<R: Threads + Sync + AllocGlobal>(
+fn drawn_by<R: Threads + Sync + AllocGlobal + Abort>(
     rt: &R,
     seats: u64,
     counts: &[AtomicU64],
-) -> Result<Drawn, BoardRefusal> {
-    let (board, mut seats) = Board::new(rt.alloc(), counts.len() as u64, seats)?;
+) -> Drawn {
+    let board = Board::new(rt.alloc(), counts.len() as u64, seats);
+    let (board, mut seats) = board.expect(rt, "a board");
     draw_in_four_threads(rt, &board, counts, &mut seats);
-    Ok(board.close(seats))
+    board.close(seats)
 }
 
 // Whether each number was drawn once.
@@ -157,16 +144,15 @@ fn is_once_for_each(counts: &[AtomicU64]) -> bool {
 }
 
 // Whether four threads draw each of 5000 numbers once, and leave none.
-fn are_drawn_once<R: Threads + Sync + AllocGlobal>(rt: &R, seats: u64) -> Result<bool, Fail> {
-    let counts = zeros(rt.alloc(), 5000)?;
-    let drawn = drawn_by(rt, seats, counts.as_slice())?;
-    Ok(drawn.handed == 5000 && drawn.spent && is_once_for_each(counts.as_slice()))
+fn are_drawn_once<R: Threads + Sync + AllocGlobal + Abort>(rt: &R, seats: u64) -> bool {
+    let counts = zeros(rt, 5000);
+    let drawn = drawn_by(rt, seats, counts.as_slice());
+    drawn.handed == 5000 && drawn.spent && is_once_for_each(counts.as_slice())
 }
 
 #[test]
-fn four_threads_draw_each_number_once(rt: HostRuntime) -> Result<(), Fail> {
+fn four_threads_draw_each_number_once(rt: HostRuntime) {
     for seats in [1, 2, 16] {
-        assert!(rt; are_drawn_once(&rt, seats)?, "{seats} seats");
+        assert!(rt; are_drawn_once(&rt, seats), "{seats} seats");
     }
-    Ok(())
 }

@@ -1,6 +1,6 @@
 //! Gates that stop an upload, fail, or hold a part.
 
-use std::alloc::{AllocError, Global};
+use std::process::Abort;
 use std::sync::atomic::{AtomicBool, AtomicU64, Ordering};
 use std::thread;
 use store_shared::{Draw, Gate, GateStop};
@@ -15,12 +15,12 @@ const STILL_TURNS: u64 = 2000;
 pub(crate) const MAX_PARTS: u64 = 4096;
 
 /// `count` counters, all zero.
-pub(crate) fn zeros(alloc: Global, count: u64) -> Result<Vec<AtomicU64>, AllocError> {
-    let mut counts = Vec::new(alloc);
+pub(crate) fn zeros<R: AllocGlobal + Abort>(rt: &R, count: u64) -> Vec<AtomicU64> {
+    let mut counts = Vec::new(rt.alloc());
     for _ in 0..count {
-        counts.push(AtomicU64::new(0))?;
+        counts.push(AtomicU64::new(0)).expect(rt, "memory");
     }
-    Ok(counts)
+    counts
 }
 
 /// How often a gate was asked, in total and for each part, and whether it lets the parts pass that it holds.
@@ -32,12 +32,12 @@ pub(crate) struct Signal {
 }
 
 impl Signal {
-    pub(crate) fn new(alloc: Global) -> Result<Signal, AllocError> {
-        Ok(Signal {
+    pub(crate) fn new<R: AllocGlobal + Abort>(rt: &R) -> Signal {
+        Signal {
             asked: AtomicU64::new(0),
-            parts: zeros(alloc, MAX_PARTS)?,
+            parts: zeros(rt, MAX_PARTS),
             released: AtomicBool::new(false),
-        })
+        }
     }
 
     // Counts a part that the gate is asked for.

@@ -80,30 +80,38 @@ fn ended<R: Abort>(
     Ok(())
 }
 
+// Uploads bytes, and once more if that ran out of memory. Returns whether they are sealed.
+fn uploaded_in_the_end<L: Ledgers, R: Threads + Wait + Sync + AllocGlobal + Runtime>(
+    rt: &R,
+    shared: &Shared<L>,
+    share: Share<L>,
+    row: &[u8],
+    workers: u64,
+) -> (Share<L>, Result<bool, AllocError>) {
+    let (alloc, tenant) = (rt.alloc(), TenantId::new(0));
+    let (share, answer) = upload_row(rt, alloc, shared, share, &PassAll, tenant, row, 1, workers);
+    match answer {
+        Ok(_) => (share, Ok(true)),
+        Err(fault) => uploaded_again(rt, shared, share, fault, row, workers),
+    }
+}
+
 fn sealed_in_the_end<L: Ledgers, R: Threads + Wait + Sync + AllocGlobal + Runtime + Abort>(
     rt: &R,
     ledgers: UnnamedLedgers,
+    row: &[u8],
     workers: u64,
 ) -> Result<(), AllocError>
     requires bytes { (ledgers.bytes.name ≡ L.bytes_name) × (ledgers.bytes.parts ≡ L.bytes_parts) × (ledgers.bytes.parts ≡ 2 ^ 32) }
     requires calls { (ledgers.calls.name ≡ L.calls_name) × (ledgers.calls.parts ≡ L.calls_parts) × (ledgers.calls.parts ≡ 2 ^ 32) }
     requires history { ledgers.history ≡ L.history }
 {
-    let alloc = rt.alloc();
-    let input = pattern(alloc, 0, 2049)?;
-    let row = input.as_slice();
-    let (shared, share) = Shared::<L>::new(alloc, Limits::full(), ledgers);
+    let (shared, share) = Shared::<L>::new(rt.alloc(), Limits::full(), ledgers);
     open_in_the_end(rt, &shared);
-    let tenant = TenantId::new(0);
-    let (share, answer) = upload_row(rt, alloc, &shared, share, &PassAll, tenant, row, 1, workers);
-    let (share, is_sealed) = match answer {
-        Ok(_) => (share, Ok(true)),
-        Err(fault) => uploaded_again(rt, &shared, share, fault, row, workers),
-    };
-    let mut share = share;
+    let (mut share, is_sealed) = uploaded_in_the_end(rt, &shared, share, row, workers);
     let mut locked = shared.close();
     let is_settled = locked.settle(&mut share).is_ok();
-    let is_filed = has_objects(alloc, locked.store(), 1);
+    let is_filed = has_objects(rt.alloc(), locked.store(), 1);
     ended(rt, is_sealed, is_settled, is_filed)
 }
 
@@ -112,8 +120,9 @@ fn is_sealed<R: Threads + Wait + Sync + AllocGlobal + Runtime + Abort>(
     rt: &R,
     workers: u64,
 ) -> Result<(), AllocError> {
+    let input = pattern(rt.alloc(), 0, 2049)?;
     let ledgers = UnnamedLedgers::new(rt.alloc())?;
-    sealed_in_the_end::<Brand, R>(rt, ledgers, workers)
+    sealed_in_the_end::<Brand, R>(rt, ledgers, input.as_slice(), workers)
 }
 
 #[test]

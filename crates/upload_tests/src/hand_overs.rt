@@ -6,18 +6,19 @@ ghost use Rattle.store_board.specs.Passes.{IsGiverOf, IsTakerOf};
 use crate::parts::part_at;
 use b3_core::{Runtime, Work};
 use b3_forest::{Plan, Prepared};
-use std::alloc::{AllocError, Global};
+use std::alloc::Global;
 use std::collections::VecDeque;
 use std::process::Abort;
 use std::sync::{Mutex, Wait};
-use std::test::Fail;
 use std::thread;
 use std::thread::Threads;
 use store_board::{GivePass, HandOver, HandOverRefusal, TakePass, Unasked};
 
 // The part of one chunk with the number `number`.
 fn part(alloc: Global, number: u64, work: &mut Work) -> Option<Prepared> {
-    let plan = Plan::new(1_048_576).ok()?;
+    let Ok(plan) = Plan::new(1_048_576) else {
+        return None;
+    };
     part_at(alloc, &plan, number.wrapping_mul(1024), 1024, work)
 }
 
@@ -31,21 +32,19 @@ fn taken<R: Wait>(rt: &R, hand_over: &HandOver<Unasked>, pass: &mut TakePass) ->
 }
 
 // Gives the part of one chunk with the number `number`, and returns the offset of the part that was returned, if there was no room.
-fn given<R: Wait + AllocGlobal + Runtime>(
+fn given<R: Wait + AllocGlobal + Runtime + Abort>(
     rt: &R,
     hand_over: &HandOver<Unasked>,
     pass: &mut GivePass,
     number: u64,
-) -> Result<Option<u64>, AllocError>
+) -> Option<u64>
     requires { IsGiverOf hand_over.now pass.old }
     ensures { IsGiverOf hand_over.now pass.new }
 {
-    let Some(part) = part(rt.alloc(), number, &mut Work::new(rt)) else {
-        return Err(AllocError);
-    };
+    let part = part(rt.alloc(), number, &mut Work::new(rt)).expect(rt, "a part");
     match hand_over.give(rt, pass, part) {
-        Ok(()) => Ok(None),
-        Err(part) => Ok(Some(part.offset())),
+        Ok(()) => None,
+        Err(part) => Some(part.offset()),
     }
 }
 
@@ -58,22 +57,20 @@ fn give_beside<R: Wait + AllocGlobal + Runtime + Abort>(
     number: u64,
     list: &mut VecDeque<(u64, u64)>,
     capacity: usize,
-) -> Result<(), AllocError>
+)
     requires { IfSome pass.old (λ p. IsGiverOf hand_over.now p) }
     ensures { IfSome pass.new (λ p. IsGiverOf hand_over.now p) }
 {
     let Some(pass) = pass else {
-        return Ok(());
+        return;
     };
-    let back = given(rt, hand_over, pass, number)?;
     let offset = number.wrapping_mul(1024);
-    if list.len() < capacity {
-        assert!(rt; back == None);
-        list.push_back((giver, offset))?;
-    } else {
-        assert!(rt; back == Some(offset));
+    let has_room = list.len() < capacity;
+    let back = given(rt, hand_over, pass, number);
+    assert!(rt; back == if has_room { None } else { Some(offset) });
+    if has_room {
+        list.push_back((giver, offset)).expect(rt, "memory");
     }
-    Ok(())
 }
 
 // Gives and takes at random, on one thread, compared with a list with the same capacity.
@@ -86,7 +83,7 @@ fn give_and_take<R: Wait + AllocGlobal + Runtime + Abort>(
     second: &mut Option<GivePass>,
     third: &mut Option<GivePass>,
     taker: &mut TakePass,
-) -> Result<(), Fail>
+)
     requires first { IfSome first.old (λ p. IsGiverOf hand_over.now p) }
     requires second { IfSome second.old (λ p. IsGiverOf hand_over.now p) }
     requires third { IfSome third.old (λ p. IsGiverOf hand_over.now p) }
@@ -105,13 +102,12 @@ fn give_and_take<R: Wait + AllocGlobal + Runtime + Abort>(
             3
         };
         match giver {
-            0 => give_beside(rt, hand_over, first, 0, number, &mut list, capacity)?,
-            1 => give_beside(rt, hand_over, second, 1, number, &mut list, capacity)?,
-            2 => give_beside(rt, hand_over, third, 2, number, &mut list, capacity)?,
+            0 => give_beside(rt, hand_over, first, 0, number, &mut list, capacity),
+            1 => give_beside(rt, hand_over, second, 1, number, &mut list, capacity),
+            2 => give_beside(rt, hand_over, third, 2, number, &mut list, capacity),
             _ => assert!(rt; taken(rt, hand_over, taker) == list.pop_front()),
         }
     }
-    Ok(())
 }
 
 // The last of the givers' passes, if there are more than `count`.
@@ -133,18 +129,11 @@ fn pass_above(
 const STEPS: u64 = 500;
 
 // A hand-over with this capacity and number of givers, compared with a list.
-fn moves_as_a_list<R: Wait + AllocGlobal + Runtime + Abort>(
-    rt: &R,
-    capacity: usize,
-    givers: u64,
-) -> Result<(), Fail>
+fn moves_as_a_list<R: Wait + AllocGlobal + Runtime + Abort>(rt: &R, capacity: usize, givers: u64)
     requires { 0 < givers }
 {
-    let (hand_over, mut passes, mut taker) = HandOver::<Unasked>::new(
-        rt.alloc(),
-        capacity,
-        givers,
-    )?;
+    let hand_over = HandOver::<Unasked>::new(rt.alloc(), capacity, givers);
+    let (hand_over, mut passes, mut taker) = hand_over.expect(rt, "a hand-over");
     let mut third = pass_above(&hand_over, &mut passes, 2);
     let mut second = pass_above(&hand_over, &mut passes, 1);
     let mut first = pass_above(&hand_over, &mut passes, 0);
@@ -161,13 +150,12 @@ fn moves_as_a_list<R: Wait + AllocGlobal + Runtime + Abort>(
 }
 
 #[test]
-fn one_thread_gives_and_takes_as_with_a_list(rt: HostRuntime) -> Result<(), Fail> {
+fn one_thread_gives_and_takes_as_with_a_list(rt: HostRuntime) {
     for capacity in 1..6usize {
         for givers in 1..4u64 {
-            moves_as_a_list(&rt, capacity, givers)?;
+            moves_as_a_list(&rt, capacity, givers);
         }
     }
-    Ok(())
 }
 
 // Gives four parts, the second and the last by another giver, with room for two. The last stays in the queue.
@@ -177,7 +165,7 @@ fn give_four<R: Wait + AllocGlobal + Runtime + Abort>(
     first: &mut GivePass,
     second: &mut GivePass,
     taker: &mut TakePass,
-) -> Result<(), AllocError>
+) -> ([Option<u64>; 5], [Option<(u64, u64)>; 4])
     requires first { IsGiverOf hand_over.now first.old }
     requires second { IsGiverOf hand_over.now second.old }
     requires taker { IsTakerOf hand_over.now taker.old }
@@ -185,31 +173,33 @@ fn give_four<R: Wait + AllocGlobal + Runtime + Abort>(
     ensures second { IsGiverOf hand_over.now second.new }
     ensures taker { IsTakerOf hand_over.now taker.new }
 {
-    let one = given(rt, hand_over, first, 1)?;
-    let two = given(rt, hand_over, second, 2)?;
-    let full = given(rt, hand_over, first, 3)?;
-    assert!(rt; one == None && two == None && full == Some(3072));
+    let one = given(rt, hand_over, first, 1);
+    let two = given(rt, hand_over, second, 2);
+    let full = given(rt, hand_over, first, 3);
     let taken_one = taken(rt, hand_over, taker);
-    let three = given(rt, hand_over, first, 3)?;
-    assert!(rt; taken_one == Some((0, 1024)) && three == None);
+    let three = given(rt, hand_over, first, 3);
     let taken_two = taken(rt, hand_over, taker);
     let taken_three = taken(rt, hand_over, taker);
     let nothing = taken(rt, hand_over, taker);
-    assert!(rt; taken_two == Some((1, 2048)) && taken_three == Some((0, 3072)) && nothing == None);
-    assert!(rt; given(rt, hand_over, second, 4)? == None);
-    Ok(())
+    let four = given(rt, hand_over, second, 4);
+    (
+        [one, two, full, three, four],
+        [taken_one, taken_two, taken_three, nothing],
+    )
 }
 
 #[test]
-fn parts_come_in_the_order_in_which_they_were_given(rt: HostRuntime) -> Result<(), Fail> {
-    let (hand_over, mut givers, mut taker) = HandOver::<Unasked>::new(rt.alloc(), 2, 2)?;
+fn parts_come_in_the_order_in_which_they_were_given(rt: HostRuntime) {
+    let hand_over = HandOver::<Unasked>::new(rt.alloc(), 2, 2);
+    let (hand_over, mut givers, mut taker) = hand_over.expect(&rt, "a hand-over");
     let mut second = givers.pop().expect(&rt, "two givers");
     let mut first = givers.pop().expect(&rt, "two givers");
-    let given = give_four(&rt, &hand_over, &mut first, &mut second, &mut taker);
-    let moved = hand_over.close(&rt, vec![in rt.alloc(); first, second]?, taker);
-    given?;
+    let (back, taken) = give_four(&rt, &hand_over, &mut first, &mut second, &mut taker);
+    let givers = vec![in rt.alloc(); first, second].expect(&rt, "memory");
+    let moved = hand_over.close(&rt, givers, taker);
+    assert!(rt; back == [None, None, Some(3072), None, None]);
+    assert!(rt; taken == [Some((0, 1024)), Some((1, 2048)), Some((0, 3072)), None]);
     assert!(rt; moved.given == 4 && moved.taken == 3);
-    Ok(())
 }
 
 // Why there is no hand-over with these counts.
@@ -357,8 +347,9 @@ fn hand_over_in_threads<R: Threads + Wait + Sync>(
 }
 
 #[test]
-fn four_givers_hand_over_four_hundred_parts(rt: HostRuntime) -> Result<(), Fail> {
-    let (hand_over, givers, taker) = HandOver::<Unasked>::new(rt.alloc(), 8, 4)?;
+fn four_givers_hand_over_four_hundred_parts(rt: HostRuntime) {
+    let hand_over = HandOver::<Unasked>::new(rt.alloc(), 8, 4);
+    let (hand_over, givers, taker) = hand_over.expect(&rt, "a hand-over");
     let (givers, taker, in_order) = hand_over_in_threads(
         &rt,
         rt.alloc(),
@@ -367,8 +358,6 @@ fn four_givers_hand_over_four_hundred_parts(rt: HostRuntime) -> Result<(), Fail>
         givers,
         taker,
     );
-    assert!(rt; in_order == 400);
     let moved = hand_over.close(&rt, givers, taker);
-    assert!(rt; moved.given == 400 && moved.taken == 400);
-    Ok(())
+    assert!(rt; in_order == 400 && moved.given == 400 && moved.taken == 400);
 }

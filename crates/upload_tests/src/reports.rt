@@ -1,10 +1,9 @@
 //! The result of an upload, as text.
 
 use std::alloc::{AllocError, Global};
-use std::test::Fail;
 use store_core::{Entry, Store};
-use store_ledger::{Accepted, Ledgers, Share};
-use store_shared::{Locked, UploadFault};
+use store_ledger::Accepted;
+use store_shared::UploadFault;
 
 // A fault, and the upload that it leaves.
 fn fault_text(alloc: Global, fault: &UploadFault) -> Result<String, AllocError> {
@@ -40,30 +39,24 @@ fn journal_text(alloc: Global, entries: &[Entry]) -> Result<String, AllocError> 
     Ok(text)
 }
 
-// What was accepted, what the store holds, and its journal.
-fn store_text(alloc: Global, accepted: Accepted, store: &Store) -> Result<String, AllocError> {
+/// What was accepted, what the store holds, and its journal.
+pub(crate) fn store_text(
+    alloc: Global,
+    accepted: Accepted,
+    store: &Store,
+) -> Result<String, AllocError> {
     let Accepted { bytes, calls } = accepted;
     let totals = store.totals();
     let journal = journal_text(alloc, store.journal())?;
     format!(in alloc; "accepted {bytes} {calls}, {totals}, {}", journal.as_str())
 }
 
-/// What a store's whole share settles at, what the store holds, and its journal.
-pub(crate) fn left_text<L: Ledgers>(
-    alloc: Global,
-    locked: &mut Locked<L>,
-    share: &mut Share<L>,
-) -> Result<String, Fail> {
-    let accepted = locked.settle(share).ok().ok_or("not whole")?;
-    Ok(store_text(alloc, accepted, locked.store())?)
-}
-
-// Offset and length of a part of the pattern of 2049 bytes, split into parts of one chunk.
-fn part_at(digit: u8) -> (u64, u64) {
+// Length and entry of a part of the pattern of 2049 bytes, split into parts of one chunk.
+fn part_of(digit: u8) -> (u64, &'static str) {
     match digit {
-        b'0' => (0, 1024),
-        b'1' => (1024, 1024),
-        _ => (2048, 1),
+        b'0' => (1024, "put 1 0 1024 / "),
+        b'1' => (1024, "put 1 1024 1024 / "),
+        _ => (1, "put 1 2048 1 / "),
     }
 }
 
@@ -73,19 +66,17 @@ pub(crate) fn aborted_after(alloc: Global, fault: &str, parts: &str) -> Result<S
     let mut bytes = 0u64;
     let mut puts = String::new(alloc);
     for digit in parts.as_bytes() {
-        let (offset, len) = part_at(*digit);
+        let (len, entry) = part_of(*digit);
         bytes = bytes.saturating_add(len);
-        puts.push_str(format!(in alloc; "put 1 {offset} {len} / ")?.as_str())?;
+        puts.push_str(entry)?;
     }
     let calls = parts.len() as u64;
-    let accepted = (bytes.saturating_add(1), calls.saturating_add(1));
+    let (all_bytes, all_calls) = (bytes.saturating_add(1), calls.saturating_add(1));
     let entries = calls.saturating_add(5);
     let left = "objects 0 bytes 0 uploads 1 held 1 parts 1";
     let begun = "tenant 0 6147 / begin 0 0 2049 / put 0 2048 1 / begin 1 0 2049";
     format!(in alloc;
-        "{fault} {bytes} {calls}, accepted {} {}, {left}, entries {entries}: {begun} / {}abort 1",
-        accepted.0,
-        accepted.1,
+        "{fault} {bytes} {calls}, accepted {all_bytes} {all_calls}, {left}, entries {entries}: {begun} / {}abort 1",
         puts.as_str()
     )
 }

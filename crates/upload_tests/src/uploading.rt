@@ -3,14 +3,14 @@
 ghost use Rattle.std.specs.Prelude.{◌≡◌, ◌^◌};
 
 use crate::gates::{Checkpoint, Rule, Signal};
-use crate::reports::{left_text, reported_text};
+use crate::reports::{reported_text, store_text};
 use crate::strangers::{Deed, Outcome, begin_neighbour, meanwhile};
 use b3_core::Runtime;
 use b3_tests::pattern;
-use std::alloc::Global;
+use std::alloc::{AllocError, Global};
 use std::marker::Brand;
+use std::process::Abort;
 use std::sync::Wait;
-use std::test::Fail;
 use std::thread;
 use std::thread::Threads;
 use store_core::{Limits, TenantId};
@@ -74,10 +74,18 @@ pub(crate) fn upload_row<L: Ledgers, G: Gate + Sync, R: Threads + Wait + Sync + 
     }
 }
 
-// Opens the tenants. If one is not opened, the upload for it is refused with S1.
-fn open_tenants<L: Ledgers, R: Wait>(rt: &R, shared: &Shared<L>, cut: Cut) {
+// Opens the tenants, and begins the neighbour if there is one. If a tenant is not opened, the upload for it is refused with S1.
+fn prepare<L: Ledgers, R: Wait + AllocGlobal + Runtime>(
+    rt: &R,
+    shared: &Shared<L>,
+    share: &mut Share<L>,
+    cut: Cut,
+) {
     for _ in 0..cut.tenants {
         let _opened = lent_open_tenant(&mut *shared.lock(rt), cut.limit);
+    }
+    if cut.has_neighbour {
+        begin_neighbour(rt, rt.alloc(), shared, share);
     }
 }
 
@@ -90,62 +98,53 @@ fn accepted_by<L: Ledgers>(share: &Share<L>) -> Accepted {
 }
 
 // The result of an upload, and what it and the stranger left in a store whose whole share settles.
-fn beside_text<L: Ledgers>(
+fn beside_text<L: Ledgers, R: Abort>(
+    rt: &R,
     alloc: Global,
     answer: Result<bool, UploadFault>,
     put: Accepted,
     outcome: Outcome,
     locked: &mut Locked<L>,
     share: &mut Share<L>,
-) -> Result<String, Fail> {
+) -> Result<String, AllocError> {
     let beside = match outcome {
         Outcome::Refused => "the stranger refused, ",
         Outcome::Done => "",
         Outcome::New => "the stranger new, ",
         Outcome::Known => "the stranger known, ",
     };
+    let accepted = locked.settle(share).expect(rt, "a whole share");
     let reported = reported_text(alloc, answer, put)?;
-    let left = left_text(alloc, locked, share)?;
-    Ok(format!(in alloc; "{}, {beside}{}", reported.as_str(), left.as_str())?)
+    let left = store_text(alloc, accepted, locked.store())?;
+    format!(in alloc; "{}, {beside}{}", reported.as_str(), left.as_str())
 }
 
-/// An upload with a share of one part, and the deed of the stranger, who has all other parts.
-pub(crate) fn uploaded<
+// Uploads bytes with one share, while the stranger acts with the other.
+fn side_by_side<
     L: Ledgers + Send + Sync,
     G: Gate + Sync,
     R: Threads + Wait + Sync + AllocGlobal + Runtime,
 >(
     rt: &R,
-    ledgers: UnnamedLedgers,
+    shared: &Shared<L>,
+    one: Share<L>,
+    other: Share<L>,
     gate: &G,
     signal: &Signal,
     deed: Deed,
+    row: &[u8],
     cut: Cut,
-) -> Result<String, Fail>
-    requires bytes { (ledgers.bytes.name ≡ L.bytes_name) × (ledgers.bytes.parts ≡ L.bytes_parts) × (ledgers.bytes.parts ≡ 2 ^ 32) }
-    requires calls { (ledgers.calls.name ≡ L.calls_name) × (ledgers.calls.parts ≡ L.calls_parts) × (ledgers.calls.parts ≡ 2 ^ 32) }
-    requires history { ledgers.history ≡ L.history }
-{
+) -> ((Share<L>, Result<bool, UploadFault>), (Share<L>, Outcome)) {
     let alloc = rt.alloc();
-    let limits = Limits::new(cut.tenants, cut.entries, cut.max_workers);
-    let limits = limits.ok().ok_or("no limits")?;
-    let input = pattern(alloc, 0, cut.len)?;
-    let (shared, mut other) = Shared::<L>::new(alloc, limits, ledgers);
-    let one = other.split(1);
-    open_tenants(rt, &shared, cut);
-    if cut.has_neighbour {
-        begin_neighbour(rt, alloc, &shared, &mut other);
-    }
     let tenant = TenantId::new(cut.tenants.saturating_sub(1));
-    let (both, row) = (&shared, input.as_slice());
     let (part_chunks, workers) = (cut.part_chunks, cut.workers);
-    let ((one, answer), (other, outcome)) = thread::join(
+    thread::join(
         rt,
         move || -> (Share<L>, Result<bool, UploadFault>) {
             upload_row(
                 rt,
                 alloc,
-                both,
+                shared,
                 one,
                 gate,
                 tenant,
@@ -155,25 +154,54 @@ pub(crate) fn uploaded<
             )
         },
         move || -> (Share<L>, Outcome) {
-            meanwhile(rt, alloc, both, other, signal, deed, row, workers)
+            meanwhile(rt, alloc, shared, other, signal, deed, row, workers)
         },
+    )
+}
+
+/// An upload with a share of one part, and the deed of the stranger, who has all other parts.
+pub(crate) fn uploaded<
+    L: Ledgers + Send + Sync,
+    G: Gate + Sync,
+    R: Threads + Wait + Sync + AllocGlobal + Runtime + Abort,
+>(
+    rt: &R,
+    ledgers: UnnamedLedgers,
+    gate: &G,
+    signal: &Signal,
+    deed: Deed,
+    row: &[u8],
+    cut: Cut,
+) -> Result<String, AllocError>
+    requires bytes { (ledgers.bytes.name ≡ L.bytes_name) × (ledgers.bytes.parts ≡ L.bytes_parts) × (ledgers.bytes.parts ≡ 2 ^ 32) }
+    requires calls { (ledgers.calls.name ≡ L.calls_name) × (ledgers.calls.parts ≡ L.calls_parts) × (ledgers.calls.parts ≡ 2 ^ 32) }
+    requires history { ledgers.history ≡ L.history }
+{
+    let alloc = rt.alloc();
+    let limits = Limits::new(cut.tenants, cut.entries, cut.max_workers).expect(rt, "limits");
+    let (shared, mut other) = Shared::<L>::new(alloc, limits, ledgers);
+    let one = other.split(1);
+    prepare(rt, &shared, &mut other, cut);
+    let ((one, answer), (mut share, outcome)) = side_by_side(
+        rt, &shared, one, other, gate, signal, deed, row, cut,
     );
     let put = accepted_by(&one);
-    let mut share = other;
     let mut locked = shared.close();
     locked.join(&mut share, one);
-    beside_text(alloc, answer, put, outcome, &mut locked, &mut share)
+    beside_text(rt, alloc, answer, put, outcome, &mut locked, &mut share)
 }
 
 /// The result of an upload under a gate with this rule, and what it and the stranger leave.
-pub(crate) fn left_by<R: Threads + Wait + Sync + AllocGlobal + Runtime>(
+pub(crate) fn left_by<R: Threads + Wait + Sync + AllocGlobal + Runtime + Abort>(
     rt: &R,
     rule: Rule,
     signal: &Signal,
     deed: Deed,
     cut: Cut,
-) -> Result<String, Fail> {
+) -> String {
     let gate = Checkpoint { rule, signal };
-    let ledgers = UnnamedLedgers::new(rt.alloc())?;
-    uploaded::<Brand, _, R>(rt, ledgers, &gate, signal, deed, cut)
+    let input = pattern(rt.alloc(), 0, cut.len).expect(rt, "memory");
+    let ledgers = UnnamedLedgers::new(rt.alloc()).expect(rt, "memory");
+    let left = uploaded::<Brand, _, R>(rt, ledgers, &gate, signal, deed, input.as_slice(), cut);
+    left.expect(rt, "memory")
 }

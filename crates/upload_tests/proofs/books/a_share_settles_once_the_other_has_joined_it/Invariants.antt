@@ -1,8 +1,8 @@
 use Rattle.store_ledger.specs.Names.{no_table}
 use Rattle.upload_tests.proofs.books.a_share_settles_once_the_other_has_joined_it.Given as goal
 
-abbrev pub ghosts-share_and_book : goal.ghosts-share_and_book
-ghosts-share_and_book g a = record {
+abbrev pub ghosts-settles_once_joined : goal.ghosts-settles_once_joined
+ghosts-settles_once_joined g a = record {
   bytes_name = a.bytes.name;
   bytes_parts = a.bytes.parts;
   calls_name = a.calls.name;
