@@ -2,8 +2,8 @@
 //!
 //! ```rust
 //! let (upload, plan) = store.begin(tenant, bytes.len() as u64)?;
-//! let part = Prepared::make(alloc, &plan, 0, bytes, &mut work)?;
-//! let _held = store.put(upload, part, &mut work)?;
+//! let part = Prepared::make(alloc, &plan, 0, bytes, work)?;
+//! let _held = store.put(upload, part, work)?;
 //! ```
 //!
 //! A `Plan` is the length of an upload, or its maximum length if the length is fixed later. `Prepared::make` takes one part of the upload

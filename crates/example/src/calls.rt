@@ -7,7 +7,7 @@ use b3_parallel::{HashThreads, hash_all};
 use std::alloc::Global;
 use std::io::Read;
 use std::thread::Threads;
-use store_core::{Limits, Store};
+use store_core::Store;
 
 // Hashes bytes that come in two pieces.
 pub fn digest_of_pieces(rt: &impl Runtime, first: &[u8], second: &[u8]) -> [u8; 32] {
@@ -34,15 +34,18 @@ pub fn digest_of_reader<T: Threads + Runtime, R: Read>(
     Ok(top.root32(&mut work))
 }
 
-// Stores bytes, and returns the length of the object.
-pub fn stored_len(rt: &impl Runtime, alloc: Global, bytes: Vec<u8>) -> Result<u64> {
-    let mut work = Work::new(rt);
-    let mut store = Store::new(alloc, Limits::full());
+// Stores bytes for a new tenant, and returns the length of the object.
+pub fn stored_len(
+    store: &mut Store,
+    alloc: Global,
+    bytes: Vec<u8>,
+    work: &mut Work,
+) -> Result<u64> {
     let tenant = store.open_tenant(1 << 30)?;
     let (upload, plan) = store.begin(tenant, bytes.len() as u64)?;
-    let part = Prepared::make(alloc, &plan, 0, bytes, &mut work)?;
-    let _held = store.put(upload, part, &mut work)?;
-    let sealed = store.seal(upload, &mut work)?;
+    let part = Prepared::make(alloc, &plan, 0, bytes, work)?;
+    let _held = store.put(upload, part, work)?;
+    let sealed = store.seal(upload, work)?;
     let object = store.fetch(tenant, sealed.address)?;
     Ok(object.len())
 }

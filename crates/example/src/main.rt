@@ -91,14 +91,19 @@ fn give_back<W: Write>(
 }
 
 // Prints the hash of some bytes by the first calls of two crates, and their length in a store.
-fn show_calls<T: Threads + Runtime>(rt: &HostRuntime, threads: &T, bytes: &[u8]) -> Result<()> {
+fn show_calls<T: Threads + Runtime>(
+    rt: &HostRuntime,
+    threads: &T,
+    bytes: &[u8],
+    store: &mut Store,
+    work: &mut Work,
+) -> Result<()> {
     let (first, second) = bytes.split_at(bytes.len() / 2);
     let pieces = Address::new(digest_of_pieces(rt, first, second));
     let mut reader = bytes;
     let read = Address::new(digest_of_reader(threads, rt.alloc(), &mut reader)?);
-    let mut own = Vec::with_capacity(rt.alloc(), bytes.len())?;
-    own.extend_from_slice(bytes)?;
-    let len = stored_len(rt, rt.alloc(), own)?;
+    let own = Vec::from_slice(rt.alloc(), bytes)?;
+    let len = stored_len(store, rt.alloc(), own, work)?;
     println!(rt; "{pieces}\n{read}\n{len} bytes")?;
     Ok(())
 }
@@ -131,22 +136,23 @@ fn back_up_all<T: Threads + Wait + Sync + Runtime>(
     rt: &HostRuntime,
     threads: &T,
     input: &[u8],
+    store: &mut Store,
+    work: &mut Work,
 ) -> Result<()> {
     let alloc = rt.alloc();
-    let mut work = Work::new(rt);
-    let mut store = Store::new(alloc, Limits::full());
     let tenant = store.open_tenant(1 << 40)?;
-    let address = back_up(alloc, &mut store, tenant, input, &mut work)?;
+    let address = back_up(alloc, store, tenant, input, work)?;
     let mut stream = input;
-    let _known = back_up_stream(alloc, &mut store, tenant, &mut stream, &mut work)?;
+    let _known = back_up_stream(alloc, store, tenant, &mut stream, work)?;
     let (_same, accepted) = back_up_shared(threads, alloc, input)?;
-    show_store(rt, &store, address, &accepted, &work)?;
-    show_calls(rt, threads, input)?;
-    give_back(&store, tenant, address, &mut io::writer(rt))
+    show_store(rt, store, address, &accepted, work)?;
+    show_calls(rt, threads, input, store, work)?;
+    give_back(store, tenant, address, &mut io::writer(rt))
 }
 
 fn main(rt: HostRuntime) -> Result<()> {
     let mut input = Vec::new(rt.alloc());
     rt.stdin().read_to_end(&mut input)?;
-    back_up_all(&rt, &rt, input.as_slice())
+    let mut store = Store::new(rt.alloc(), Limits::full());
+    back_up_all(&rt, &rt, input.as_slice(), &mut store, &mut Work::new(&rt))
 }

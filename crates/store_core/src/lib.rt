@@ -1,13 +1,13 @@
 //! A store of objects under their BLAKE3 hashes, with tenants' quotas, uploads in parts, and a journal.
 //!
+//! In a store that `Store::new(alloc, Limits::full())` has made:
+//!
 //! ```rust
-//! let mut work = Work::new(rt);
-//! let mut store = Store::new(alloc, Limits::full());
 //! let tenant = store.open_tenant(1 << 30)?;
 //! let (upload, plan) = store.begin(tenant, bytes.len() as u64)?;
-//! let part = Prepared::make(alloc, &plan, 0, bytes, &mut work)?;
-//! let _held = store.put(upload, part, &mut work)?;
-//! let sealed = store.seal(upload, &mut work)?;
+//! let part = Prepared::make(alloc, &plan, 0, bytes, work)?;
+//! let _held = store.put(upload, part, work)?;
+//! let sealed = store.seal(upload, work)?;
 //! let object = store.fetch(tenant, sealed.address)?;
 //! ```
 //!
