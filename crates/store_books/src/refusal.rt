@@ -79,22 +79,22 @@ impl fmt::Display for Refusal {
 
     fn fmt<W: fmt::Write>(&self, f: &mut fmt::Formatter<W>) -> fmt::Result {
         match self {
-            Refusal::NoTenant => write!(f, "{}", self.code()),
-            Refusal::TenantsFull => write!(f, "{}", self.code()),
-            Refusal::LimitTooLarge => write!(f, "{}", self.code()),
             Refusal::BelowUse { in_use } => write!(f, "{} use {in_use}", self.code()),
-            Refusal::TooLong => write!(f, "{}", self.code()),
             Refusal::OverQuota { free } => write!(f, "{} free {free}", self.code()),
-            Refusal::NoUpload => write!(f, "{}", self.code()),
-            Refusal::WrongPlan => write!(f, "{}", self.code()),
             Refusal::Overlap { at } => write!(f, "{} at {at}", self.code()),
             Refusal::Incomplete { missing } => write!(f, "{} missing {missing}", self.code()),
             Refusal::WrongAddress { found } => write!(f, "{} found {found}", self.code()),
-            Refusal::NotHeld => write!(f, "{}", self.code()),
-            Refusal::JournalFull => write!(f, "{}", self.code()),
-            Refusal::NoMemory => write!(f, "{}", self.code()),
             Refusal::PastLast { end } => write!(f, "{} end {end}", self.code()),
-            Refusal::NotFixed => write!(f, "{}", self.code()),
+            Refusal::NoTenant
+            | Refusal::TenantsFull
+            | Refusal::LimitTooLarge
+            | Refusal::TooLong
+            | Refusal::NoUpload
+            | Refusal::WrongPlan
+            | Refusal::NotHeld
+            | Refusal::JournalFull
+            | Refusal::NoMemory
+            | Refusal::NotFixed => write!(f, "{}", self.code()),
         }
     }
 }
