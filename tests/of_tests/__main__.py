@@ -1,6 +1,7 @@
 """python3 tests/of_tests: tests that tests/growths, tests/failures, tests/random, tests/sessions, tests/memory, tests/program, tests/pages,
 tests/clients, tests/install, tests/b3sum, tests/c and tests/soak fail when they must: with `true` or `cat` instead of the program, with a library
-that does nothing, if no growth of memory can be made to fail, and without a C compiler or a test program. Each must end with status 1 and a last line `N passed, M failed`, where M is not 0, and where no more
+that does nothing, if no growth of memory can be made to fail, and without a C compiler or a test program. tests/program and tests/clients are tried
+with `cat` alone. Each must end with status 1 and a last line `N passed, M failed`, where M is not 0, and where no more
 tests pass than this file says.
 
 A stand-in program (stand_in.c) gives the answers that tests/growths expects, and its memory grows once. With it tests/growths passes, unless it
@@ -37,6 +38,9 @@ WRONG_SERVERS = {
 """Mistakes of that server, and what tests/soak reports of each."""
 INSTALL, B3SUM = OF_BASH = tuple(os.path.join(TESTS, name) for name in ("install", "b3sum"))
 NOT_THE_STORE = ("true", "cat")
+ANSWERS = "cat"
+"""The one of these over which tests/program and tests/clients are tried, as it also answers: over both these two would take half of the time of all trials."""
+
 FEW_CASES = 50
 MAX_OF_A_HUNDRED = 4
 """So much of tests/program may pass with any program: a few cases ask nothing of it. They compare the second reading with what else is in the
@@ -176,9 +180,10 @@ def try_program(trials, name):
     trials.fails(f"random over {name}", [random, program, "--cases", str(FEW_CASES)])
     trials.fails(f"sessions over {name}", [os.path.join(TESTS, "sessions"), program, "--program-alone", "--commands", "1000"])
     trials.fails(f"memory over {name}", [memory, program, "--program-alone"], "it answered")
-    trials.fails(f"program over {name}", [os.path.join(TESTS, "program"), program], most=MAX_OF_A_HUNDRED)
     trials.fails(f"pages over {name}", [os.path.join(TESTS, "pages"), program], most=MAX_OF_PAGES)
-    trials.fails(f"clients over {name}", [os.path.join(TESTS, "clients"), program], most=MAX_OF_CLIENTS)
+    if name == ANSWERS:
+        trials.fails(f"program over {name}", [os.path.join(TESTS, "program"), program], most=MAX_OF_A_HUNDRED)
+        trials.fails(f"clients over {name}", [os.path.join(TESTS, "clients"), program], most=MAX_OF_CLIENTS)
     trials.fails(f"install over {name}", [INSTALL, program], "the program answers", 1, MAX_OF_INSTALL)
     if shutil.which("b3sum"):
         trials.fails(f"b3sum over {name}", [B3SUM, program], most=MAX_OF_B3SUM)
