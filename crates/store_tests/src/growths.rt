@@ -7,10 +7,10 @@
 //! test.
 
 use crate::helpers::holds;
-use std::test::Fail;
+use std::alloc::AllocError;
 
 #[test]
-fn commands(rt: HostRuntime) -> Result<(), Fail> {
+fn commands(rt: HostRuntime) -> Result<(), AllocError> {
     holds(
         &rt,
         "tenant 8192 > tenant 0 [0 0]
@@ -35,7 +35,7 @@ state > objects 1 bytes 2049 uploads 0 held 0 parts 0 journal 14 [0 0]
 }
 
 #[test]
-fn open_uploads(rt: HostRuntime) -> Result<(), Fail> {
+fn open_uploads(rt: HostRuntime) -> Result<(), AllocError> {
     holds(
         &rt,
         "tenant 8192 > tenant 0 [0 0]

@@ -3,15 +3,14 @@
 
 use b3_core::{Runtime, Work};
 use b3_forest::{PartFault, Plan, Prepared};
-use b3_tests::{Answers, cut, is_pattern, number, pattern, reported, two_numbers};
+use b3_tests::{Answers, append, cut, is_pattern, number, pattern, reported, two_numbers};
 use hex::FromHex;
 use std::alloc::{AllocError, Global};
 use std::process::Abort;
 use std::sync::Arc;
-use std::test::Fail;
 use store_core::{
-    Address, Held, Limits, Object, ReadError, Refusal, Refused, ReplayError, Sealed, Store,
-    TenantId, UploadId, UploadStatus, Usage, read_journal, replay, write_journal,
+    Address, Entry, Held, Limits, Object, ReadError, Refusal, Refused, ReplayError, Sealed, Store,
+    TenantId, Totals, UploadId, read_journal, replay, write_journal,
 };
 
 // A store, the tenant of its commands, a part that was returned when out of memory, the compressions of making parts, and the store's own.
@@ -27,28 +26,40 @@ struct Scripted {
 
 impl Answers for Scripted {
     fn answer(&mut self, command: &str) -> Result<String, AllocError> {
-        let (before, making) = (self.all()?, self.making.count());
-        let answer = self.counted(command, making)?;
-        if !answer.starts_with("S14") {
-            return Ok(answer);
+        let making = self.making.count();
+        let Ok(before) = self.all() else {
+            return Err(AllocError);
+        };
+        match self.counted(command, making) {
+            Ok(answer) if answer.starts_with("S14") => {
+                self.again(command, making, before.as_str())
+            }
+            answer => answer,
         }
-        let after = self.all()?;
-        if after != before {
-            return format!(in self.alloc; "{after}");
-        }
-        self.counted(command, making)
     }
 }
 
 impl Scripted {
+    // The answer if the command is given again, or everything if it is not as before.
+    fn again(&mut self, command: &str, making: u64, before: &str) -> Result<String, AllocError> {
+        match self.all() {
+            Ok(after) if after.as_str() == before => self.counted(command, making),
+            after => after,
+        }
+    }
+
     // The answer, the compressions of making a part since `making`, and the store's for this command.
     fn counted(&mut self, command: &str, making: u64) -> Result<String, AllocError> {
         let work = self.work.count();
         let (word, rest) = cut(command);
-        let answer = self.reply(word, rest)?;
-        let making = self.making.count().wrapping_sub(making);
-        let work = self.work.count().wrapping_sub(work);
-        format!(in self.alloc; "{answer} [{making} {work}]")
+        match self.reply(word, rest) {
+            Ok(answer) => {
+                let making = self.making.count().wrapping_sub(making);
+                let work = self.work.count().wrapping_sub(work);
+                format!(in self.alloc; "{answer} [{making} {work}]")
+            }
+            Err(error) => Err(error),
+        }
     }
 
     fn reply(&mut self, word: &str, rest: &str) -> Result<String, AllocError> {
@@ -64,8 +75,7 @@ impl Scripted {
             "tenant" => self.open_tenant(first),
             "forget" => self.forget(rest),
             "fetch" => self.fetch(rest),
-            "has" => self.has(rest),
-            "range" => self.range(first, second, cut(cut(rest).1).1),
+            "range" => self.range(first, cut(rest).1),
             _ => self.reported(word, first, second),
         }
     }
@@ -80,8 +90,6 @@ impl Scripted {
             "abort" => done_text(alloc, self.store.abort(upload).map(|_| ())),
             "usage" => self.usage(),
             "list" => self.list(),
-            "uploads" => self.uploads(),
-            "tenants" => self.tenants(),
             "read" => self.read(),
             "replay" => self.replay(),
             _ => self.state(),
@@ -98,8 +106,7 @@ impl Scripted {
         match Limits::new(tenants, entries, number(workers)) {
             Ok(limits) => {
                 self.store = Store::new(self.alloc, limits);
-                let is_full = limits == Limits::full();
-                format!(in self.alloc; "full {is_full}")
+                full_text(self.alloc, limits == Limits::full())
             }
             Err(bad) => format!(in self.alloc; "{}", bad.code()),
         }
@@ -114,7 +121,7 @@ impl Scripted {
     fn open_tenant(&mut self, limit: u64) -> Result<String, AllocError> {
         match self.store.open_tenant(limit) {
             Ok(tenant) => format!(in self.alloc; "tenant {tenant}"),
-            Err(refusal) => format!(in self.alloc; "{refusal}"),
+            Err(refusal) => refusal_text(self.alloc, refusal),
         }
     }
 
@@ -136,7 +143,9 @@ impl Scripted {
         let Ok(plan) = self.store.plan(of) else {
             return Ok(None);
         };
-        let bytes = pattern(self.alloc, offset, len)?;
+        let Ok(bytes) = pattern(self.alloc, offset, len) else {
+            return Err(AllocError);
+        };
         match Prepared::make(self.alloc, &plan, offset, bytes, &mut self.making) {
             Ok(part) => Ok(Some(part)),
             Err(refused) if refused.reason == PartFault::NoMemory => Err(AllocError),
@@ -147,18 +156,35 @@ impl Scripted {
     // Puts the part that was returned last, if there is one.
     fn put(&mut self, upload: UploadId, numbers: &str) -> Result<String, AllocError> {
         let (offset, len) = two_numbers(cut(numbers).1);
-        let part = match self.part.take() {
-            Some(part) => part,
-            None => match self.make(upload, offset, len)? {
-                Some(part) => part,
-                None => return format!(in self.alloc; "no part"),
-            },
-        };
+        match self.part_at(upload, offset, len) {
+            Ok(Some(part)) => self.put_part(upload, part, offset, len),
+            Ok(None) => format!(in self.alloc; "no part"),
+            Err(error) => Err(error),
+        }
+    }
+
+    fn part_at(
+        &mut self,
+        upload: UploadId,
+        offset: u64,
+        len: u64,
+    ) -> Result<Option<Prepared>, AllocError> {
+        match self.part.take() {
+            Some(part) => Ok(Some(part)),
+            None => self.make(upload, offset, len),
+        }
+    }
+
+    fn put_part(
+        &mut self,
+        upload: UploadId,
+        part: Prepared,
+        offset: u64,
+        len: u64,
+    ) -> Result<String, AllocError> {
         let is_wanted = part.offset() == offset && is_pattern(part.bytes(), offset, len);
         match self.store.put(upload, part, &mut self.work) {
-            Ok(Held { held, missing }) => {
-                format!(in self.alloc; "held {held} missing {missing:?} {is_wanted}")
-            }
+            Ok(held) => held_text(self.alloc, held, is_wanted),
             Err(refused) => self.back(refused),
         }
     }
@@ -178,12 +204,10 @@ impl Scripted {
 
     // Puts a part with another upload's plan.
     fn stray(&mut self, to: UploadId, of: UploadId) -> Result<String, AllocError> {
-        let Some(part) = self.make(of, 0, 1024)? else {
-            return format!(in self.alloc; "no part");
-        };
-        match self.store.put(to, part, &mut self.work) {
-            Ok(_) => format!(in self.alloc; "held"),
-            Err(refused) => self.back(refused),
+        match self.make(of, 0, 1024) {
+            Ok(Some(part)) => self.put_part(to, part, 0, 1024),
+            Ok(None) => format!(in self.alloc; "no part"),
+            Err(error) => Err(error),
         }
     }
 
@@ -192,70 +216,33 @@ impl Scripted {
     }
 
     fn seal_as(&mut self, upload: UploadId, digits: &str) -> Result<String, AllocError> {
-        let Ok(bytes) = <[u8; 32]>::from_hex(digits) else {
-            return format!(in self.alloc; "no address");
-        };
         let sealed = self
             .store
-            .seal_as(upload, Address::new(bytes), &mut self.work);
+            .seal_as(upload, address_of(digits), &mut self.work);
         sealed_text(self.alloc, sealed)
     }
 
     fn forget(&mut self, digits: &str) -> Result<String, AllocError> {
-        let Ok(bytes) = <[u8; 32]>::from_hex(digits) else {
-            return format!(in self.alloc; "no address");
-        };
-        let forgotten = self.store.forget(self.tenant, Address::new(bytes));
+        let forgotten = self.store.forget(self.tenant, address_of(digits));
         forgotten_text(self.alloc, forgotten)
     }
 
     fn fetch(&self, digits: &str) -> Result<String, AllocError> {
-        let Ok(bytes) = <[u8; 32]>::from_hex(digits) else {
-            return format!(in self.alloc; "no address");
-        };
-        match self.store.fetch(self.tenant, Address::new(bytes)) {
-            Ok(object) => format!(in self.alloc; "{} {}", object.address(), object.len()),
-            Err(refusal) => format!(in self.alloc; "{refusal}"),
+        match self.store.fetch(self.tenant, address_of(digits)) {
+            Ok(object) => object_text(self.alloc, object.address(), object.len()),
+            Err(refusal) => refusal_text(self.alloc, refusal),
         }
     }
 
-    fn has(&self, digits: &str) -> Result<String, AllocError> {
-        let Ok(bytes) = <[u8; 32]>::from_hex(digits) else {
-            return format!(in self.alloc; "no address");
-        };
-        match self.store.holds(self.tenant, Address::new(bytes)) {
-            Ok(len) => format!(in self.alloc; "{len}"),
-            Err(refusal) => format!(in self.alloc; "{refusal}"),
-        }
-    }
-
-    // Reads an object from `from` on into a buffer of `room` bytes. Returns the number of bytes read, and the buffer; bytes that were not
-    // read are 255.
-    fn range(&self, from: u64, room: u64, digits: &str) -> Result<String, AllocError> {
-        let Ok(bytes) = <[u8; 32]>::from_hex(digits) else {
-            return format!(in self.alloc; "no address");
-        };
-        match self.store.fetch(self.tenant, Address::new(bytes)) {
+    // Reads an object from `from` on into six bytes. Returns the number of bytes read, and the six; those that were not read are 255.
+    fn range(&self, from: u64, digits: &str) -> Result<String, AllocError> {
+        let mut room = [255u8; 6];
+        match self.store.fetch(self.tenant, address_of(digits)) {
             Ok(object) => {
-                let mut room = vec![in self.alloc; 255u8; room as usize]?;
-                let count = object.read(from, room.as_mut_slice());
-                format!(in self.alloc; "{count} {room:?}")
+                let count = object.read(from, &mut room);
+                bytes_text(self.alloc, count, &room)
             }
-            Err(refusal) => format!(in self.alloc; "{refusal}"),
-        }
-    }
-
-    fn uploads(&self) -> Result<String, AllocError> {
-        match self.store.uploads(self.tenant) {
-            Ok(uploads) => uploads_text(self.alloc, uploads.as_slice()),
-            Err(refusal) => format!(in self.alloc; "{refusal}"),
-        }
-    }
-
-    fn tenants(&self) -> Result<String, AllocError> {
-        match self.store.tenants() {
-            Ok(usages) => usages_text(self.alloc, usages.as_slice()),
-            Err(refusal) => format!(in self.alloc; "{refusal}"),
+            Err(refusal) => refusal_text(self.alloc, refusal),
         }
     }
 
@@ -265,28 +252,21 @@ impl Scripted {
                 "{} {} {}",
                 usage.used, usage.reserved, usage.limit
             ),
-            Err(refusal) => format!(in self.alloc; "{refusal}"),
+            Err(refusal) => refusal_text(self.alloc, refusal),
         }
     }
 
     fn list(&self) -> Result<String, AllocError> {
         match self.store.list(self.tenant) {
             Ok(objects) => objects_text(self.alloc, objects.as_slice()),
-            Err(refusal) => format!(in self.alloc; "{refusal}"),
+            Err(refusal) => refusal_text(self.alloc, refusal),
         }
     }
 
     // Whether the journal's text is read as the journal.
     fn read(&self) -> Result<String, AllocError> {
-        let mut text = Vec::new(self.alloc);
-        if write_journal(self.store.journal(), &mut text).is_err() {
-            return Err(AllocError);
-        }
-        match read_journal(self.alloc, text.as_slice()) {
-            Ok(entries) => {
-                let is_same = entries.as_slice() == self.store.journal();
-                format!(in self.alloc; "same {is_same}")
-            }
+        match is_read_back(self.alloc, self.store.journal()) {
+            Ok(is_same) => format!(in self.alloc; "same {is_same}"),
             Err(ReadError::NoMemory) => format!(in self.alloc; "S14"),
             Err(refusal) => format!(in self.alloc; "{refusal}"),
         }
@@ -294,8 +274,8 @@ impl Scripted {
 
     // The totals that replaying the journal results in.
     fn replay(&self) -> Result<String, AllocError> {
-        match replay(self.alloc, self.store.journal()) {
-            Ok(replayed) => format!(in self.alloc; "{}", replayed.totals()),
+        match totals_of(self.alloc, self.store.journal()) {
+            Ok(totals) => format!(in self.alloc; "{totals}"),
             Err(ReplayError::NoMemory) => format!(in self.alloc; "S14"),
             Err(refusal) => format!(in self.alloc; "{refusal}"),
         }
@@ -309,42 +289,87 @@ impl Scripted {
 
     // Everything that the store answers, and the result of replaying its journal.
     fn all(&self) -> Result<String, AllocError> {
-        let mut text = self.state()?;
-        text.push_str(self.usage()?.as_str())?;
-        text.push_str(self.list()?.as_str())?;
-        text.push_str(self.replay()?.as_str())?;
-        for entry in self.store.journal() {
-            text.push_str(format!(in self.alloc; "{entry}, ")?.as_str())?;
-        }
-        Ok(text)
+        let Ok(mut text) = self.state() else {
+            return Err(AllocError);
+        };
+        let is_all = append(&mut text, self.usage()).is_ok()
+            && append(&mut text, self.list()).is_ok()
+            && append(&mut text, self.replay()).is_ok()
+            && append(&mut text, entries_text(self.alloc, self.store.journal())).is_ok();
+        if is_all { Ok(text) } else { Err(AllocError) }
     }
+}
+
+// The address with these digits; for anything else, the one of zeros.
+fn address_of(digits: &str) -> Address {
+    Address::new(<[u8; 32]>::from_hex(digits).unwrap_or([0; 32]))
+}
+
+fn refusal_text(alloc: Global, refusal: Refusal) -> Result<String, AllocError> {
+    format!(in alloc; "{refusal}")
+}
+
+fn full_text(alloc: Global, is_full: bool) -> Result<String, AllocError> {
+    format!(in alloc; "full {is_full}")
+}
+
+fn bytes_text(alloc: Global, count: usize, bytes: &[u8]) -> Result<String, AllocError> {
+    format!(in alloc; "{count} {bytes:?}")
+}
+
+// The totals that replaying entries results in.
+fn totals_of(alloc: Global, entries: &[Entry]) -> Result<Totals, ReplayError> {
+    match replay(alloc, entries) {
+        Ok(replayed) => Ok(replayed.totals()),
+        Err(error) => Err(error),
+    }
+}
+
+fn entry_text(alloc: Global, entry: &Entry) -> Result<String, AllocError> {
+    format!(in alloc; "{entry}, ")
+}
+
+fn entries_text(alloc: Global, entries: &[Entry]) -> Result<String, AllocError> {
+    let mut text = String::new(alloc);
+    for entry in entries {
+        if append(&mut text, entry_text(alloc, entry)).is_err() {
+            return Err(AllocError);
+        }
+    }
+    Ok(text)
+}
+
+// Whether the text of a journal is read as the journal.
+fn is_read_back(alloc: Global, entries: &[Entry]) -> Result<bool, ReadError> {
+    let mut text = Vec::new(alloc);
+    if write_journal(entries, &mut text).is_err() {
+        return Err(ReadError::NoMemory);
+    }
+    match read_journal(alloc, text.as_slice()) {
+        Ok(read) => Ok(read.as_slice() == entries),
+        Err(error) => Err(error),
+    }
+}
+
+fn held_text(alloc: Global, held: Held, is_wanted: bool) -> Result<String, AllocError> {
+    let Held { held, missing } = held;
+    format!(in alloc; "held {held} missing {missing:?} {is_wanted}")
+}
+
+fn object_text(alloc: Global, address: Address, len: u64) -> Result<String, AllocError> {
+    format!(in alloc; "{address} {len}")
+}
+
+fn listed_text(alloc: Global, address: Address, len: u64) -> Result<String, AllocError> {
+    format!(in alloc; "[{address} {len}]")
 }
 
 fn objects_text(alloc: Global, objects: &[(Address, u64)]) -> Result<String, AllocError> {
     let mut text = String::new(alloc);
     for (address, len) in objects {
-        text.push_str(format!(in alloc; "[{address} {len}]")?.as_str())?;
-    }
-    Ok(text)
-}
-
-fn uploads_text(alloc: Global, uploads: &[UploadStatus]) -> Result<String, AllocError> {
-    let mut text = String::new(alloc);
-    for open in uploads {
-        let line = format!(in alloc;
-            "[{} {} {:?} {}]",
-            open.upload, open.bound, open.end, open.held
-        )?;
-        text.push_str(line.as_str())?;
-    }
-    Ok(text)
-}
-
-fn usages_text(alloc: Global, usages: &[Usage]) -> Result<String, AllocError> {
-    let mut text = String::new(alloc);
-    for usage in usages {
-        let line = format!(in alloc; "[{} {} {}]", usage.used, usage.reserved, usage.limit)?;
-        text.push_str(line.as_str())?;
+        if append(&mut text, listed_text(alloc, *address, *len)).is_err() {
+            return Err(AllocError);
+        }
     }
     Ok(text)
 }
@@ -358,27 +383,29 @@ fn begun_text(
             let (bound, is_open) = (plan.bound(), plan.is_open());
             format!(in alloc; "upload {upload} of {bound} open {is_open}")
         }
-        Err(refusal) => format!(in alloc; "{refusal}"),
+        Err(refusal) => refusal_text(alloc, refusal),
     }
 }
 
 fn done_text(alloc: Global, answer: Result<(), Refusal>) -> Result<String, AllocError> {
     match answer {
         Ok(()) => format!(in alloc; "ok"),
-        Err(refusal) => format!(in alloc; "{refusal}"),
+        Err(refusal) => refusal_text(alloc, refusal),
+    }
+}
+
+fn sealed_text(alloc: Global, answer: Result<Sealed, Refusal>) -> Result<String, AllocError> {
+    match answer {
+        Ok(sealed) => filed_text(alloc, &sealed),
+        Err(refusal) => refusal_text(alloc, refusal),
     }
 }
 
 // The address, whether it is new, its length, and the numbers of bytes and parts of the returned upload.
-fn sealed_text(alloc: Global, answer: Result<Sealed, Refusal>) -> Result<String, AllocError> {
-    match answer {
-        Ok(sealed) => {
-            let (new, len) = (sealed.new, sealed.object.len());
-            let (held, parts) = (sealed.released.held(), sealed.released.parts());
-            format!(in alloc; "{} {new} {len} back {held} {parts}", sealed.address)
-        }
-        Err(refusal) => format!(in alloc; "{refusal}"),
-    }
+fn filed_text(alloc: Global, sealed: &Sealed) -> Result<String, AllocError> {
+    let (new, len) = (sealed.new, sealed.object.len());
+    let (held, parts) = (sealed.released.held(), sealed.released.parts());
+    format!(in alloc; "{} {new} {len} back {held} {parts}", sealed.address)
 }
 
 // The address and the length of a returned object.
@@ -387,32 +414,52 @@ fn forgotten_text(
     answer: Result<Option<Arc<Object>>, Refusal>,
 ) -> Result<String, AllocError> {
     match answer {
-        Ok(Some(removed)) => format!(in alloc; "back {} {}", removed.address(), removed.len()),
+        Ok(Some(removed)) => back_text(alloc, removed.address(), removed.len()),
         Ok(None) => format!(in alloc; "others hold it"),
-        Err(refusal) => format!(in alloc; "{refusal}"),
+        Err(refusal) => refusal_text(alloc, refusal),
     }
 }
 
-// The answers to the script.
-fn reported_of<R: AllocGlobal + Runtime>(rt: &R, script: &str) -> Result<String, AllocError> {
-    let mut on = Scripted {
+fn back_text(alloc: Global, address: Address, len: u64) -> Result<String, AllocError> {
+    format!(in alloc; "back {address} {len}")
+}
+
+fn empty<R: AllocGlobal + Runtime>(rt: &R) -> Scripted {
+    Scripted {
         alloc: rt.alloc(),
         store: Store::new(rt.alloc(), Limits::full()),
         tenant: TenantId::new(0),
         part: None,
         making: Work::new(rt),
         work: Work::new(rt),
-    };
+    }
+}
+
+// The answers to the script.
+fn reported_of<R: AllocGlobal + Runtime>(rt: &R, script: &str) -> Result<String, AllocError> {
+    let mut on = empty(rt);
     reported(rt.alloc(), &mut on, script)
 }
 
 /// The answers to the script are those in the script, from a store that starts with the widest limits. If an allocation of the test itself
 /// fails, everything is repeated.
-pub(crate) fn holds<R: AllocGlobal + Runtime + Abort>(rt: &R, script: &str) -> Result<(), Fail> {
+pub(crate) fn holds<R: AllocGlobal + Runtime + Abort>(
+    rt: &R,
+    script: &str,
+) -> Result<(), AllocError> {
     let reported = match reported_of(rt, script) {
-        Ok(reported) => reported,
-        Err(_) => reported_of(rt, script)?,
+        Err(_) => reported_of(rt, script),
+        reported => reported,
     };
-    assert_eq!(rt; reported.as_str(), script);
-    Ok(())
+    match reported {
+        Ok(reported) => {
+            assert_same(rt, reported.as_str(), script);
+            Ok(())
+        }
+        Err(error) => Err(error),
+    }
+}
+
+fn assert_same<R: Abort>(rt: &R, actual: &str, script: &str) {
+    assert_eq!(rt; actual, script);
 }

@@ -1,16 +1,12 @@
 //! Names, entries, and the journal's text. What is outside the grammar is in tests/cases/journal-lines.table.
 
-use b3_tests::FailingWriter;
-use hex::FromHex;
+use b3_tests::{FailingWriter, append};
 use std::alloc::{AllocError, Global};
-use std::test::Fail;
+use std::slice;
 use store_journal::{
-    Address, BadText, Entry, IllegalEntry, ReadError, ReplayError, TenantId, TextPlace, UploadId,
-    entry_lines, read_entry, read_journal, write_entry, write_journal,
+    Address, Entry, IllegalEntry, ReadError, ReplayError, TenantId, UploadId, entry_lines,
+    read_entry, read_journal, write_entry, write_journal,
 };
-
-// The hash of one zero byte.
-const ZERO: &str = "2d3adedff11b61f14c886e35afa036736dcd87a74d27b5c1510225d0f592e213";
 
 // An entry of each kind, and a seal with either word, as a journal of version 2 has them.
 const LINES: &str = "b3store-journal 2
@@ -42,7 +38,9 @@ Fix { upload: UploadId { number: 7 }, len: 1025 }
 fn fields_of(alloc: Global, entries: &[Entry]) -> Result<String, AllocError> {
     let mut text = String::new(alloc);
     for entry in entries {
-        text.push_str(fields(alloc, entry)?.as_str())?;
+        if append(&mut text, fields(alloc, entry)).is_err() {
+            return Err(AllocError);
+        }
     }
     Ok(text)
 }
@@ -51,100 +49,120 @@ fn fields(alloc: Global, entry: &Entry) -> Result<String, AllocError> {
     format!(in alloc; "{entry:?}\n")
 }
 
-// The lines of entries, each of which is read back.
-fn lines_of(alloc: Global, entries: &[Entry]) -> Result<Vec<u8>, Fail> {
-    let mut lines = Vec::new(alloc);
-    for entry in entries {
-        let line = entry.to_string(alloc)?;
-        if read_entry(line.as_bytes()) != Ok(*entry) {
-            return Err(Fail::new("another entry"));
-        }
-        write_entry(entry, &mut lines)?;
+// Whether the text of an entry is read as the entry.
+fn is_read_back(alloc: Global, entry: &Entry) -> bool {
+    match entry.to_string(alloc) {
+        Ok(line) => read_entry(line.as_bytes()) == Ok(*entry),
+        Err(_) => false,
     }
-    Ok(lines)
+}
+
+fn are_read_back(alloc: Global, entries: &[Entry]) -> bool {
+    let mut are_all = true;
+    for entry in entries {
+        are_all = are_all && is_read_back(alloc, entry);
+    }
+    are_all
+}
+
+// Whether the entries, written one by one, are these lines.
+fn are_written(alloc: Global, entries: &[Entry], lines: &[u8]) -> bool {
+    let mut text = Vec::new(alloc);
+    let mut are_written = true;
+    for entry in entries {
+        are_written = write_entry(entry, &mut text).is_ok() && are_written;
+    }
+    are_written && text.as_slice() == lines
+}
+
+// Whether the entries are written as this journal.
+fn is_written(alloc: Global, entries: &[Entry], journal: &[u8]) -> bool {
+    let mut text = Vec::new(alloc);
+    write_journal(entries, &mut text).is_ok() && text.as_slice() == journal
+}
+
+// Whether the entries are these lines.
+fn are_lines(alloc: Global, entries: &[Entry], lines: &[u8]) -> bool {
+    match entry_lines(alloc, entries) {
+        Ok(text) => text.as_slice() == lines,
+        Err(_) => false,
+    }
+}
+
+fn are_fields(alloc: Global, entries: &[Entry]) -> bool {
+    match fields_of(alloc, entries) {
+        Ok(text) => text.as_str() == FIELDS,
+        Err(_) => false,
+    }
+}
+
+// Whether the entries have the fields and the lines.
+fn are_all(alloc: Global, entries: &[Entry]) -> bool {
+    let Some((_, lines)) = LINES.split_once('\n') else {
+        return false;
+    };
+    let lines = lines.as_bytes();
+    are_fields(alloc, entries)
+        && are_read_back(alloc, entries)
+        && are_written(alloc, entries, lines)
+        && are_lines(alloc, entries, lines)
+        && is_written(alloc, entries, LINES.as_bytes())
 }
 
 #[test]
-fn a_journal_is_read_and_written(rt: HostRuntime) -> Result<(), Fail> {
-    let alloc = rt.alloc();
-    let (_, after_the_header) = LINES.split_once('\n').ok_or("no header")?;
-    let entries = read_journal(alloc, LINES.as_bytes())?;
-    let fields = fields_of(alloc, entries.as_slice())?;
-    assert_eq!(rt; fields.as_str(), FIELDS);
-    let lines = lines_of(alloc, entries.as_slice())?;
-    assert!(rt; lines.as_slice() == after_the_header.as_bytes());
-    let lines = entry_lines(alloc, entries.as_slice())?;
-    assert!(rt; lines.as_slice() == after_the_header.as_bytes());
-    let mut written = Vec::new(alloc);
-    write_journal(entries.as_slice(), &mut written)?;
-    assert!(rt; written.as_slice() == LINES.as_bytes());
-    Ok(())
+fn a_journal_is_read_and_written(rt: HostRuntime) {
+    let entries = read_journal(rt.alloc(), LINES.as_bytes()).expect(&rt, "a journal");
+    assert!(rt; are_all(rt.alloc(), entries.as_slice()));
 }
 
 #[test]
-fn a_text_is_read_line_by_line(rt: HostRuntime) {
-    let mut place = TextPlace::start();
-    let header = place.read(b"b3store-journal 2");
-    let entry = place.read(b"fix 5 1025");
-    let second_header = place.read(b"b3store-journal 2");
-    let upload = UploadId::new(5);
-    assert!(rt; header == Ok(None));
-    assert!(rt; entry == Ok(Some(Entry::Fix { upload, len: 1025 })));
-    assert!(rt; second_header == Err(BadText { line: 3 }));
-}
-
-#[test]
-fn names_give_back_what_they_are_of(rt: HostRuntime) -> Result<(), Fail> {
-    let alloc = rt.alloc();
-    let bytes = <[u8; 32]>::from_hex(ZERO)?;
-    let address = Address::new(bytes);
-    assert!(rt; address.bytes().as_slice() == bytes.as_slice());
+fn names_give_back_what_they_are_of(rt: HostRuntime) {
+    let address = Address::new([7; 32]);
     let (tenant, upload) = (TenantId::new(7), UploadId::new(u64::MAX));
-    assert!(rt; tenant.number() == 7 && upload.number() == u64::MAX);
-    let text = format!(in alloc; "{address} {tenant} {upload}")?;
-    let wanted = format!(in alloc; "{ZERO} 7 18446744073709551615")?;
-    assert!(rt; text == wanted);
-    Ok(())
+    assert!(rt; address.bytes() == [7; 32] && tenant.number() == 7 && upload.number() == u64::MAX);
+}
+
+// Whether the line is no entry.
+fn is_refused(line: &[u8]) -> bool {
+    match read_entry(line) {
+        Ok(_entry) => false,
+        Err(bad) => bad.line == 1 && bad.code() == "J2",
+    }
 }
 
 #[test]
-fn refusals_are_reported(rt: HostRuntime) -> Result<(), Fail> {
-    let alloc = rt.alloc();
-    assert!(rt; read_entry(b"begin 0") == Err(BadText { line: 1 }));
-    assert!(rt; read_entry(b"abort 0\n") == Err(BadText { line: 1 }));
-    let third = read_journal(alloc, b"abort 1\nabort 1\nabort 01\n").err();
-    let first = read_journal(alloc, b"fix 5 1025\n").err();
-    let illegal = ReplayError::Illegal(IllegalEntry { number: 7 });
-    let codes = (
-        BadText { line: 1 }.code(),
-        IllegalEntry { number: 7 }.code(),
-    );
-    assert!(rt; codes == ("J2", "J1"));
+fn refusals_are_reported(rt: HostRuntime) {
+    let illegal = IllegalEntry { number: 7 };
+    assert!(rt; is_refused(b"begin 0") && is_refused(b"abort 0\n") && illegal.code() == "J1");
     let (read, replayed) = (ReadError::NoMemory, ReplayError::NoMemory);
-    let text = format!(in alloc; "{third:?} {first:?} {illegal} {read} {replayed}")?;
-    assert_eq!(rt;
-        text.as_str(),
-        "Some(BadText(BadText { line: 3 })) Some(BadText(BadText { line: 1 })) J1 7 out of memory out of memory",
-    );
-    Ok(())
+    let text = format!(in rt.alloc(); "{read}, {replayed}").expect(&rt, "memory for the text");
+    assert!(rt; text.as_str() == "out of memory, out of memory");
 }
 
+// Whether writing an entry ends with the call that fails.
+fn is_written_until(entry: &Entry, fails: u64) -> bool {
+    let mut writer = FailingWriter { calls: 0, fails };
+    write_entry(entry, &mut writer).is_err() && writer.calls == fails
+}
+
+// Whether writing a journal with one entry ends with the call that fails.
+fn is_journal_until(entry: &Entry, fails: u64) -> bool {
+    let mut writer = FailingWriter { calls: 0, fails };
+    write_journal(slice::from_ref(entry), &mut writer).is_err() && writer.calls == fails
+}
+
+// The journal has 31 bytes, of which the entry has 13.
 #[test]
-fn a_failed_write_is_the_last(rt: HostRuntime) -> Result<(), Fail> {
+fn a_failed_write_is_the_last(rt: HostRuntime) {
     let entry = Entry::Put {
         upload: UploadId::new(0),
         offset: 1024,
         len: 1,
     };
-    for fails in 1..11u64 {
-        let mut writer = FailingWriter { calls: 0, fails };
-        assert!(rt; write_entry(&entry, &mut writer).is_err());
-        assert!(rt; writer.calls == fails);
+    for fails in 1..14u64 {
+        assert!(rt; is_written_until(&entry, fails));
     }
     for fails in 1..32u64 {
-        let mut writer = FailingWriter { calls: 0, fails };
-        assert!(rt; write_journal(&[entry], &mut writer).is_err());
-        assert!(rt; writer.calls == fails);
+        assert!(rt; is_journal_until(&entry, fails));
     }
-    Ok(())
 }

@@ -12,8 +12,6 @@ mod journal_writers;
 #[cfg(test)]
 mod memory;
 #[cfg(test)]
-mod questions;
-#[cfg(test)]
 mod replay;
 #[cfg(test)]
 mod store;

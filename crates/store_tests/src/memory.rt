@@ -2,10 +2,10 @@
 //! less than the length of a part, since objects are shared.
 
 use crate::helpers::holds;
-use std::test::Fail;
+use std::alloc::AllocError;
 
 #[test]
-fn files_an_object(rt: HostRuntime) -> Result<(), Fail> {
+fn files_an_object(rt: HostRuntime) -> Result<(), AllocError> {
     holds(
         &rt,
         "tenant 1048576 > tenant 0 [0 0]
@@ -18,7 +18,7 @@ seal 0 > 74cb441fd087764ca9c3694da742ebe30cbeb3060a17009ca81825c7a8d10343 true 1
 }
 
 #[test]
-fn files_and_fetches_an_object(rt: HostRuntime) -> Result<(), Fail> {
+fn files_and_fetches_an_object(rt: HostRuntime) -> Result<(), AllocError> {
     holds(
         &rt,
         "tenant 1048576 > tenant 0 [0 0]

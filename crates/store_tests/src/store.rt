@@ -2,11 +2,11 @@
 //! else is in tests/cases/run-*.table. The digests come from outside.
 
 use crate::helpers::holds;
-use std::test::Fail;
+use std::alloc::AllocError;
 use store_core::{BadLimits, Refusal};
 
 #[test]
-fn a_full_store_refuses(rt: HostRuntime) -> Result<(), Fail> {
+fn a_full_store_refuses(rt: HostRuntime) -> Result<(), AllocError> {
     holds(
         &rt,
         "limits 0 2 1 > S0 [0 0]
@@ -48,7 +48,7 @@ state > objects 0 bytes 0 uploads 1 held 0 parts 0 journal 2 [0 0]
 
 // In total as many as one hash of the bytes: for 2049 bytes, 33 blocks and 3 chunks.
 #[test]
-fn compressions_of_few_parts(rt: HostRuntime) -> Result<(), Fail> {
+fn compressions_of_few_parts(rt: HostRuntime) -> Result<(), AllocError> {
     holds(
         &rt,
         "tenant 16384 > tenant 0 [0 0]
@@ -64,6 +64,9 @@ put 1 2048 1 > held 1 missing Some(0) true [0 0]
 put 1 0 1024 > held 1025 missing Some(1024) true [15 0]
 put 1 1024 1024 > held 2049 missing None true [15 2]
 seal 1 > 5f4d72f40d7a5f82b15ca2b2e44b1de3c2ef86c426c95c1af0b6879522563030 true 2049 back 2049 3 [0 3]
+range 1022 5f4d72f40d7a5f82b15ca2b2e44b1de3c2ef86c426c95c1af0b6879522563030 > 6 [18, 19, 20, 21, 22, 23] [0 0]
+range 2046 5f4d72f40d7a5f82b15ca2b2e44b1de3c2ef86c426c95c1af0b6879522563030 > 3 [38, 39, 40, 255, 255, 255] [0 0]
+range 2049 5f4d72f40d7a5f82b15ca2b2e44b1de3c2ef86c426c95c1af0b6879522563030 > 0 [255, 255, 255, 255, 255, 255] [0 0]
 begin 0 > upload 2 of 0 open false [0 0]
 seal 2 > af1349b9f5f9a1a6a0404dea36dcc9499bcb25c9adc112b7cc9a93cae41f3262 true 0 back 0 0 [0 1]
 begin 1025 > upload 3 of 1025 open false [0 0]
@@ -78,7 +81,7 @@ state > objects 3 bytes 3074 uploads 0 held 0 parts 0 journal 15 [0 0]
 
 // `make` makes 240, the store 31: in total as many as one hash of the 16384 bytes.
 #[test]
-fn compressions_of_sixteen_chunks(rt: HostRuntime) -> Result<(), Fail> {
+fn compressions_of_sixteen_chunks(rt: HostRuntime) -> Result<(), AllocError> {
     holds(
         &rt,
         "tenant 16384 > tenant 0 [0 0]
@@ -105,7 +108,7 @@ seal 0 > f875d6646de28985646f34ee13be9a576fd515f76b5b0a26bb324735041ddde4 true 1
 }
 
 #[test]
-fn compressions_of_the_greatest_part(rt: HostRuntime) -> Result<(), Fail> {
+fn compressions_of_the_greatest_part(rt: HostRuntime) -> Result<(), AllocError> {
     holds(
         &rt,
         "tenant 16777216 > tenant 0 [0 0]
@@ -118,7 +121,7 @@ seal 0 > 869b1292c8bed5bdb2e0075e0c50ccf8b24b33a0f81071c86206bd8fdb269579 true 1
 
 // A plan of another length, and one of the same length and the other kind.
 #[test]
-fn parts_of_another_plan_come_back(rt: HostRuntime) -> Result<(), Fail> {
+fn parts_of_another_plan_come_back(rt: HostRuntime) -> Result<(), AllocError> {
     holds(
         &rt,
         "tenant 16384 > tenant 0 [0 0]
@@ -136,7 +139,7 @@ state > objects 0 bytes 0 uploads 3 held 0 parts 0 journal 4 [0 0]
 
 // As many compressions as for an upload of known length, and none if it has no end.
 #[test]
-fn compressions_of_open_uploads(rt: HostRuntime) -> Result<(), Fail> {
+fn compressions_of_open_uploads(rt: HostRuntime) -> Result<(), AllocError> {
     holds(
         &rt,
         "tenant 8192 > tenant 0 [0 0]
@@ -161,7 +164,7 @@ usage > 3073 0 8192 [0 0]
 
 // What an upload held, whether its content is new or known; and an object once no tenant holds it.
 #[test]
-fn what_is_taken_out_comes_back(rt: HostRuntime) -> Result<(), Fail> {
+fn what_is_taken_out_comes_back(rt: HostRuntime) -> Result<(), AllocError> {
     holds(
         &rt,
         "tenant 10 > tenant 0 [0 0]
@@ -183,13 +186,9 @@ state > objects 0 bytes 0 uploads 0 held 0 parts 0 journal 10 [0 0]
 }
 
 #[test]
-fn refusals_have_numbers(rt: HostRuntime) -> Result<(), Fail> {
-    let (overlap, bad) = (Refusal::Overlap { at: 5 }, BadLimits);
-    let text = format!(in rt.alloc(); "{overlap}; {bad}")?;
-    assert!(rt;
-        text.as_str() == "S9 at 5; S0: a limit is zero, or more than a store takes"
-            && overlap.code() == "S9"
-            && bad.code() == "S0"
-    );
-    Ok(())
+fn refusals_have_numbers(rt: HostRuntime) {
+    let bad = BadLimits;
+    assert!(rt; Refusal::Overlap { at: 5 }.code() == "S9" && bad.code() == "S0");
+    let text = format!(in rt.alloc(); "{bad}").expect(&rt, "memory for the text");
+    assert!(rt; text.as_str() == "S0: a limit is zero, or more than a store takes");
 }
