@@ -75,6 +75,12 @@ impl ByteWriter {
         }
     }
 
+    /// What was accepted.
+    pub fn into_taken(self) -> Vec<u8> {
+        let ByteWriter { taken, .. } = self;
+        taken
+    }
+
     /// Whether a call failed, no call came after it, and what was accepted is a prefix of a text.
     pub fn has_stopped_in(&self, text: &[u8]) -> bool {
         self.calls == self.fails_at && self.failed == 1 && text.starts_with(self.taken.as_slice())
@@ -120,23 +126,19 @@ pub struct FixedWriter {
 impl FixedWriter {
     /// The length of the common prefix with a text.
     pub fn common(&self, text: &[u8]) -> usize {
-        for (i, (taken, byte)) in self.taken.iter().zip(text).enumerate() {
-            if i >= self.len || taken != byte {
-                return i;
-            }
+        let mut common = 0usize;
+        let mut is_common = true;
+        for (taken, byte) in self.taken.iter().zip(text) {
+            is_common = is_common && common < self.len && taken == byte;
+            common = common.saturating_add(if is_common { 1 } else { 0 });
         }
-        text.len()
+        common
     }
 
     /// Whether the bytes from `following` on are this text.
     pub fn ends_with(&self, following: usize, text: &[u8]) -> bool {
-        for (i, byte) in text.iter().enumerate() {
-            match self.taken.get(following.saturating_add(i)) {
-                Some(taken) if taken == byte => {}
-                _ => return false,
-            }
-        }
-        self.len == following.saturating_add(text.len())
+        let end = following.saturating_add(text.len());
+        self.len == end && self.taken.get(following..end) == Some(text)
     }
 }
 
@@ -247,10 +249,9 @@ impl HintedSources {
         }
     }
 
-    /// The record of the calls.
-    pub fn asked(self) -> Vec<u8> {
-        let HintedSources { asked } = self;
-        asked
+    /// Whether these were the calls.
+    pub fn was_asked(&self, calls: &[u8]) -> bool {
+        self.asked.as_slice() == calls
     }
 }
 

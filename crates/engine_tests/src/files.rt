@@ -7,7 +7,6 @@ use b3_parallel::Source;
 use hash_engines::{FileFault, FileSystem, HashThreads, Reason, SourceFile, SumMode, SystemFiles};
 use std::io;
 use std::io::{ErrorKind, Read};
-use std::test::Fail;
 use std::thread::Threads;
 
 const PATH: &str = "here";
@@ -110,7 +109,7 @@ fn root_of<T: Threads + Runtime + AllocGlobal>(
 }
 
 #[test]
-fn the_reported_length_does_not_matter(rt: HostRuntime) -> Result<(), Fail> {
+fn the_reported_length_does_not_matter(rt: HostRuntime) {
     let wanted = Top::of_input(&Mode::hash(), bytes_from(0), &mut Work::new(&rt));
     for len in [
         None,
@@ -123,14 +122,12 @@ fn the_reported_length_does_not_matter(rt: HostRuntime) -> Result<(), Fail> {
     ] {
         assert!(rt; root_of(&rt, len, PATH.as_bytes()) == Ok(wanted));
     }
-    Ok(())
 }
 
 #[test]
-fn names_without_files_are_missing(rt: HostRuntime) -> Result<(), Fail> {
+fn names_without_files_are_missing(rt: HostRuntime) {
     let missing = root_of(&rt, None, b"there");
     let foreign = root_of(&rt, None, b"\xff");
-    assert!(rt; missing == Err(FileFault::Failed(Reason::Missing)));
-    assert!(rt; foreign == Err(FileFault::Failed(Reason::NotUtf8)));
-    Ok(())
+    let is_missing = missing == Err(FileFault::Failed(Reason::Missing));
+    assert!(rt; is_missing && foreign == Err(FileFault::Failed(Reason::NotUtf8)));
 }

@@ -47,23 +47,31 @@ fn migrated(alloc: Global, journal: &[u8]) -> Written
     (writer, ended)
 }
 
+// Whether the engine succeeded and wrote this text.
+fn is_good(written: Written, text: &[u8]) -> bool {
+    let (bytes, ended) = written;
+    ended == Ok(Verdict::Good) && bytes.as_slice() == text
+}
+
 #[test]
 fn engines_answer_bytes_in_memory(rt: HostRuntime) {
-    let (alloc, good) = (rt.alloc(), Ok(Verdict::Good));
+    let alloc = rt.alloc();
     let mut work = Work::new(&rt);
-    let (written, ended) = ran(alloc, b"tenant 5\nusage 0\n", &mut work);
-    assert!(rt;
-        ended == good && written.as_slice() == b"tenant 0\nused 0 reserved 0 limit 5\n".as_slice()
+    let is_run = is_good(
+        ran(alloc, b"tenant 5\nusage 0\n", &mut work),
+        b"tenant 0\nused 0 reserved 0 limit 5\n",
     );
-    let (written, ended) = served(alloc, b"tenant 5\ntenants\n", &mut work);
-    assert!(rt;
-        ended == good && written.as_slice() == b"tenant 0\ntenants 1\n0 0 0 5\n".as_slice()
+    let is_served = is_good(
+        served(alloc, b"tenant 5\ntenants\n", &mut work),
+        b"tenant 0\ntenants 1\n0 0 0 5\n",
     );
-    let (written, ended) = audited(alloc, b"tenant 0 5\n");
-    let totals = b"objects 0 bytes 0 uploads 0 held 0 parts 0\naccepted 0 0\n";
-    assert!(rt; ended == good && written.as_slice() == totals.as_slice());
-    let (written, ended) = migrated(alloc, b"tenant 0 5\n");
-    assert!(rt;
-        ended == good && written.as_slice() == b"b3store-journal 2\ntenant 0 5\n".as_slice()
+    let is_audited = is_good(
+        audited(alloc, b"tenant 0 5\n"),
+        b"objects 0 bytes 0 uploads 0 held 0 parts 0\naccepted 0 0\n",
     );
+    let is_migrated = is_good(
+        migrated(alloc, b"tenant 0 5\n"),
+        b"b3store-journal 2\ntenant 0 5\n",
+    );
+    assert!(rt; is_run && is_served && is_audited && is_migrated);
 }

@@ -1,40 +1,31 @@
-//! Sessions over one shared store, each with its own lease.
+//! Sessions over one shared store, each with its own lease. Sessions at the same time are in tests/sessions.
 
 ghost use Rattle.std.specs.Prelude.{◌≡◌, ◌^◌};
 
 use crate::fakes::ByteWriter;
 use b3_core::{Runtime, Work};
 use std::marker::Brand;
-use std::process::Abort;
 use std::sync::Wait;
-use std::test::Fail;
-use std::thread;
-use std::thread::Threads;
 use store_core::Limits;
 use store_engines::Verdict;
 use store_history::Front;
 use store_lease::Lease;
 use store_ledger::{Accepted, Ledgers, Share};
-use store_lines::serve_over;
-use store_shared::{Shared, UnnamedLedgers};
+use store_lines::{Access, serve_over};
+use store_shared::{Locked, Shared, UnnamedLedgers};
 
-// Serves a session with these lines, and returns its share, what it has seen, and whether these are its answers.
-fn is_answered<L: Ledgers, R: Wait + AllocGlobal + Runtime>(
+// Serves a session with these lines, and returns whether these are its answers.
+fn is_answered<A: Access, R: AllocGlobal + Runtime>(
     rt: &R,
-    shared: &Shared<L>,
-    share: Share<L>,
-    front: Front<L>,
+    access: &mut A,
     lines: &[u8],
     answers: &[u8],
-) -> (Share<L>, Front<L>, bool) {
-    let mut access = Lease::new(rt, shared, share, front);
+) -> bool {
     let mut reader = lines;
     let mut writer = ByteWriter::new(rt.alloc(), u64::MAX);
     let mut work = Work::new(rt);
-    let ended = serve_over(rt.alloc(), &mut access, &mut reader, &mut writer, &mut work);
-    let is_answered = ended == Ok(Verdict::Good) && writer.taken.as_slice() == answers;
-    let (share, front) = access.into_parts();
-    (share, front, is_answered)
+    let ended = serve_over(rt.alloc(), access, &mut reader, &mut writer, &mut work);
+    ended == Ok(Verdict::Good) && writer.taken.as_slice() == answers
 }
 
 // A tenant, an object, and two uploads.
@@ -43,61 +34,71 @@ const BEGUN: &[u8] = b"tenant 8\nbegin 0 3\nputb 0 0 3\nabcseal 0\nbegin 0 3\nbe
 const BEGUN_ANSWERS: &[u8] =
     b"tenant 0\nupload 0\nheld 3 all\nnew 6437b3ac38465133ffb63b75273a8db548c558465d79db03fd359c6cd5bd9d85 3\nupload 1\nupload 2\n";
 
-// A part of each of the two uploads, put at the same time.
-const ONE: &[u8] =
+// In another session, a part of one of the two uploads, and bytes of the object.
+const OTHER: &[u8] =
     b"putb 1 0 3\nabcfetchb 0 6437b3ac38465133ffb63b75273a8db548c558465d79db03fd359c6cd5bd9d85 1 2\n";
 
-const ONE_ANSWERS: &[u8] = b"held 3 all\nbytes 2\nbc";
+const OTHER_ANSWERS: &[u8] = b"held 3 all\nbytes 2\nbc";
 
-const OTHER: &[u8] = b"putb 2 0 2\nabusage 0\n";
-
-const OTHER_ANSWERS: &[u8] = b"held 2 all\nused 3 reserved 5 limit 8\n";
-
-// Pages of the journal, in which only the order of the last two parts is not determined; and its end after two more commands.
+// A part of the second upload, pages of the journal, and its end after two more commands.
 const PAGES: &[u8] =
-    b"entries 0 2\nentries 3 2\nentries 5 1\nentries 8 1\nentries 0 0\nseal 1\nabort 2\nentries 8 3\nentries 9\n";
+    b"putb 2 0 2\nabusage 0\nentries 0 2\nentries 3 2\nentries 5 9\nentries 8 1\nentries 0 0\nseal 1\nabort 2\nentries 8 3\nentries 9\n";
 
 const PAGES_ANSWERS: &[u8] =
-    b"journal 2\ntenant 0 8\nbegin 0 0 3\njournal 2\nseal 0 6437b3ac38465133ffb63b75273a8db548c558465d79db03fd359c6cd5bd9d85 new\nbegin 1 0 3\njournal 1\nbegin 2 0 2\njournal 0\njournal 0\nknown 6437b3ac38465133ffb63b75273a8db548c558465d79db03fd359c6cd5bd9d85 3\nok\njournal 2\nseal 1 6437b3ac38465133ffb63b75273a8db548c558465d79db03fd359c6cd5bd9d85 known\nabort 2\njournal 1\nabort 2\n";
+    b"held 2 all\nused 3 reserved 5 limit 8\njournal 2\ntenant 0 8\nbegin 0 0 3\njournal 2\nseal 0 6437b3ac38465133ffb63b75273a8db548c558465d79db03fd359c6cd5bd9d85 new\nbegin 1 0 3\njournal 3\nbegin 2 0 2\nput 1 0 3\nput 2 0 2\njournal 0\njournal 0\nknown 6437b3ac38465133ffb63b75273a8db548c558465d79db03fd359c6cd5bd9d85 3\nok\njournal 2\nseal 1 6437b3ac38465133ffb63b75273a8db548c558465d79db03fd359c6cd5bd9d85 known\nabort 2\njournal 1\nabort 2\n";
 
-// Two sessions at the same time, after one alone and before another. Their shares together are everything that the store accepted.
-fn serve_side_by_side<
-    L: Ledgers + Send + Sync,
-    R: Threads + Wait + Sync + AllocGlobal + Runtime + Abort,
->(rt: &R, ledgers: UnnamedLedgers)
+// A session's share, and what it has seen.
+type Client<L> = (Share<L>, Front<L>);
+
+// Two sessions over one store, the first of which ends after the other. Returns both, and whether all answers are as they should be.
+fn serve_in_turn<L: Ledgers, R: Wait + AllocGlobal + Runtime>(
+    rt: &R,
+    shared: &Shared<L>,
+    client: Client<L>,
+    other: Client<L>,
+) -> (Client<L>, Client<L>, bool) {
+    let mut lease = Lease::new(rt, shared, client.0, client.1);
+    let mut other_lease = Lease::new(rt, shared, other.0, other.1);
+    let are_answered = is_answered(rt, &mut lease, BEGUN, BEGUN_ANSWERS)
+        && is_answered(rt, &mut other_lease, OTHER, OTHER_ANSWERS)
+        && is_answered(rt, &mut lease, PAGES, PAGES_ANSWERS);
+    (lease.into_parts(), other_lease.into_parts(), are_answered)
+}
+
+// Whether the two shares together are everything that the store accepted.
+fn are_whole<L: Ledgers>(locked: &mut Locked<L>, share: Share<L>, other: Share<L>) -> bool {
+    let mut share = share;
+    locked.join(&mut share, other);
+    locked.settle(&mut share) == Ok(Accepted { bytes: 8, calls: 3 })
+}
+
+// Shows the whole journal to the one that has seen more.
+fn show_all<L: Ledgers>(locked: &mut Locked<L>, front: Front<L>, other: Front<L>) {
+    let mut seen = locked.longer(front, other);
+    locked.show(&mut seen);
+}
+
+fn are_all<L: Ledgers>(shared: Shared<L>, client: Client<L>, other: Client<L>) -> bool {
+    let mut locked = shared.close();
+    show_all(&mut locked, client.1, other.1);
+    are_whole(&mut locked, client.0, other.0)
+}
+
+fn is_shared<L: Ledgers, R: Wait + AllocGlobal + Runtime>(rt: &R, ledgers: UnnamedLedgers) -> bool
     requires bytes { (ledgers.bytes.name ≡ L.bytes_name) × (ledgers.bytes.parts ≡ L.bytes_parts) × (ledgers.bytes.parts ≡ 2 ^ 32) }
     requires calls { (ledgers.calls.name ≡ L.calls_name) × (ledgers.calls.parts ≡ L.calls_parts) × (ledgers.calls.parts ≡ 2 ^ 32) }
     requires history { ledgers.history ≡ L.history }
 {
     let (shared, mut share) = Shared::<L>::new(rt.alloc(), Limits::full(), ledgers);
-    let own = share.split(1);
-    let other = share.split(1);
-    let both = &shared;
-    let front = shared.lock(rt).front();
-    let one_front = shared.lock(rt).front();
-    let other_front = shared.lock(rt).front();
-    let (share, front, is_begun) = is_answered(rt, both, share, front, BEGUN, BEGUN_ANSWERS);
-    let ((own, one_front, is_put), (other, other_front, is_put_too)) = thread::join(
-        rt,
-        move || is_answered(rt, both, own, one_front, ONE, ONE_ANSWERS),
-        move || is_answered(rt, both, other, other_front, OTHER, OTHER_ANSWERS),
-    );
-    let (share, front, is_paged) = is_answered(rt, both, share, front, PAGES, PAGES_ANSWERS);
-    assert!(rt; is_begun && is_put && is_put_too && is_paged);
-    let mut share = share;
-    let mut locked = shared.close();
-    let seen = locked.longer(one_front, other_front);
-    let mut seen = locked.longer(seen, front);
-    locked.show(&mut seen);
-    locked.join(&mut share, own);
-    locked.join(&mut share, other);
-    let all = Accepted { bytes: 8, calls: 3 };
-    assert!(rt; locked.settle(&mut share) == Ok(all));
+    let other_share = share.split(1);
+    let client = (share, shared.lock(rt).front());
+    let other = (other_share, shared.lock(rt).front());
+    let (client, other, are_answered) = serve_in_turn(rt, &shared, client, other);
+    are_answered && are_all(shared, client, other)
 }
 
 #[test]
-fn sessions_share_a_store_and_page_its_journal(rt: HostRuntime) -> Result<(), Fail> {
-    let ledgers = UnnamedLedgers::new(rt.alloc())?;
-    serve_side_by_side::<Brand, _>(&rt, ledgers);
-    Ok(())
+fn sessions_share_a_store_and_page_its_journal(rt: HostRuntime) {
+    let ledgers = UnnamedLedgers::new(rt.alloc()).expect(&rt, "memory for the ledgers");
+    assert!(rt; is_shared::<Brand, _>(&rt, ledgers));
 }

@@ -8,12 +8,11 @@ use b3_tests::pattern;
 use hash_engines::{Cause, HashThreads, SumLine, SumMode, SumRequest, Verdict, check, sum};
 use std::io::BufReader;
 use std::sync::Wait;
-use std::test::Fail;
 use std::thread::Threads;
 use store_engines::{UploadOptions, audit, migrate};
 use store_lines::{run, serve};
 
-#[derive(Clone, Copy, Debug, PartialEq, Eq)]
+#[derive(Clone, Copy, PartialEq, Eq)]
 enum Engine {
     Audit,
     Check,
@@ -105,6 +104,41 @@ const ONE_WORKER: UploadOptions = UploadOptions {
     journal: false,
 };
 
+// The result of a script or, if it `is_session`, of a session.
+fn answers<R: AllocGlobal + Runtime>(
+    rt: &R,
+    is_session: bool,
+    reader: &mut ByteReader<'_>,
+    writer: &mut ByteWriter,
+) -> Result<Verdict, Cause> {
+    let Ok(mut lines) = BufReader::new(rt.alloc(), reader) else {
+        return Err(Cause::OutOfMemory);
+    };
+    let mut work = Work::new(rt);
+    if is_session {
+        serve(rt.alloc(), &mut lines, writer, &mut work)
+    } else {
+        run(rt.alloc(), &mut lines, writer, &mut work)
+    }
+}
+
+// The result of a sum.
+fn summed<R: Threads + AllocGlobal + Runtime>(
+    rt: &R,
+    reader: &mut ByteReader<'_>,
+    writer: &mut ByteWriter,
+) -> Result<Verdict, Cause> {
+    let threads = HashThreads {
+        rt,
+        alloc: rt.alloc(),
+        count: None,
+    };
+    match sum(&threads, &PLAIN, reader, writer, &mut Work::new(rt)) {
+        Ok(()) => Ok(Verdict::Good),
+        Err(cause) => Err(cause),
+    }
+}
+
 // The result of an engine.
 fn ended<R: Threads + Wait + Sync + AllocGlobal + Runtime>(
     rt: &R,
@@ -113,104 +147,113 @@ fn ended<R: Threads + Wait + Sync + AllocGlobal + Runtime>(
     reader: &mut ByteReader<'_>,
     writer: &mut ByteWriter,
 ) -> Result<Verdict, Cause> {
-    let alloc = rt.alloc();
-    let mut work = Work::new(rt);
     match engine {
-        Engine::Audit => audit(alloc, reader, writer),
-        Engine::Check => check(alloc, ALL, names, reader, writer),
-        Engine::Migrate => migrate(alloc, reader, writer),
-        Engine::Run => {
-            let Ok(mut lines) = BufReader::new(alloc, reader) else {
-                return Err(Cause::OutOfMemory);
-            };
-            run(alloc, &mut lines, writer, &mut work)
-        }
-        Engine::Serve => {
-            let Ok(mut lines) = BufReader::new(alloc, reader) else {
-                return Err(Cause::OutOfMemory);
-            };
-            serve(alloc, &mut lines, writer, &mut work)
-        }
-        Engine::Sum => {
-            let threads = HashThreads {
-                rt,
-                alloc,
-                count: None,
-            };
-            sum(&threads, &PLAIN, reader, writer, &mut work)?;
-            Ok(Verdict::Good)
-        }
+        Engine::Audit => audit(rt.alloc(), reader, writer),
+        Engine::Check => check(rt.alloc(), ALL, names, reader, writer),
+        Engine::Migrate => migrate(rt.alloc(), reader, writer),
+        Engine::Run => answers(rt, false, reader, writer),
+        Engine::Serve => answers(rt, true, reader, writer),
+        Engine::Sum => summed(rt, reader, writer),
         Engine::Upload => uploaded(rt, ONE_WORKER, reader, writer),
     }
+}
+
+// Whether a read that fails is reported, after the answers to what was read before.
+fn reports_read<R: Threads + Wait + Sync + AllocGlobal + Runtime>(
+    rt: &R,
+    engine: Engine,
+    fails_at: u64,
+) -> bool {
+    let mut names = NoNames::new(true);
+    let mut reader = ByteReader::new(input(engine), fails_at, false);
+    let mut writer = ByteWriter::new(rt.alloc(), u64::MAX);
+    let found = ended(rt, engine, &mut names, &mut reader, &mut writer);
+    let is_reported = found == Err(Cause::CannotRead) && names.calls == 0;
+    is_reported && writer.taken.as_slice() == answered(engine, fails_at)
 }
 
 #[test]
 fn each_read_that_fails_is_reported(rt: HostRuntime) {
     for engine in ENGINES {
-        let text = input(engine);
-        for fails_at in 0..(text.len() as u64).saturating_add(1) {
-            let mut names = NoNames::new(true);
-            let mut reader = ByteReader::new(text, fails_at, false);
-            let mut writer = ByteWriter::new(rt.alloc(), u64::MAX);
-            let found = ended(&rt, engine, &mut names, &mut reader, &mut writer);
-            assert_eq!(rt; found, Err(Cause::CannotRead), "{engine:?} {fails_at}");
-            assert!(rt; names.calls == 0);
-            assert!(rt; writer.taken.as_slice() == answered(engine, fails_at));
+        for fails_at in 0..=input(engine).len() as u64 {
+            assert!(rt; reports_read(&rt, engine, fails_at), "{fails_at}");
         }
     }
+}
+
+// Whether a write or flush that fails is reported and is the last call.
+fn reports_write<R: Threads + Wait + Sync + AllocGlobal + Runtime>(
+    rt: &R,
+    engine: Engine,
+    fails_at: u64,
+) -> bool {
+    let mut names = NoNames::new(true);
+    let mut reader = ByteReader::new(input(engine), u64::MAX, false);
+    let mut writer = ByteWriter::new(rt.alloc(), fails_at);
+    let found = ended(rt, engine, &mut names, &mut reader, &mut writer);
+    found == Err(Cause::CannotWrite) && writer.has_stopped_in(output(engine))
 }
 
 #[test]
 fn each_write_that_fails_is_the_last(rt: HostRuntime) {
     for engine in ENGINES {
         for fails_at in 0..writes(engine) {
-            let mut names = NoNames::new(true);
-            let mut reader = ByteReader::new(input(engine), u64::MAX, false);
-            let mut writer = ByteWriter::new(rt.alloc(), fails_at);
-            let found = ended(&rt, engine, &mut names, &mut reader, &mut writer);
-            assert_eq!(rt; found, Err(Cause::CannotWrite), "{engine:?} {fails_at}");
-            assert!(rt; writer.has_stopped_in(output(engine)));
+            assert!(rt; reports_write(&rt, engine, fails_at), "{fails_at}");
         }
     }
+}
+
+// Whether an engine that reads and writes one byte for each call, and is interrupted before each, has its output.
+fn is_good<R: Threads + Wait + Sync + AllocGlobal + Runtime>(
+    rt: &R,
+    engine: Engine,
+    is_interrupted: bool,
+) -> bool {
+    let mut names = NoNames::new(true);
+    let mut reader = ByteReader::new(input(engine), u64::MAX, is_interrupted);
+    let mut writer = ByteWriter::new(rt.alloc(), u64::MAX);
+    writer.is_interrupted = is_interrupted;
+    let found = ended(rt, engine, &mut names, &mut reader, &mut writer);
+    let verdict = if engine == Engine::Check {
+        Verdict::Refused
+    } else {
+        Verdict::Good
+    };
+    found == Ok(verdict) && writer.taken.as_slice() == output(engine)
 }
 
 #[test]
 fn one_byte_a_call_and_interruptions_are_no_fault(rt: HostRuntime) {
     for engine in ENGINES {
-        for is_interrupted in [false, true] {
-            let mut names = NoNames::new(true);
-            let mut reader = ByteReader::new(input(engine), u64::MAX, is_interrupted);
-            let mut writer = ByteWriter::new(rt.alloc(), u64::MAX);
-            writer.is_interrupted = is_interrupted;
-            let found = ended(&rt, engine, &mut names, &mut reader, &mut writer);
-            let verdict = if engine == Engine::Check {
-                Verdict::Refused
-            } else {
-                Verdict::Good
-            };
-            assert_eq!(rt; found, Ok(verdict), "{engine:?} {is_interrupted}");
-            assert!(rt; writer.taken.as_slice() == output(engine));
-        }
+        assert!(rt; is_good(&rt, engine, false) && is_good(&rt, engine, true));
     }
 }
 
 // The check line of 2 MiB of the pattern and a byte.
 const LONG_LINE: &[u8] = b"52dc212cb4cc61cb94d25bd7b1d47b256e4c3a6d68956df50c235c37a2aeacd7  -\n";
 
-// The bytes after the first 2 MiB are read in blocks, for threads.
-#[test]
-fn a_long_input_is_read_on_after_interruptions(rt: HostRuntime) -> Result<(), Fail> {
-    let input = pattern(rt.alloc(), 0, 2_097_153)?;
+// Whether two threads write this line for the input, if each read of it is interrupted.
+fn is_line<R: Threads + AllocGlobal + Runtime>(rt: &R, input: &[u8], line: &[u8]) -> bool {
     let threads = HashThreads {
-        rt: &rt,
+        rt,
         alloc: rt.alloc(),
         count: Some(2),
     };
-    let mut reader = ByteReader::new(&input, u64::MAX, true);
+    let mut reader = ByteReader::new(input, u64::MAX, true);
     let mut writer = ByteWriter::new(rt.alloc(), u64::MAX);
-    let mut work = Work::new(&rt);
-    let found = sum(&threads, &PLAIN, &mut reader, &mut writer, &mut work);
-    assert!(rt; found == Ok(()));
-    assert!(rt; writer.taken.as_slice() == LONG_LINE);
-    Ok(())
+    let found = sum(
+        &threads,
+        &PLAIN,
+        &mut reader,
+        &mut writer,
+        &mut Work::new(rt),
+    );
+    found == Ok(()) && writer.taken.as_slice() == line
+}
+
+// The bytes after the first 2 MiB are read in blocks, for threads.
+#[test]
+fn a_long_input_is_read_on_after_interruptions(rt: HostRuntime) {
+    let input = pattern(rt.alloc(), 0, 2_097_153).expect(&rt, "memory for the pattern");
+    assert!(rt; is_line(&rt, &input, LONG_LINE));
 }

@@ -4,112 +4,118 @@ use crate::fakes::{AbcSources, ByteWriter, HintedSources};
 use b3_check::Name;
 use b3_core::{Runtime, Work};
 use hash_engines::{Cause, SumLines, Verdict, names_of, sum_files};
-use std::alloc::{AllocError, Global};
-use std::test::Fail;
 
-// Names that can be in a check line.
-fn names(alloc: Global, words: &[&str]) -> Result<Vec<Name>, AllocError> {
-    let mut names = Vec::new(alloc);
-    for word in words {
-        if let Ok(name) = Name::new(Vec::from_slice(alloc, word.as_bytes())?) {
-            names.push(name)?;
-        }
-    }
-    Ok(names)
-}
-
-// The result of the sum of some names, its output, which fails at a call, and the record of the sources: the calls, and the faults.
-fn summed<R: AllocGlobal + Runtime>(
-    rt: &R,
-    words: &[&str],
-    length: Option<u32>,
-    fails_at: u64,
-) -> Result<(Result<Verdict, Cause>, Vec<u8>, u64, Vec<u8>), Fail> {
-    let alloc = rt.alloc();
-    let names = names(alloc, words)?;
-    let mut sources = AbcSources::new(alloc, Work::new(rt));
-    let mut writer = ByteWriter::new(alloc, fails_at);
-    let mut work = Work::new(rt);
-    let lines = SumLines {
-        names: names.as_slice(),
-        length,
-    };
-    let ended = sum_files(alloc, &lines, &mut sources, &mut writer, &mut work);
-    let AbcSources {
-        calls,
-        reported,
-        ..
-    } = sources;
-    let ByteWriter { taken, .. } = writer;
-    Ok((ended, taken, calls, reported))
+// What the sum of some names results in: how it ended, its output, the calls of the sources, and what was reported to them.
+#[derive(Drop)]
+struct Summed {
+    ended: Result<Verdict, Cause>,
+    text: &'static [u8],
+    calls: u64,
+    faults: &'static [u8],
 }
 
 const LINE: &[u8] = b"6437b3ac38465133ffb63b75273a8db548c558465d79db03fd359c6cd5bd9d85  abc\n";
 
-#[test]
-fn names_are_answered_in_order(rt: HostRuntime) -> Result<(), Fail> {
-    let (ended, text, calls, reported) = summed(&rt, &["x", "abc", "y", "abc"], None, u64::MAX)?;
-    assert!(rt; ended == Ok(Verdict::Refused) && calls == 4);
-    let mut wanted = Vec::from_slice(rt.alloc(), LINE)?;
-    wanted.extend_from_slice(LINE)?;
-    assert!(rt; text.as_slice() == wanted.as_slice());
-    let faults: &[u8] = b"xno such fileyno such file";
-    assert!(rt; reported.as_slice() == faults);
-    Ok(())
-}
+const TWO_LINES: &[u8] =
+    b"6437b3ac38465133ffb63b75273a8db548c558465d79db03fd359c6cd5bd9d85  abc\n6437b3ac38465133ffb63b75273a8db548c558465d79db03fd359c6cd5bd9d85  abc\n";
 
-#[test]
-fn a_length_leaves_names_out(rt: HostRuntime) -> Result<(), Fail> {
-    let (ended, text, _calls, reported) = summed(&rt, &["abc", "abc"], Some(4), u64::MAX)?;
-    assert!(rt; ended == Ok(Verdict::Good));
-    let wanted: &[u8] = b"6437b3ac\n6437b3ac\n";
-    assert!(rt; text.as_slice() == wanted && reported.is_empty());
-    Ok(())
-}
-
-#[test]
-fn names_are_reported_before_they_are_asked_for(rt: HostRuntime) -> Result<(), Fail> {
+// Whether the sum of the names results in this.
+fn is_summed<R: AllocGlobal + Runtime>(
+    rt: &R,
+    names: &[Name],
+    length: Option<u32>,
+    wanted: Summed,
+) -> bool {
     let alloc = rt.alloc();
-    let names = names(alloc, &["x", "abc", "-"])?;
-    let mut sources = HintedSources::new(alloc);
-    let mut text = Vec::new(alloc);
-    let mut work = Work::new(&rt);
+    let Summed {
+        ended,
+        text,
+        calls,
+        faults,
+    } = wanted;
+    let lines = SumLines { names, length };
+    let mut sources = AbcSources::new(alloc, Work::new(rt));
+    let mut writer = ByteWriter::new(alloc, u64::MAX);
+    let found = sum_files(alloc, &lines, &mut sources, &mut writer, &mut Work::new(rt));
+    let are_calls = sources.calls == calls && sources.reported.as_slice() == faults;
+    found == ended && writer.taken.as_slice() == text && are_calls
+}
+
+#[test]
+fn names_are_answered_in_order(rt: HostRuntime) {
+    let names = names_of(rt.alloc(), &["x", "abc", "y", "abc"]).expect(&rt, "memory for the names");
+    let wanted = Summed {
+        ended: Ok(Verdict::Refused),
+        text: TWO_LINES,
+        calls: 4,
+        faults: b"xno such fileyno such file",
+    };
+    assert!(rt; is_summed(&rt, names.as_slice(), None, wanted));
+}
+
+#[test]
+fn a_length_leaves_names_out(rt: HostRuntime) {
+    let names = names_of(rt.alloc(), &["abc", "abc"]).expect(&rt, "memory for the names");
+    let wanted = Summed {
+        ended: Ok(Verdict::Good),
+        text: b"6437b3ac\n6437b3ac\n",
+        calls: 2,
+        faults: b"",
+    };
+    assert!(rt; is_summed(&rt, names.as_slice(), Some(4), wanted));
+}
+
+#[test]
+fn sources_without_memory_end_it(rt: HostRuntime) {
+    let names = names_of(rt.alloc(), &["abc", "full", "abc"]).expect(&rt, "memory for the names");
+    let wanted = Summed {
+        ended: Err(Cause::OutOfMemory),
+        text: LINE,
+        calls: 2,
+        faults: b"",
+    };
+    assert!(rt; is_summed(&rt, names.as_slice(), None, wanted));
+}
+
+// Whether the sum of the names without files asks for them in this order.
+fn asks<R: AllocGlobal + Runtime>(rt: &R, names: &[Name], calls: &[u8]) -> bool {
+    let alloc = rt.alloc();
     let lines = SumLines {
-        names: names.as_slice(),
+        names,
         length: None,
     };
-    let ended = sum_files(alloc, &lines, &mut sources, &mut text, &mut work);
-    let wanted: &[u8] = b" x abc -;x? abc -;abc? -;-?";
-    assert!(rt; ended == Ok(Verdict::Refused));
-    assert!(rt; sources.asked().as_slice() == wanted && text.is_empty());
-    Ok(())
+    let mut sources = HintedSources::new(alloc);
+    let mut text = Vec::new(alloc);
+    let ended = sum_files(alloc, &lines, &mut sources, &mut text, &mut Work::new(rt));
+    ended == Ok(Verdict::Refused) && text.is_empty() && sources.was_asked(calls)
 }
 
 #[test]
-fn sources_without_memory_end_it(rt: HostRuntime) -> Result<(), Fail> {
-    let (ended, text, calls, reported) = summed(&rt, &["abc", "full", "abc"], None, u64::MAX)?;
-    assert!(rt; ended == Err(Cause::OutOfMemory) && calls == 2);
-    assert!(rt; text.as_slice() == LINE && reported.is_empty());
-    Ok(())
+fn names_are_reported_before_they_are_asked_for(rt: HostRuntime) {
+    let names = names_of(rt.alloc(), &["x", "abc", "-"]).expect(&rt, "memory for the names");
+    assert!(rt; asks(&rt, names.as_slice(), b" x abc -;x? abc -;abc? -;-?"));
+}
+
+// Whether a write that fails at a call ends the sum, after `calls` calls of the sources.
+fn is_ended<R: AllocGlobal + Runtime>(rt: &R, names: &[Name], fails_at: u64, calls: u64) -> bool {
+    let alloc = rt.alloc();
+    let lines = SumLines {
+        names,
+        length: None,
+    };
+    let mut sources = AbcSources::new(alloc, Work::new(rt));
+    let mut writer = ByteWriter::new(alloc, fails_at);
+    let ended = sum_files(alloc, &lines, &mut sources, &mut writer, &mut Work::new(rt));
+    let is_cut = writer.taken.len() as u64 <= fails_at;
+    ended == Err(Cause::CannotWrite) && sources.calls == calls && is_cut
 }
 
 // A line has 70 bytes and a flush.
 #[test]
-fn a_failed_write_ends_it(rt: HostRuntime) -> Result<(), Fail> {
+fn a_failed_write_ends_it(rt: HostRuntime) {
+    let names = names_of(rt.alloc(), &["abc", "abc", "abc"]).expect(&rt, "memory for the names");
     for fails_at in 0..142u64 {
-        let (ended, text, calls, _reported) = summed(&rt, &["abc", "abc", "abc"], None, fails_at)?;
-        let wanted = if fails_at < 71 { 1u64 } else { 2 };
-        assert!(rt; ended == Err(Cause::CannotWrite) && calls == wanted);
-        assert!(rt; text.len() as u64 <= fails_at);
+        let calls = if fails_at < 71 { 1u64 } else { 2 };
+        assert!(rt; is_ended(&rt, names.as_slice(), fails_at, calls));
     }
-    Ok(())
-}
-
-#[test]
-fn words_are_names(rt: HostRuntime) -> Result<(), Fail> {
-    let names = names_of(rt.alloc(), &["a\\b", "-"])?;
-    let first = names.first().map(|name| name.as_bytes());
-    assert!(rt; names.len() == 2);
-    assert!(rt; first == Some(b"a\\b".as_slice()));
-    Ok(())
 }
