@@ -1,5 +1,6 @@
 """The quotas of a cache's users: what is evicted, and what the stores grant while several threads use a cache whose content moves all the time."""
 import collections
+import contextlib
 import os
 import random
 import tempfile
@@ -17,7 +18,7 @@ from servers import Cache as Server
 from servers import metrics, wait_until
 
 UNIT = 4096
-SMALL = {"PART": UNIT, "MAX_BATCH": 4, "MAX_BATCH_BYTES": 6 * UNIT, "SECONDS_BETWEEN_PASSES": 0.001}
+SMALL = {"PART": UNIT, "SMALL": UNIT, "MAX_BATCH": 4, "MAX_BATCH_BYTES": 6 * UNIT, "SECONDS_BETWEEN_PASSES": 0.001}
 """Constants of cache_stores for small contents."""
 QUOTA = 12 * UNIT
 LENGTHS = (0, 1, 700, UNIT, UNIT + 1, 2 * UNIT, 3 * UNIT + 5, 5 * UNIT)
@@ -436,6 +437,14 @@ def left_over(cache, user):
     return differences((cache.old, None), (store.list(tenant), live), (tuple(store.usage(tenant)), (sum(live.values()), 0, user.limit)), (store.uploads(tenant), []))
 
 
+def overfill(cache):
+    """Stores more than a user's quota, for which a cache that evicts has to evict a key."""
+    for fill in range(FILLS):
+        content = bytes([fill]) * max(LENGTHS)
+        with contextlib.suppress(Refused):
+            cache.put(cache.users[0], f"/{fill}", len(content), (content[at : at + UNIT] for at in range(0, len(content), UNIT)))
+
+
 def keeps_full_quotas():
     """Whenever the cache's lock is free, a user has no more bytes than the quota, and all that is left of it is free; in the end nothing but the keys' content is
     held."""
@@ -449,6 +458,7 @@ def keeps_full_quotas():
                 thread.start()
             for worker in workers:
                 worker.join()
+            overfill(cache)
             mover.join(SECONDS)
             found += differences((mover.is_alive(), False))
             cache.is_closed = True
