@@ -1,10 +1,11 @@
-//! What the program cannot show about check files: the order in which names are looked up, and failed writes. Lines and reports are in
-//! tests/cases/check-*.table.
+//! What the program cannot show about check files: single names, the order in which names are looked up, and failed writes. Lines and
+//! reports are in tests/cases/check-*.table.
 
 use crate::fakes::FailingWriter;
 use crate::helpers::{ABC, THREE_LINES, digest};
 use b3_check::{
-    CheckFile, Line, NameFault, Names, NumberedLine, ReportOptions, Shown, verify, write,
+    CheckFile, Fault, Line, NameFault, Names, NumberedLine, ReadError, ReportOptions, Shown,
+    verify, write,
 };
 use std::alloc::Global;
 use std::io::ErrorKind;
@@ -88,6 +89,49 @@ fn is_reported_until(alloc: Global, file: &CheckFile, fails: u64, calls: &[u8]) 
     };
     let has_failed = verify(file, options, &mut names, &mut writer).is_err();
     has_failed == (fails < 77) && writer.calls == fails.min(76) && names.was_asked(calls)
+}
+
+// Whether a line has the name and returns it.
+fn is_kept(alloc: Global, name: &[u8]) -> bool {
+    let Ok(bytes) = Vec::from_slice(alloc, name) else {
+        return false;
+    };
+    match Line::new([0; 32], bytes) {
+        Ok(line) => line.name.into_bytes().as_slice() == name,
+        Err(_) => false,
+    }
+}
+
+// The code of the fault with which the bytes of a name are returned.
+fn code_of(alloc: Global, name: &[u8]) -> &'static str {
+    let Ok(bytes) = Vec::from_slice(alloc, name) else {
+        return "";
+    };
+    match Line::new([0; 32], bytes) {
+        Ok(_line) => "",
+        Err(refused) => {
+            if refused.bytes.as_slice() == name {
+                refused.code()
+            } else {
+                ""
+            }
+        }
+    }
+}
+
+#[test]
+fn names_are_kept_or_come_back(rt: HostRuntime) {
+    let alloc = rt.alloc();
+    assert!(rt; is_kept(alloc, b"a\\b") && code_of(alloc, b"a\0") == "C7");
+}
+
+#[test]
+fn faults_have_texts(rt: HostRuntime) {
+    let (short, none) = (ReadError::Fault(Fault::Short), ReadError::NoMemory);
+    let text = format!(in rt.alloc(); "{short}; {none}").expect(&rt, "memory for the texts");
+    assert!(rt;
+        text.as_str() == "C2: the line is too short for digits and two spaces; out of memory"
+    );
 }
 
 #[test]
