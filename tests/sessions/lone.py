@@ -1,5 +1,6 @@
 """Clients that don't read, come in numbers, end early, or come wrongly: one promise each."""
 import contextlib
+import functools
 import os
 import threading
 import time
@@ -12,6 +13,7 @@ SOON = 20
 SHORTLY = 0.3
 """How long it is made sure that no answer comes."""
 ROUNDS = 100
+MAX_SESSIONS = 64
 MORE_THAN_PIPES = 1 << 18
 BAD_LINES = (b"frob\n", b"\n", b"-1\n", b"1 2\n", b"0x10\n", b" 5\n", b"18446744073709551616\n", b"a" * 4000 + b"\n", b"\xff\xfe\n")
 """Lines at the door that are no number."""
@@ -61,14 +63,14 @@ def one_that_never_reads(program):
         return found + differences((kinds == [b"journal", b"objects", b"used", b"journal"] * 2000, True), (server.end(), 0))
 
 
-def more_than_there_are_sessions(program):
+def more_than_there_are_sessions(program, count=2):
     """They wait, and are served when others end."""
-    with Server(program, 2) as server, sessions_of(server, 6) as clients:
+    with Server(program, count) as server, sessions_of(server, count + 4) as clients:
         found = []
         for session in clients:
             session.send(b"stat\n")
-        served = newly_served(clients, 2)
-        found += differences((len(served), 2))
+        served = newly_served(clients, count)
+        found += differences((len(served), count))
         while len(served) < len(clients) and not found:
             served[-1].close()
             following = newly_served([session for session in clients if session not in served], 1)
@@ -208,6 +210,7 @@ LONE_CASES = {
     "one store": one_store,
     "a client that never reads": one_that_never_reads,
     "more clients than sessions": more_than_there_are_sessions,
+    "more clients than 64 sessions": functools.partial(more_than_there_are_sessions, count=MAX_SESSIONS),
     "bad lines at the door": bad_lines_at_the_door,
     "pipes that are not there": pipes_that_are_not_there,
     "halves of commands": halves_of_commands,
