@@ -69,6 +69,7 @@ def check_answer(text, files, is_quiet=False, ignores_missing=False):
         if (is_quiet and verdict == "good") or (ignores_missing and verdict == "missing"):
             continue
         report += b"fault %d %s\n" % (number, fault) if fault else report_line(verdict, name)
-    has_passed = 0 < counts["good"] == sum(counts.values()) - (counts["missing"] if ignores_missing else 0)
+    ignored = counts["missing"] if ignores_missing and counts["good"] else 0
+    has_passed = sum(counts.values()) == counts["good"] + ignored
     totals = " ".join(f"{verdict} {count}" for verdict, count in counts.items())
     return report + (b"" if is_quiet and has_passed else totals.encode() + b"\n"), 0 if has_passed else 1

@@ -1,5 +1,5 @@
 """A second reading of what standard error says of refused lines, from docs/COMMANDS.md."""
-from check_files import check_line_of, is_text, verdict_on
+from check_files import check_line_of, verdict_on
 from script import FORMS, call_of
 
 STANDARD = b"standard input"
@@ -53,7 +53,7 @@ def check_errors(text, files, reasons=None, name=STANDARD):
         if fault:
             found.refuse(b"line", number, fault + b": " + FAULTS[fault])
         elif verdict_on(digest, named, files) == "unreadable":
-            reason = reasons[named] if reasons and named in reasons else b"the name is not UTF-8" if not is_text(named) else b"standard input is the list itself"
+            reason = reasons[named] if reasons and named in reasons else b"the name is not UTF-8"
             found.text += b"b3store: " + named + b": " + reason + b"\n"
     if not has_lines:
         found.say(b"it has no check line")

@@ -149,10 +149,10 @@ counts_text counts =
     count_text (codes "good ") counts.good ++ (count_text (codes " bad ") counts.bad ++ (count_text (codes " missing ") counts.missing
     ++ (count_text (codes " unreadable ") counts.unreadable ++ (count_text (codes " faults ") counts.faults ++ newline ∷ []))))
 
--- whether a report with these counts passes: some file has its hash, none has another or could not be read, and no line has a fault; and each
--- name has a file, unless those without one are ignored
+-- whether a report with these counts passes: no file has another hash or could not be read, no line has a fault, and each name has a file; or
+-- names without one are ignored, and some file has its hash
 abbrev pub passes : ReportOptions → Counts → Bool
-passes options counts = (options.ignores_missing || nat_eq counts.missing 0) && (nat_lt 0 counts.good && (nat_eq counts.bad 0 && (nat_eq counts.unreadable 0 && nat_eq counts.faults 0)))
+passes options counts = (nat_eq counts.missing 0 || (options.ignores_missing && nat_lt 0 counts.good)) && (nat_eq counts.bad 0 && (nat_eq counts.unreadable 0 && nat_eq counts.faults 0))
 
 -- whether counts are shown: without the lines of good names, only if the report does not pass
 abbrev pub shows_counts : Shown → Bool → Bool

@@ -31,7 +31,7 @@ pub enum Shown {
 pub struct ReportOptions {
     /// Which lines are written.
     pub shown: Shown,
-    /// Whether a name without a file has no line, and the report can pass all the same.
+    /// Whether a name without a file has no line, and the report can pass all the same, if some file has its hash.
     pub ignores_missing: bool,
 }
 
@@ -64,13 +64,13 @@ pub struct Counts {
 }
 
 impl Counts {
-    /// Whether a report with these counts passes: some file has its hash, none has another or could not be read, and no line has a fault; and
-    /// each name has a file, unless those without one are ignored.
+    /// Whether a report with these counts passes: no file has another hash or could not be read, no line has a fault, and each name has a file;
+    /// or names without one are ignored, and some file has its hash.
     pub fn passes(self, options: ReportOptions) -> bool
         ensures { result ≡ passes options self }
     {
-        (options.ignores_missing || self.missing == 0)
-            && (0 < self.good && (self.bad == 0 && (self.unreadable == 0 && self.faults == 0)))
+        (self.missing == 0 || (options.ignores_missing && 0 < self.good))
+            && (self.bad == 0 && (self.unreadable == 0 && self.faults == 0))
     }
 
     /// Counts the result for a name.

@@ -170,7 +170,7 @@ pub(crate) fn sum_status<T: Threads + Runtime>(
 }
 
 // Verifies the check lines that a reader returns, and explains those with faults. The name `-` in a line is standard input, unless the lines
-// come from there.
+// come from there; then it is a file.
 fn checked<T: Threads + Runtime, R: Read>(
     threads: &T,
     extent: &Extent,

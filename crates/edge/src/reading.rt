@@ -1,12 +1,12 @@
 //! Reading an input.
 
-ghost use Rattle.std.specs.Prelude.{◌≡◌, ◌≢◌, ◌↔◌, IfSome, OnOk, IfOk, IfErr};
+ghost use Rattle.std.specs.Prelude.{◌≡◌, ◌≢◌, ◌↔◌, IfSome, OnOk, IfOk};
 ghost use Rattle.std.specs.Io.KnownBytes.{IsAtEnd};
 ghost use Rattle.std.specs.IoError.{error_kind};
 
 use crate::outcome::Cause;
 use std::alloc::Global;
-use std::io::{Error, ErrorKind, Read};
+use std::io::{self, Error, ErrorKind, Read};
 
 /// Why a read failed.
 pub fn read_cause(error: &Error) -> Cause
@@ -20,15 +20,12 @@ pub fn read_cause(error: &Error) -> Cause
     }
 }
 
-/// All bytes that the reader has left, or why they are not available.
-pub fn read_all<R: Read>(alloc: Global, reader: &mut R) -> Result<Vec<u8>, Cause>
+/// All bytes that the reader has left, or its error.
+pub fn read_all<R: Read>(alloc: Global, reader: &mut R) -> io::Result<Vec<u8>>
     ensures bytes { IfOk result (λ input. IfSome (R.remaining reader.old) (λ left. input.items ≡ left)) }
     ensures end { OnOk result (IsAtEnd (R.remaining reader.new)) }
-    ensures cause { IfErr result (λ cause. cause ≢ Cause.CannotWrite) }
 {
     let mut input: Vec<u8> = Vec::new(alloc);
-    match reader.read_to_end(&mut input) {
-        Ok(_) => Ok(input),
-        Err(error) => Err(read_cause(&error)),
-    }
+    reader.read_to_end(&mut input)?;
+    Ok(input)
 }

@@ -15,7 +15,7 @@ use Rattle.edge.specs.declared.outcome.Verdict.TheVariants.{Good, Refused}
 use Rattle.edge.specs.Output.{WroteSome}
 use Rattle.hash_engines.specs.declared.sources.FileFault.{FileFault}
 use Rattle.hash_engines.specs.declared.sources.Reason.{Reason}
-use Rattle.hash_engines.specs.declared.sources.Reason.TheVariants.{InputTaken, IsFolder, Missing, NoPermission, NotUtf8, Unreadable}
+use Rattle.hash_engines.specs.declared.sources.Reason.TheVariants.{IsFolder, Missing, NoPermission, NotUtf8, Unreadable}
 use Rattle.hash_engines.specs.declared.sources.FileFault.TheVariants.{Failed, NoMemory}
 use Rattle.hash_engines.specs.declared.summing.SumMode.{SumMode}
 use Rattle.hash_engines.specs.declared.summing.SumMode.TheVariants.{Hash, Keyed, Derive}
@@ -43,7 +43,6 @@ abbrev pub reason_text : Reason → List ℕ
 reason_text Missing = codes "no such file"
 reason_text IsFolder = codes "it is a folder"
 reason_text NoPermission = codes "no permission"
-reason_text InputTaken = codes "standard input is the list itself"
 reason_text NotUtf8 = codes "the name is not UTF-8"
 reason_text Unreadable = codes "it can't be read"
 
@@ -102,9 +101,9 @@ pub record IsSumStopped {S : Type 0} (gives : S → List ℕ → Result ModelTop
   pub wrote : Appends before grown (root_answers_text length front answers)
   pub stopped : IsStoppedAt gives length cause mid name new grown after
 
--- why an open or a read may fail: not for the name's bytes, and not for what standard input is
+-- why an open or a read may fail: not for the name's bytes
 abbrev pub IsReadFault : FileFault → Type 0
-IsReadFault fault = (fault ≢ Failed NotUtf8) × (fault ≢ Failed InputTaken)
+IsReadFault fault = fault ≢ Failed NotUtf8
 
 -- the possible results for a file's name: the fault for a name that is not UTF-8 is returned if and only if the name is not UTF-8
 abbrev pub IsRootOfFile : List ℕ → Result ModelTop FileFault → Type 0
@@ -121,8 +120,12 @@ IsRootOfLeft None mode answer = Unit {0}
 IsRootOfLeft (Some left) mode (Ok root) = root ≡ tree_top left 0 mode
 IsRootOfLeft (Some left) mode (Err fault) = Unit {0}
 
--- the possible results for an input, if there is one: after a root it is at its end
-abbrev pub IsRootOfInput : {I : Type 0} → (I → Option (List ℕ)) → ModelMode → Option I → Result ModelTop FileFault → Option I → Type 0
-IsRootOfInput remaining mode None answer new = (answer ≡ Err (Failed InputTaken)) × (new ≡ None)
-IsRootOfInput remaining mode (Some old) answer None = ⊥
-IsRootOfInput remaining mode (Some old) answer (Some new) = OnOk answer (IsAtEnd (remaining new)) × IfErr answer IsReadFault × IsRootOfLeft (remaining old) mode answer
+-- the possible results for the file with this name
+abbrev pub IsRootOfNamed : (List ℕ → Option (List ℕ)) → ModelMode → List ℕ → Result ModelTop FileFault → Type 0
+IsRootOfNamed contents mode name answer = IsRootOfFile name answer × IsRootOfLeft (contents name) mode answer
+
+-- the possible results for an input, which after a root is at its end; if there is none, those for a file
+abbrev pub IsRootOfInput : {I : Type 0} → (I → Option (List ℕ)) → ModelMode → (Result ModelTop FileFault → Type 0) → Option I → Result ModelTop FileFault → Option I → Type 0
+IsRootOfInput remaining mode of_file None answer new = of_file answer × (new ≡ None)
+IsRootOfInput remaining mode of_file (Some old) answer None = ⊥
+IsRootOfInput remaining mode of_file (Some old) answer (Some new) = OnOk answer (IsAtEnd (remaining new)) × IfErr answer IsReadFault × IsRootOfLeft (remaining old) mode answer

@@ -6,7 +6,7 @@ ghost use Rattle.std.specs.Io.KnownBytes.{Appends, IsAtEnd};
 ghost use Rattle.hash_engines.specs.Checks.{IsChecked, IsStopped, IsUntouched};
 
 use b3_check::{CheckFile, Counts, Names, ReportOptions, verify};
-use edge::{Cause, Verdict, read_all};
+use edge::{Cause, Verdict, read_all, read_cause};
 use std::alloc::Global;
 use std::io::{Read, Write};
 
@@ -41,7 +41,10 @@ pub fn check<R: Read, W: Write, N: Names>(
         IsStopped N.gives options names.old input cause names.new (W.contents writer.old) (W.contents writer.new))) }
     ensures silent { IfErr result (IsUntouched names.old names.new (W.contents writer.old) (W.contents writer.new)) }
 {
-    let input = read_all(alloc, reader)?;
+    let input = match read_all(alloc, reader) {
+        Ok(input) => input,
+        Err(error) => return Err(read_cause(&error)),
+    };
     let file = CheckFile::read(alloc, &input)?;
     let counts = verify(&file, options, names, writer)?;
     match writer.flush() {

@@ -338,7 +338,7 @@ impl<'a, T: Threads + Runtime, F: FileSystem + Copy + Send + 'static> SystemFile
     }
 }
 
-/// The files of the file system, with an input for `-`, if it is free, and a writer for messages.
+/// The files of a file system, with an input for the name `-`, and a writer for messages. Without an input, `-` is a file like others.
 #[derive(Drop)]
 pub struct SystemInputs<'a, T, F: FileSystem, I: Standing<F::File> + Drop, E: Write + Drop> {
     files: SystemFiles<'a, T, F>,
@@ -353,7 +353,7 @@ impl<'a, T, F: FileSystem, I: Standing<F::File> + Drop, E: Write + Drop> SystemI
     I,
     E,
 > {
-    /// These files, and this input, or none for `-`; messages are written to `reported`.
+    /// These files, and this input for the name `-`, if there is one; messages are written to `reported`.
     pub fn new(
         files: SystemFiles<'a, T, F>,
         input: Option<I>,
@@ -384,12 +384,12 @@ impl<T: Threads + Runtime, I: Standing<SystemFile> + Drop, E: Write + Drop> Sour
     for SystemInputs<'_, T, HostRuntime, I, E> {
     ghost use Rattle.std.specs.Prelude.{◌≡◌, ◌≢◌, codes};
     ghost use Rattle.hash_engines.specs.Files.{system_bytes};
-    ghost use Rattle.hash_engines.specs.Sums.{IsRootOfFile, IsRootOfInput, IsRootOfLeft, IsRootOfSome};
+    ghost use Rattle.hash_engines.specs.Sums.{IsRootOfInput, IsRootOfNamed, IsRootOfSome};
 
     // For a name other than `-` the input is not read; after a root for `-` it is at its end. No message is written.
     ghost gives = { λ old name answer new. IsRootOfSome old.files.mode answer
-        × (name ≢ codes "-" → IsRootOfFile name answer × IsRootOfLeft (system_bytes name) old.files.mode answer × (new.input ≡ old.input))
-        × (name ≡ codes "-" → IsRootOfInput I.remaining old.files.mode old.input answer new.input)
+        × (name ≢ codes "-" → IsRootOfNamed system_bytes old.files.mode name answer × (new.input ≡ old.input))
+        × (name ≡ codes "-" → IsRootOfInput I.remaining old.files.mode (IsRootOfNamed system_bytes old.files.mode name) old.input answer new.input)
         × (new.files.file_system ≡ old.files.file_system) × (new.files.mode ≡ old.files.mode) × (new.reported ≡ old.reported) };
 
     ghost reports = { λ old name reason new. (new.files ≡ old.files) × (new.input ≡ old.input) };
@@ -403,14 +403,14 @@ impl<T: Threads + Runtime, I: Standing<SystemFile> + Drop, E: Write + Drop> Sour
     }
 
     fn root_of(&mut self, name: &[u8]) -> Result<Top, FileFault> {
-        if name != b"-".as_slice() {
+        if name != b"-".as_slice() || self.input.is_none() {
             return self.files.root_of_file(name);
         }
         // It may have been looked up as a path.
         let _ahead = self.files.known_root(name);
         match &mut self.input {
             Some(input) => self.files.hasher.input_root(input),
-            None => Err(FileFault::Failed(Reason::InputTaken)),
+            None => unreachable!(),
         }
     }
 

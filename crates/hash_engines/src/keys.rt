@@ -4,7 +4,7 @@ ghost use Rattle.std.specs.Prelude.{◌≡◌, ◌≢◌, IfErr, IfOk, IfSome, O
 ghost use Rattle.std.specs.Io.KnownBytes.{IsAtEnd};
 ghost use Rattle.hash_engines.specs.Keys.{key_at, without_feed};
 
-use edge::{Cause, read_all};
+use edge::{Cause, read_all, read_cause};
 use hex::FromHex;
 use std::alloc::Global;
 use std::io::Read;
@@ -16,7 +16,10 @@ pub fn read_key<R: Read>(alloc: Global, reader: &mut R) -> Result<Option<[u8; 32
     ensures end { OnOk result (IsAtEnd (R.remaining reader.new)) }
     ensures cause { IfErr result (λ cause. cause ≢ Cause.CannotWrite) }
 {
-    let text = read_all(alloc, reader)?;
+    let text = match read_all(alloc, reader) {
+        Ok(text) => text,
+        Err(error) => return Err(read_cause(&error)),
+    };
     Ok(key_of(text.as_slice()))
 }
 

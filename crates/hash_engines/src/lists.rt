@@ -6,7 +6,7 @@ ghost use Rattle.b3_check.specs.Names.{IsName};
 ghost use Rattle.hash_engines.specs.Lists.{name_in_front, end_of, names_at, names_from};
 
 use b3_check::{Fault, Name};
-use edge::{Cause, read_all};
+use edge::{Cause, read_all, read_cause};
 use std::alloc::{AllocError, Global};
 use std::io::Read;
 
@@ -21,7 +21,10 @@ pub fn read_names<R: Read>(
     ensures end { OnOk result (IsAtEnd (R.remaining reader.new)) }
     ensures cause { IfErr result (λ cause. cause ≢ Cause.CannotWrite) }
 {
-    let text = read_all(alloc, reader)?;
+    let text = match read_all(alloc, reader) {
+        Ok(text) => text,
+        Err(error) => return Err(read_cause(&error)),
+    };
     let end = if has_nuls { 0 } else { b'\n' };
     Ok(names_in(alloc, end, text.as_slice())?)
 }

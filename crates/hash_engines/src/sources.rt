@@ -24,8 +24,6 @@ pub enum Reason {
     NoPermission,
     /// The name is not UTF-8, and the program cannot open such files.
     NotUtf8,
-    /// It is standard input, which is read for something else.
-    InputTaken,
     /// Something else, such as a loop of links, or a failed read.
     Unreadable,
 }
@@ -40,7 +38,6 @@ impl Reason {
             Reason::IsFolder => "it is a folder",
             Reason::NoPermission => "no permission",
             Reason::NotUtf8 => "the name is not UTF-8",
-            Reason::InputTaken => "standard input is the list itself",
             Reason::Unreadable => "it can't be read",
         }
     }
