@@ -11,7 +11,7 @@ limit changes, so no other upload can reserve the bytes that the copies need.
 
 Content of unknown length is a draft until its end is known, unless that comes within the first part: an upload of a tenant that is no user's. Its user's tenant
 reserves as many bytes as have arrived, by an upload without content. In the end the draft is filed, and copied to an upload of its user: until that is done,
-the store needs memory for both.
+the store needs memory for both. So is content of more than one part for which keys have to be evicted: they are evicted as it arrives.
 """
 import collections
 import contextlib
@@ -155,11 +155,12 @@ class Cache:
             length, parts = with_length(parts)
         if length is not None and length > self.max_len:
             raise Refused("F4")
+        if length is not None and length <= PART:
+            # no key is evicted for a length alone
+            parts = [*parts]
         if length is not None and length <= SMALL:
-            return self.put_small(user, key, b"".join(parts) if length == 0 else next(iter(parts)), address, permits)
-        target = Target(key, permits(None))
-        upload = Growing(self, user, target) if length is None else Fixed(self, user, target, length)
-        content = None
+            return self.put_small(user, key, b"".join(parts), address, permits)
+        upload, content = self.upload(user, Target(key, permits(None)), length), None
         try:
             for part in parts:
                 upload.put(part)
@@ -172,6 +173,20 @@ class Cache:
         except BaseException:
             upload.abort()
             raise
+
+    def upload(self, user, target, length):
+        """An upload. For content of one part, which is there, keys are evicted now; for longer content, as it arrives."""
+        if length is None:
+            return Growing(self, user, target, min(self.max_len, MAX_DRAFT))
+        if length <= PART:
+            return self.with_room(user, target, length, lambda: Fixed(self, user, length))
+        try:
+            return Fixed(self, user, length)
+        except Refused as refusal:
+            with self.lock:
+                if refusal.number != "S6" or self.evictable(user, target, length) is None:
+                    raise
+        return Growing(self, user, target, length)
 
     def admit(self, user, key, permits):
         """Raises Declined if a key may not be stored, under the lock."""
@@ -540,17 +555,13 @@ class Cache:
 
 
 class Fixed:
-    """An upload of a known length."""
+    """An upload of a known length, for which there is room."""
 
-    def __init__(self, cache, user, target, length):
-        self.cache, self.user, self.number = cache, user, None
-        cache.with_room(user, target, length, lambda: self.begin(length))
-
-    def begin(self, length):
-        """Begins an upload in the store that content is put into."""
-        with self.cache.lock:
-            self.backend, self.count = self.cache.backend, 0
-            self.number = self.backend.store.begin(self.backend.tenants[self.user], length)
+    def __init__(self, cache, user, length):
+        self.cache, self.user = cache, user
+        with cache.lock:
+            self.backend, self.count = cache.backend, 0
+            self.number = self.backend.store.begin(self.backend.tenants[user], length)
             self.backend.uploads += 1
 
     def put(self, part):
@@ -583,12 +594,12 @@ class Fixed:
 
 
 class Growing(Fixed):
-    """An upload of unknown length: a draft, with an upload that reserves its bytes, and in the end the upload that it is copied to."""
+    """An upload that reserves bytes as they arrive: a draft, with an upload that reserves its bytes, and in the end the upload that it is copied to."""
 
-    def __init__(self, cache, user, target):
+    def __init__(self, cache, user, target, bound):
         self.cache, self.user, self.target, self.number, self.holder, self.held = cache, user, target, None, None, 0
         """`holder` and `held`: the store and the number of the upload that reserves bytes."""
-        self.bound, self.count = min(cache.max_len, MAX_DRAFT), 0
+        self.bound, self.count = bound, 0
         with cache.lock:
             self.source = cache.backend
             self.draft = self.source.store.begin_open(self.source.tenants[cache.drafts], self.bound)

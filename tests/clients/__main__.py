@@ -90,6 +90,7 @@ CASES = (
     ("a cache's quota while it copies", cache_moves.grants_the_quota_alone_while_it_copies),
     ("a cache's evictions of what is needed", cache_quotas.evicts_what_is_needed),
     ("a cache's evictions for what arrives", cache_quotas.evicts_for_what_arrives),
+    ("a cache's evictions for a length", cache_quotas.evicts_nothing_for_a_length),
     ("a cache's content without room", cache_quotas.looks_through_no_keys_in_vain),
     ("a cache's evictions of many keys", cache_quotas.evicts_in_turns),
     ("a cache's number of recorded keys", cache_quotas.records_no_more_keys),

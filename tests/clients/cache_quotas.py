@@ -141,6 +141,30 @@ def evicts_for_what_arrives():
     return found[:5]
 
 
+def evicts_nothing_for_a_length():
+    """Content of a known length evicts keys as it arrives, or, if it is short, once it is there. Content that has no room in the end is refused before that."""
+    found, rows = [], ((UNIT // 5, [4], 4), (UNIT // 2, [4], 4), (UNIT, [4], 4), (3 * UNIT, [4, 3, 2], 2), (4 * UNIT, [4, 3, 2, 1], 1), (4 * UNIT + 1, [], 4), (3 * UNIT, [], 4))
+    for length, wanted, kept in rows:
+        user, seen = User("all", None, 4 * UNIT), []
+        cache = cache_of(user)
+
+        def parts(length=length, wanted=wanted, seen=seen, user=user):
+            for start in range(0, length, UNIT):
+                if not wanted:
+                    raise Broken
+                seen.append(len(user.keys))
+                yield b"x" * min(UNIT, length - start)
+
+        with mock.patch.multiple(cache_stores, PART=UNIT, SMALL=UNIT // 4):
+            for key in range(4):
+                found += differences((put(cache, user, f"/{key}", bytes([key]) * UNIT), None))
+            fault = raised(cache.put, user, "/large", length, parts())
+        found += differences((fault, None if wanted else Refused if length > 4 * UNIT else Broken), (seen, wanted), (len(user.keys), kept))
+        found += left_over(cache, user) + left_over(cache, cache.drafts)
+        cache.close_stores()
+    return found
+
+
 def records_no_more_keys():
     """The key that is evicted for another one is recorded before that: wherever the log ends, it has no more keys than a user may have. Both may have the same
     content."""
