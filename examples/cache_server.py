@@ -80,6 +80,8 @@ MAX_KEY = 4096
 """How many bytes a key may have."""
 SECONDS_TO_ANSWER = 2
 """How long requests are answered by 503, once the store has ended."""
+SECONDS_TO_END = 30
+"""How long after a signal the server waits for a store to answer or to end, before it kills it."""
 SECONDS_BETWEEN_LOOKS = 0.2
 """How often the server checks whether the store has ended, or the journal is too long."""
 STATUSES = {"S2": 507, "S5": 413, "S6": 507, "S11": 400, "S12": 404, "S13": 507, "S14": 503, "F4": 413}
@@ -379,10 +381,18 @@ class Stop:
     """An event, which a handler of signals can set at any moment: threading's takes a lock that the same thread may hold."""
 
     def __init__(self):
-        self.signals = queue.SimpleQueue()
+        self.signals, self.stores, self.has_killed = queue.SimpleQueue(), [], False
 
     def set(self):
         self.signals.put(None)
+
+    def kill_stores(self, *_):
+        """Kills the stores that have not ended. This is called some time after a signal: a store that is stopped would never end."""
+        for store in self.stores:
+            if store.alive:
+                os.kill(store.pid, signal.SIGKILL)
+                self.has_killed = True
+                report(f"the store is killed, as it has not ended {SECONDS_TO_END} s after the signal")
 
     def wait(self, seconds):
         """Whether it is set within some time."""
@@ -396,7 +406,13 @@ class Stop:
 def stop_signals():
     """An event that is set when the process receives a signal to end."""
     stopping = Stop()
-    handle_ending(lambda *_: stopping.set())
+
+    def end(*_):
+        stopping.set()
+        signal.alarm(signal.alarm(0) or SECONDS_TO_END)
+
+    signal.signal(signal.SIGALRM, stopping.kill_stores)
+    handle_ending(end)
     return stopping
 
 
@@ -422,8 +438,14 @@ def read_options():
 
 def serve(options, files, stopping):
     """Runs until a signal arrives, or the store ends."""
-    users, program = users_of(options), options.program
-    cache = Cache(lambda: Store(program, options.sessions), users, options.most, not options.no_evict, options.journal_limit, options.max_keys)
+    users = users_of(options)
+
+    def start():
+        store = Store(options.program, options.sessions)
+        stopping.stores = [*(older for older in stopping.stores if older.alive), store]
+        return store
+
+    cache = Cache(start, users, options.most, not options.no_evict, options.journal_limit, options.max_keys)
     try:
         loader = Loader(cache, files, lambda: stopping.wait(0))
         begun = loader.load()
@@ -468,7 +490,7 @@ def main():
     stopping = stop_signals()
     try:
         serve(options, Files(options.folder), stopping)
-        return 0
+        return 3 if stopping.has_killed else 0
     except Ended as fault:
         report(fault)
         return 3
@@ -478,6 +500,7 @@ def main():
     finally:
         # neither a signal that comes while the interpreter ends nor a line that nobody reads changes the status
         handle_ending(signal.SIG_IGN)
+        signal.alarm(0)
         drop_unwritten()
 
 

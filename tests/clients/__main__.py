@@ -59,6 +59,7 @@ CASES = (
     ("a cache that gives disk back while it writes", cache_disk.frees_as_much_as_it_writes),
     ("a cache that ends while it begins", cache_disk.ends_while_it_loads),
     ("a cache that stops", cache_disk.stops_at_once),
+    ("a cache with a store that is stopped", cache_disk.ends_with_a_stopped_store),
     ("a cache that stops while it is used", cache_disk.stops_while_it_is_used),
     ("a cache that is interrupted", cache_disk.keeps_all_at_an_interrupt),
     ("a cache that is ended with its store", cache_disk.tells_what_a_dead_store_had),

@@ -322,6 +322,29 @@ def tells_what_a_dead_store_had():
             return found + differences((cache.ask("GET", "/k") == (200, wanted), True))
 
 
+def ends_with_a_stopped_store():
+    """A store that is stopped is killed some time after a signal, which is reported, whether the server asks it or only waits for its end."""
+    found = []
+    for words in [], ["--journal-limit", "0"]:
+        with tempfile.TemporaryDirectory() as place, Cache(os.path.join(place, "cache"), words=words, server=["-c", IMPATIENT]) as cache:
+            found += differences((cache.ask("PUT", "/k", b"abc")[0], 201), (wait_until(lambda: len(texts_of_log(cache.folder)) == 2), True))
+            store = children(cache.process)[0]
+            os.kill(store, signal.SIGSTOP)
+            try:
+                err = cache.stop()[1].splitlines()
+            finally:
+                with contextlib.suppress(ProcessLookupError):
+                    os.kill(store, signal.SIGCONT)
+            found += differences((err[:1], ["cache_server: the store is killed, as it has not ended 1 s after the signal"]), (cache.process.returncode, 3))
+    return found
+
+
+IMPATIENT = f"""import sys; sys.path[:0] = {[os.path.join(TOP, name) for name in ("examples", "python")]!r}
+import cache_server
+cache_server.SECONDS_TO_END = 1
+sys.exit(cache_server.main())"""
+
+
 def stops_while_it_is_used():
     """A signal ends it well, whatever its clients do meanwhile."""
     with tempfile.TemporaryDirectory() as place:
