@@ -9,6 +9,7 @@ import email.utils
 import errno
 import http
 import http.server
+import io
 import re
 import socket
 import struct
@@ -28,9 +29,11 @@ MAX_LINE = 1 << 16
 MAX_HEADERS, MAX_HEADERS_LEN = 100, 1 << 17
 """How many headers a request may have, and how many bytes in all."""
 SECONDS_OF_SILENCE = 60
-SECONDS_TO_LEAVE = 2
-MAX_LEFT = 1 << 24
-"""How long a connection that the server ends waits for bytes of the client, again and again, and how many it drops."""
+SECONDS_OF_REQUEST, MIN_RATE = 60, 1 << 14
+"""How long a request is waited for in all, and how many of its bytes give it another second."""
+SECONDS_TO_LEAVE, SECONDS_TO_LEAVE_IN_ALL = 2, 20
+MAX_LEFT = 1 << 26
+"""How long a connection that the server ends waits for bytes of the client, each time and in all, and how many it drops."""
 SECONDS_BETWEEN_TRIES = 0.05
 NO_FILES = (errno.EMFILE, errno.ENFILE)
 """The errors of a process that has too many open files now, as clients have opened as many connections."""
@@ -53,6 +56,30 @@ class Malformed(Exception):
         self.status = status
 
 
+class Arrivals(io.RawIOBase):
+    """What a client sends. If a request arrives too slowly, reading it raises TimeoutError."""
+
+    def __init__(self, connection):
+        self.connection = connection
+        self.begin()
+
+    def begin(self):
+        """Begins a request, whose first bytes may be waited for."""
+        self.count, self.waited = 0, 0.0
+
+    def readable(self):
+        return True
+
+    def readinto(self, room):
+        begun = time.monotonic()
+        count = self.connection.recv_into(room)
+        self.waited += time.monotonic() - begun if self.count else 0
+        self.count += count
+        if self.waited > SECONDS_OF_REQUEST + self.count / MIN_RATE:
+            raise TimeoutError
+        return count
+
+
 class Connection(http.server.BaseHTTPRequestHandler):
     """One connection. A class made of it has a method for each method of HTTP, such as `do_GET`."""
 
@@ -69,8 +96,12 @@ class Connection(http.server.BaseHTTPRequestHandler):
         # the system ends a silent read or write; a timeout of Python's would poll before each
         for option in socket.SO_RCVTIMEO, socket.SO_SNDTIMEO:
             self.connection.setsockopt(socket.SOL_SOCKET, option, struct.pack("ll", SECONDS_OF_SILENCE, 0))
+        self.rfile.close()
+        self.arrivals = Arrivals(self.connection)
+        self.rfile = io.BufferedReader(self.arrivals)
 
     def handle_one_request(self):
+        self.arrivals.begin()
         self.server.note_idle(self.connection, True)
         try:
             super().handle_one_request()
@@ -145,20 +176,23 @@ class Connection(http.server.BaseHTTPRequestHandler):
         # bytes that a method doesn't read must not be taken for a request, nor what follows chunks that a proxy of HTTP/1.0 may not know
         is_left = self.command != "PUT" and (self.has_chunks or bool(self.length))
         self.close_connection = is_left or "close" in words or self.is_old and (self.has_chunks or "keep-alive" not in words)
-        if self.headers.get("expect", "").lower() == "100-continue" and not self.is_old:
-            self.wfile.write(b"HTTP/1.1 100 Continue\r\n\r\n")
-            self.wfile.flush()
         return True
 
     def body(self, part_len):
-        """Yields the request's body in parts of one length, of which only the last may be shorter."""
+        """Yields the request's body in parts of one length, of which only the last may be shorter. A part takes memory as its bytes arrive."""
+        if self.headers.get("expect", "").lower() == "100-continue" and not self.is_old:
+            self.wfile.write(b"HTTP/1.1 100 Continue\r\n\r\n")
+            self.wfile.flush()
         if self.has_chunks:
             yield from parts_of(http_chunks(self.rfile), part_len)
             return
         for start in range(0, self.length, part_len):
-            part = bytearray(min(part_len, self.length - start))
-            if self.rfile.readinto(part) != len(part):
-                raise Cut
+            part, wanted = bytearray(), min(part_len, self.length - start)
+            while len(part) < wanted:
+                piece = self.rfile.read(min(wanted - len(part), max(MAX_LINE, len(part))))
+                if not piece:
+                    raise Cut
+                part += piece
             yield part
 
     def send_head(self, status, lines):
@@ -265,12 +299,12 @@ class Server(http.server.HTTPServer):
     def shutdown_request(self, request):
         """Closes a connection once the client has, or sends no more. If bytes of the client were unread then, the system would take back what the client
         has not yet received of the answer."""
-        left = MAX_LEFT
+        left, end = MAX_LEFT, time.monotonic() + SECONDS_TO_LEAVE_IN_ALL
         self.note_idle(request, True)
         with contextlib.suppress(OSError):
             request.shutdown(socket.SHUT_WR)
             request.setsockopt(socket.SOL_SOCKET, socket.SO_RCVTIMEO, struct.pack("ll", SECONDS_TO_LEAVE, 0))
-            while left > 0:
+            while left > 0 and time.monotonic() < end:
                 left -= len(request.recv(MAX_LINE)) or left
         self.note_idle(request, False)
         self.close_request(request)

@@ -2,6 +2,7 @@
 import base64
 import contextlib
 import os
+import select
 import socket
 import tempfile
 import threading
@@ -56,6 +57,26 @@ def answer_of_half(port, request):
         return b"".join(iter(lambda: connection.recv(4096), b""))
 
 
+def answer_in_time(port, request, seconds=10):
+    """What a server answers until it closes the connection, or some time has passed. The client sends nothing more, but doesn't say so."""
+    answer, end = b"", time.monotonic() + seconds
+    with socket.create_connection(("127.0.0.1", port), timeout=seconds) as connection, contextlib.suppress(OSError):
+        connection.sendall(request)
+        while time.monotonic() < end:
+            got = connection.recv(4096)
+            if not got:
+                return answer
+            answer += got
+    return answer + b" and doesn't close"
+
+
+def with_constants(**values):
+    """The words of a server, some of whose constants have other values."""
+    lines = [f"import sys; sys.path[:0] = {[os.path.join(TOP, name) for name in ('examples', 'python')]!r}", "import cache_http, cache_server"]
+    lines += [f"{module}.{name} = {value}" for module, constants in values.items() for name, value in constants.items()]
+    return ["-c", "\n".join([*lines, "sys.exit(cache_server.main())"])]
+
+
 def refuses_wrong_requests():
     """Each is refused, changes nothing, and ends its connection; the server reports none of them."""
     with tempfile.TemporaryDirectory() as place, Cache(os.path.join(place, "cache")) as cache:
@@ -68,12 +89,72 @@ def refuses_wrong_requests():
 
 
 def refuses_other_tokens():
-    """A client with a wrong token is told so after it has sent its body."""
+    """A client with a wrong token is told so, also if it sends its body first. If it waits, it is told at once, and none of its body is asked for."""
     with tempfile.TemporaryDirectory() as place, Cache(os.path.join(place, "cache"), USERS) as cache:
         chunked = {"Transfer-Encoding": "chunked"}
         found = differences(*((cache.ask("PUT", "/k", bytes(length), token)[0], 401) for length in (3, 8000000) for token in (None, "token-c")))
         found += differences((cache.ask("PUT", "/k", iter([bytes(8000000)]), "token-c", chunked)[0], 401))
+        for length in b"Content-Length: 5", b"Content-Length: 5000000000", b"Transfer-Encoding: chunked":
+            answer = answer_in_time(cache.port, b"PUT /k HTTP/1.1\r\nExpect: 100-continue\r\n" + length + b"\r\n\r\n")
+            found += differences((status_of(answer), 401), (CLOSE in answer, True))
         return found + differences((cache.ask("GET", "/k", token="token-a")[0], 404), (cache.ask("PUT", "/k", b"abc", "token-a")[0], 201))
+
+
+def memory_of(process):
+    """How many KiB of memory a process has."""
+    with open(f"/proc/{process.pid}/status", encoding="ascii") as lines:
+        return next(int(line.split()[1]) for line in lines if line.startswith("VmRSS:"))
+
+
+def takes_no_memory_for_a_length():
+    """A body takes memory as its bytes arrive, and not for the length that the request says."""
+    request = b"PUT /k HTTP/1.1\r\nContent-Length: 5000000\r\n\r\n" + bytes(100)
+    with tempfile.TemporaryDirectory() as place, Cache(os.path.join(place, "cache")) as cache, contextlib.ExitStack() as stack:
+        before = memory_of(cache.process)
+        for _ in range(60):
+            stack.enter_context(socket.create_connection(("127.0.0.1", cache.port), timeout=SECONDS)).sendall(request)
+        time.sleep(1)
+        grown = memory_of(cache.process) - before
+        return [] if grown < 30000 else [f"60 bodies of 100 bytes take {grown} KiB"]
+
+
+def reads_few_bodies_at_a_time():
+    """If many clients send bodies, another one is told to try again later; other requests are answered."""
+    few = with_constants(cache_server={"MAX_BODIES": 2, "SECONDS_TO_TURN": 0.1})
+    with tempfile.TemporaryDirectory() as place, Cache(os.path.join(place, "cache"), server=few) as cache:
+        request = b"PUT /k HTTP/1.1\r\nContent-Length: 3\r\n" + CLOSE + b"\r\na"
+        slow = [socket.create_connection(("127.0.0.1", cache.port), timeout=SECONDS) for _ in range(2)]
+        for connection in slow:
+            connection.sendall(request)
+        found = differences((wait_until(lambda: cache.ask("PUT", "/k", b"abc")[0] == 503), True), (cache.ask("GET", "/other")[0], 404))
+        found += differences((b"Retry-After: 1\r\n" in raw_answer(cache.port, request), True))
+        for connection in slow:
+            connection.sendall(b"bc")
+            found += differences((status_of(connection.recv(4096)), 201), (cache.ask("PUT", "/k", b"abc")[0], 201))
+            connection.close()
+        return found
+
+
+def answer_of_slow(port, head, pieces):
+    """The status of the answer to a request whose pieces are sent at intervals of a twentieth of a second."""
+    with socket.create_connection(("127.0.0.1", port), timeout=SECONDS) as connection, contextlib.suppress(OSError):
+        connection.sendall(head)
+        for piece in pieces:
+            connection.sendall(piece)
+            if select.select([connection], [], [], 0.05)[0]:
+                break
+        return status_of(connection.recv(4096))
+    return None
+
+
+def ends_slow_requests():
+    """A request that arrives too slowly is ended, in its head or in its body. One that takes as long, and has more bytes, is not."""
+    slow = with_constants(cache_http={"SECONDS_OF_REQUEST": 1, "MIN_RATE": 200})
+    length, chunks = b"PUT /k HTTP/1.1\r\nContent-Length: 10000\r\n" + CLOSE + b"\r\n", b"PUT /k HTTP/1.1\r\nTransfer-Encoding: chunked\r\n" + CLOSE + b"\r\n"
+    with tempfile.TemporaryDirectory() as place, Cache(os.path.join(place, "cache"), server=slow) as cache:
+        found = differences((answer_of_slow(cache.port, length, [b"x"] * 100), 408), (answer_of_slow(cache.port, chunks, [b"1\r\n", b"x\r\n"] * 50), 408))
+        found += differences((answer_of_slow(cache.port, b"PUT /k HTTP/1.1\r\nX: ", [b"x"] * 100), None), (cache.ask("GET", "/k")[0], 404))
+        return found + differences((answer_of_slow(cache.port, length, [bytes(200)] * 50), 201), (cache.ask("GET", "/k"), (200, bytes(10000))))
 
 
 def takes_tokens_of_any_letters():
@@ -309,6 +390,9 @@ def etag(port, key):
 CASES = (
     ("a cache's wrong requests", refuses_wrong_requests),
     ("a cache's clients with other tokens", refuses_other_tokens),
+    ("a cache's memory for bodies", takes_no_memory_for_a_length),
+    ("a cache's bodies at a time", reads_few_bodies_at_a_time),
+    ("a cache's slow clients", ends_slow_requests),
     ("a cache's clients with odd tokens", takes_tokens_of_any_letters),
     ("a cache's half requests", does_nothing_for_half_a_request),
     ("a cache's clients that send too much", answers_whole_before_it_closes),
