@@ -24,6 +24,8 @@ FORMS = ("OPTIONS", "CONNECT")
 """The methods whose targets need not begin with a slash, once the host is taken away."""
 HEADER_NAME = re.compile("[!-9;-~]+")
 NUMBER = re.compile("[0-9]{1,19}")
+PORT = re.compile(":[0-9]*$")
+LOOPBACK = re.compile(r"localhost|127(?:\.[0-9]{1,3}){3}|\[::1\]")
 CHUNK_LINE = re.compile(rb"([0-9a-fA-F]{1,15})[ \t]*(?:;[^\n]*)?\r?\n")
 MAX_LINE = 1 << 16
 MAX_HEADERS, MAX_HEADERS_LEN = 100, 1 << 17
@@ -166,8 +168,12 @@ class Connection(http.server.BaseHTTPRequestHandler):
         """Finds out whether the connection is kept after the request, and how long its body is: `length` is None for chunks, or if no length is given."""
         words = [word.strip() for word in self.headers.get("connection", "").lower().split(",")]
         coding, length = self.headers.get("transfer-encoding"), self.headers.get("content-length")
-        if "," in self.headers.get("host", ""):
+        host = PORT.sub("", self.headers.get("host", "localhost").lower())
+        if "," in host:
             raise Malformed(400)
+        # a page whose name leads to this address sends that name
+        if not LOOPBACK.fullmatch(host) and host not in self.server.hosts:
+            raise Malformed(403)
         if coding is not None and (length is not None or coding.lower() != "chunked"):
             raise Malformed(400 if length is not None else 501)
         if length is not None and not NUMBER.fullmatch(length):
@@ -220,8 +226,10 @@ class Server(http.server.HTTPServer):
 
     request_queue_size = 128
 
-    def __init__(self, address, handler):
+    def __init__(self, address, handler, hosts=()):
         super().__init__(address, handler)
+        self.hosts = hosts
+        """The names, beside those of a loopback address, that the header Host may have."""
         self.waiting, self.lock, self.has_stopped = 0, threading.Lock(), False
         """How many threads wait for a connection."""
         self.idle = {}

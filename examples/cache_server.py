@@ -24,8 +24,13 @@ The server starts with what is in FOLDER, and compares each object with its addr
 reported, and stays in FOLDER with its object for a later start; an object that has another address is moved to FOLDER/aside. If FOLDER/log is damaged, and not
 only truncated, keys may be older than they were: the server refuses to start, and changes nothing. Only the server's user can read what it writes in FOLDER.
 One server at a time uses a folder. If the store ends, the server answers 503 and exits with status 3; if FOLDER is removed or moved, with status 1.
+A store that has not ended 30 seconds after a signal, as it was stopped by SIGSTOP, is killed, which is reported; the status is 3 then too.
 
-If the server has too many open files or threads, the connections that have waited longest for a request are closed.
+If the server has too many open files or threads, the connections that have waited longest for a request are closed. A request may take a minute to arrive, and
+a second more for each 16 KiB of it. Up to 128 bodies are read at a time. A refused request is answered at once, and its connection closed.
+
+A page in a browser could send requests by a name of its own that leads to 127.0.0.1. So the header `Host`, if there is one, must have `localhost`, a loopback
+address, or a NAME of `--host`, which may be given several times.
 
 A store keeps a journal of its commands in memory. When it has more than `--journal-limit` entries, the content moves into a second store, to which the
 server switches while it answers requests (cache_stores.py). A limit that is less than twice what the content needs is raised to that.
@@ -39,10 +44,10 @@ token. All other paths are keys.
 |---|---|
 | 200, 201, 204 | a key's content; it is stored; it is removed |
 | 206, 304, 416 | the range that `Range` asks for; `If-None-Match` has the content's ETag; the range is outside the content |
-| 401 | the token belongs to no user |
+| 401, 403 | the token belongs to no user; `Host` has another name |
 | 404 | there is no such key |
 | 405 | `/healthz` and `/metrics` can't be keys |
-| 400 | the request is malformed, or its body is truncated or isn't what `--compare` wants, or a PUT has `Content-Range`: it would store a part |
+| 400, 408 | the request is malformed, or its body is truncated or isn't what `--compare` wants, or a PUT has `Content-Range`: it would store a part; its body arrives too slowly |
 | 411, 413, 414 | the body has no length; it is longer than `--most`, or than 16 GiB if it is in chunks; the key of a PUT has more than 4096 bytes |
 | 431, 501, 505 | a header or all headers are too long; the server has no such method or coding; the version isn't HTTP/1 |
 | 412 | what the key leads to isn't what `If-Match` or, for PUT and DELETE, `If-None-Match` wants; nothing is changed |
@@ -321,9 +326,9 @@ class Handler(Connection):
 class CacheServer(Server):
     """Answers requests to a cache."""
 
-    def __init__(self, address, cache, stopping, compares):
+    def __init__(self, address, cache, stopping, compares, hosts):
         try:
-            super().__init__(address, Handler)
+            super().__init__(address, Handler, hosts)
         except OSError as fault:
             raise OSError(fault.errno, fault.strerror, f"port {address[1]}") from None
         self.cache, self.stopping, self.compares, self.fault, self.metrics = cache, stopping, compares, None, Metrics()
@@ -438,6 +443,7 @@ def read_options():
     add("--most", type=length, default=1 << 32, metavar="BYTES", help="refuse objects longer than BYTES (default: 4 GiB)")
     add("--compare", action="store_true", help="refuse a PUT of /cas/HASH by 400 if HASH isn't the content's BLAKE3 hash: for bazel's --digest_function=blake3")
     add("--no-evict", action="store_true", help="answer 507 if a user's quota is full, instead of evicting keys")
+    add("--host", action="append", type=str.lower, default=[], metavar="NAME", help="also answer requests to NAME, not only to localhost and loopback addresses")
     add("--port", type=number(0, 65535), default=8080, metavar="N", help="listen on this port (default: 8080); 0 takes a free one, and prints it")
     add("--sessions", type=number(1, MAX_SESSIONS), default=4, metavar="N", help="let up to N requests use the store at a time (default: 4)")
     purpose = f"move the content to a new store when the journal has more than N entries (default: {JOURNAL_LIMIT}); 0 never moves it"

@@ -61,6 +61,7 @@ http {{
     location / {{
       proxy_pass http://servers;
       proxy_http_version 1.1;
+      proxy_set_header Host $http_host;
       proxy_request_buffering off;
       proxy_buffering off;
     }}

@@ -157,6 +157,20 @@ def ends_slow_requests():
         return found + differences((answer_of_slow(cache.port, length, [bytes(200)] * 50), 201), (cache.ask("GET", "/k"), (200, bytes(10000))))
 
 
+def answers_to_its_own_names():
+    """A request to another name is refused: a page of that name, which leads to the server's address, could send it. A name that --host gives is taken."""
+    with tempfile.TemporaryDirectory() as place, Cache(os.path.join(place, "cache"), words=["--host", "Cache.example", "--host", "b"]) as cache:
+        found = differences((cache.ask("PUT", "/k", b"abc")[0], 201))
+        for name, status in (
+            ("localhost", 200), ("LOCALHOST:80", 200), ("127.0.0.1", 200), ("127.1.2.3:8080", 200), ("[::1]", 200), ("[::1]:8080", 200), ("cache.example:80", 200), ("B", 200),
+            ("evil.example", 403), ("evil.example:8080", 403), ("127.0.0.1.evil.example", 403), ("localhost.evil", 403), ("10.0.0.1", 403), ("[::2]", 403), ("", 403), (":80", 403),
+        ):
+            for method, body in (b"GET", b"\r\n"), (b"PUT", b"Content-Length: 3\r\n\r\nabc"):
+                answer = raw_answer(cache.port, method + b" /k HTTP/1.1\r\nHost: " + name.encode() + b"\r\n" + (CLOSE if status == 200 else b"") + body)
+                found += [] if status_of(answer) in (status, status + 1) and CLOSE in answer else [f"{method} of {name}: {answer[:80]}"]
+        return found + differences((status_of(raw_answer(cache.port, b"GET /k HTTP/1.0\r\n\r\n")), 200))
+
+
 def takes_tokens_of_any_letters():
     """A token is the bytes that the file of users has, also if its last byte is white space in Latin-1."""
     tokens = "voilà", "Å", "λ", "plain"
@@ -332,7 +346,7 @@ def takes_targets_with_a_host():
     with tempfile.TemporaryDirectory() as place, Cache(os.path.join(place, "cache")) as cache:
 
         def status(method, target, more=b""):
-            return status_of(raw_answer(cache.port, method + b" " + target + b" HTTP/1.1\r\nHost: a\r\n" + CLOSE + more))
+            return status_of(raw_answer(cache.port, method + b" " + target + b" HTTP/1.1\r\nHost: localhost\r\n" + CLOSE + more))
 
         found = differences((cache.ask("PUT", "/k", b"abc")[0], 201), (status(b"PUT", b"http://a/l", b"Content-Length: 4\r\n\r\nfour"), 201))
         found += differences((cache.ask("GET", "/l"), (200, b"four")), (status(b"PUT", b"https://a?q", b"Content-Length: 4\r\n\r\nfour"), 201))
@@ -393,6 +407,7 @@ CASES = (
     ("a cache's memory for bodies", takes_no_memory_for_a_length),
     ("a cache's bodies at a time", reads_few_bodies_at_a_time),
     ("a cache's slow clients", ends_slow_requests),
+    ("a cache's names", answers_to_its_own_names),
     ("a cache's clients with odd tokens", takes_tokens_of_any_letters),
     ("a cache's half requests", does_nothing_for_half_a_request),
     ("a cache's clients that send too much", answers_whole_before_it_closes),

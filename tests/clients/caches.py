@@ -277,7 +277,7 @@ def ends_with_its_store():
 def put_too_much(port):
     """Sends more of a PUT that is refused than a server reads."""
     with socket.create_connection(("127.0.0.1", port)) as connection, contextlib.suppress(OSError):
-        connection.sendall(b"PUT /much HTTP/1.1\r\nHost: a\r\nContent-Length: 5000000000\r\n\r\n")
+        connection.sendall(b"PUT /much HTTP/1.1\r\nHost: localhost\r\nContent-Length: 5000000000\r\n\r\n")
         for _ in range(80):
             connection.sendall(bytes(1 << 20))
 
