@@ -47,11 +47,13 @@ token. All other paths are keys.
 | 401, 403 | the token belongs to no user; `Host` has another name |
 | 404 | there is no such key |
 | 405 | `/healthz` and `/metrics` can't be keys |
-| 400, 408 | the request is malformed, or its body is truncated or isn't what `--compare` wants, or a PUT has `Content-Range`: it would store a part; its body arrives too slowly |
+| 400 | the request is malformed, or its body is truncated or isn't what `--compare` wants, or a PUT has `Content-Range`: it would store a part |
+| 408 | the body arrives too slowly |
 | 411, 413, 414 | the body has no length; it is longer than `--most`, or than 16 GiB if it is in chunks; the key of a PUT has more than 4096 bytes |
 | 431, 501, 505 | a header or all headers are too long; the server has no such method or coding; the version isn't HTTP/1 |
 | 412 | what the key leads to isn't what `If-Match` or, for PUT and DELETE, `If-None-Match` wants; nothing is changed |
-| 503, 507 | the store is out of memory, or has ended, or FOLDER can't be written to, or too many bodies arrive; the store or the user's quota is full, or the user has too many keys |
+| 503 | the store is out of memory, or has ended, or FOLDER can't be written to, or too many bodies arrive |
+| 507 | the store or the user's quota is full, or the user has too many keys |
 """
 import os
 import sys
@@ -443,7 +445,7 @@ def read_options():
     add("--most", type=length, default=1 << 32, metavar="BYTES", help="refuse objects longer than BYTES (default: 4 GiB)")
     add("--compare", action="store_true", help="refuse a PUT of /cas/HASH by 400 if HASH isn't the content's BLAKE3 hash: for bazel's --digest_function=blake3")
     add("--no-evict", action="store_true", help="answer 507 if a user's quota is full, instead of evicting keys")
-    add("--host", action="append", type=str.lower, default=[], metavar="NAME", help="also answer requests to NAME, not only to localhost and loopback addresses")
+    add("--host", action="append", type=str.lower, default=[], metavar="NAME", help="also answer requests to NAME, not only to localhost and 127.0.0.1")
     add("--port", type=number(0, 65535), default=8080, metavar="N", help="listen on this port (default: 8080); 0 takes a free one, and prints it")
     add("--sessions", type=number(1, MAX_SESSIONS), default=4, metavar="N", help="let up to N requests use the store at a time (default: 4)")
     purpose = f"move the content to a new store when the journal has more than N entries (default: {JOURNAL_LIMIT}); 0 never moves it"
