@@ -10,8 +10,9 @@ Files are split into pieces by their content, and a piece is kept once, however 
 new piece. A backup is a list of names and pieces, which is kept in pieces too. A repository of an older version, with a file objects/AA/ADDRESS for each
 object, is read too, and its new objects are kept in packs.
 
-A file is not read again if its length, mode, owner and time are those in the last backup of its folder and its pieces are there. With `--all`, every file is
-read, and the objects that are there are compared with it. If a file's length or time changes while it is read, what was read is saved, which may be a state
+A file is not read again if its length, mode, owner, times and number are those in the last backup of its folder and its pieces are there. One of the times is
+that of the last change of anything, which no program can set: so a file with other content is read, whatever its length and time are. With `--all`, every file
+is read, and the objects that are there are compared with it. If a file's length or time changes while it is read, what was read is saved, which may be a state
 that the file never had; that is reported. Of what a file has grown meanwhile, about 16 MiB are read. All files are written under other names, synced, and then
 renamed; a backup is recorded last. So a save that is killed changes no earlier backup. The next save uses or removes what it left. Only one save can use a
 repository at a time.
@@ -137,7 +138,7 @@ def opened(folder, name, status):
 
 def wait_for_other_time(status):
     """Waits until a write would change the time of a file of this status. If the file is read after that and has the same time later, nothing was written."""
-    left = status.st_mtime_ns / 10**9 + SECONDS_TO_OTHER_TIME - time.time()
+    left = status.st_ctime_ns / 10**9 + SECONDS_TO_OTHER_TIME - time.time()
     if 0 < left <= SECONDS_TO_OTHER_TIME:
         time.sleep(left)
 
@@ -148,8 +149,8 @@ def state_of(status):
 
 
 def words_of_all(name, status):
-    """The words that the lines of files, folders and links have in common."""
-    return [name, f"{stat.S_IMODE(status.st_mode):o}:{status.st_uid}:{status.st_gid}", str(status.st_mtime_ns)]
+    """The words that the lines of files, folders and links have in common. Each write changes the second time, which no program can set."""
+    return [name, f"{stat.S_IMODE(status.st_mode):o}:{status.st_uid}:{status.st_gid}", f"{status.st_mtime_ns}:{status.st_ctime_ns}:{status.st_ino}"]
 
 
 def known_files(repository, folder):

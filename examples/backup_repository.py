@@ -17,9 +17,9 @@ from backup_pieces import pieces_of
 ADDRESS = re.compile("[0-9a-f]{64}")
 BACKUP = re.compile(r"([0-9a-f]{64}) (\d+) ([!-~]+)")
 """A line of `backups`: address, seconds since 1970, and the folder."""
-LINE = re.compile(r"(file|folder|link|same) (\S+) ([0-7]+)(?::(\d+):(\d+))? (-?\d+)((?: \S+)*)")
-"""A line of a backup: kind, path, mode, owner and group, time, and what the kind has: a file its length and the addresses of its pieces, a link where it
-leads, a hard link the path of the same file."""
+LINE = re.compile(r"(file|folder|link|same) (\S+) ([0-7]+)(?::(\d+):(\d+))? (-?\d+)(?::-?\d+:\d+)?((?: \S+)*)")
+"""A line of a backup: kind, path, mode, owner and group, time, with the time of the last change and the number of the file; and what the kind has: a file its
+length and the addresses of its pieces, a link where it leads, a hard link the path of the same file. Older lines have no more than one time."""
 MORE = {"file": re.compile(r" \d{1,19}(?: [0-9a-f]{64})*"), "folder": re.compile(""), "link": re.compile(r" \S+"), "same": re.compile(r" \S+")}
 """The words that each kind has."""
 ITSELF = "."

@@ -378,6 +378,33 @@ def restores_without_owners():
         return found
 
 
+def reads_rewritten_files():
+    """A file with other content is read again, though it has the length and the time of before. One that is the same is not, unless the backup is an older one."""
+    with tempfile.TemporaryDirectory() as place:
+        folder, repository = folder_of_abc(place)
+        path, other = os.path.join(folder, "file"), os.path.join(place, "other")
+        before, found = os.stat(path), differences((backup("save", folder, repository)[0], 0))
+        found += differences((save(folder, repository, opened=None)[0], True))
+
+        def replace(content):
+            write(other, content)
+            os.utime(other, ns=(5, before.st_mtime_ns))
+            os.rename(other, path)
+
+        def rewrite_in_place(content):
+            write(path, content)
+            os.utime(path, ns=(5, before.st_mtime_ns))
+
+        for change, content in (rewrite_in_place, b"xyz"), (replace, b"uvw"):
+            change(content)
+            status, lines = backup("save", folder, repository)
+            found += differences((status, 0), (restored_files(repository, lines, "file"), ((0, []), [content])))
+        words = f"file file {stat.S_IMODE(before.st_mode):o}:{before.st_uid}:{before.st_gid} {before.st_mtime_ns} 3 abc"
+        repository, _ = made_backup(folder, words)
+        status, lines = backup("save", folder, repository)
+        return found + differences((status, 0), (restored_files(repository, lines, "file"), ((0, []), [b"uvw"])))
+
+
 def leaves_the_repository_out():
     """A repository in the folder that is saved isn't saved in itself."""
     with tempfile.TemporaryDirectory() as place:
@@ -681,6 +708,7 @@ CASES = (
     ("a backup without memory", ends_without_memory),
     ("a backup without memory to write", ends_where_a_pack_fails),
     ("a backup of owners that aren't possible", restores_without_owners),
+    ("files that are rewritten with their time", reads_rewritten_files),
     ("a repository in the folder that is saved", leaves_the_repository_out),
     ("a folder that a link replaces while it is saved", lists_no_folder_by_a_link),
     ("links to elsewhere that replace folders while they are saved", reads_through_no_link),
