@@ -21,11 +21,12 @@ repository at a time.
 index is missing or wrong, everything can be restored, and the next save writes the index again. A wrong object is written again by `save --all` of a folder
 that has the same content.
 
-It keeps files, folders, links and hard links, with times, modes, owners and groups. If an owner can't be restored, for example by a user other than root, that
-is reported, and no setuid or setgid bit is set. A file that can't be restored whole is reported, and isn't left there in part, unless the restore is killed. If
-its pieces are whole but don't have the length in the backup's list, it is restored from them and reported. A folder that is already there keeps its own owner,
-mode and time. It doesn't keep extended attributes, access lists and holes in files. Anything else (a pipe, a device, a socket) is reported and left out. A
-repository that is in FOLDER is left out too: that is reported, but doesn't change the status. It doesn't compress or encrypt, and removes no backups.
+It keeps files, folders, links and hard links, with times, modes, owners, groups, extended attributes and access lists. An attribute that can't be restored is
+reported on standard error; if it is an access list, the mode gives no one more than the list did. If an owner can't be restored, for example by a user other
+than root, that is reported, and no setuid or setgid bit is set. A file that can't be restored whole is reported, and isn't left there in part, unless the
+restore is killed. If its pieces are whole but don't have the length in the backup's list, it is restored from them and reported. A folder that is already there
+keeps its own owner, mode and time. It doesn't keep holes in files. Anything else (a pipe, a device, a socket) is reported and left out. A repository that is in
+FOLDER is left out too: that is reported, but doesn't change the status. It doesn't compress or encrypt, and removes no backups.
 
 `save` and `restore` open each folder from the one that it is in. So if someone replaces a folder by a link meanwhile, nothing is read or written where the
 link leads, and what is in the folder is reported. What takes the place of a file or a link while it is restored keeps its owner, mode and time; so does what
@@ -58,6 +59,7 @@ import fcntl
 import re
 import signal
 import stat
+import struct
 import time
 
 from b3store import MAX_LIMIT, Ended, Refused, Store
@@ -75,6 +77,9 @@ SECONDS_TO_OTHER_TIME = 0.02
 """How long after a write the next one may leave a file's time as it is: systems count these times in steps of up to 10 ms."""
 IS_REPOSITORY = "it is the repository"
 """Why a folder is left out, which is no fault."""
+REPLACED = "another file has taken its place while it was saved"
+ACCESS_LIST, USER, OWN_GROUP, GROUP = "system.posix_acl_access", 2, 4, 8
+"""An access list, and the numbers of some of its entries: those of a user, of the file's group and of another group."""
 NOT_ALLOWED = {errno.EPERM, errno.EACCES, errno.EINVAL, errno.ENOSYS, errno.ENOTSUP}
 """The errors of giving a file to an owner where that isn't possible: EINVAL if a container doesn't have the owner."""
 PRIVATE = 0o077
@@ -132,7 +137,7 @@ def opened(folder, name, status):
             time.sleep(0.05)
     if not os.path.samestat(os.fstat(file.fileno()), status):
         file.close()
-        raise OSError("another file has taken its place while it was saved")
+        raise OSError(REPLACED)
     return file
 
 
@@ -159,11 +164,11 @@ def known_files(repository, folder):
     if not backups:
         return {}
     try:
-        lines = [line[0].split(" ") for line in repository.lines_of(backups[-1]) if line[1] == "file" and MORE["file"].fullmatch(line[7])]
+        lines = [line for line in repository.lines_of(backups[-1]) if line[1] == "file" and MORE["file"].fullmatch(line[7])]
     except (Refused, OSError, Damaged) as fault:
         print(f"the last backup can't be read, so each file is read: {fault_text(fault)}")
         return {}
-    return {tuple(words[:5]): words[5:] for words in lines}
+    return {tuple(line[0].split(" ", 5)[:5]): line[7].split()[1:] for line in lines}
 
 
 class Saving:
@@ -176,18 +181,36 @@ class Saving:
 
     def lines(self):
         """The lines for the folder and the paths in it."""
-        found = [(["folder", *words_of_all(ITSELF, os.fstat(self.tree.top))], [])]
+        top = os.fstat(self.tree.top)
+        found = [(["folder", *words_of_all(ITSELF, top)], [], self.attributes(ITSELF, top))]
         for path, status, fault in entries_of(self.tree, os.stat(self.repository.path)):
             try:
+                attributes = [] if fault else self.attributes(path, status)
                 words = None if fault else self.words_of(path, status)
             except OSError as error:
                 words, fault = None, error_text(error)
             if words is None:
                 self.report(f"left out: {path}: {fault or 'not a file, folder or link'}", fault == IS_REPOSITORY)
             else:
-                found.append(words)
+                found.append((*words, attributes))
         self.repository.keep_waiting()
-        return [" ".join([*words, *addresses]) for words, addresses in found]
+        return [" ".join([*words, *addresses, *attributes]) for words, addresses, attributes in found]
+
+    def attributes(self, path, status):
+        """The words of the backup's line for the extended attributes of what has this status, its access lists among them."""
+        folder, name = self.tree.parent(path)
+        opened = os.open(name, os.O_PATH | os.O_NOFOLLOW, dir_fd=folder)
+        try:
+            if not os.path.samestat(os.fstat(opened), status):
+                raise OSError(REPLACED)
+            place = f"/proc/self/fd/{opened}"
+            return [f"{quoted(each)}={os.getxattr(place, each).hex()}" for each in sorted(os.listxattr(place))]
+        except OSError as fault:
+            if fault.errno == errno.ENOTSUP:
+                return []
+            raise
+        finally:
+            os.close(opened)
 
     def report(self, text, is_meant=False):
         print(one_line(text))
@@ -249,7 +272,8 @@ class Restoring:
         self.repository, self.tree, self.is_new = repository, tree, is_new
         self.folders, self.files = [], set()
         """The path of each folder that was made, its line and its number; and the paths of the files that were restored."""
-        self.unowned, self.is_whole = 0, True
+        self.unowned, self.lost, self.is_whole = 0, [], True
+        """How many owners were not restored; which attributes were not, and why."""
 
     def restore(self, line):
         """Restores a line's file, link or folder. Raises OSError if the line is wrong, or a folder on its path is a link."""
@@ -337,24 +361,47 @@ class Restoring:
     def finish(self, place, line, has_mode=True):
         """Sets the owner, mode and time of what was restored. `place` is its descriptor, or for a link, which has no mode, the path of the descriptor: the
         system follows that to the link itself, whatever has taken the link's place meanwhile."""
-        _, _, mode, owner, group, moment, _ = line.groups()
+        _, _, mode, owner, group, moment, _, attributes = line.groups()
         mode = int(mode, 8)
         if owner is None or not is_given(place, int(owner), int(group)):
             self.unowned += 1
             mode &= ~(stat.S_ISUID | stat.S_ISGID)
+        for name, value in (word.split("=") for word in attributes.split()):
+            mode = self.set_attribute(place, unquoted(name), bytes.fromhex(value), line, mode)
         if has_mode:
             os.chmod(place, mode)
         os.utime(place, ns=(int(moment), int(moment)))
 
+    def set_attribute(self, place, name, value, line, mode):
+        """Sets an extended attribute of what was restored, before its mode, which an access list limits. Returns the mode that it gets then."""
+        try:
+            os.setxattr(place, name, value)
+        except OSError as fault:
+            self.lost.append(f"{name} of {unquoted(line[2])}: {error_text(fault)}")
+            return mode_within(value, mode) if name == ACCESS_LIST else mode
+        return mode
+
     def try_to(self, work, line, *words):
         try:
             work(*words, line)
-        except (Refused, OSError, ValueError, OverflowError) as fault:
+        except (Refused, OSError, ValueError, OverflowError, struct.error) as fault:
             self.report("not restored", line, error_text(fault))
 
     def report(self, what, line, text):
         print(one_line(f"{what}: {unquoted(line[2])}: {text}"))
         self.is_whole = False
+
+
+def mode_within(access_list, mode):
+    """A mode that gives no one more than a mode and an access list did together: there, the mode's bits for the group limit all entries but the owner's and
+    those of others."""
+    limit = mode >> 3
+    for kind, bits, _ in struct.iter_unpack("<HHI", access_list[4:]):
+        if kind in (USER, OWN_GROUP):
+            mode &= ~0o070 | (bits & limit) << 3
+        if kind in (USER, GROUP):
+            mode &= ~0o007 | bits & limit
+    return mode
 
 
 def number_of(folder):
@@ -387,7 +434,9 @@ def restore(repository, options):
             restoring.try_to(restoring.finish_folder, line, path, number)
     if restoring.unowned:
         print(f"owners not restored: {restoring.unowned}; no setuid or setgid bits are set there")
-    return restoring.is_whole and not restoring.unowned
+    if restoring.lost:
+        show(f"backup: attributes not restored: {len(restoring.lost)}, such as {one_line(restoring.lost[0])}; no mode gives more than an access list did\n")
+    return restoring.is_whole and not restoring.unowned and not restoring.lost
 
 
 def an_address(text):

@@ -17,9 +17,11 @@ from backup_pieces import pieces_of
 ADDRESS = re.compile("[0-9a-f]{64}")
 BACKUP = re.compile(r"([0-9a-f]{64}) (\d+) ([!-~]+)")
 """A line of `backups`: address, seconds since 1970, and the folder."""
-LINE = re.compile(r"(file|folder|link|same) (\S+) ([0-7]+)(?::(\d+):(\d+))? (-?\d+)(?::-?\d+:\d+)?((?: \S+)*)")
-"""A line of a backup: kind, path, mode, owner and group, time, with the time of the last change and the number of the file; and what the kind has: a file its
-length and the addresses of its pieces, a link where it leads, a hard link the path of the same file. Older lines have no more than one time."""
+LINE = re.compile(r"(file|folder|link|same) (\S+) ([0-7]+)(?::(\d+):(\d+))? (-?\d+)(?::-?\d+:\d+)?((?: [^\s=]+)*)((?: \S+=\S*)*)")
+"""A line of a backup: kind, path, mode, owner and group, time, with the time of the last change and the number of the file; what the kind has: a file its
+length and the addresses of its pieces, a link where it leads, a hard link the path of the same file; and extended attributes. Older lines have no more than
+one time, and no attributes."""
+ATTRIBUTES = re.compile("(?: [!-<>-~]+=(?:[0-9a-f]{2})*)*")
 MORE = {"file": re.compile(r" \d{1,19}(?: [0-9a-f]{64})*"), "folder": re.compile(""), "link": re.compile(r" \S+"), "same": re.compile(r" \S+")}
 """The words that each kind has."""
 ITSELF = "."
@@ -268,9 +270,11 @@ def is_copy(content, read, words):
 
 def line_fault(line):
     """What is wrong with a line of a backup, so that it can't be restored, or None, as for each line that a save has written."""
-    kind, _, mode, owner, group, moment, more = line.groups()
+    kind, _, mode, owner, group, moment, more, attributes = line.groups()
     if not MORE[kind].fullmatch(more):
         return f"its line isn't that of a {kind}"
+    if not ATTRIBUTES.fullmatch(attributes):
+        return "an attribute in its line isn't a name and hexadecimal digits"
     if "%00" in line[0] or "\0" in line[0]:
         return "a name in its line has a zero byte"
     if path_of(line[2]) is None:

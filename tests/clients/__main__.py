@@ -29,6 +29,7 @@ CASES = (
     ("a backup that leads elsewhere", backups.restores_nothing_elsewhere),
     ("a backup with wrong words", backups.refuses_wrong_words),
     ("owners and hard links", backups.keeps_owners_and_links),
+    ("access lists and other attributes", backups.keeps_attributes),
     ("hard links of files that are not restored", backups.links_to_its_own_files),
     ("a file whose restoring is broken off", backups.leaves_no_part_of_a_file),
     ("files that are replaced while they are saved", backups.opens_what_it_has_seen),

@@ -7,6 +7,7 @@ import re
 import shutil
 import signal
 import stat
+import struct
 import subprocess
 import sys
 import tempfile
@@ -230,6 +231,53 @@ def keeps_owners_and_links():
             was, now = (os.lstat(os.path.join(at, name)) for at in (folder, restored))
             found += differences(((now.st_mode, now.st_uid, now.st_gid, now.st_mtime_ns, now.st_nlink), (was.st_mode, was.st_uid, was.st_gid, was.st_mtime_ns, was.st_nlink)))
         return found + differences((os.path.samefile(os.path.join(restored, "a"), os.path.join(restored, "b")), True))
+
+
+def access_list(*entries):
+    """The bytes of an access list of entries: their kinds, bits and numbers."""
+    return struct.pack("<I", 2) + b"".join(struct.pack("<HHI", *entry) for entry in entries)
+
+
+NO_NUMBER = (1 << 32) - 1
+LIST = access_list((1, 6, NO_NUMBER), (2, 6, 12345), (4, 0, NO_NUMBER), (16, 6, NO_NUMBER), (32, 4, NO_NUMBER))
+"""An access list: a user other than the owner may read and write, the file's group nothing, and others read. The mode of a file with it is 664."""
+
+
+def attributes_below(folder):
+    """The mode and the extended attributes of a folder and of what is in it."""
+    paths = {name: os.path.join(folder, name) for name in [".", *os.listdir(folder)]}
+    return {
+        name: (os.lstat(path).st_mode, {each: os.getxattr(path, each, follow_symlinks=False) for each in os.listxattr(path, follow_symlinks=False)})
+        for name, path in paths.items()
+    }
+
+
+def keeps_attributes():
+    """Access lists and other attributes of files and folders are restored. A file that changes in nothing else is not read again."""
+    with tempfile.TemporaryDirectory() as place:
+        folder, repository = folder_of_abc(place)
+        path, below, restored = os.path.join(folder, "file"), os.path.join(folder, "below"), os.path.join(place, "restored")
+        os.mkdir(below)
+        os.symlink("file", os.path.join(folder, "link"))
+        try:
+            for each in path, below:
+                os.setxattr(each, "system.posix_acl_access", LIST)
+            os.setxattr(below, "system.posix_acl_default", LIST)
+            os.setxattr(folder, "user.a=b%", bytes(range(256)))
+            os.setxattr(path, "user.none", b"")
+            if os.geteuid() == 0:
+                os.setxattr(os.path.join(folder, "link"), "trusted.link", b"abc", follow_symlinks=False)
+        except OSError as fault:
+            print(f"skipped: attributes in {place}: {fault}")
+            return []
+        lines = backup("save", folder, repository)[1]
+        found = differences((backup("restore", repository, lines[-1].split()[1], restored), (0, [])), (attributes_below(restored), attributes_below(folder)))
+        found += differences((attributes_below(restored)["file"][0] & 0o777, 0o664), (backup("check", repository)[0], 0))
+        os.removexattr(path, "user.none")
+        lines = backup("save", folder, repository)[1]
+        again = os.path.join(place, "again")
+        found += differences((backup("restore", repository, lines[-1].split()[1], again), (0, [])))
+        return found + differences((attributes_below(again), attributes_below(folder)))
 
 
 def links_to_its_own_files():

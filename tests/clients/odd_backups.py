@@ -12,7 +12,7 @@ import threading
 import time
 from unittest import mock
 
-from backups import BACKUP, backup, changed_in_packs, folder_of_abc, made_backup
+from backups import BACKUP, LIST, access_list, backup, changed_in_packs, folder_of_abc, made_backup
 from shared import ABC, PROGRAM, SECONDS, TOP, differences, raised
 from b3store import Store
 import backup as tool
@@ -378,6 +378,22 @@ def restores_without_owners():
         return found
 
 
+def restores_without_attributes():
+    """Where the file system refuses an access list, the mode gives no one more than the list did, which is reported."""
+    owner, deny = f"{os.getuid()}:{os.getgid()}", access_list((2, 0, 7), (4, 6, 0), (16, 6, 0))
+    rows = ("f", "664", LIST, 0o604), ("d", "777", LIST, 0o706), ("u", "664", deny, 0o600), ("g", "644", access_list((4, 6, 0), (8, 2, 7), (16, 4, 0)), 0o640)
+    with tempfile.TemporaryDirectory() as place:
+        lines = [f"{'folder' if name == 'd' else 'file'} {name} {mode}:{owner} 0:0:0{'' if name == 'd' else ' 3 abc'}" for name, mode, _, _ in rows]
+        lines = [f"{line} system.posix_acl_access={content.hex()} user.x=" for line, (_, _, content, _) in zip(lines, rows)]
+        repository, address = made_backup(place, *lines, "file wrong 644 0:0:0 3 abc user.x=0", "file w 644 0 3 abc user.x")
+        restored, refuse, told = os.path.join(place, "restored"), mock.Mock(side_effect=OSError(errno.ENOTSUP, "Operation not supported")), io.StringIO()
+        with mock.patch.object(os, "setxattr", refuse), contextlib.redirect_stderr(told):
+            result, lines = restore(repository, address, restored)
+        found = differences((result, False), ([line.split(": ")[:2] for line in lines], [["not restored", "wrong"], ["not restored", "w"]]), (told.getvalue().count("\n"), 1))
+        found += differences((told.getvalue().split(",")[0], "backup: attributes not restored: 8"))
+        return found + [f"{name} has mode {mode:o}" for name, _, _, wanted in rows for mode in [stat.S_IMODE(os.stat(os.path.join(restored, name)).st_mode)] if mode != wanted]
+
+
 def reads_rewritten_files():
     """A file with other content is read again, though it has the length and the time of before. One that is the same is not, unless the backup is an older one."""
     with tempfile.TemporaryDirectory() as place:
@@ -708,6 +724,7 @@ CASES = (
     ("a backup without memory", ends_without_memory),
     ("a backup without memory to write", ends_where_a_pack_fails),
     ("a backup of owners that aren't possible", restores_without_owners),
+    ("a backup of attributes that aren't possible", restores_without_attributes),
     ("files that are rewritten with their time", reads_rewritten_files),
     ("a repository in the folder that is saved", leaves_the_repository_out),
     ("a folder that a link replaces while it is saved", lists_no_folder_by_a_link),
