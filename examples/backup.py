@@ -141,6 +141,16 @@ def opened(folder, name, status):
     return file
 
 
+def attributes_of(place):
+    """The words of a line for the extended attributes of what is open, its access lists among them. `place` is its descriptor, or the path of that."""
+    try:
+        return [f"{quoted(name)}={os.getxattr(place, name).hex()}" for name in sorted(os.listxattr(place))]
+    except OSError as fault:
+        if fault.errno == errno.ENOTSUP:
+            return []
+        raise
+
+
 def wait_for_other_time(status):
     """Waits until a write would change the time of a file of this status. If the file is read after that and has the same time later, nothing was written."""
     left = status.st_ctime_ns / 10**9 + SECONDS_TO_OTHER_TIME - time.time()
@@ -159,7 +169,7 @@ def words_of_all(name, status):
 
 
 def known_files(repository, folder):
-    """The addresses of the files that the last backup of a folder has, by the first words of their lines."""
+    """The addresses and attributes of the files that the last backup of a folder has, by the first words of their lines."""
     backups = [backup for backup, _, place in (found.groups() for found in repository.backups()) if place == quoted(os.path.abspath(folder))]
     if not backups:
         return {}
@@ -168,11 +178,11 @@ def known_files(repository, folder):
     except (Refused, OSError, Damaged) as fault:
         print(f"the last backup can't be read, so each file is read: {fault_text(fault)}")
         return {}
-    return {tuple(line[0].split(" ", 5)[:5]): line[7].split()[1:] for line in lines}
+    return {tuple(line[0].split(" ", 5)[:5]): (line[7].split()[1:], line[8].split()) for line in lines}
 
 
 class Saving:
-    """A tree that is being saved into a repository. `known` has the addresses of each file in the last backup, by the first words of its line."""
+    """A tree that is being saved into a repository. `known` has what `known_files` returns."""
 
     def __init__(self, repository, tree, known):
         self.repository, self.tree, self.known = repository, tree, known
@@ -185,30 +195,24 @@ class Saving:
         found = [(["folder", *words_of_all(ITSELF, top)], [], self.attributes(ITSELF, top))]
         for path, status, fault in entries_of(self.tree, os.stat(self.repository.path)):
             try:
-                attributes = [] if fault else self.attributes(path, status)
                 words = None if fault else self.words_of(path, status)
             except OSError as error:
                 words, fault = None, error_text(error)
             if words is None:
                 self.report(f"left out: {path}: {fault or 'not a file, folder or link'}", fault == IS_REPOSITORY)
             else:
-                found.append((*words, attributes))
+                found.append(words)
         self.repository.keep_waiting()
         return [" ".join([*words, *addresses, *attributes]) for words, addresses, attributes in found]
 
     def attributes(self, path, status):
-        """The words of the backup's line for the extended attributes of what has this status, its access lists among them."""
+        """The words of the backup's line for the attributes of a folder or link of this status."""
         folder, name = self.tree.parent(path)
         opened = os.open(name, os.O_PATH | os.O_NOFOLLOW, dir_fd=folder)
         try:
             if not os.path.samestat(os.fstat(opened), status):
                 raise OSError(REPLACED)
-            place = f"/proc/self/fd/{opened}"
-            return [f"{quoted(each)}={os.getxattr(place, each).hex()}" for each in sorted(os.listxattr(place))]
-        except OSError as fault:
-            if fault.errno == errno.ENOTSUP:
-                return []
-            raise
+            return attributes_of(f"/proc/self/fd/{opened}")
         finally:
             os.close(opened)
 
@@ -217,33 +221,36 @@ class Saving:
         self.is_whole = self.is_whole and is_meant
 
     def words_of(self, path, status):
-        """The words of the backup's line for a path, and a list of addresses that follow them; None for what is left out."""
+        """The words of the backup's line for a path, a list of addresses that follow them, and the words of its attributes; None for what is left out."""
         name = quoted(path)
         words = words_of_all(name, status)
         if stat.S_ISDIR(status.st_mode):
-            return ["folder", *words], []
+            return ["folder", *words], [], self.attributes(path, status)
         if stat.S_ISLNK(status.st_mode):
-            return ["link", *words, quoted(self.tree.link(path))], []
+            return ["link", *words, quoted(self.tree.link(path))], [], self.attributes(path, status)
         if not stat.S_ISREG(status.st_mode):
             return None
         if status.st_nlink > 1 and state_of(status) in self.linked:
-            return ["same", *words, self.linked[state_of(status)]], []
-        addresses, length, is_as_before = self.known.get(("file", *words, str(status.st_size))), status.st_size, True
+            return ["same", *words, self.linked[state_of(status)]], [], []
+        length, is_as_before = status.st_size, True
+        addresses, attributes = self.known.get(("file", *words, str(length)), (None, None))
         if addresses is None or not self.repository.has_all(addresses, length):
-            addresses, length, is_as_before = self.keep_file(path, status)
+            addresses, attributes, length, is_as_before = self.keep_file(path, status)
         if not is_as_before:
             self.report(f"changed while it was read: {path}")
         elif status.st_nlink > 1:
             self.linked[state_of(status)] = name
-        return ["file", *words, str(length)], addresses
+        return ["file", *words, str(length)], addresses, attributes
 
     def keep_file(self, path, status):
-        """Keeps a file of this status in pieces. Returns the list for their addresses, their length together, and whether the file stayed as it was."""
+        """Keeps a file of this status in pieces. Returns the list for their addresses, the words of its attributes, the length of the pieces together, and
+        whether the file stayed as it was."""
         with opened(*self.tree.parent(path), status) as file:
             wait_for_other_time(status)
+            attributes = attributes_of(file.fileno())
             addresses, length = self.repository.keep_all(file, status.st_size)
             after = os.fstat(file.fileno())
-        return addresses, length, length == status.st_size and state_of(after) == state_of(status)
+        return addresses, attributes, length, length == status.st_size and state_of(after) == state_of(status)
 
 
 def save(repository, options):

@@ -253,7 +253,7 @@ def attributes_below(folder):
 
 
 def keeps_attributes():
-    """Access lists and other attributes of files and folders are restored. A file that changes in nothing else is not read again."""
+    """Access lists and other attributes are restored, of a file that isn't read again too, and as they are when nothing else has changed."""
     with tempfile.TemporaryDirectory() as place:
         folder, repository = folder_of_abc(place)
         path, below, restored = os.path.join(folder, "file"), os.path.join(folder, "below"), os.path.join(place, "restored")
@@ -270,9 +270,9 @@ def keeps_attributes():
         except OSError as fault:
             print(f"skipped: attributes in {place}: {fault}")
             return []
-        lines = backup("save", folder, repository)[1]
+        first, lines = backup("save", folder, repository)[1], backup("save", folder, repository)[1]
         found = differences((backup("restore", repository, lines[-1].split()[1], restored), (0, [])), (attributes_below(restored), attributes_below(folder)))
-        found += differences((attributes_below(restored)["file"][0] & 0o777, 0o664), (backup("check", repository)[0], 0))
+        found += differences((attributes_below(restored)["file"][0] & 0o777, 0o664), (backup("check", repository)[0], 0), (lines[-1], first[-1]))
         os.removexattr(path, "user.none")
         lines = backup("save", folder, repository)[1]
         again = os.path.join(place, "again")
