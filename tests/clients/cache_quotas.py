@@ -160,6 +160,8 @@ def evicts_nothing_for_a_length():
                 found += differences((put(cache, user, f"/{key}", bytes([key]) * UNIT), None))
             fault = raised(cache.put, user, "/large", length, parts())
         found += differences((fault, None if wanted else Refused if length > 4 * UNIT else Broken), (seen, wanted), (len(user.keys), kept))
+        with cache.reading(user, "/large") as entry:
+            found += differences((b"".join(cache.pieces(user, entry, 0, entry.length)) if entry is not None else b"", b"x" * length if wanted else b""))
         found += left_over(cache, user) + left_over(cache, cache.drafts)
         cache.close_stores()
     return found
