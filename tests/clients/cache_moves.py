@@ -41,8 +41,9 @@ def reports_its_counts():
             ("DELETE", 404): 1, ("DELETE", 405): 1, ("other", 501): 1,
         }
         given = {f'requests_total{{method="{method}",status="{status}"}}': count for (method, status), count in wanted.items()}
-        # the journal: two tenants, three entries for each small object, also for the one in a chunk, and one for the eviction; a refused body begins no upload
-        given.update(received_bytes_total=1000 + 500 + 500 + 3001 + 1600 + 3 + 7, sent_bytes_total=1000 + 500 + 10, hits_total=4, misses_total=2, evictions_total=1)
+        # the journal: two tenants, three entries for each small object, also for the one in a chunk, and one for the eviction; a refused body begins no upload,
+        # and is not read if the path is no key
+        given.update(received_bytes_total=1000 + 500 + 500 + 3001 + 1600 + 7, sent_bytes_total=1000 + 500 + 10, hits_total=4, misses_total=2, evictions_total=1)
         given.update(moves_total=0, keys=3, objects=3, held_bytes=1000 + 1600 + 7, journal_entries=2 + 3 * 3 + 1 + 3 + 3)
         found += differences((counts, given))
         scraped = metrics(cache)
