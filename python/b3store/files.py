@@ -4,7 +4,7 @@ import fcntl
 import os
 import time
 import zlib
-from typing import Iterable, Optional
+from typing import BinaryIO, Callable, Iterable, Optional
 
 SECONDS_BETWEEN_TRIES = 0.05
 
@@ -53,23 +53,37 @@ def checked_text(line: bytes) -> Optional[str]:
 
 
 def replace_file(folder: int, path: str, lines: Iterable[bytes]) -> None:
-    """Replaces a file in an open folder: writes the lines to PATH.new, syncs this, renames it, and syncs the folder. Whenever that is interrupted, the file
-    has either its old content or all of the new. Raises NotSynced if only the last step fails, and OSError if another does: then it has its old content."""
-    aside = path + ".new"
+    """Replaces the file of a path in an open folder: writes the lines to NAME.new, syncs this, renames it, and syncs the folder. Whenever that is interrupted,
+    the file has either its old content or all of the new. Raises NotSynced if only the last step fails, and OSError if another does: then it has its old
+    content."""
+    name = os.path.basename(path)
+    aside = name + ".new"
     try:
-        with open(aside, "wb", opener=private) as file:
+        with create_anew(folder, aside) as file:
             file.writelines(lines)
             file.flush()
             os.fsync(file.fileno())
     except OSError:
         with contextlib.suppress(OSError):
-            os.unlink(aside)
+            os.unlink(aside, dir_fd=folder)
         raise
-    os.replace(aside, path)
+    os.replace(aside, name, src_dir_fd=folder, dst_dir_fd=folder)
     try:
         os.fsync(folder)
     except OSError as error:
         raise NotSynced(error.errno, error.strerror) from None
+
+
+def create_anew(folder: int, name: str) -> BinaryIO:
+    """Creates a file in an open folder. What has its name, such as a link or what a killed process has left, is removed, and not written to."""
+    with contextlib.suppress(FileNotFoundError):
+        os.unlink(name, dir_fd=folder)
+    return open(name, "xb", opener=opener_in(folder))
+
+
+def opener_in(folder: int) -> Callable[[str, int], int]:
+    """For the argument `opener` of `open`: opens a file of an open folder by its name, and follows no link."""
+    return lambda name, flags: os.open(name, flags | os.O_NOFOLLOW, 0o600, dir_fd=folder)
 
 
 def private(path: str, flags: int) -> int:

@@ -10,18 +10,21 @@ file `content.N`, and the tenants that hold it. Each line starts with the CRC-32
 
 A save writes the bytes of objects that have no place yet to a new content file, and syncs it. Then it replaces the index in one step: until then, the folder
 has the previous save. Finally it removes the content files that the index doesn't name. A content file that is small, or most of whose bytes belong to no
-object any more, isn't used again: its objects are written to the new one. Open uploads are not saved."""
+object any more, isn't used again: its objects are written to the new one. Open uploads are not saved.
+
+The folder must belong to the server's user, and no other user may write to it. Its files are opened by its descriptor, and no link in it is followed."""
 import collections
 import contextlib
 import itertools
 import os
 import re
+import stat
 import sys
-from typing import BinaryIO, Callable, Counter, Dict, Iterable, Iterator, List, NamedTuple, Optional, Tuple, TypeVar
+from typing import BinaryIO, Callable, Counter, Dict, Iterable, Iterator, List, NamedTuple, Optional, Set, Tuple, TypeVar
 
 from .commands import fetch_line
 from .console import count_text
-from .files import FolderInUse, NotSynced, checked_line, checked_text, lock_folder, private, replace_file
+from .files import FolderInUse, NotSynced, checked_line, checked_text, create_anew, lock_folder, opener_in, replace_file
 from .sessions import Kinds, Session
 from .transfers import Transfers
 from .values import Ended, Refused
@@ -75,6 +78,29 @@ class Stamp(NamedTuple):
     time: int
 
 
+class Folder(NamedTuple):
+    """An open folder."""
+
+    path: str
+    number: int
+    """Its descriptor."""
+
+    def open(self, name: str, mode: str = "rb", buffering: int = -1) -> BinaryIO:
+        """Opens one of its files."""
+        return open(name, mode, buffering, opener=opener_in(self.number))  # type: ignore[return-value]
+
+    def names(self) -> Set[str]:
+        """The names of its files."""
+        return set(os.listdir(self.number))
+
+    def stamp(self, name: str) -> Stamp:
+        """The stamp of a file. Raises OSError, and SaveError for a link and anything else that is no file."""
+        found = os.stat(name, dir_fd=self.number, follow_symlinks=False)
+        if not stat.S_ISREG(found.st_mode):
+            raise SaveError(f"{self.path}/{name} is not a file; {ADVICE}")
+        return Stamp(found.st_ino, found.st_size, found.st_mtime_ns)
+
+
 class Saved(NamedTuple):
     """What an index has: the tenants' limits, and the objects by address, in the order in which they were filed."""
 
@@ -92,7 +118,7 @@ class SavedStore:
     def __init__(self, path: str, tick: Tick = lambda: None) -> None:
         """Opens a folder, which is made if there is none. Raises SaveError, and changes nothing, if another server has it, or if it has anything but a
         whole save."""
-        self._path, self._folder = path, open_folder(path)
+        self._folder = open_folder(path)
         self._saved: Optional[Saved] = None
         self._stamps: Dict[str, Stamp] = {}
         """Those of the files that are restored."""
@@ -104,66 +130,60 @@ class SavedStore:
 
     def close(self) -> None:
         """Unlocks the folder."""
-        os.close(self._folder)
-
-    def _at(self, name: str) -> str:
-        return os.path.join(self._path, name)
+        os.close(self._folder.number)
 
     def _open(self, tick: Tick) -> None:
         """Reads the index, or writes the first one. A folder that can't be written to is noticed here, and not only by the save."""
         try:
-            if os.path.lexists(self._at(INDEX)):
-                stamp = stamp_of(self._at(INDEX))
-                self._saved = read_index(self._at(INDEX), tick)
-                self._stamps = {**check_contents(self._path, self._saved), INDEX: stamp}
-                self._try_to_write()
+            if INDEX in self._folder.names():
+                stamp = self._folder.stamp(INDEX)
+                self._saved = read_index(self._folder, tick)
+                self._stamps = {**check_contents(self._folder, self._saved), INDEX: stamp}
+                create_anew(self._folder.number, ASIDE).close()
+                os.unlink(ASIDE, dir_fd=self._folder.number)
             else:
-                check_unused(self._path, "no saved store: name a folder that is empty or doesn't exist")
+                check_unused(self._folder, "no saved store: name a folder that is empty or doesn't exist")
                 self._write_index(Saved([], {}), tick)
         except (OSError, MemoryError) as error:
-            raise SaveError(f"cannot use the folder {self._path}: {reason_of(error)}") from None
-
-    def _try_to_write(self) -> None:
-        path = self._at(ASIDE)
-        open(path, "wb", opener=private).close()
-        os.unlink(path)
+            raise SaveError(f"cannot use the folder {self._folder.path}: {reason_of(error)}") from None
 
     def restore(self, store: Transfers, tick: Tick) -> Optional[str]:
         """Restores the store that is saved into a new one, and returns what it has; None if it has nothing. Removes the files of an interrupted save.
         Raises SaveError."""
         saved, self._saved = self._saved or Saved([], {}), None
         try:
-            Restoring(self._path, store, tick).run(saved)
+            Restoring(self._folder, store, tick).run(saved)
             self._remove_unused(tick)
         except ERRORS as error:
-            raise SaveError(f"the store that is saved in {self._path} can't be restored: {reason_of(error)}; nothing was changed") from None
+            raise SaveError(f"the store that is saved in {self._folder.path} can't be restored: {reason_of(error)}; nothing was changed") from None
         return saved.text() if saved.limits else None
 
     def save(self, store: Transfers, tick: Tick) -> str:
         """Saves the store, which no other thread changes meanwhile, and returns what it has. Raises SaveError; then the folder has the previous save, or both
         if the new one isn't synced."""
-        named = self._path
+        named = self._folder.path
         try:
             self._find()
             saved = self._save(store, tick)
         except NotSynced as error:
             fault = f"its folder can't be synced: {reason_of(error)}; after a crash of the machine the save before may be back"
-            raise SaveError(f"the store is saved in {self._path}, but {fault}") from None
+            raise SaveError(f"the store is saved in {self._folder.path}, but {fault}") from None
         except ERRORS as error:
-            raise SaveError(f"the store can't be saved in {self._path}, which keeps the save before: {reason_of(error)}") from None
-        return saved.text() + ("" if self._path == named else f" in {self._path}")
+            raise SaveError(f"the store can't be saved in {self._folder.path}, which keeps the save before: {reason_of(error)}") from None
+        return saved.text() + ("" if self._folder.path == named else f" in {self._folder.path}")
 
     def _find(self) -> None:
         """Finds the folder that is locked, if it was moved: another one that has its path may be in use. If it was removed, one is made and locked."""
-        if is_at(self._folder, self._path):
+        path, number = self._folder
+        if is_at(number, path):
             return
-        moved = os.readlink(f"/proc/self/fd/{self._folder}")
-        if is_at(self._folder, moved):
-            self._path = moved
+        moved = os.readlink(f"/proc/self/fd/{number}")
+        if is_at(number, moved):
+            self._folder = Folder(moved, number)
             return
-        folder, self._folder = self._folder, open_folder(self._path)
-        os.close(folder)
-        check_unused(self._path, "is not the folder that the server had locked, which was removed: nothing is saved")
+        self._folder = open_folder(path)
+        os.close(number)
+        check_unused(self._folder, "is not the folder that the server had locked, which was removed: nothing is saved")
 
     def _save(self, store: Transfers, tick: Tick) -> Saved:
         try:
@@ -171,7 +191,7 @@ class SavedStore:
         except Refused:
             limits, holders, lengths = replayed(store, tick)
         if len(holders) != len(lengths):
-            raise SaveError(f"the store can't be saved in {self._path}: it changes meanwhile")
+            raise SaveError(f"the store can't be saved in {self._folder.path}: it changes meanwhile")
         places = self._usable_places(holders, tick)
         wanted = [(holders[address][0], address, lengths[address]) for address in holders if address not in places]
         try:
@@ -194,7 +214,7 @@ class SavedStore:
         if not self._is_unchanged(INDEX):
             return {}
         try:
-            old = {address: row for address, row in read_index(self._at(INDEX), tick).objects.items() if address in wanted}
+            old = {address: row for address, row in read_index(self._folder, tick).objects.items() if address in wanted}
         except (OSError, SaveError):
             return {}
         live: Counter[str] = collections.Counter()
@@ -207,35 +227,35 @@ class SavedStore:
     def _is_unchanged(self, name: str) -> bool:
         """Whether a file is the one that was restored."""
         try:
-            return name in self._stamps and stamp_of(self._at(name)) == self._stamps[name]
-        except OSError:
+            return name in self._stamps and self._folder.stamp(name) == self._stamps[name]
+        except (OSError, SaveError):
             return False
 
     def _write_content(self, store: Transfers, wanted: List[Tuple[int, str, int]], tick: Tick) -> Dict[str, Tuple[str, int]]:
         """Writes the bytes of objects to a new file, and returns where they are."""
-        name = free_name(os.listdir(self._path))
+        name = free_name(self._folder.names())
         places, offset = {}, 0
         for _, address, length in wanted:
             places[address] = (name, offset)
             offset += length
-        with open(self._at(name), "xb", opener=private) as file:
+        with self._folder.open(name, "xb") as file:
             write_pieces(file, pieces_of(store, wanted), tick)
-        os.fsync(self._folder)
+        os.fsync(self._folder.number)
         return places
 
     def _write_index(self, saved: Saved, tick: Tick) -> None:
-        replace_file(self._folder, self._at(INDEX), map(checked_line, ticking(index_texts(saved), tick)))
+        replace_file(self._folder.number, INDEX, map(checked_line, ticking(index_texts(saved), tick)))
 
     def _remove_unused(self, tick: Tick) -> None:
         """Removes the content files that the index doesn't name. It is the old index if it could not be replaced. Before that the folder is
         synced, and nothing is removed if this fails: after a crash of the machine the index before may be back. A later start or save removes them."""
         with contextlib.suppress(OSError, SaveError, MemoryError):
-            used = {row.file for row in read_index(self._at(INDEX), tick).objects.values()}
-            os.fsync(self._folder)
-            for name in filter(CONTENT.fullmatch, set(os.listdir(self._path)) - used):
+            used = {row.file for row in read_index(self._folder, tick).objects.values()}
+            os.fsync(self._folder.number)
+            for name in filter(CONTENT.fullmatch, self._folder.names() - used):
                 # if one can't be removed, the others are
                 with contextlib.suppress(OSError):
-                    os.unlink(self._at(name))
+                    os.unlink(name, dir_fd=self._folder.number)
 
 
 def reason_of(error: BaseException) -> str:
@@ -245,15 +265,30 @@ def reason_of(error: BaseException) -> str:
     return getattr(error, "strerror", None) or str(error)
 
 
-def open_folder(path: str) -> int:
-    """Opens and locks a folder, which is made if there is none. Raises SaveError."""
+def open_folder(path: str) -> Folder:
+    """Opens and locks a folder, which is made if there is none. Raises SaveError, also for one that another user could change."""
     try:
         make_folder(path)
-        return lock_folder(path)
+        folder = Folder(path, lock_folder(path))
     except FolderInUse as error:
         raise SaveError(str(error)) from None
     except OSError as error:
         raise SaveError(f"cannot open the folder {path}: {error.strerror}") from None
+    try:
+        check_safe(folder)
+    except BaseException:
+        os.close(folder.number)
+        raise
+    return folder
+
+
+def check_safe(folder: Folder) -> None:
+    """Raises SaveError if a folder belongs to another user, or others may write to it: they could replace what is saved."""
+    found = os.fstat(folder.number)
+    if found.st_uid != os.geteuid():
+        raise SaveError(f"{folder.path} belongs to another user: name a folder of the server's user")
+    if found.st_mode & (stat.S_IWGRP | stat.S_IWOTH):
+        raise SaveError(f"{folder.path} can be written to by others: chmod go-w {folder.path}")
 
 
 def is_at(folder: int, path: str) -> bool:
@@ -264,17 +299,11 @@ def is_at(folder: int, path: str) -> bool:
         return False
 
 
-def check_unused(path: str, fault: str) -> None:
+def check_unused(folder: Folder, fault: str) -> None:
     """Raises SaveError if a folder has files."""
-    names = set(os.listdir(path)) - IGNORED
+    names = folder.names() - IGNORED
     if names:
-        raise SaveError(f"{path} holds {min(names)!r} and {fault}")
-
-
-def stamp_of(path: str) -> Stamp:
-    """The stamp of a file. Raises OSError."""
-    found = os.stat(path)
-    return Stamp(found.st_ino, found.st_size, found.st_mtime_ns)
+        raise SaveError(f"{folder.path} holds {min(names)!r} and {fault}")
 
 
 def make_folder(path: str) -> None:
@@ -327,12 +356,11 @@ def ticking(rows: Iterable[Value], tick: Tick) -> Iterator[Value]:
         yield row
 
 
-def read_index(path: str, tick: Tick) -> Saved:
+def read_index(folder: Folder, tick: Tick) -> Saved:
     """Reads an index. Raises SaveError if it isn't one, or is damaged."""
-    saved, is_whole = Saved([], {}), False
-    if not os.path.isfile(path):
-        raise SaveError(f"{path} is not a file; {ADVICE}")
-    with open(path, "rb") as file:
+    saved, is_whole, path = Saved([], {}), False, f"{folder.path}/{INDEX}"
+    folder.stamp(INDEX)
+    with folder.open(INDEX) as file:
         if file.readline() != checked_line(HEADER):
             raise SaveError(f"{path} is damaged, or not the index of a saved store; {ADVICE}")
         for number, line in enumerate(ticking(file, tick), 1):
@@ -359,7 +387,7 @@ def note_line(saved: Saved, text: str) -> bool:
     return bool(found)
 
 
-def check_contents(path: str, saved: Saved) -> Dict[str, Stamp]:
+def check_contents(folder: Folder, saved: Saved) -> Dict[str, Stamp]:
     """Checks that the content files are as long as they have to be, and returns their stamps. Raises SaveError."""
     ends: Counter[str] = collections.Counter()
     stamps: Dict[str, Stamp] = {}
@@ -367,11 +395,11 @@ def check_contents(path: str, saved: Saved) -> Dict[str, Stamp]:
         ends[row.file] = max(ends[row.file], row.offset + row.length)
     for name, end in ends.items():
         try:
-            stamps[name] = stamp_of(os.path.join(path, name))
+            stamps[name] = folder.stamp(name)
         except FileNotFoundError:
-            raise SaveError(f"{path}/{name} is missing; {ADVICE}") from None
+            raise SaveError(f"{folder.path}/{name} is missing; {ADVICE}") from None
         if stamps[name].size < end:
-            raise SaveError(f"{path}/{name} is truncated: it has {stamps[name].size} of {end} bytes; {ADVICE}")
+            raise SaveError(f"{folder.path}/{name} is truncated: it has {stamps[name].size} of {end} bytes; {ADVICE}")
     return stamps
 
 
@@ -490,8 +518,8 @@ def write_pieces(file: BinaryIO, pieces: Iterable[bytes], tick: Tick) -> None:
 class Restoring:
     """Files saved objects in a new store."""
 
-    def __init__(self, path: str, store: Transfers, tick: Tick) -> None:
-        self._path, self._store, self._tick = path, store, tick
+    def __init__(self, folder: Folder, store: Transfers, tick: Tick) -> None:
+        self._folder, self._store, self._tick = folder, store, tick
         self._next_upload = 0
         self._name, self._file = "", open(os.devnull, "rb", buffering=0)
         """The content file that was read last."""
@@ -529,11 +557,11 @@ class Restoring:
         try:
             if self._name != name:
                 self._file.close()
-                self._file = open(os.path.join(self._path, name), "rb", buffering=0)
+                self._file = self._folder.open(name, buffering=0)
                 self._name = name
             yield self._file
         except OSError as error:
-            raise SaveError(f"{self._path}/{name} can't be read: {error.strerror}; {ADVICE}") from None
+            raise SaveError(f"{self._folder.path}/{name} can't be read: {error.strerror}; {ADVICE}") from None
 
     def _file_large(self, tenant: int, address: str, row: SavedObject) -> None:
         try:
@@ -567,4 +595,4 @@ class Restoring:
         """The error of an object that isn't filed."""
         if isinstance(error, Refused) and error.number != "S11":
             return error
-        return SaveError(f"{self._path}/{name} is damaged: the bytes of the object {address} are not the saved ones; {ADVICE}")
+        return SaveError(f"{self._folder.path}/{name} is damaged: the bytes of the object {address} are not the saved ones; {ADVICE}")

@@ -57,7 +57,7 @@ def sync(file):
     if replaced and stat.S_ISDIR(os.fstat(file).st_mode):
         raise OSError(errno.EIO, os.strerror(errno.EIO))
     fsync(file)
-os.fsync, os.replace = sync, lambda *given: (replaced.append(1), replace(*given))
+os.fsync, os.replace = sync, lambda *given, **named: (replaced.append(1), replace(*given, **named))
 {RUN_SERVER}
 """
 """A server that can't sync a folder in which it has replaced a file."""
@@ -67,14 +67,14 @@ NO_MEMORY = f"""
 import os
 from b3store import saved
 read, is_wanted = saved.read_index, eval(os.environ["WHEN"])
-def read_or_fail(path, tick):
-    if is_wanted(path):
+def read_or_fail(folder, tick):
+    if is_wanted(folder.path):
         raise MemoryError
-    return read(path, tick)
+    return read(folder, tick)
 saved.read_index = read_or_fail
 {RUN_SERVER}
 """
-"""A server that has no memory to read an index, if the function in the variable WHEN, of its path, says so."""
+"""A server that has no memory to read an index, if the function in the variable WHEN, of the folder's path, says so."""
 UNREADABLE = f"""
 import errno, os
 def fail(*_):
@@ -507,6 +507,47 @@ def folders_that_are_none(program: str) -> List[str]:
         return found + differences((_state_at(program, f"{folder}-new"), {}))
 
 
+def folders_of_others(program: str) -> List[str]:
+    """A folder that belongs to another user, or that others may write to, is refused, and stays as it is."""
+    found = []
+    cases = [(0o775, None, "can be written to by others: chmod go-w {}"), (0o757, None, "can be written to by others: chmod go-w {}")]
+    if os.geteuid() == 0:
+        cases.append((0o700, 1234, "belongs to another user: name a folder of the server's user"))
+    for mode, owner, wanted in cases:
+        with _folder() as folder:
+            _saved_folder(program, folder)
+            os.unlink(os.path.join(folder, "content.1"))
+            os.chmod(folder, mode)
+            if owner is not None:
+                os.chown(folder, owner, -1)
+            files, told = _files(folder), f"b3store.server: {folder} {wanted.format(folder)}\n"
+            found += differences((fails("--program", program, "--socket", f"{folder}-socket", "--save", folder), (1, told)), (_files(folder), files))
+    return found
+
+
+def links_in_a_folder(program: str) -> List[str]:
+    """No link in the folder is followed: what it leads to is neither written to nor read."""
+    with _folder() as folder:
+        _saved_folder(program, folder)
+        other = f"{folder}-other"
+        with open(other, "wb") as file:
+            file.write(b"kept")
+        os.symlink(other, f"{folder}/index.new")
+        with Running(program, "--save", folder) as server, server.client() as client:
+            os.symlink(other, f"{folder}/index.new")
+            client.file(b"new")
+            state = _state(client)
+            found = differences((client.ends(), b""), (server.end(), CLEAN), (_state_at(program, folder), state))
+        for name in os.listdir(folder):
+            os.rename(os.path.join(folder, name), f"{folder}-file")
+            os.symlink(f"{folder}-file", os.path.join(folder, name))
+            status, told = fails("--program", program, "--socket", f"{folder}-socket", "--save", folder)
+            found += differences((status, 1), (f"{folder}/{name} is not a file; nothing was changed" in told, True))
+            os.rename(f"{folder}-file", os.path.join(folder, name))
+        with open(other, "rb") as file:
+            return found + differences((file.read(), b"kept"))
+
+
 def folders_that_are_made(program: str) -> List[str]:
     """Each folder that gets another one is synced. A path of very many folders is refused with a message."""
     sync, synced = os.fsync, []
@@ -594,7 +635,7 @@ def no_memory_after_a_save(program: str) -> List[str]:
     """A save that is there is reported as saved, though there is no memory to find the files that it doesn't need any more. The next save removes them."""
     with _folder() as folder:
         _saved_folder(program, folder)
-        is_saved = "lambda path: os.path.exists(os.path.join(os.path.dirname(path), 'content.2'))"
+        is_saved = "lambda path: os.path.exists(os.path.join(path, 'content.2'))"
         with Running(program, "--save", folder, python=["-c", NO_MEMORY], WHEN=is_saved) as server, server.client() as client:
             client.file(b"new")
             state = _state(client)
@@ -755,6 +796,8 @@ SAVES = (
     ("damaged files of a save", damaged_files),
     ("a save that can't be read", contents_that_cannot_be_read),
     ("folders that are none for a save", folders_that_are_none),
+    ("folders of others for a save", folders_of_others),
+    ("links in the folder of a save", links_in_a_folder),
     ("folders that are made for a save", folders_that_are_made),
     ("saves on a full disk", full_disks),
     ("saves in a folder that can't be synced", folders_that_are_not_synced),
