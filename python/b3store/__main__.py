@@ -21,6 +21,8 @@ from .sessions import write_all
 from .values import MAX_NUMBER, MAX_UPLOAD_LEN, PART_LEN, Refused, check_address, check_number
 
 USAGE, MISSING = 2, 1
+MAX_LINKS = 40
+"""The maximum number of links that are followed, as by the system."""
 EPILOG = """\
 examples:
   b3store-client --socket /run/b3store/socket put FILE
@@ -62,7 +64,7 @@ def get(store: Client, words: Any) -> int:
         size = store.size(tenant, words.address)
         end = max(start, min(size, start + length))
         is_quiet = words.output is None and os.isatty(1)
-        with output_to(words.output) as write, contextlib.closing(Progress(words.address[:16], end - start, is_quiet)) as progress:
+        with output_to(words.output, words.follow) as write, contextlib.closing(Progress(words.address[:16], end - start, is_quiet)) as progress:
             room = memoryview(bytearray(min(PART_LEN, end - start)))
             for at in range(start, end, PART_LEN):
                 piece = room[: end - at]
@@ -75,42 +77,58 @@ def get(store: Client, words: Any) -> int:
 
 
 @contextlib.contextmanager
-def output_to(path: Optional[str]) -> Iterator[Callable[[memoryview], None]]:
+def output_to(path: Optional[str], follows: bool = False) -> Iterator[Callable[[memoryview], None]]:
     """A function that writes to a file, or to standard output. A regular file gets its name when all is written, so that no half of one is left; it has the
-    owner, the group and the mode of the file that it replaces. What is no regular file, such as a pipe, is written to as it is."""
-    if path is None or is_standard_output(path):
-        yield writer(1, path or "standard output")
-    elif is_special(path):
-        with opened(path, "wb", path) as file:
+    owner, the group and the mode of the file that it replaces. What is no regular file, such as a pipe, is written to as it is. A link is replaced, as someone
+    else may have made it, unless it is one of the system, such as /dev/stdout, or links are to be followed."""
+    follows = path is not None and os.path.islink(path) and (follows or is_of_system(path))
+    number = 1 if path is None else descriptor_of(path) if follows else None
+    if number is not None:
+        yield writer(number, path or "standard output")
+    elif is_special(path, follows):
+        with opened(path, "wb", path, 0 if follows else os.O_NOFOLLOW) as file:
             yield writer(file.fileno(), path)
     else:
-        # a link stays one: what it leads to is replaced
-        with replacing(os.path.realpath(path) if os.path.islink(path) else path) as file:
+        with replacing(os.path.realpath(path) if follows else path) as file:
             yield writer(file.fileno(), path)
 
 
-def is_standard_output(path: str) -> bool:
-    """Whether a path is a link to standard output, as /dev/stdout is."""
+def is_of_system(path: str) -> bool:
+    """Whether a path is in a folder of /dev or /proc to which no other user can write: one of /dev/shm isn't."""
     try:
-        return os.path.islink(path) and os.path.samestat(os.stat(path), os.fstat(1))
+        folder = os.path.realpath(os.path.dirname(path))
+        status = os.stat(folder)
     except OSError:
         return False
+    return (folder + "/").startswith(("/dev/", "/proc/")) and status.st_uid in (0, os.geteuid()) and not status.st_mode & 0o022
 
 
-def is_special(path: str) -> bool:
-    """Whether a path leads to something that is no regular file."""
+def descriptor_of(path: str) -> Optional[int]:
+    """The descriptor of this process that a link leads to, as /dev/stdout and /dev/fd/5 do. It is written to at its own position."""
+    with contextlib.suppress(OSError):
+        for _ in range(MAX_LINKS):
+            folder, name = os.path.split(path)
+            if name.isdigit() and os.path.samefile(folder or ".", "/proc/self/fd"):
+                return int(name)
+            path = os.path.join(folder, os.readlink(path))
+    return None
+
+
+def is_special(path: str, follows: bool) -> bool:
+    """Whether a path is something that is no regular file and no link, or leads to it if links are followed."""
     try:
-        return not stat.S_ISREG(os.stat(path).st_mode)
+        mode = os.stat(path, follow_symlinks=follows).st_mode
+        return not stat.S_ISREG(mode) and not stat.S_ISLNK(mode)
     except FileNotFoundError:
         return False
     except OSError as fault:
         raise named(fault, path) from None
 
 
-def opened(name: str, mode: str, path: str) -> Any:
+def opened(name: str, mode: str, path: str, flags: int = 0) -> Any:
     """Opens a file. Raises OSError with a path, which may be another one."""
     try:
-        return open(name, mode, buffering=0, opener=private)
+        return open(name, mode, buffering=0, opener=lambda name, others: private(name, others | flags))
     except OSError as fault:
         raise named(fault, path) from None
 
@@ -132,12 +150,14 @@ def replacing(path: str) -> Iterator[BinaryIO]:
 
 
 def give_rights(number: int, path: str) -> None:
-    """Gives a new file the owner, the group and the mode of a file that it will replace, or the mode of any new file."""
+    """Gives a new file the owner, the group and the mode of a file that it will replace; in place of a link or of nothing, the mode of any new file."""
     mask = os.umask(0)
     os.umask(mask)
     try:
-        old = os.stat(path)
+        old = os.lstat(path)
     except OSError:
+        old = None
+    if old is None or stat.S_ISLNK(old.st_mode):
         mode = 0o666 & ~mask
     else:
         # what the old group may do is not for another one
@@ -316,6 +336,7 @@ def make_parser() -> argparse.ArgumentParser:
     getting = add_command(commands, get, "get", "write an object's bytes")
     getting.add_argument("address", type=address_argument, metavar="ADDRESS")
     getting.add_argument("-o", "--output", metavar="FILE", help="write to this file (default: -, standard output)")
+    getting.add_argument("--follow", action="store_true", help="if this file is a link, write to what it leads to; otherwise the link is replaced")
     getting.add_argument("--range", type=range_argument, default=(0, MAX_UPLOAD_LEN), metavar="FROM:LEN", help="write LEN bytes, starting at byte FROM; without LEN, all bytes from there on")
     add_command(commands, has, "has", "print which of these objects the tenant holds, with their lengths").add_argument("addresses", nargs="+", type=address_argument, metavar="ADDRESS")
     add_command(commands, ls, "ls", "print the address and length of each object that the tenant holds")

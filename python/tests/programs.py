@@ -56,7 +56,9 @@ def puts_and_gets():
         os.chown(copy, *owner)
         found += differences((client("get", FOUR, "-o", copy), (0, b"", "")), (stat.S_IMODE(os.stat(copy).st_mode), 0o640))
         found += differences(((os.stat(copy).st_uid, os.stat(copy).st_gid), owner))
-        found += differences((client("get", ABC, "-o", link), (0, b"", "")), (os.readlink(link), "copy"), (open(copy, "rb").read(), b"abc"))
+        found += differences((client("get", ABC, "-o", link, "--follow"), (0, b"", "")), (os.readlink(link), "copy"), (open(copy, "rb").read(), b"abc"))
+        found += differences((client("get", FOUR, "-o", link), (0, b"", "")), (os.path.islink(link), False), (open(copy, "rb").read(), b"abc"))
+        found += differences((stat.S_IMODE(os.stat(link).st_mode), stat.S_IMODE(os.stat(odd).st_mode)), (os.stat(link).st_uid, os.geteuid()))
         os.remove(link)
         nowhere = os.path.join(place, "none", "copy")
         found += differences((client("get", ABC, "-o", nowhere), (3, b"", f"b3store: {nowhere}: no such file or directory\n")))
@@ -85,10 +87,11 @@ def names_of_all_bytes():
 
 
 def outputs_of_all_kinds():
-    """Links to standard output and to pipes are written to as they are; a link that leads nowhere stays as it is, and no part of a file is left."""
+    """Standard output, descriptors, pipes and devices are written to as they are, also by the system's links to them. A link that others may have made is
+    replaced, whatever it leads to, unless links are followed. No part of a file is left."""
     with tempfile.TemporaryDirectory() as place, Bridge() as server:
-        def get(to, **options):
-            words = [sys.executable, "-m", "b3store", "--socket", server.path, "get", ABC, "-o", to]
+        def get(to, *more, **options):
+            words = [sys.executable, "-m", "b3store", "--socket", server.path, "get", ABC, "-o", to, *more]
             return subprocess.run(words, stderr=subprocess.PIPE, timeout=SECONDS, env={**os.environ, "PYTHONPATH": PACKAGE}, **options)
 
         run(["--socket", server.path, "put", "-"], b"abc")
@@ -98,11 +101,19 @@ def outputs_of_all_kinds():
             file.write(b"old ")
             file.flush()
             found += differences((get("/dev/stdout", stdout=file).returncode, 0), (open(log, "rb").read(), b"old abc"))
+            found += differences((get(f"/dev/fd/{file.fileno()}", pass_fds=[file.fileno()]).returncode, 0), (open(log, "rb").read(), b"old abcabc"))
+            os.symlink("/dev/stdout", loop)
+            found += differences((get(loop, "--follow", stdout=file).returncode, 0), (open(log, "rb").read(), b"old abcabcabc"), (os.path.islink(loop), True))
+            os.remove(loop)
         reading, writing = os.pipe()
         with os.fdopen(reading, "rb") as pipe:
             ran = get(f"/dev/fd/{writing}", pass_fds=[writing])
             os.close(writing)
             found += differences((ran.stderr, b""), (ran.returncode, 0), (pipe.read(), b"abc"))
+        os.symlink("loop", loop)
+        ran = get(loop, "--follow")
+        found += differences((ran.stderr.decode(), f"b3store: {loop}: too many levels of symbolic links\n"), (ran.returncode, 3), (os.readlink(loop), "loop"))
+        found += replaces_links(get, place)
         large, piped = content_of(PART_LEN), os.pipe()
         os.set_blocking(piped[1], False)
         address = run(["--socket", server.path, "put", "-"], large)[1][:64].decode()
@@ -110,12 +121,30 @@ def outputs_of_all_kinds():
         with subprocess.Popen(words, stdout=piped[1], env={**os.environ, "PYTHONPATH": PACKAGE}) as getting, os.fdopen(piped[0], "rb") as pipe:
             os.close(piped[1])
             found += differences((select.select([pipe], [], [], SECONDS)[0], [pipe]), (time.sleep(0.3), None), (pipe.read() == large, True), (getting.wait(SECONDS), 0))
-        os.symlink("loop", loop)
-        ran = get(loop)
-        found += differences((ran.stderr.decode(), f"b3store: {loop}: too many levels of symbolic links\n"), (ran.returncode, 3), (os.readlink(loop), "loop"))
         with unittest.mock.patch("os.umask", side_effect=KeyboardInterrupt), contextlib.suppress(KeyboardInterrupt), output_to(os.path.join(place, "file")):
             found.append("nothing is raised")
         return found + differences((sorted(os.listdir(place)), ["log", "loop"]))
+
+
+def replaces_links(get, place):
+    """Those to a file, to a pipe that nobody reads, to a device, to a name of standard output, to nothing and to themselves; also in a folder of /dev."""
+    found = []
+    with tempfile.TemporaryDirectory() as other, tempfile.TemporaryDirectory(dir="/dev/shm" if os.path.isdir("/dev/shm") else None) as shared:
+        kept, pipe = os.path.join(other, "kept"), os.path.join(other, "pipe")
+        with open(kept, "wb") as file:
+            file.write(b"kept")
+        os.mkfifo(pipe)
+        os.chmod(shared, 0o777)
+        for folder in place, shared:
+            link = os.path.join(folder, "loop")
+            for target in kept, pipe, os.devnull, "/dev/stdout", os.path.join(other, "none"), "loop":
+                with contextlib.suppress(FileNotFoundError):
+                    os.remove(link)
+                os.symlink(target, link)
+                ran = get(link, stdout=subprocess.PIPE)
+                found += differences(((target, ran.returncode, ran.stdout, ran.stderr), (target, 0, b"", b"")), (os.path.islink(link), False))
+                found += differences((os.path.isfile(link) and open(link, "rb").read(), b"abc"))
+        return found + differences((sorted(os.listdir(other)), ["kept", "pipe"]), (open(kept, "rb").read(), b"kept"))
 
 
 def says_what_is_wrong():
