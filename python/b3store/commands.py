@@ -1,8 +1,8 @@
 """The commands of a store, over its sessions."""
-import os
+import contextlib
 from typing import Callable, Dict, Iterable, Iterator, List, Optional, Sequence, Tuple, TypeVar
 
-from .sessions import MAX_FILED_AHEAD, Kinds, Session, Sessions, write_all
+from .sessions import MAX_FILED_AHEAD, Kinds, Session, Sessions, not_blocking, write_all, write_slowly
 from .values import (
     MAX_LIMIT, MAX_UPLOAD_LEN, PART_LEN, RANGE_LEN, Buffer, Filed, Held, ObjectRow, OpenUpload, Refused, Totals, Usage, check_address, check_bytes,
     check_number, check_room, check_seconds, parse_asked, parse_count, parse_digits, parse_held, parse_labelled, parse_length, parse_number, parse_object,
@@ -143,30 +143,25 @@ class Commands(Sessions):
     ) -> int:
         """Writes up to `length` bytes of an object, starting at `offset`, to the descriptor of a file, a pipe or a socket, and returns how many. The system
         moves them if it can, so that Python copies none. Bytes that the descriptor has no room for are read into memory before this waits for room, so
-        other commands can run meanwhile. Raises OSError if it can't be written to, TimeoutError if it has no room for `seconds`. Refusals: S1, S12."""
+        other commands can run meanwhile. The descriptor's mode isn't changed: bytes for a socket in blocking mode are copied. Raises OSError if it can't be
+        written to, TimeoutError if it has no room for `seconds`. Refusals: S1, S12."""
         offset, length = check_number("offset", offset), check_number("length", length)
         target, seconds = check_number("target", target, 0, MAX_DESCRIPTOR), check_seconds("seconds", seconds)
-        is_blocking = os.get_blocking(target)
-        try:
-            os.set_blocking(target, False)
-            # no loop: from Python 3.12 on, an interrupt at its end would pass by the finally
-            return self._move(tenant, address, target, offset, length, seconds)
-        finally:
-            os.set_blocking(target, is_blocking)
-
-    def _move(self, tenant: int, address: str, target: int, first: int, left: int, seconds: Optional[float]) -> int:
-        """Does what `fetch_to` does, to a descriptor that doesn't block."""
-        offset = first
-        while True:
-            wanted = min(PART_LEN, left)
-            line = fetch_line(tenant, address, offset, wanted)
-            count, rest, fault = self._in_turn(lambda session: session.move(line, wanted, target))
-            if fault is not None:
-                raise fault
-            write_all(target, rest, seconds)
-            offset, left = offset + count, left - count
-            if count < wanted or left == 0:
-                return offset - first
+        with contextlib.ExitStack() as ending:
+            other, first = not_blocking(target, ending), offset
+            while True:
+                wanted = min(PART_LEN, length)
+                line = fetch_line(tenant, address, offset, wanted)
+                count, rest, fault = self._in_turn(lambda session: session.move(line, wanted, other))
+                if fault is not None:
+                    raise fault
+                if other is None:
+                    write_slowly(target, rest, seconds)
+                else:
+                    write_all(other, rest, seconds)
+                offset, length = offset + count, length - count
+                if count < wanted or length == 0:
+                    return offset - first
 
     def ranges(self, tenant: int, address: str, length: int = RANGE_LEN) -> Iterator[bytes]:
         """Yields an object's bytes in ranges of `length`. Other commands can run between two of them. Refusals: S1, S12."""

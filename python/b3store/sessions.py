@@ -7,6 +7,7 @@ import os
 import queue
 import select
 import socket
+import stat
 import sys
 import threading
 import time
@@ -27,6 +28,9 @@ MAX_FILED_AHEAD = 24
 
 SECONDS_FOR_ROOM = 0.02
 """How long a session waits, in all, for a descriptor that bytes are moved to."""
+
+LEAST_ROOM = select.PIPE_BUF
+"""How many bytes a descriptor takes without waiting once it can be written to."""
 
 SET_PIPE_SIZE = 1031
 """The number of F_SETPIPE_SZ, which `fcntl` has from Python 3.10 on."""
@@ -78,15 +82,45 @@ def can_write(target: int, seconds: Optional[float]) -> bool:
     return bool(poll.poll(None if seconds is None else 1000 * seconds))
 
 
-def write_all(target: int, content: bytes, seconds: Optional[float]) -> None:
-    """Writes all bytes to a descriptor that doesn't block. Raises TimeoutError if it has no room for some time."""
+def write_all(target: int, content: bytes, seconds: Optional[float], write: Callable[[int, memoryview], int] = os.write) -> None:
+    """Writes all bytes to a descriptor that doesn't block, or by a function that doesn't. Raises TimeoutError if it has no room for some time."""
     view = memoryview(content)
     while view.nbytes:
         try:
-            view = view[os.write(target, view) :]
+            view = view[write(target, view) :]
         except BlockingIOError:
             if not can_write(target, seconds):
                 raise TimeoutError("the descriptor takes no bytes") from None
+
+
+def write_slowly(target: int, content: bytes, seconds: Optional[float]) -> None:
+    """The same for a descriptor that may block."""
+    # while there is a default timeout, a new socket object would change the mode of its socket
+    if not stat.S_ISSOCK(os.fstat(target).st_mode) or socket.getdefaulttimeout() is not None:
+        return write_all(target, content, seconds, write_if_room)
+    with socket.socket(fileno=os.dup(target)) as sending:
+        write_all(target, content, seconds, lambda _, view: sending.send(view, socket.MSG_DONTWAIT))
+
+
+def write_if_room(target: int, view: memoryview) -> int:
+    """Writes what surely doesn't block, and returns how much."""
+    if not can_write(target, 0):
+        raise BlockingIOError
+    return os.write(target, view[:LEAST_ROOM])
+
+
+def not_blocking(target: int, ending: contextlib.ExitStack) -> Optional[int]:
+    """A descriptor for what a descriptor is open for, which doesn't block: itself, or for a pipe or a terminal another one, which is closed at the end. None
+    if there is none, as for a socket in blocking mode. The mode of the descriptor isn't changed: processes that have inherited it have the same mode."""
+    flags, mode = fcntl.fcntl(target, fcntl.F_GETFL), os.fstat(target).st_mode
+    if flags & os.O_NONBLOCK or stat.S_ISREG(mode) or flags & os.O_ACCMODE == os.O_RDONLY:
+        return target
+    with contextlib.suppress(OSError):
+        if stat.S_ISFIFO(mode) or os.isatty(target):
+            flags = os.O_WRONLY | os.O_NONBLOCK | os.O_NOCTTY
+            # a file object, unlike a number, is closed whenever an interrupt comes
+            return ending.enter_context(open(f"/proc/self/fd/{target}", "wb", 0, opener=lambda path, _: os.open(path, flags))).fileno()
+    return None
 
 
 INTERRUPTED = Ended("a command was interrupted")
@@ -227,10 +261,10 @@ class Session:
             raise self._ended()
         return count
 
-    def move(self, line: str, max_len: int, target: int) -> Tuple[int, bytes, Optional[OSError]]:
+    def move(self, line: str, max_len: int, target: Optional[int]) -> Tuple[int, bytes, Optional[OSError]]:
         """Sends a command that is answered by up to `max_len` raw bytes, and moves them to a descriptor that doesn't block. Returns how many the answer
-        has; those that are read but not written, because the descriptor had no room for a moment; and the error if it can't be written to. The answer is
-        always read to its end."""
+        has; those that are read but not written, because the descriptor had no room for a moment, or there is none; and the error if it can't be written
+        to. The answer is always read to its end."""
         self.write(line.encode("ascii") + b"\n")
         got = self._read_some(len(b"bytes %d\n" % max_len))
         while b"\n" not in got:
@@ -241,11 +275,11 @@ class Session:
             raise ValueError(f"{count} bytes instead of {max_len}")
         return (count, *self._move_rest(first, count - len(first), target))
 
-    def _move_rest(self, first: bytes, left: int, target: int) -> Tuple[bytes, Optional[OSError]]:
+    def _move_rest(self, first: bytes, left: int, target: Optional[int]) -> Tuple[bytes, Optional[OSError]]:
         """Moves some bytes that were read and `left` others, and returns those that the descriptor had no room for, and its fault."""
         fault, source, end = None, self._reading.fileno(), None
         try:
-            while left > 0 and not first:
+            while left > 0 and not first and target is not None:
                 try:
                     moved = splice(source, target, left)
                     if moved == 0:

@@ -1,10 +1,16 @@
 """Objects that are written to descriptors."""
+import fcntl
 import os
+import pty
+import signal
 import socket
 import tempfile
 import threading
+import time
+import tty
 
 from shared import FOUR, PROGRAM, differences, ended, raised, refusal, script_of
+from stores import Interrupted, interrupt
 from b3store import Refused, Store
 from b3store import sessions
 
@@ -92,7 +98,48 @@ def waits_for_a_slow_store():
         return found + differences((pipe.read(), bytes(9000)), (len(calls) < 100, True))
 
 
+def ends_of(make):
+    """Two file objects: one to write to, in blocking mode, and the one to read from."""
+    if make is socket.socketpair:
+        ours, theirs = make()
+        with ours, theirs:
+            return os.fdopen(os.dup(ours.fileno()), "wb", 0), os.fdopen(os.dup(theirs.fileno()), "rb", 0)
+    reading, writing = make()
+    if make is pty.openpty:
+        tty.setraw(writing)
+    return os.fdopen(writing, "wb", 0), os.fdopen(reading, "rb", 0)
+
+
+def keeps_the_mode():
+    """Other processes share the mode of a descriptor: it is the same while bytes are written to it, after that, and after an interrupt."""
+    content, found, before = os.urandom(LENGTH), [], signal.signal(signal.SIGALRM, interrupt)
+    try:
+        with Store(PROGRAM, sessions=1) as store:
+            address = store.upload(content, store.tenant()).address
+            for make in os.pipe, pty.openpty, socket.socketpair:
+                writing, reading = ends_of(make)
+                with writing, reading:
+                    flags, seen = fcntl.fcntl(writing, fcntl.F_GETFL), []
+                    writer = threading.Thread(target=lambda: seen.append(store.fetch_to(0, address, writing.fileno())))
+                    writer.start()
+                    time.sleep(0.2)
+                    seen += [fcntl.fcntl(writing, fcntl.F_GETFL), writer.is_alive(), store.stat().objects]
+                    got = b""
+                    while len(got) < LENGTH:
+                        got += reading.read(LENGTH)
+                    writer.join()
+                    found += differences((got == content, True), (seen, [flags, True, 1, LENGTH]), (fcntl.fcntl(writing, fcntl.F_GETFL), flags))
+                    signal.setitimer(signal.ITIMER_REAL, 0.3)
+                    found += differences((raised(store.fetch_to, 0, address, writing.fileno()), Interrupted), (fcntl.fcntl(writing, fcntl.F_GETFL), flags))
+                    found += differences((store.stat().objects, 1))
+    finally:
+        signal.setitimer(signal.ITIMER_REAL, 0)
+        signal.signal(signal.SIGALRM, before)
+    return found
+
+
 CASES = (
+    ("the mode of a descriptor that is written to", keeps_the_mode),
     ("objects written to descriptors", writes_to_descriptors),
     ("stores that end within an object", ends_within_an_object),
     ("objects from a slow store", waits_for_a_slow_store),

@@ -214,7 +214,7 @@ def interrupts_of_a_look():
 
 
 def interrupts_of_a_move():
-    """No interrupt of `fetch_to` leaves its descriptor out of blocking mode."""
+    """No interrupt of `fetch_to` changes the mode of its descriptor."""
     if sys.version_info < (3, 11):
         return []
     found, before, sink = [], signal.signal(signal.SIGALRM, interrupt), os.open(os.devnull, os.O_WRONLY)
@@ -225,7 +225,6 @@ def interrupts_of_a_move():
             for number in range(1000):
                 interrupted_calls(lambda: store.fetch_to(0, ABC, sink), 0.0001 + number / 10000000)
                 found += differences((os.get_blocking(sink), True))
-                os.set_blocking(sink, True)
             del store._in_turn
     finally:
         signal.signal(signal.SIGALRM, before)
