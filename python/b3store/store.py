@@ -1,6 +1,7 @@
 """A store in its own process, which this one starts and ends."""
 import contextlib
 import errno
+import functools
 import os
 import subprocess
 import tempfile
@@ -18,6 +19,8 @@ PIPE_LEN = 1 << 18
 """The capacity that a session's pipes are given, if the system allows it."""
 SECONDS_TO_END = 1
 """How long a store that closed a pipe is given to end."""
+SECONDS_TO_CLOSE = 60
+"""How long a store that is closed is given for a command of another thread, and then to end."""
 SECONDS_TO_START = 30
 """How long a store is given to open its sessions."""
 SECONDS_BETWEEN_TRIES = 0.01
@@ -66,20 +69,34 @@ class Store(Transfers):
         return self._fault is None and self._process.poll() is None
 
     def close(self) -> int:
-        """Ends the store, once the commands of other threads are done, and returns its exit status. A store that can't be used any more is killed."""
+        """Ends the store, once the commands of other threads are done, and returns its exit status. A store that can't be used any more is killed, and so is
+        one that doesn't answer or end for a minute."""
         with self._closing:
             if self._fault is not None:
                 self._process.kill()
-            return self._with_all(self._free.get, self._end)
+            return self._with_all(functools.partial(self._free.get, timeout=SECONDS_TO_CLOSE), self._end)
 
     def _end(self, sessions: List[Session]) -> int:
+        missing = len(self._all) - len(sessions)
+        if missing:
+            # a command of another thread is not answered
+            self._process.kill()
+            self._take(sessions, self._free.get, missing)
         for session in sessions:
             session.close()
         # a process that has inherited the store has no status to wait for, and a thread of its parent may have locked the wait
-        status = self._process.wait() if os.getpid() == self._process_id else 0
+        status = self._wait() if os.getpid() == self._process_id else 0
         self._stderr.close()
         self._fault = self._fault or Ended("the store was closed", status)
         return status
+
+    def _wait(self) -> int:
+        """Waits until the process has ended, and returns its exit status."""
+        try:
+            return self._process.wait(SECONDS_TO_CLOSE)
+        except subprocess.TimeoutExpired:
+            self._process.kill()
+            return self._process.wait()
 
     def _start(self, program: str, count: int) -> None:
         """Starts the process, and opens its sessions."""

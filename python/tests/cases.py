@@ -18,6 +18,7 @@ CASES = (
     ("wrong arguments", stores.wrong_arguments),
     ("refusals as values", stores.refusals_are_values),
     ("stores that end", stores.stores_that_end),
+    ("stores that are stopped", stores.stores_that_are_stopped),
     ("answers that don't fit", stores.answers_that_do_not_fit),
     ("answers that are too long", transfers.answers_that_are_too_long),
     ("commands that are interrupted", stores.commands_that_are_broken_off),

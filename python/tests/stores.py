@@ -10,9 +10,11 @@ import socket
 import sys
 import tempfile
 import threading
+import time
 
-from shared import ABC, EMPTY, FOUR, PROGRAM, TOP, differences, ended, raised, refusal, script_of
+from shared import ABC, EMPTY, FOUR, PROGRAM, SECONDS, TOP, differences, ended, raised, refusal, script_of
 from b3store import PART_LEN, REFUSALS, Client, Ended, Filed, Held, OpenUpload, Refused, Store, Totals, Usage
+from b3store import store as store_module
 
 JOURNAL = ["tenant 0 4096", "begin 0 0 3", "put 0 0 3", f"seal 0 {ABC} new"]
 
@@ -117,6 +119,31 @@ def stores_that_end():
     with Store(PROGRAM, sessions=1) as store:
         store.close()
         return found + differences((ended(store.stat), ("the store was closed", 0, "")), (store.alive, False), (store.close(), 0))
+
+
+def stores_that_are_stopped():
+    """A store whose process is stopped is killed when it is closed, though a thread waits for an answer, which raises Ended."""
+    found, before = [], store_module.SECONDS_TO_CLOSE
+    store_module.SECONDS_TO_CLOSE = 0.5
+    try:
+        for is_waiting in False, True:
+            store, raised_there = Store(PROGRAM, sessions=2), []
+            store.stat()
+            os.kill(store.pid, signal.SIGSTOP)
+            waiting = threading.Thread(target=lambda: raised_there.append(raised(store.stat)), daemon=True)
+            if is_waiting:
+                waiting.start()
+                time.sleep(0.2)
+            closing = threading.Thread(target=store.close, daemon=True)
+            closing.start()
+            closing.join(SECONDS / 2)
+            found += differences((closing.is_alive(), False), (ended(store.stat), ("the store was closed", -signal.SIGKILL, "")) if not is_waiting else (0, 0))
+            if is_waiting:
+                waiting.join(SECONDS)
+            found += differences((raised_there, [Ended] * is_waiting))
+    finally:
+        store_module.SECONDS_TO_CLOSE = before
+    return found
 
 
 WRONG_ANSWERS = ["frob", "tenant", "tenant x", "refused", "refused S6 free x", "refused S6 free", "", "held 3", "tenant -1", "tenant +1", "tenant 1_0", "tenant 1\\r", "refused S11 found 5"]
