@@ -12,8 +12,10 @@ from . import TYPE_CHECKING
 if TYPE_CHECKING:
     from typing import Any, Iterator
 
-ENDING = (signal.SIGTERM, signal.SIGINT, signal.SIGHUP)
+ENDING = (signal.SIGTERM, signal.SIGINT, signal.SIGHUP, signal.SIGQUIT)
 """The signals that end a program."""
+OTHERS = (signal.SIGUSR1, signal.SIGUSR2, signal.SIGALRM, signal.SIGVTALRM, signal.SIGPROF, signal.SIGIO)
+"""Signals that would end a program at once. A server ignores them, as everything in its store would be lost."""
 
 
 def end_at_once() -> None:
@@ -36,7 +38,8 @@ def handle_ending(handler: "Any") -> None:
 
 
 def exit_at_ending() -> None:
-    """Lets the first signal that ends a server raise SystemExit. Later ones have no effect, so that they interrupt nothing that is tidied up."""
+    """Lets the first signal that ends a server raise SystemExit. Later ones have no effect, so that they interrupt nothing that is tidied up. Signals that are
+    for something else are ignored."""
     is_ending = False
 
     def end(*_: "Any") -> None:
@@ -46,6 +49,8 @@ def exit_at_ending() -> None:
             sys.exit(0)
 
     handle_ending(end)
+    for number in OTHERS:
+        signal.signal(number, signal.SIG_IGN)
 
 
 @contextlib.contextmanager

@@ -14,10 +14,11 @@ which speaks the lines of `b3store serve` and nothing else. A separate process m
 - Up to N connections are served at a time. Others wait for their turn, in the order in which they came. One that has waited for `--wait` seconds is sent the
   line `busy` and closed: no answer begins with this word. None of its commands was executed.
 - Over TCP a client's first line is `token HEX`, with the digits of the token file. The server answers `ok`, or closes the connection.
-- On SIGTERM, SIGINT or SIGHUP the server stops accepting connections, sends `busy` to those that wait for their turn, closes those that have not sent the
-  token, and waits up to `--grace` seconds for the others to end. A second signal ends the wait.
+- On SIGTERM, SIGINT, SIGHUP or SIGQUIT the server stops accepting connections, sends `busy` to those that wait for their turn, closes those that have not
+  sent the token, and waits up to `--grace` seconds for the others to end. A second signal ends the wait. SIGUSR1, SIGALRM and the like are ignored.
 - The store lives in memory: when the server exits, everything in the store is lost, unless it was started with `--save FOLDER`. Then it saves the objects and
-  the tenants in the folder after that wait, and a server that is started with the same folder restores them. Open uploads are not saved.
+  the tenants in the folder after that wait, and a server that is started with the same folder restores them. Open uploads are not saved. A save that fails is
+  tried again for ten minutes, or until a further signal; a store that doesn't answer for a minute is killed.
 
 Exit status: 0 after a signal, 1 if it can't start, 2 for wrong arguments, 3 if the store's process ended, 4 if the store can't be saved.
 """
@@ -45,7 +46,7 @@ from .console import number, one_line, open_standard_files
 from .listening import Listener, ListenError, inherited, listen_at, listen_tcp, more_time, notify, read_token
 from .relay import SECONDS_TO_BEGIN, Relays, serve_connection
 from .saved import SavedStore, SaveError, reason_of
-from .server_store import Store, StoreError, remove_left_folders, status_text
+from .server_store import SECONDS_OF_SILENCE, Store, StoreError, remove_left_folders, status_text
 from .sessions import can_write
 from .turns import Turns
 
@@ -62,6 +63,9 @@ SECONDS_TO_CUT = 2.0
 """How long the sessions of connections that are ended by the server may take to execute the commands that they have read."""
 SECONDS_FOR_LAST = 30.0
 """How long they may then take for the last command, once the processes of the connections are killed."""
+SECONDS_FOR_SAVES = 600.0
+"""For how long a save that fails is tried again."""
+SECONDS_BETWEEN_SAVES = 10.0
 SECONDS_FOR_LINE = 0.2
 """How long a standard stream may take to have room for a line, which is dropped then."""
 SECONDS_BETWEEN_LOOKS = 0.02
@@ -305,8 +309,7 @@ class Server:
         while True:
             status = self._store.status()
             if status is not None:
-                lost = "everything in it is lost" + (", except for the last save" if self._saved else "")
-                report(f"the store ended with {status_text(status)}; {lost}")
+                report(f"the store ended with {status_text(status)}; {self._lost()}")
                 return 3
             if self._is_over():
                 return self._end()
@@ -319,6 +322,10 @@ class Server:
                 else:
                     self._accept(key.data)
 
+    def _lost(self) -> str:
+        """What is lost with the store."""
+        return "everything in it is lost" + (", except for the last save" if self._saved else "")
+
     def _is_over(self) -> bool:
         return self._deadline is not None and (time.monotonic() >= self._deadline or not self._connections.count())
 
@@ -326,15 +333,37 @@ class Server:
         cut = self._connections.count()
         if cut:
             report(f"the server ends while {cut} {'connection is' if cut == 1 else 'connections are'} open")
-        is_saved = self._saved is None or self._save(self._saved)
+        is_saved = self._saved is None or self._save_at_last(self._saved)
         status = self._store.close()
-        if status:
+        if self._store.is_cut():
+            report(f"the store did not answer for {SECONDS_OF_SILENCE:.0f} s, and was killed; {self._lost()}")
+        elif status:
             report(f"the store ended with {status_text(status)}")
         return 4 if not is_saved else 3 if status else 0
 
-    def _save(self, saved: SavedStore) -> bool:
-        """Saves the store, and returns whether it is saved. A signal doesn't interrupt it."""
+    def _save_at_last(self, saved: SavedStore) -> bool:
+        """Saves the store, and returns whether it is saved. If a save fails, the store runs on, and the next one is tried, until a further signal comes."""
         self._connections.end_all(self._more_time)
+        self._store.end_soon()
+        end = time.monotonic() + SECONDS_FOR_SAVES
+        while not self._save(saved):
+            if time.monotonic() >= end or not self._store.is_usable():
+                return False
+            report(f"the next save is tried in {SECONDS_BETWEEN_SAVES:.0f} s; a further signal ends the server without it")
+            if self._is_asked(SECONDS_BETWEEN_SAVES):
+                return False
+        return True
+
+    def _is_asked(self, seconds: float) -> bool:
+        """Whether a signal that ends the server has come since the last one, or comes within some time."""
+        end = time.monotonic() + seconds
+        while time.monotonic() < end:
+            if self._selector.select(max(0, end - time.monotonic())) and any(number in ENDING for number in self._signals.recv(64)):
+                return True
+        return False
+
+    def _save(self, saved: SavedStore) -> bool:
+        """Tries to save the store, and returns whether it is saved. A signal doesn't interrupt it."""
         try:
             with self._store.own_session() as session:
                 text = saved.save(session, self._more_time)

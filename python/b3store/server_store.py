@@ -1,6 +1,7 @@
 """The store's process: starts it, opens a session for each connection, and asks the server's own questions."""
 import contextlib
 import errno
+import io
 import itertools
 import os
 import re
@@ -11,7 +12,7 @@ import subprocess
 import tempfile
 import threading
 import time
-from typing import Iterable, Iterator, List, NamedTuple, Optional, Set
+from typing import Any, Callable, Iterable, Iterator, List, NamedTuple, Optional, Set
 
 from .files import FolderInUse, lock_folder
 from .sessions import Session, set_pipe_size
@@ -24,6 +25,9 @@ SECONDS_TO_END = 30.0
 """How long the program may take to exit once its standard input is closed."""
 SECONDS_TO_ANSWER = 1.0
 """How long the server waits at its end for the answers to its own commands."""
+SECONDS_OF_SILENCE = 60.0
+"""How long it then waits for each piece of an answer, before it kills the process."""
+SECONDS_BETWEEN_POLLS = 1.0
 SECONDS_TO_SEE = 0.5
 SECONDS_BETWEEN_LOOKS = 0.01
 FOLDER_PREFIX = "b3store-server-"
@@ -113,6 +117,27 @@ def remove_left_folder(path: str) -> None:
         os.close(folder)
 
 
+class Answers(io.FileIO):
+    """The process's answers to the server. Once the server ends, the process is killed if it is silent for too long: then they end."""
+
+    def __init__(self, descriptor: int, kill: Callable[[], None]) -> None:
+        super().__init__(descriptor, closefd=False)
+        self._kill, self._poll = kill, select.poll()
+        self._poll.register(descriptor, select.POLLIN)
+        self.ends_since: Optional[float] = None
+        """When the server began to end."""
+        self.are_cut = False
+
+    def readinto(self, room: Any) -> Optional[int]:
+        """Reads what there is, once there is something."""
+        start = time.monotonic()
+        while not self._poll.poll(1000 * SECONDS_BETWEEN_POLLS):
+            if self.ends_since is not None and time.monotonic() >= max(start, self.ends_since) + SECONDS_OF_SILENCE:
+                self.are_cut = True
+                self._kill()
+        return super().readinto(room)
+
+
 class OwnSession(Transfers):
     """The server's own session, with the methods of a store."""
 
@@ -154,7 +179,8 @@ class Store:
         except OSError as error:
             raise StoreError(f"cannot start {program}: {error.strerror}") from None
         assert self._process.stdin and self._process.stdout
-        self._commands, self._answers = self._process.stdin, self._process.stdout
+        self._commands, self._read = self._process.stdin, Answers(self._process.stdout.fileno(), self._process.kill)
+        self._answers = io.BufferedReader(self._read)
         self._is_started = True
         try:
             self._commands.write(b"stat\n")
@@ -309,6 +335,14 @@ class Store:
             ended = os.waitid(os.P_PID, self._process.pid, os.WEXITED | os.WNOHANG | os.WNOWAIT)
             return not self._is_closing and self._process.returncode is None and ended is None
         return False
+
+    def end_soon(self) -> None:
+        """From now on, the process is killed if it doesn't answer."""
+        self._read.ends_since = time.monotonic()
+
+    def is_cut(self) -> bool:
+        """Whether it was killed for that."""
+        return self._read.are_cut
 
     def close(self) -> int:
         """Ends the process, if it was started, removes the folder, and returns the exit status. Everything in the store is lost."""

@@ -3,6 +3,7 @@ import contextlib
 import hashlib
 import os
 import random
+import resource
 import shutil
 import signal
 import subprocess
@@ -121,10 +122,16 @@ Transfers.entries = lambda store, start, count: entries(store, start, count) if 
 {RUN_SERVER}
 """
 """A server whose store has no memory to list its objects, nor for long pages of its journal."""
-LIMITED = (
-    f"import os, resource, runpy; limit = int(os.environ['LIMIT']); resource.setrlimit(resource.RLIMIT_FSIZE, (limit, limit)); {RUN_SERVER}"
-)
-"""A server that can't write files longer than the variable LIMIT."""
+LIMITED = """
+import os, resource, sys
+from b3store import server
+server.SECONDS_BETWEEN_SAVES = 0.5
+resource.setrlimit(resource.RLIMIT_FSIZE, (int(os.environ["LIMIT"]), resource.getrlimit(resource.RLIMIT_FSIZE)[1]))
+sys.exit(server.main())
+"""
+"""A server that can't write files longer than the variable LIMIT, and soon tries again."""
+HASTY = f"from b3store import server_store; server_store.SECONDS_OF_SILENCE = 1.0; {RUN_SERVER}"
+"""A server that doesn't wait long for a store that doesn't answer."""
 
 
 @contextlib.contextmanager
@@ -407,7 +414,7 @@ def folders_that_are_removed(program: str) -> List[str]:
         shutil.rmtree(folder)
         _saved_folder(program, folder)
         files, wanted = _files(folder), f"b3store.server: {folder} holds 'content.1' and is not the folder that the server had locked"
-        status, told, left = server.end()
+        status, told, left = _end_unsaved(server)
         return found + differences((status, 4), (told[: len(wanted)], wanted), (left, []), (_files(folder), files))
 
 
@@ -567,6 +574,14 @@ def folders_that_are_made(program: str) -> List[str]:
         return found + differences((os.listdir(above), ["saved"]))
 
 
+def _end_unsaved(server: Running) -> Tuple[int, str, List[str]]:
+    """What `end` returns of a server that can't save, which a second signal ends."""
+    server.signal()
+    wait_until(lambda: "a further signal ends the server" in server.reported())
+    status, told, left = server.end()
+    return status, told.split("b3store.server: the next save is tried in ")[0], left
+
+
 def _fails_to_save(program: str, folder: str, **more: Any) -> List[str]:
     """A save that the disk has no room for: status 4, a message, and the save before is whole."""
     state = _state_at(program, folder)
@@ -576,7 +591,7 @@ def _fails_to_save(program: str, folder: str, **more: Any) -> List[str]:
         for number in range(3):
             client.file(b"%d" % number * 150_000)
         client.ends()
-        status, told, left = server.end()
+        status, told, left = _end_unsaved(server)
         wanted = f"b3store.server: the store can't be saved in {folder}, which keeps the save before: "
         found = differences((status, 4), (told.startswith(wanted) and told.count("\n") == 1, True), (left, []), (_files(folder), files))
     return found + differences((_state_at(program, folder), state))
@@ -592,7 +607,7 @@ def full_disks(program: str) -> List[str]:
             for number in range(100):
                 client.file(b"%d" % number)
             client.ends()
-            found += differences((server.end()[0], 4), (_files(folder), files))
+            found += differences((_end_unsaved(server)[0], 4), (_files(folder), files))
         found += differences((_state_at(program, folder), state))
     with tempfile.TemporaryDirectory() as disk:
         if subprocess.run(["mount", "-t", "tmpfs", "-o", "size=256k", "none", disk], stderr=subprocess.DEVNULL).returncode:
@@ -602,6 +617,44 @@ def full_disks(program: str) -> List[str]:
             return found + _fails_to_save(program, os.path.join(disk, "saved"))
         finally:
             subprocess.run(["umount", disk], check=True)
+
+
+def saves_that_are_tried_again(program: str) -> List[str]:
+    """A save that fails is tried again, until the disk has room: nothing is lost."""
+    with _folder() as folder, Running(program, "--save", folder, python=["-c", LIMITED], LIMIT="100000") as server, server.client() as client:
+        client.ask("tenant 5000000")
+        client.file(bytes(200_000))
+        state = _state(client)
+        client.ends()
+        server.signal()
+        found = differences((wait_until(lambda: server.reported().count("which keeps the save before: File too large\n") > 1), True))
+        resource.prlimit(server.process.pid, resource.RLIMIT_FSIZE, (resource.getrlimit(resource.RLIMIT_FSIZE)[1],) * 2)
+        return found + differences((server.status(), 0), (server.left(), []), (_state_at(program, folder), state))
+
+
+def stores_that_are_stopped(program: str) -> List[str]:
+    """A store that doesn't answer is killed, and what is lost is reported; the save before stays."""
+    with _folder() as folder:
+        _saved_folder(program, folder)
+        state = _state_at(program, folder)
+        with Running(program, "--save", folder, "--grace", "0", python=["-c", HASTY]) as server:
+            os.kill(server.store(), signal.SIGSTOP)
+            status, told, left = server.end()
+        wanted = "b3store.server: the store did not answer for 1 s, and was killed; everything in it is lost, except for the last save"
+        return differences((status, 4), (told.splitlines()[-1], wanted), (left, []), (_state_at(program, folder), state))
+
+
+def other_signals(program: str) -> List[str]:
+    """SIGQUIT ends a server, which saves. Signals that are for something else have no effect."""
+    with _folder() as folder, Running(program, "--save", folder) as server, server.client() as client:
+        client.ask("tenant 5000")
+        client.file(b"kept")
+        for number in signal.SIGUSR1, signal.SIGUSR2, signal.SIGALRM, signal.SIGVTALRM, signal.SIGPROF, signal.SIGIO:
+            os.killpg(server.process.pid, number)
+        state = _state(client)
+        client.ends()
+        server.signal(signal.SIGQUIT)
+        return differences((server.status(), 0), (server.reported(), ""), (server.left(), []), (_state_at(program, folder), state))
 
 
 def folders_that_are_not_synced(program: str) -> List[str]:
@@ -614,7 +667,7 @@ def folders_that_are_not_synced(program: str) -> List[str]:
             client.ask(f"forget 0 {client.ask('list 0').split()[2].decode()}")
             state = _state(client)
             client.ends()
-            status, told, left = server.end()
+            status, told, left = _end_unsaved(server)
         wanted = f"b3store.server: the store is saved in {folder}, but its folder can't be synced: Input/output error"
         found = differences((status, 4), (told.startswith(wanted) and told.count("\n") == 1, True), (left, []))
         crashed = f"{folder}-crashed"
@@ -800,6 +853,9 @@ SAVES = (
     ("links in the folder of a save", links_in_a_folder),
     ("folders that are made for a save", folders_that_are_made),
     ("saves on a full disk", full_disks),
+    ("saves that are tried again", saves_that_are_tried_again),
+    ("saves of stores that are stopped", stores_that_are_stopped),
+    ("saves at other signals", other_signals),
     ("saves in a folder that can't be synced", folders_that_are_not_synced),
     ("a save without memory at its end", no_memory_after_a_save),
     ("a start without memory for a save", no_memory_at_the_start),
