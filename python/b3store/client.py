@@ -20,7 +20,9 @@ class Client(Transfers):
     """A store that a server shares with many processes.
 
         with Client("/run/b3store/socket") as store:
-            filed = store.upload(b"abc", store.tenant(1 << 30))
+            filed = store.upload(b"abc", tenant)
+
+    `tenant` is the number of a tenant that was opened once (docs/LIBRARY.md has an example): one can't be closed, and a store has at most 65,536.
 
     It connects to a Unix-domain socket or, with `host`, `port` and `token`, to a TCP port; `token` is the server's token, a str of hexadecimal digits.
     Each connection is one session. A client opens `sessions` of them, at most as many as the server has; threads that share the client wait for a free

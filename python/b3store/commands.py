@@ -27,7 +27,8 @@ class Commands(Sessions):
         """The number of the next upload, if no other client can begin one."""
 
     def tenant(self, limit: int = MAX_LIMIT) -> int:
-        """Opens a tenant, which may hold up to `limit` bytes, and returns its number. Refusals: S2, S3."""
+        """Opens a tenant, which may hold up to `limit` bytes, and returns its number. It can't be closed, and a store has at most 65,536: a program that runs
+        again uses the same one. Refusals: S2, S3."""
         return self._ask(parse_number, "tenant", f"tenant {check_number('limit', limit)}")
 
     def limit(self, tenant: int, limit: int) -> None:

@@ -52,6 +52,7 @@ CASES = (
     ("a store for asyncio", transfers.by_asyncio),
     ("a session that is in use", transfers.scales),
     ("a client over a socket", served.over_a_socket),
+    ("a client that runs again", served.over_several_runs),
     ("a client over several connections", served.over_several_connections),
     ("a client over TCP", served.over_tcp),
     ("places of servers that are wrong", served.places_that_are_wrong),

@@ -3,13 +3,15 @@ import contextlib
 import io
 import os
 import pathlib
+import re
 import socket
 import tempfile
+import textwrap
 import threading
 import time
 
 from bridge import Bridge
-from shared import ABC, FOUR, SECONDS, differences, ended, raised, refusal
+from shared import ABC, FOUR, SECONDS, TOP, differences, ended, raised, refusal
 from b3store import Client, Ended, Filed, Held, Usage
 from sessions import in_threads
 from transfers import PART_LEN, content_of
@@ -30,6 +32,21 @@ def over_a_socket():
         found += differences((store.alive, False), (ended(store.stat), ("the client was closed", None, "")), (store.close(), None))
         with Client(pathlib.Path(server.path), sessions=1) as store:
             return found + differences((store.file(0, b"abc"), Filed(False, ABC, 3)), (store.usage(0), Usage(len(content) + 3, 0, 1 << 30)))
+
+
+def over_several_runs():
+    """The example of docs/LIBRARY.md, run again, uses the tenant that it opened at first."""
+    with open(os.path.join(TOP, "docs", "LIBRARY.md"), encoding="utf-8") as page:
+        code = re.search(r"(?m)^    from b3store import Client\n\n(?:    .*\n)+", page.read())[0]
+    before = os.getcwd()
+    with tempfile.TemporaryDirectory() as place, Bridge() as server, Client(server.path) as store:
+        os.chdir(place)
+        try:
+            for _ in range(2):
+                exec(textwrap.dedent(code).replace("/run/b3store/socket", server.path), {})
+        finally:
+            os.chdir(before)
+        return differences((list(store.tenants()), [0]), (store.list(0), {ABC: 3}))
 
 
 def over_several_connections():
