@@ -370,7 +370,7 @@ class Server:
         except SaveError as error:
             report(str(error))
             return False
-        except (StoreError, MemoryError) as error:
+        except Exception as error:  # whatever it is, the store is kept
             report(f"the store can't be saved: {reason_of(error)}")
             return False
         write_line(sys.stdout, f"saved {text}")

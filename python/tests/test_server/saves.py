@@ -130,6 +130,19 @@ resource.setrlimit(resource.RLIMIT_FSIZE, (int(os.environ["LIMIT"]), resource.ge
 sys.exit(server.main())
 """
 """A server that can't write files longer than the variable LIMIT, and soon tries again."""
+FAILING_ONCE = """
+import sys
+from b3store import server
+save, left = server.SavedStore.save, [1]
+def fail_once(*given):
+    left[0] -= 1
+    if left[0] >= 0:
+        raise KeyError("unforeseen")
+    return save(*given)
+server.SavedStore.save, server.SECONDS_BETWEEN_SAVES = fail_once, 0.5
+sys.exit(server.main())
+"""
+"""A server whose first save fails in an unforeseen way, and that soon tries again."""
 HASTY = f"from b3store import server_store; server_store.SECONDS_OF_SILENCE = 1.0; {RUN_SERVER}"
 """A server that doesn't wait long for a store that doesn't answer."""
 
@@ -629,7 +642,13 @@ def saves_that_are_tried_again(program: str) -> List[str]:
         server.signal()
         found = differences((wait_until(lambda: server.reported().count("which keeps the save before: File too large\n") > 1), True))
         resource.prlimit(server.process.pid, resource.RLIMIT_FSIZE, (resource.getrlimit(resource.RLIMIT_FSIZE)[1],) * 2)
-        return found + differences((server.status(), 0), (server.left(), []), (_state_at(program, folder), state))
+        found += differences((server.status(), 0), (server.left(), []), (_state_at(program, folder), state))
+    with _folder() as folder, Running(program, "--save", folder, python=["-c", FAILING_ONCE]) as server, server.client() as client:
+        client.ask("tenant 5000")
+        state = _state(client)
+        client.ends()
+        status, told, left = server.end()
+        return found + differences((status, 0), ("the store can't be saved: 'unforeseen'" in told, True), (left, []), (_state_at(program, folder), state))
 
 
 def stores_that_are_stopped(program: str) -> List[str]:
