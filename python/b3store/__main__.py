@@ -18,7 +18,7 @@ from .client import Client
 from .console import Progress, check_line, error_text, finish, one_line, report
 from .files import private
 from .sessions import write_all
-from .values import MAX_NUMBER, MAX_UPLOAD_LEN, PART_LEN, Refused, check_address, check_number
+from .values import MAX_NUMBER, MAX_UPLOAD_LEN, PART_LEN, Refused, check_address, check_number, half_of_memory
 
 USAGE, MISSING = 2, 1
 MAX_LINKS = 40
@@ -269,7 +269,7 @@ def tenant_of(store: Client, words: Any) -> int:
         return int(number)
     tenants = store.tenants()
     # another client may open one at the same time: both use the first
-    return min(tenants) if tenants else min([store.tenant(), *store.tenants()])
+    return min(tenants) if tenants else min([store.tenant(half_of_memory()), *store.tenants()])
 
 
 def worst(statuses: Iterator[int]) -> int:
@@ -320,7 +320,7 @@ def add_command(commands: Any, work: Callable[[Client, Any], int], name: str, pu
     parser.set_defaults(work=work)
     add_connection(parser)
     if has_tenant:
-        parser.add_argument("--tenant", type=number_argument, metavar="N", help="use this tenant (default: the first, opened if there is none)")
+        parser.add_argument("--tenant", type=number_argument, metavar="N", help="use this tenant (default: the first, opened with a limit of half of this machine's memory if there is none)")
     return parser
 
 

@@ -16,6 +16,7 @@ SECONDS_TO_PROGRESS = 1
 SECONDS_BETWEEN = 0.2
 """and then at these intervals."""
 PLAIN_NUMBER = re.compile("[0-9]{1,15}(?:[.][0-9]{1,15})?")
+SIZE = re.compile("([1-9][0-9]{0,8})([KMG]?)")
 CONTROLS = re.compile(r"[\x00-\x1f\x7f-\x9f]")
 ESCAPES = {"\\": "\\\\", "\n": "\\n", "\r": "\\r"}
 SECONDS_TO_TIDY_UP = 1
@@ -37,6 +38,14 @@ def number(least: float, most: float, kind: Callable[[str], float] = int) -> Cal
         return value
 
     return read
+
+
+def size(text: str) -> int:
+    """An argument that is a number of bytes, also in KiB, MiB or GiB: `512M`."""
+    found = SIZE.fullmatch(text)
+    if not found:
+        raise argparse.ArgumentTypeError(f"{text!r} is not a size, such as 512M or 4G")
+    return int(found[1]) << {"": 0, "K": 10, "M": 20, "G": 30}[found[2]]
 
 
 def check_line(address: str, name: str) -> str:

@@ -13,6 +13,7 @@ which speaks the lines of `b3store serve` and nothing else. A separate process m
   that the connection began and that are still open, unless it was started with `--keep-uploads`. It never aborts an upload that another connection began.
 - Up to N connections are served at a time. Others wait for their turn, in the order in which they came. One that has waited for `--wait` seconds is sent the
   line `busy` and closed: no answer begins with this word. None of its commands was executed.
+- The store's process takes up to `--memory` bytes. What it has no room for is refused with S14.
 - Over TCP a client's first line is `token HEX`, with the digits of the token file. The server answers `ok`, or closes the connection.
 - On SIGTERM, SIGINT, SIGHUP or SIGQUIT the server stops accepting connections, sends `busy` to those that wait for their turn, closes those that have not
   sent the token, and waits up to `--grace` seconds for the others to end. A second signal ends the wait. SIGUSR1, SIGALRM and the like are ignored.
@@ -42,13 +43,14 @@ import time
 import warnings
 from typing import Callable, Dict, List, NamedTuple, Optional, Set, TextIO, Tuple
 
-from .console import number, one_line, open_standard_files
+from .console import number, one_line, open_standard_files, size
 from .listening import Listener, ListenError, inherited, listen_at, listen_tcp, more_time, notify, read_token
 from .relay import SECONDS_TO_BEGIN, Relays, serve_connection
 from .saved import SavedStore, SaveError, reason_of
 from .server_store import SECONDS_OF_SILENCE, Store, StoreError, remove_left_folders, status_text
 from .sessions import can_write
 from .turns import Turns
+from .values import half_of_memory
 
 NAME = "b3store.server"
 MAX_SESSIONS = 64
@@ -428,6 +430,7 @@ def read_words() -> argparse.Namespace:
     add("--wait", metavar="SECONDS", type=seconds, default=10, help="send `busy` to a connection that has waited this long for its turn (default 10)")
     add("--grace", metavar="SECONDS", type=seconds, default=10, help="after SIGTERM, wait this long for open connections to end (default 10)")
     add("--save", metavar="FOLDER", help="after SIGTERM, save the store in FOLDER; at the start, restore the store that is saved there")
+    add("--memory", metavar="SIZE", type=size, default=half_of_memory(), help="limit the store's memory, as 512M or 4G (default: half of the machine's)")
     add("--keep-uploads", action="store_true", help="when a connection ends, leave the uploads that it began open")
     words = parser.parse_args()
     for name, value in vars(words).items():
@@ -499,7 +502,7 @@ def serve(words: argparse.Namespace) -> int:
         with signals_held():
             store = Store()
             ending.callback(store.close)
-        store.start(words.program, options.sessions)
+        store.start(words.program, options.sessions, words.memory)
         if saved is not None:
             restore(saved, store)
         server = Server(store, listeners, options, saved)

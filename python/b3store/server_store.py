@@ -5,6 +5,7 @@ import io
 import itertools
 import os
 import re
+import resource
 import select
 import shutil
 import signal
@@ -117,7 +118,7 @@ def remove_left_folder(path: str) -> None:
         os.close(folder)
 
 
-class Answers(io.FileIO):
+class TimedAnswers(io.FileIO):
     """The process's answers to the server. Once the server ends, the process is killed if it is silent for too long: then they end."""
 
     def __init__(self, descriptor: int, kill: Callable[[], None]) -> None:
@@ -167,8 +168,8 @@ class Store:
         with contextlib.suppress(OSError, FolderInUse):
             self._locked = lock_folder(self._folder)
 
-    def start(self, program: str, sessions: int) -> None:
-        """Starts the process. Raises StoreError if it isn't a store."""
+    def start(self, program: str, sessions: int, memory: int) -> None:
+        """Starts the process, which may take up to `memory` bytes. Raises StoreError if it isn't a store."""
         self._size = pipe_size(sessions)
         self._door = os.path.join(self._folder, "door")
         os.mkfifo(self._door, 0o600)
@@ -179,17 +180,26 @@ class Store:
         except OSError as error:
             raise StoreError(f"cannot start {program}: {error.strerror}") from None
         assert self._process.stdin and self._process.stdout
-        self._commands, self._read = self._process.stdin, Answers(self._process.stdout.fileno(), self._process.kill)
+        self._commands, self._read = self._process.stdin, TimedAnswers(self._process.stdout.fileno(), self._process.kill)
         self._answers = io.BufferedReader(self._read)
         self._is_started = True
         try:
             self._commands.write(b"stat\n")
             self._commands.flush()
             self._expect_totals(self._answers.fileno(), "the program")
+            self._limit(memory)
         except (OSError, StoreError) as error:
             status = self._end_of_failed()
             ended = "" if status is None else f"{program} ended with {status_text(status)} before it answered"
             raise StoreError(ended or f"{program} is not a store: {error}") from None
+
+    def _limit(self, memory: int) -> None:
+        """Limits the memory that the process may take from now on. RLIMIT_AS would count what its threads have reserved and don't use, 64 MiB for each."""
+        with open(f"/proc/{self._process.pid}/status", encoding="ascii", errors="replace") as file:
+            has = 1024 * int(next((line for line in file if line.startswith("VmData:")), "VmData: 0 kB").split()[1])
+        hard = resource.prlimit(self._process.pid, resource.RLIMIT_DATA)[1]
+        limit = has + memory if hard == resource.RLIM_INFINITY else min(has + memory, hard)
+        resource.prlimit(self._process.pid, resource.RLIMIT_DATA, (limit, hard))
 
     def _end_of_failed(self) -> Optional[int]:
         """Ends a program that didn't start as a store. Returns its status if it had ended by itself."""

@@ -1,6 +1,7 @@
 """The values of a store's commands: constants, errors, what commands return, and the checks of their arguments."""
 import numbers
 import operator
+import os
 import re
 from typing import Any, List, NamedTuple, Optional, Union
 
@@ -147,6 +148,11 @@ class ObjectRow(NamedTuple):
 
     address: str
     length: int
+
+
+def half_of_memory() -> int:
+    """Half of the machine's memory, in bytes: what a server's store may take by default, and the limit of a tenant that the command line opens."""
+    return os.sysconf("SC_PHYS_PAGES") * os.sysconf("SC_PAGE_SIZE") // 2
 
 
 def check_number(name: str, value: Any, min_value: int = 0, max_value: int = MAX_NUMBER) -> int:

@@ -18,6 +18,7 @@ from shared import ABC, EMPTY, FOUR, PROGRAM, SECONDS, TOP, differences
 from served import server_of
 from transfers import PART_LEN, content_of
 from b3store.__main__ import output_to
+from b3store.values import half_of_memory
 
 PACKAGE = os.path.join(TOP, "python")
 
@@ -68,9 +69,9 @@ def puts_and_gets():
         found += differences((client("ls"), (0, rows.encode(), "")), (client("rm", FOUR, EMPTY), (0, b"", "")), (client("ls", "--tenant", "0"), (0, rows[: -67 - 67].encode(), "")))
         used = len(content) + 3
         found += differences((client("stat"), (0, f"objects 2 bytes {used} uploads 0 held 0 parts 0\n".encode(), "")))
-        found += differences((client("tenants"), (0, f"tenant 0 used {used} reserved 0 limit {1 << 46}\n".encode(), "")))
+        found += differences((client("tenants"), (0, f"tenant 0 used {used} reserved 0 limit {half_of_memory()}\n".encode(), "")))
         status, out, err = client("journal")
-        found += differences((out.splitlines()[0], f"tenant 0 {1 << 46}".encode()), (client("journal", "--from", "1", "--count", "2"), (0, b"\n".join(out.splitlines()[1:3]) + b"\n", "")))
+        found += differences((out.splitlines()[0], f"tenant 0 {half_of_memory()}".encode()), (client("journal", "--from", "1", "--count", "2"), (0, b"\n".join(out.splitlines()[1:3]) + b"\n", "")))
         return found + differences((run(["--socket", server.path, "has", ABC])[0], 0), (run(["has", "--socket", server.path, ABC])[0], 0), (sorted(os.listdir(place)), ["a\\b", "copy", "large"]))
 
 

@@ -265,6 +265,39 @@ def _tcp_remaining(port: int, *pieces: bytes) -> bytes:
         return client.ends()
 
 
+def too_large_for_the_store(program: str) -> List[str]:
+    """What has no room in the memory that the store may take is refused. The store still gives what it has, and takes more once the client has left."""
+    with Running(program, "--memory", "256M") as server, server.client() as other:
+        other.ask(f"tenant {1 << 46}")
+        address = other.file(b"kept")
+        kept = other.ask(f"fetchb 0 {address}")
+        with server.client() as client:
+            upload, part, count = client.number(f"open 0 {1 << 40}"), bytes(1 << 20), 0
+            answer = client.ask(f"putb {upload} 0 {len(part)}", part)
+            while answer.startswith(b"held") and count < 300:
+                count += 1
+                answer = client.ask(f"putb {upload} {count << 20} {len(part)}", part)
+            found = differences((answer, b"refused S14\n"), (100 < count < 256, True), (other.ask(f"fetchb 0 {address}"), kept), (client.ends(), b""))
+        found += differences((wait_until(lambda: other.uploads() == []), True), (len(other.file(bytes(1 << 20))), 64))
+        with server.client() as client:
+            found += differences((client.ask(f"fetchb 0 {address}"), kept), (client.ends(), b""))
+        return found + differences((other.ends(), b""), (server.end(), CLEAN))
+
+
+def too_many_for_the_store(program: str) -> List[str]:
+    """Commands that fill the journal are refused once it has no room, and the store still gives what it has."""
+    with Running(program, "--memory", "64M") as server, server.client() as client, server.client() as other:
+        other.ask("tenant 5000")
+        address = other.file(b"kept")
+        kept, answers, number = other.ask(f"fetchb 0 {address}"), {b"ok\n"}, 1
+        while answers == {b"ok\n"} and number < 3_000_000:
+            client.send(b"".join(b"open 0 1\nabort %d\n" % at for at in range(number, number + 300)))
+            answers = {answer for answer in [client.answer() for _ in range(600)] if not answer.startswith(b"upload ")}
+            number += 300
+        found = differences((b"refused S14\n" in answers, True), (other.ask(f"fetchb 0 {address}"), kept), (other.ask("stat")[:10], b"objects 1 "))
+        return found + differences((client.ends(), b""), (other.ends(), b""), (server.end()[0], 0))
+
+
 def tokens(program: str) -> List[str]:
     """Over TCP the first line is the token, else the connection ends without a word."""
     with tempfile.TemporaryDirectory() as folder:
@@ -377,6 +410,9 @@ def wrong_words(program: str) -> List[str]:
         (["--wait", "nan"], "'nan'"),
         (["--grace", "inf"], "'inf'"),
         (["--grace", "soon"], "'soon'"),
+        (["--memory", "much"], "'much'"),
+        (["--memory", "0"], "'0'"),
+        (["--memory", "5T"], "'5T'"),
         (["--frob"], "--frob"),
         (["--tcp", "127.0.0.1:0"], "requires --token-file"),
         (["--token-file", "f"], "--tcp"),
@@ -636,6 +672,8 @@ ENDS = (
     ("a connection without memory", connections_without_memory),
     ("closed streams", closed_streams),
     ("streams without room", streams_without_room),
+    ("a client that puts without end", too_large_for_the_store),
+    ("a client whose commands never end", too_many_for_the_store),
     ("tokens", tokens),
     ("TCP alone", tcp_alone),
     ("strangers over TCP", strangers),
