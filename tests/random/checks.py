@@ -5,8 +5,6 @@ from explaining import check_errors
 
 FILES = {b"f": b"abc", b"a\\b": b"", b"n\nl": b"\0" * 1025, b"r\rr": b"x" * 63, b"-": b"dash", b" s": b"s"}
 DIGESTS = {name: address_of(content).encode() for name, content in FILES.items()}
-READABLE = {**DIGESTS, b"-": None}
-"""In a list that is standard input, `-` is unreadable."""
 
 
 def line_of(chance):
@@ -27,7 +25,7 @@ def line_of(chance):
 def case(chance):
     data = b"\n".join(line_of(chance) for _ in range(chance.randrange(8))) + chance.choice((b"", b"\n", b"\n\n"))
     is_quiet, is_silent, ignores_missing = chance.random() < 0.2, chance.random() < 0.1, chance.random() < 0.2
-    reported, status = check_answer(data, READABLE, is_quiet, ignores_missing)
+    reported, status = check_answer(data, DIGESTS, is_quiet, ignores_missing)
     flags = {"--quiet": is_quiet, "--status": is_silent, "--ignore-missing": ignores_missing}
     words = ["check", *(flag for flag, is_given in flags.items() if is_given)]
     words += ["--threads", str(chance.choice((1, 2, 3, 16)))] if chance.random() < 0.3 else []
@@ -35,4 +33,4 @@ def case(chance):
 
 
 def errors(data, _answer):
-    return check_errors(data, READABLE)
+    return check_errors(data, DIGESTS)
