@@ -277,8 +277,9 @@ class Interrupted:
     def __init__(self, free):
         self._free, self.put = free, free.put
 
-    def get(self):
+    def get(self, timeout=None):
         """A free session."""
+        del timeout
         try:
             return self._free.get_nowait()
         except queue.Empty:

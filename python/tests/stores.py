@@ -12,7 +12,7 @@ import tempfile
 import threading
 import time
 
-from shared import ABC, EMPTY, FOUR, PROGRAM, SECONDS, TOP, differences, ended, raised, refusal, script_of
+from shared import ABC, EMPTY, FOUR, PROGRAM, SECONDS, TOP, differences, ended, raised, refusal, script_of, wait_until
 from b3store import PART_LEN, REFUSALS, Client, Ended, Filed, Held, OpenUpload, Refused, Store, Totals, Usage
 from b3store import store as store_module
 
@@ -121,6 +121,15 @@ def stores_that_end():
         return found + differences((ended(store.stat), ("the store was closed", 0, "")), (store.alive, False), (store.close(), 0))
 
 
+def states_of(process):
+    """The states of the threads of a process: `T` for one that is stopped."""
+    found = set()
+    for thread in os.listdir(f"/proc/{process}/task"):
+        with open(f"/proc/{process}/task/{thread}/stat", encoding="ascii", errors="replace") as file:
+            found.add(file.read().rpartition(") ")[2][0])
+    return found
+
+
 def stores_that_are_stopped():
     """A store whose process is stopped is killed when it is closed, though a thread waits for an answer, which raises Ended."""
     found, before = [], store_module.SECONDS_TO_CLOSE
@@ -130,6 +139,7 @@ def stores_that_are_stopped():
             store, raised_there = Store(PROGRAM, sessions=2), []
             store.stat()
             os.kill(store.pid, signal.SIGSTOP)
+            found += differences((wait_until(lambda: states_of(store.pid) == {"T"}), True))
             waiting = threading.Thread(target=lambda: raised_there.append(raised(store.stat)), daemon=True)
             if is_waiting:
                 waiting.start()
