@@ -95,10 +95,15 @@ def write_all(target: int, content: bytes, seconds: Optional[float], write: Call
 
 def write_slowly(target: int, content: bytes, seconds: Optional[float]) -> None:
     """The same for a descriptor that may block."""
+    copy = None
     # while there is a default timeout, a new socket object would change the mode of its socket
-    if not stat.S_ISSOCK(os.fstat(target).st_mode) or socket.getdefaulttimeout() is not None:
+    if stat.S_ISSOCK(os.fstat(target).st_mode) and socket.getdefaulttimeout() is None:
+        # there may be too many open files
+        with contextlib.suppress(OSError):
+            copy = os.dup(target)
+    if copy is None:
         return write_all(target, content, seconds, write_if_room)
-    with socket.socket(fileno=os.dup(target)) as sending:
+    with socket.socket(fileno=copy) as sending:
         write_all(target, content, seconds, lambda _, view: sending.send(view, socket.MSG_DONTWAIT))
 
 
