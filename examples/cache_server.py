@@ -230,7 +230,10 @@ class Handler(Connection):
             self.write(content)
             if with_content and not is_small:
                 self.wfile.flush()
+                # a connection that doesn't block gets the bytes without a copy
+                self.connection.setblocking(False)
                 store.fetch_to(tenant, entry.address, self.connection.fileno(), wanted.start, len(wanted), SECONDS_OF_SILENCE)
+                self.connection.setblocking(True)
                 self.server.metrics.add("sent_bytes", len(wanted))
         except Ended as fault:
             # the client receives fewer bytes than Content-Length says
