@@ -18,7 +18,7 @@ from .client import Client
 from .console import Progress, check_line, error_text, finish, one_line, report
 from .files import private
 from .sessions import write_all
-from .values import MAX_NUMBER, MAX_UPLOAD_LEN, PART_LEN, Refused, check_address, check_number, half_of_memory
+from .values import MAX_NUMBER, MAX_UPLOAD_LEN, PART_LEN, Refused, check_address, check_number
 
 USAGE, MISSING = 2, 1
 MAX_LINKS = 40
@@ -269,7 +269,7 @@ def tenant_of(store: Client, words: Any) -> int:
         return int(number)
     tenants = store.tenants()
     # another client may open one at the same time: both use the first
-    return min(tenants) if tenants else min([store.tenant(half_of_memory()), *store.tenants()])
+    return min(tenants) if tenants else min([store.tenant(), *store.tenants()])
 
 
 def worst(statuses: Iterator[int]) -> int:

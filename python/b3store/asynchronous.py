@@ -6,7 +6,7 @@ from types import TracebackType
 from typing import Any, AsyncIterator, BinaryIO, Callable, Dict, List, Optional, Type, TypeVar, Union
 
 from .transfers import Transfers
-from .values import MAX_LIMIT, MAX_SESSIONS, MAX_UPLOAD_LEN, RANGE_LEN, Buffer, Ended, Filed, Held, OpenUpload, Totals, Usage, check_number
+from .values import MAX_SESSIONS, MAX_UPLOAD_LEN, RANGE_LEN, Buffer, Ended, Filed, Held, OpenUpload, Totals, Usage, check_number
 
 Value = TypeVar("Value")
 
@@ -47,7 +47,7 @@ class AsyncStore:
             self._is_closed = True
             await asyncio.get_running_loop().run_in_executor(None, self._threads.shutdown)
 
-    async def tenant(self, limit: int = MAX_LIMIT) -> int:
+    async def tenant(self, limit: Optional[int] = None) -> int:
         """See `Store.tenant`."""
         return await self.run(self.store.tenant, limit)
 

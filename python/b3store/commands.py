@@ -4,8 +4,8 @@ from typing import Callable, Dict, Iterable, Iterator, List, Optional, Sequence,
 
 from .sessions import MAX_FILED_AHEAD, Kinds, Session, Sessions, not_blocking, write_all, write_slowly
 from .values import (
-    MAX_LIMIT, MAX_UPLOAD_LEN, PART_LEN, RANGE_LEN, Buffer, Filed, Held, ObjectRow, OpenUpload, Refused, Totals, Usage, check_address, check_bytes,
-    check_number, check_room, check_seconds, parse_asked, parse_count, parse_digits, parse_held, parse_labelled, parse_length, parse_number, parse_object,
+    MAX_UPLOAD_LEN, PART_LEN, RANGE_LEN, Buffer, Filed, Held, ObjectRow, OpenUpload, Refused, Totals, Usage, check_address, check_bytes, check_number,
+    check_room, check_seconds, half_of_memory, parse_asked, parse_count, parse_digits, parse_held, parse_labelled, parse_length, parse_number, parse_object,
     parse_open_upload, parse_usage,
 )
 
@@ -26,10 +26,10 @@ class Commands(Sessions):
         self._next_upload: Optional[int] = None
         """The number of the next upload, if no other client can begin one."""
 
-    def tenant(self, limit: int = MAX_LIMIT) -> int:
-        """Opens a tenant, which may hold up to `limit` bytes, and returns its number. It can't be closed, and a store has at most 65,536: a program that runs
-        again uses the same one. Refusals: S2, S3."""
-        return self._ask(parse_number, "tenant", f"tenant {check_number('limit', limit)}")
+    def tenant(self, limit: Optional[int] = None) -> int:
+        """Opens a tenant, which may hold up to `limit` bytes, by default half of this machine's memory, and returns its number. It can't be closed, and a store
+        has at most 65,536: a program that runs again uses the same one. Refusals: S2, S3."""
+        return self._ask(parse_number, "tenant", f"tenant {check_number('limit', half_of_memory() if limit is None else limit)}")
 
     def limit(self, tenant: int, limit: int) -> None:
         """Changes a tenant's limit. Refusals: S1, S3, S4."""

@@ -151,7 +151,7 @@ class ObjectRow(NamedTuple):
 
 
 def half_of_memory() -> int:
-    """Half of the machine's memory, in bytes: what a server's store may take by default, and the limit of a tenant that the command line opens."""
+    """Half of this machine's memory, in bytes: by default, what a server's store may take, and the limit of a tenant."""
     return os.sysconf("SC_PHYS_PAGES") * os.sysconf("SC_PAGE_SIZE") // 2
 
 

@@ -10,7 +10,8 @@ import threading
 
 from shared import ABC, EMPTY, FOUR, PROGRAM, SECONDS, differences, raised, refusal, script_of
 from stores import Interrupted, interrupt
-from b3store import MAX_PART_LEN, MAX_UPLOAD_LEN, PART_LEN, AsyncStore, Ended, Filed, Held, ObjectRow, Refused, Store, Totals, Usage
+from b3store import MAX_LIMIT, MAX_PART_LEN, MAX_UPLOAD_LEN, PART_LEN, AsyncStore, Ended, Filed, Held, ObjectRow, Refused, Store, Totals, Usage
+from b3store.values import half_of_memory
 
 LIMIT = 1 << 30
 LENGTHS = (0, 1, 1024, PART_LEN, PART_LEN + 1, 3 * PART_LEN + 1024, 4 * PART_LEN, 4 * PART_LEN + 7, 9 * PART_LEN + 3)
@@ -122,7 +123,7 @@ def uploads_that_fail():
 def uploads_side_by_side():
     """An upload whose length isn't known leaves room for others in a large tenant. In a small one, the next is refused for want of room."""
     with Store(PROGRAM, sessions=1) as store:
-        tenant, small = store.tenant(), store.tenant(8 * PART_LEN)
+        tenant, small = store.tenant(MAX_LIMIT), store.tenant(8 * PART_LEN)
         uploads = [store.start_upload(tenant) for _ in range(63)]
         content = content_of(5 * PART_LEN)
         found = differences((store.upload(Reader(content), tenant).length, len(content)), ({upload.bound for upload in store.uploads(tenant)}, {1 << 40}))
@@ -340,7 +341,8 @@ def by_asyncio():
         try:
             await store.begin(tenant, LIMIT + 1)
         except Refused as refused:
-            return found + differences((refused.number, "S6"), (await store.tenants(), {0: await store.usage(0)}))
+            found += differences((refused.number, "S6"), (await store.tenants(), {0: await store.usage(0)}))
+            return found + differences((await store.tenant(), 1), (await store.usage(1), Usage(0, 0, half_of_memory())))
         return [*found, "nothing is refused"]
 
     async def run():
