@@ -181,9 +181,8 @@ class SavedStore:
         if is_at(number, moved):
             self._folder = Folder(moved, number)
             return
-        self._folder = open_folder(path)
+        self._folder = open_folder(path, "is not the folder that the server had locked, which was removed: nothing is saved")
         os.close(number)
-        check_unused(self._folder, "is not the folder that the server had locked, which was removed: nothing is saved")
 
     def _save(self, store: Transfers, tick: Tick) -> Saved:
         try:
@@ -265,8 +264,9 @@ def reason_of(error: BaseException) -> str:
     return getattr(error, "strerror", None) or str(error)
 
 
-def open_folder(path: str) -> Folder:
-    """Opens and locks a folder, which is made if there is none. Raises SaveError, also for one that another user could change."""
+def open_folder(path: str, fault: Optional[str] = None) -> Folder:
+    """Opens and locks a folder, which is made if there is none. Raises SaveError, also for one that another user could change, and if a fault is given, with
+    this fault for one that has files."""
     try:
         make_folder(path)
         folder = Folder(path, lock_folder(path))
@@ -276,6 +276,8 @@ def open_folder(path: str) -> Folder:
         raise SaveError(f"cannot open the folder {path}: {error.strerror}") from None
     try:
         check_safe(folder)
+        if fault is not None:
+            check_unused(folder, fault)
     except BaseException:
         os.close(folder.number)
         raise
