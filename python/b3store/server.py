@@ -18,8 +18,9 @@ which speaks the lines of `b3store serve` and nothing else. A separate process m
 - On SIGTERM, SIGINT, SIGHUP or SIGQUIT the server stops accepting connections, sends `busy` to those that wait for their turn, closes those that have not
   sent the token, and waits up to `--grace` seconds for the others to end. A second signal ends the wait. SIGUSR1, SIGALRM and the like are ignored.
 - The store lives in memory: when the server exits, everything in the store is lost, unless it was started with `--save FOLDER`. Then it saves the objects and
-  the tenants in the folder after that wait, and a server that is started with the same folder restores them. Open uploads are not saved. A save that fails is
-  tried again for ten minutes, or until a further signal; a store that doesn't answer for a minute is killed.
+  the tenants in the folder after that wait, and a server that is started with the same folder restores them. Open uploads are not saved. If a save fails, the
+  server accepts connections again, and tries to end in the same way a minute later, until a save succeeds. After ten minutes, or a further signal, it ends even
+  if the save fails. A store that doesn't answer a save for a minute is killed.
 
 Exit status: 0 after a signal, 1 if it can't start, 2 for wrong arguments, 3 if the store's process ended, 4 if the store can't be saved.
 """
@@ -32,6 +33,7 @@ import _thread
 import argparse
 import contextlib
 import hmac
+import math
 import os
 import resource
 import selectors
@@ -67,7 +69,8 @@ SECONDS_FOR_LAST = 30.0
 """How long they may then take for the last command, once the processes of the connections are killed."""
 SECONDS_FOR_SAVES = 600.0
 """For how long a save that fails is tried again."""
-SECONDS_BETWEEN_SAVES = 10.0
+SECONDS_BETWEEN_SAVES = 60.0
+"""How long clients are served before it is tried again."""
 SECONDS_FOR_LINE = 0.2
 """How long a standard stream may take to have room for a line, which is dropped then."""
 SECONDS_BETWEEN_LOOKS = 0.02
@@ -286,7 +289,9 @@ class Server:
         self._store, self._listeners, self._options, self._saved = store, listeners, options, saved
         self._connections, self._more_time = Connections(store, options), more_time()
         self._deadline: Optional[float] = None
-        """After a signal: when the server ends at the latest."""
+        """While no clients are let in: when those that are served are ended at the latest."""
+        self._next_save, self._last_save = math.inf, math.inf
+        """After a save that failed: when the server tries to end again, and since when the save that it tries is the last one."""
         self._selector = selectors.DefaultSelector()
         self._signals, written = socket.socketpair()
         for end in (self._signals, written):
@@ -298,7 +303,7 @@ class Server:
         self._selector.register(self._signals, selectors.EVENT_READ)
         for listener in listeners:
             listener.socket.setblocking(False)
-            self._selector.register(listener.socket, selectors.EVENT_READ, listener)
+        self._let_in()
 
     def run(self) -> int:
         """Serves, and returns the exit status."""
@@ -313,12 +318,17 @@ class Server:
             if status is not None:
                 report(f"the store ended with {status_text(status)}; {self._lost()}")
                 return 3
+            if self._deadline is None and time.monotonic() >= self._next_save:
+                self._stop()
             if self._is_over():
-                return self._end()
-            if self._deadline is not None:
+                status = self._end()
+                if status is not None:
+                    return status
+            is_ending = self._deadline is not None or self._next_save < math.inf
+            if is_ending:
                 self._more_time()
             self._connections.close_unstarted()
-            for key, _ in self._selector.select(SECONDS_AT_REST if self._deadline is None else SECONDS_BETWEEN_LOOKS):
+            for key, _ in self._selector.select(SECONDS_BETWEEN_LOOKS if is_ending else SECONDS_AT_REST):
                 if key.data is None:
                     self._read_signals()
                 else:
@@ -331,11 +341,14 @@ class Server:
     def _is_over(self) -> bool:
         return self._deadline is not None and (time.monotonic() >= self._deadline or not self._connections.count())
 
-    def _end(self) -> int:
+    def _end(self) -> Optional[int]:
+        """Ends the store, and returns the exit status; None if clients are served again, since the store can't be saved."""
         cut = self._connections.count()
         if cut:
             report(f"the server ends while {cut} {'connection is' if cut == 1 else 'connections are'} open")
-        is_saved = self._saved is None or self._save_at_last(self._saved)
+        is_saved = self._saved is None or self._save(self._saved)
+        if not is_saved and self._keeps_running():
+            return None
         status = self._store.close()
         if self._store.is_cut():
             report(f"the store did not answer for {SECONDS_OF_SILENCE:.0f} s, and was killed; {self._lost()}")
@@ -343,29 +356,22 @@ class Server:
             report(f"the store ended with {status_text(status)}")
         return 4 if not is_saved else 3 if status else 0
 
-    def _save_at_last(self, saved: SavedStore) -> bool:
-        """Saves the store, and returns whether it is saved. If a save fails, the store runs on, and the next one is tried, until a further signal comes."""
-        self._connections.end_all(self._more_time)
-        self._store.end_soon()
-        end = time.monotonic() + SECONDS_FOR_SAVES
-        while not self._save(saved):
-            if time.monotonic() >= end or not self._store.is_usable():
-                return False
-            report(f"the next save is tried in {SECONDS_BETWEEN_SAVES:.0f} s; a further signal ends the server without it")
-            if self._is_asked(SECONDS_BETWEEN_SAVES):
-                return False
+    def _keeps_running(self) -> bool:
+        """After a save that failed, serves clients again, unless it was the last one. Returns whether it does."""
+        now = time.monotonic()
+        if now >= self._last_save or not self._store.is_usable():
+            return False
+        report(f"the server keeps running, and tries again in {SECONDS_BETWEEN_SAVES:.0f} s; after a further signal it ends even if the save fails")
+        self._last_save, self._next_save = min(self._last_save, now + SECONDS_FOR_SAVES), now + SECONDS_BETWEEN_SAVES
+        self._store.limit_silence(False)
+        self._connections, self._deadline = Connections(self._store, self._options), None
+        self._let_in()
         return True
 
-    def _is_asked(self, seconds: float) -> bool:
-        """Whether a signal that ends the server has come since the last one, or comes within some time."""
-        end = time.monotonic() + seconds
-        while time.monotonic() < end:
-            if self._selector.select(max(0, end - time.monotonic())) and any(number in ENDING for number in self._signals.recv(64)):
-                return True
-        return False
-
     def _save(self, saved: SavedStore) -> bool:
-        """Tries to save the store, and returns whether it is saved. A signal doesn't interrupt it."""
+        """Ends the clients, tries to save the store, and returns whether it is saved. A signal doesn't interrupt it."""
+        self._connections.end_all(self._more_time)
+        self._store.limit_silence(True)
         try:
             with self._store.own_session() as session:
                 text = saved.save(session, self._more_time)
@@ -381,24 +387,32 @@ class Server:
     def _read_signals(self) -> None:
         numbers = self._signals.recv(64)
         asked = sum(number in ENDING for number in numbers)
+        if asked and self._next_save < math.inf:
+            self._last_save = time.monotonic()
         if asked and self._deadline is None:
             self._stop()
             asked -= 1
         if asked:
             self._deadline = time.monotonic()
 
+    def _let_in(self) -> None:
+        """Accepts connections."""
+        for listener in self._listeners:
+            self._selector.register(listener.socket, selectors.EVENT_READ, listener)
+
     def _stop(self) -> None:
-        """Stops accepting connections."""
+        """Stops accepting connections. If a save fails, those that come now are accepted then."""
         notify("STOPPING=1")
         self._deadline = time.monotonic() + self._options.grace
         for listener in self._listeners:
             self._selector.unregister(listener.socket)
-            listener.close()
+            if self._saved is None:
+                listener.close()
         self._connections.close_waiting()
 
     def _accept(self, listener: Listener) -> None:
         if self._deadline is not None:
-            # a signal that came with the connection has closed the listener
+            # a signal came with the connection
             return
         if self._connections.is_full():
             time.sleep(SECONDS_BETWEEN_LOOKS)
@@ -429,7 +443,7 @@ def read_words() -> argparse.Namespace:
     seconds = number(0, 86400, float)
     add("--wait", metavar="SECONDS", type=seconds, default=10, help="send `busy` to a connection that has waited this long for its turn (default 10)")
     add("--grace", metavar="SECONDS", type=seconds, default=10, help="after SIGTERM, wait this long for open connections to end (default 10)")
-    add("--save", metavar="FOLDER", help="after SIGTERM, save the store in FOLDER; at the start, restore the store that is saved there")
+    add("--save", metavar="FOLDER", help="at the start, restore the store that is saved in FOLDER; after SIGTERM, save it there, and serve on while that fails")
     add("--memory", metavar="SIZE", type=size, default=half_of_memory(), help="limit the store's memory, as 512M or 4G (default: half of the machine's)")
     add("--keep-uploads", action="store_true", help="when a connection ends, leave the uploads that it began open")
     words = parser.parse_args()

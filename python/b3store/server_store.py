@@ -126,7 +126,7 @@ class TimedAnswers(io.FileIO):
         self._kill, self._poll = kill, select.poll()
         self._poll.register(descriptor, select.POLLIN)
         self.ends_since: Optional[float] = None
-        """When the server began to end."""
+        """When the server began to end, if it does."""
         self.are_cut = False
 
     def readinto(self, room: Any) -> Optional[int]:
@@ -346,9 +346,9 @@ class Store:
             return not self._is_closing and self._process.returncode is None and ended is None
         return False
 
-    def end_soon(self) -> None:
-        """From now on, the process is killed if it doesn't answer."""
-        self._read.ends_since = time.monotonic()
+    def limit_silence(self, is_limited: bool) -> None:
+        """From now on, the process is killed if it doesn't answer; or not any more."""
+        self._read.ends_since = time.monotonic() if is_limited else None
 
     def is_cut(self) -> bool:
         """Whether it was killed for that."""

@@ -143,6 +143,8 @@ server.SavedStore.save, server.SECONDS_BETWEEN_SAVES = fail_once, 0.5
 sys.exit(server.main())
 """
 """A server whose first save fails in an unforeseen way, and that soon tries again."""
+KEEPS_RUNNING = "b3store.server: the server keeps running, and "
+"""How the line begins that follows the failure of a save."""
 HASTY = f"from b3store import server_store; server_store.SECONDS_OF_SILENCE = 1.0; {RUN_SERVER}"
 """A server that doesn't wait long for a store that doesn't answer."""
 
@@ -590,9 +592,9 @@ def folders_that_are_made(program: str) -> List[str]:
 def _end_unsaved(server: Running) -> Tuple[int, str, List[str]]:
     """What `end` returns of a server that can't save, which a second signal ends."""
     server.signal()
-    wait_until(lambda: "a further signal ends the server" in server.reported())
+    wait_until(lambda: KEEPS_RUNNING in server.reported())
     status, told, left = server.end()
-    return status, told.split("b3store.server: the next save is tried in ")[0], left
+    return status, told.split(KEEPS_RUNNING)[0], left
 
 
 def _fails_to_save(program: str, folder: str, **more: Any) -> List[str]:
@@ -630,6 +632,37 @@ def full_disks(program: str) -> List[str]:
             return found + _fails_to_save(program, os.path.join(disk, "saved"))
         finally:
             subprocess.run(["umount", disk], check=True)
+
+
+def serves_while_saves_fail(program: str) -> List[str]:
+    """While a save fails, clients are served, also those that came since the signal, and what they file is in the save that succeeds."""
+    words = ("--grace", "60", "--sessions", "1")
+    with _folder() as folder, Running(program, "--save", folder, *words, python=["-c", LIMITED], LIMIT="100000") as server, server.client() as client:
+        client.ask("tenant 5000000")
+        client.file(bytes(200_000))
+        with server.client() as waiting:
+            found = differences((wait_until(lambda: server.threads() == 3), True))
+            server.signal()
+            found += differences((waiting.remaining(), b"busy\n"))
+        with server.client() as late:
+            found += differences((client.ends(), b""), (late.ask("tenant 6000"), b"tenant 1\n"), (KEEPS_RUNNING in server.reported(), True))
+            late.file(b"while the save is tried again", 1)
+            resource.prlimit(server.process.pid, resource.RLIMIT_FSIZE, (resource.getrlimit(resource.RLIMIT_FSIZE)[1],) * 2)
+            state = _state(late)
+            with server.client() as last:
+                found += differences((late.ends(), b""), (last.remaining() in (b"busy\n", b""), True), (server.status(), 0), (server.left(), []))
+        return found + differences((_state_at(program, folder), state))
+
+
+def saves_that_never_succeed(program: str) -> List[str]:
+    """After some time, the save that is tried is the last one."""
+    impatient = LIMITED.replace("server.SECONDS_BETWEEN_SAVES", "server.SECONDS_FOR_SAVES = server.SECONDS_BETWEEN_SAVES")
+    with _folder() as folder, Running(program, "--save", folder, python=["-c", impatient], LIMIT="100000") as server:
+        with server.client() as client:
+            client.ask("tenant 5000000")
+            client.file(bytes(200_000))
+        status, told, left = server.end()
+        return differences((status, 4), (told.count(KEEPS_RUNNING), 1), (told.count(": File too large\n"), 2), (left, []))
 
 
 def saves_that_are_tried_again(program: str) -> List[str]:
@@ -872,6 +905,8 @@ SAVES = (
     ("links in the folder of a save", links_in_a_folder),
     ("folders that are made for a save", folders_that_are_made),
     ("saves on a full disk", full_disks),
+    ("clients while a save is tried again", serves_while_saves_fail),
+    ("saves that never succeed", saves_that_never_succeed),
     ("saves that are tried again", saves_that_are_tried_again),
     ("saves of stores that are stopped", stores_that_are_stopped),
     ("saves at other signals", other_signals),
