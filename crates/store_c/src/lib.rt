@@ -1,0 +1,30 @@
+//! The store for programs in C.
+#![tactic(auto)]
+
+mod answers;
+mod handles;
+mod keeping;
+mod lines;
+mod lists;
+mod objects;
+mod parts;
+mod rows;
+mod tenants;
+mod totals;
+mod uploads;
+
+pub use answers::{AddressBytes, Progress, SealedObject, TenantUsage, UploadBound, Why};
+pub use handles::{b3store_close, b3store_open};
+pub use lines::{b3store_journal, b3store_lines};
+pub use lists::{b3store_list, b3store_tenants, b3store_uploads};
+pub use objects::{b3store_fetch, b3store_forget, b3store_has, b3store_len, b3store_read};
+pub use parts::{b3store_prepare, b3store_put};
+pub use rows::{
+    ListedObject, ListedUpload, b3store_object_rows, b3store_tenant_rows, b3store_upload_rows,
+};
+pub use tenants::{b3store_open_tenant, b3store_set_limit, b3store_usage};
+pub use totals::{StoreTotals, b3store_entries, b3store_totals};
+pub use uploads::{
+    b3store_abort, b3store_begin, b3store_begin_open, b3store_fix, b3store_plan, b3store_seal,
+    b3store_seal_as,
+};
