@@ -4,3 +4,4 @@ pub mod Keeping
 pub mod Calls
 pub mod Rows
 pub mod Lines
+pub mod Filing

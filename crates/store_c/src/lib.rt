@@ -2,6 +2,7 @@
 #![tactic(auto)]
 
 mod answers;
+mod filing;
 mod handles;
 mod keeping;
 mod lines;
@@ -14,6 +15,7 @@ mod totals;
 mod uploads;
 
 pub use answers::{AddressBytes, Progress, SealedObject, TenantUsage, UploadBound, Why};
+pub use filing::b3store_file;
 pub use handles::{b3store_close, b3store_open};
 pub use lines::{b3store_journal, b3store_lines};
 pub use lists::{b3store_list, b3store_tenants, b3store_uploads};

@@ -126,7 +126,8 @@ fn put(
     }
 }
 
-fn put_prepared(
+/// Puts a part to the open upload of this number.
+pub(crate) fn put_prepared(
     store: &mut Store,
     upload: u64,
     part: Prepared,
