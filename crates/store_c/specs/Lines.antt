@@ -35,5 +35,5 @@ IsUnserved n = (n ≡ 14) ⊎ ((n ≡ 64) ⊎ (n ≡ 65))
 abbrev pub Serves : Option Kept → List ℕ → ℕ → Option Kept → Option Kept → Type 0
 Serves old lines answer answers new = OnStore old
     (λ s. (served : Result Verdict Cause) × (text : List ℕ) × (t : ModelStore) × IsServed s lines served text t × (answer ≡ served_answer served)
-        × (bytes_in answers ≡ Some text) × (new ≡ Some (kept.Store t)))
+    × (bytes_in answers ≡ Some text) × (new ≡ Some (kept.Store t)))
     ⊥

@@ -3,7 +3,7 @@
 ghost use Rattle.std.specs.Prelude.{◌≡◌, ◌⊎◌, IfErr, IfOk};
 ghost use Rattle.b3_core.specs.Work.{NeverFalls};
 ghost use Rattle.store_c.specs.Calls.{Refuses, outcome};
-ghost use Rattle.store_c.specs.Filing.{Aborts, Files, FilesIn, IsUnfiled, Puts, Seals, no_upload, part_for};
+ghost use Rattle.store_c.specs.Filing.{Aborts, Files, FilesIn, IsUnfiled, Puts, SealedThen, Seals, no_upload, part_for};
 ghost use Rattle.store_core.specs.Commands.{StepsAs, seal_in};
 ghost use Rattle.store_core.specs.Seen.{sealed_seen};
 
@@ -134,9 +134,7 @@ fn seal_or_undo(
     ensures never_falls { NeverFalls work.old work.new }
 {
     let filed = seal(store, upload, work);
-    if filed.is_err() {
-        undo(store, upload, left);
-    }
+    undo_unless(&filed, store, upload, left);
     report(sealed_object(filed), sealed, why)
 }
 
@@ -145,6 +143,17 @@ fn seal(store: &mut Store, upload: u64, work: &mut Work) -> Result<Sealed, Refus
     ensures never_falls { NeverFalls work.old work.new }
 {
     store.seal(UploadId::new(upload), work)
+}
+
+// Aborts an upload, unless it was sealed.
+fn undo_unless(filed: &Result<Sealed, Refusal>, store: &mut Store, upload: u64, left: &mut u64)
+    requires { left.old ≡ no_upload }
+    ensures { SealedThen upload filed.now store.old left.new store.new }
+{
+    match filed {
+        Ok(_) => (),
+        Err(_) => undo(store, upload, left),
+    }
 }
 
 // Aborts an upload. If that is refused, the upload's number is stored.

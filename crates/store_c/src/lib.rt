@@ -1,4 +1,18 @@
-//! The store for programs in C.
+//! The store for programs in C, and in every language that can call C: what `include/b3store.h` declares.
+//!
+//! A program keeps handles (`store_handle`). A call takes the value out of a handle, calls the function of `store_core` or of another crate
+//! that has the call's contract, and puts the value back. It returns 0 or a number (`answers`), and then what the program passed is
+//! unchanged: `specs/Calls.antt` says this once for all calls.
+//!
+//! - `handles`: `b3store_open`, `b3store_close`.
+//! - `tenants`: `b3store_open_tenant`, `b3store_set_limit`, `b3store_usage`.
+//! - `filing`: `b3store_file`, which begins, puts and seals.
+//! - `uploads`: `b3store_begin`, `b3store_begin_open`, `b3store_plan`, `b3store_fix`, `b3store_seal`, `b3store_seal_as`, `b3store_abort`.
+//! - `parts`: `b3store_prepare`, which uses no store, and `b3store_put`.
+//! - `objects`: `b3store_fetch`, `b3store_has`, `b3store_forget`; `b3store_read` and `b3store_len`, which use no store.
+//! - `lists`: `b3store_list`, `b3store_uploads`, `b3store_tenants`; `rows` copies their rows in pages.
+//! - `totals`: `b3store_totals`, `b3store_entries`.
+//! - `lines`: `b3store_journal`, and `b3store_lines` for all else.
 #![tactic(auto)]
 
 mod answers;

@@ -31,7 +31,11 @@ pub extern "C" fn b3store_fetch(
     let Some(taken) = take_store(store, alloc) else {
         return NO_VALUE;
     };
-    let found = fetch(&taken.store, TenantId::new(tenant), Address::new(address.bytes));
+    let found = fetch(
+        &taken.store,
+        TenantId::new(tenant),
+        Address::new(address.bytes),
+    );
     put_store(store, taken, alloc);
     keep(alloc, found, object, why)
 }

@@ -15,7 +15,9 @@ use crate::answers::{
     DONE, IS_OPEN, NO_PART_MEMORY, NO_VALUE, Progress, TOO_LONG, Why, fault_number, refuse,
     upload_progress,
 };
-use crate::keeping::{TakenPart, is_open as is_handle_open, put_part, put_store, take_part, take_store};
+use crate::keeping::{
+    TakenPart, is_open as is_handle_open, put_part, put_store, take_part, take_store,
+};
 use b3_core::Work;
 use b3_forest::{Plan, Prepared};
 use std::alloc::Global;
@@ -113,7 +115,10 @@ fn put(
     let Some(taken) = take_part(part, alloc) else {
         return NO_VALUE;
     };
-    let TakenPart { part: prepared, place } = taken;
+    let TakenPart {
+        part: prepared,
+        place,
+    } = taken;
     match put_prepared(store, upload, prepared, work) {
         Ok(now) => {
             *held = upload_progress(now);

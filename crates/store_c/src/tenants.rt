@@ -6,7 +6,9 @@ ghost use Rattle.store_c.specs.Answers.{usage_of};
 ghost use Rattle.store_c.specs.Calls.{Asks, Commands, outcome};
 ghost use Rattle.store_core.specs.Commands.{as_is, open_tenant_in, set_limit_in};
 
-use crate::answers::{NO_VALUE, TenantUsage, Why, report, report_done, tenant_number, tenant_usage};
+use crate::answers::{
+    NO_VALUE, TenantUsage, Why, report, report_done, tenant_number, tenant_usage,
+};
 use crate::keeping::{put_store, take_store};
 use std::alloc::Global;
 use store_core::TenantId;

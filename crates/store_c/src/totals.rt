@@ -23,11 +23,7 @@ pub struct StoreTotals {
 
 /// Stores the totals of a store. Returns 64 if the handle keeps none.
 #[unsafe(no_mangle)]
-pub extern "C" fn b3store_totals(
-    alloc: Global,
-    store: &mut Handle,
-    totals: &mut StoreTotals,
-) -> u32
+pub extern "C" fn b3store_totals(alloc: Global, store: &mut Handle, totals: &mut StoreTotals) -> u32
     ensures kept { store.new.kept ≡ store.old.kept }
     ensures totals { OnStore store.old.kept (λ s. (result ≡ 0) × (totals.new ≡ store_totals_of (totals_of length length s.state)))
         ((result ≡ 64) × (totals.new ≡ totals.old)) }
