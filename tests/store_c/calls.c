@@ -178,7 +178,10 @@ static void file(void) {
     b3store_sealed first, second;
     b3store_totals_of totals;
     uint64_t left = 0;
-    SHOWS(b3store_file(&store, 7, bytes, 3, &first, &left, &why, &work) == B3STORE_NO_TENANT && left == B3STORE_NONE_LEFT);
+    uint32_t answer;
+    do answer = b3store_file(&store, 7, bytes, 3, &first, &left, &why, &work);
+    while (lacked(answer));
+    SHOWS(answer == B3STORE_NO_TENANT && left == B3STORE_NONE_LEFT);
     WORKS(b3store_file(&store, 0, bytes, LEN, &first, &left, &why, &work));
     SHOWS(left == B3STORE_NONE_LEFT && first.is_new == 0 && memcmp(&first.address, &sealed.address, 32) == 0);
     WORKS(b3store_file(&store, 0, bytes, 0, &second, &left, &why, &work));
