@@ -3,6 +3,7 @@
 
 ghost use Rattle.std.specs.Prelude.{◌≡◌};
 ghost use Rattle.store_ledger.specs.Shares.{all_parts};
+ghost use Rattle.store_shared.specs.Made.{full_limits};
 
 use crate::replies::serve_streams;
 use crate::reporting::{misused, status, unopened};
@@ -226,6 +227,7 @@ fn serve_all<L: Ledgers + Send + Sync + 'static, T: Threads + Wait + Copy + Send
     requires bytes { (ledgers.bytes.name ≡ L.bytes_name) × (ledgers.bytes.parts ≡ L.bytes_parts) × (ledgers.bytes.parts ≡ all_parts) }
     requires calls { (ledgers.calls.name ≡ L.calls_name) × (ledgers.calls.parts ≡ L.calls_parts) × (ledgers.calls.parts ≡ all_parts) }
     requires history { ledgers.history ≡ L.history }
+    requires limits { L.limits ≡ full_limits }
 {
     let alloc: Global = rt.alloc();
     let (store, mut share) = Shared::<L>::new(alloc, Limits::full(), ledgers);

@@ -1,6 +1,7 @@
 //! Sessions over one shared store, each with its own lease. Sessions at the same time are in tests/sessions.
 
 ghost use Rattle.std.specs.Prelude.{◌≡◌, ◌^◌};
+ghost use Rattle.store_shared.specs.Made.{full_limits};
 
 use crate::fakes::ByteWriter;
 use b3_core::{Runtime, Work};
@@ -88,6 +89,7 @@ fn is_shared<L: Ledgers, R: Wait + AllocGlobal + Runtime>(rt: &R, ledgers: Unnam
     requires bytes { (ledgers.bytes.name ≡ L.bytes_name) × (ledgers.bytes.parts ≡ L.bytes_parts) × (ledgers.bytes.parts ≡ 2 ^ 32) }
     requires calls { (ledgers.calls.name ≡ L.calls_name) × (ledgers.calls.parts ≡ L.calls_parts) × (ledgers.calls.parts ≡ 2 ^ 32) }
     requires history { ledgers.history ≡ L.history }
+    requires limits { L.limits ≡ full_limits }
 {
     let (shared, mut share) = Shared::<L>::new(rt.alloc(), Limits::full(), ledgers);
     let other_share = share.split(1);

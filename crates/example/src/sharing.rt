@@ -3,6 +3,7 @@
 ghost use Rattle.std.specs.Prelude.{◌≡◌, IfOk, length};
 ghost use Rattle.b3_core.specs.Modes.{hash_of};
 ghost use Rattle.store_ledger.specs.Shares.{all_parts};
+ghost use Rattle.store_shared.specs.Made.{full_limits};
 
 use anyhow::Result;
 use b3_core::Runtime;
@@ -42,6 +43,7 @@ fn back_up_counted<L: Ledgers, T: Threads + Wait + Sync + Runtime>(
     requires bytes { (ledgers.bytes.name ≡ L.bytes_name) × (ledgers.bytes.parts ≡ L.bytes_parts) × (ledgers.bytes.parts ≡ all_parts) }
     requires calls { (ledgers.calls.name ≡ L.calls_name) × (ledgers.calls.parts ≡ L.calls_parts) × (ledgers.calls.parts ≡ all_parts) }
     requires history { ledgers.history ≡ L.history }
+    requires limits { L.limits ≡ full_limits }
     ensures { IfOk result (λ reported. (reported.0 ≡ hash_of bytes.now) × (reported.1.bytes ≡ length bytes.now)) }
 {
     let (shared, share) = Shared::<L>::new(alloc, Limits::full(), ledgers);

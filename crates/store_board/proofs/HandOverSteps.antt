@@ -12,7 +12,7 @@ use Rattle.store_board.specs.declared.hand_over.taken.Taken.{Taken}
 use Rattle.store_board.specs.declared.hand_over.view.PassView.{PassView}
 use Rattle.store_board.specs.HandOverRule.{of_giver, taker_view, first_view, giver_view, parting_view, spent_view, giving_view, taking_view, sum_view, for_later, passes_of, HandOverRule, With, Starts, KeepsGiving, KeepsTaking, KeepsJoining, IsSeenWith}
 use Rattle.store_board.specs.inner.HandOverRule.{Ended}
-use Rattle.store_board.proofs.Sums.{pos_or_zero, hit, hit_self, sum_at, two_le, alone}
+use Rattle.store_ledger.proofs.Sums.{pos_or_zero, hit, hit_self, sum_at, two_le, alone}
 
 -- where a fact holds of one new view and of all others, it holds of all
 all_set : (F : ℕ → PassView → Type 0) (views : List PassView) (id : ℕ) (w : PassView) → F id w → ((j : ℕ) (u : PassView) → j ≢ id → get_elem? views j ≡ some u → F j u)

@@ -10,6 +10,7 @@ ghost use Rattle.store_shared.specs.Gates.{IsOwnFault};
 ghost use Rattle.store_engines.specs.Uploads.{MayFail, SomeRefusal, WrotePrefix, WroteMemory, WroteUpload, failed_text, is_memory, journal_part, uploaded_text};
 ghost use Rattle.edge.specs.Output.{WroteSome};
 ghost use Rattle.store_engines.specs.inner.Uploads.{IsFiled, IsFiledInput, IsUploadReport};
+ghost use Rattle.store_shared.specs.Made.{full_limits};
 
 use crate::auditing::accepted_line;
 use crate::journals::text_of;
@@ -155,6 +156,7 @@ fn filed<L: Ledgers, T: Threads + Wait + Sync + Runtime>(
     requires bytes { (ledgers.bytes.name ≡ L.bytes_name) × (ledgers.bytes.parts ≡ L.bytes_parts) × (ledgers.bytes.parts ≡ all_parts) }
     requires calls { (ledgers.calls.name ≡ L.calls_name) × (ledgers.calls.parts ≡ L.calls_parts) × (ledgers.calls.parts ≡ all_parts) }
     requires history { ledgers.history ≡ L.history }
+    requires limits { L.limits ≡ full_limits }
     ensures filed { IfOk result (λ filed. IsFiledInput options.part_chunks (borrowed_bytes bytes.entry) filed.0 filed.1.store filed.2) }
     ensures fault { IfErr result (λ kind. MayFail options kind) }
     ensures cut { OnOk result (IsBadCut options.part_chunks options.workers max_workers → ⊥) }
@@ -212,6 +214,7 @@ pub fn upload<L: Ledgers, T: Threads + Wait + Sync + Runtime, R: Read, W: Write>
     requires bytes { (ledgers.bytes.name ≡ L.bytes_name) × (ledgers.bytes.parts ≡ L.bytes_parts) × (ledgers.bytes.parts ≡ all_parts) }
     requires calls { (ledgers.calls.name ≡ L.calls_name) × (ledgers.calls.parts ≡ L.calls_parts) × (ledgers.calls.parts ≡ all_parts) }
     requires history { ledgers.history ≡ L.history }
+    requires limits { L.limits ≡ full_limits }
     ensures written { result ≡ Ok Verdict.Good → IfSome (R.remaining reader.old) (λ input.
         WroteUpload options input (W.contents writer.old) (W.contents writer.new)) }
     ensures refused { result ≡ Ok Verdict.Refused → SomeRefusal options (W.contents writer.old) (W.contents writer.new) }

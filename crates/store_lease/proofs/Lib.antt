@@ -1,6 +1,7 @@
-mod SealedObjects
+mod Along
 mod Lookups
-mod Opening
-mod Replayed
-mod Sealing
+mod ObjectsStay
+mod PartsStay
+mod Promises
+mod Slices
 mod Steps

@@ -1,6 +1,4 @@
--- The definitions that a reader has to trust; inner has those that only proofs and private functions use.
-pub mod Shared
+-- The definitions that a reader has to trust.
 pub mod Steps
-pub mod Questions
+pub mod Shared
 pub mod Laws
-pub mod inner

@@ -1,31 +1,57 @@
--- A step of a client of a shared store.
-use Rattle.std.specs.Prelude.{◌≡◌, ◌++◌, Result}
+-- What a client of a shared store has seen.
+use Rattle.std.specs.Prelude.{◌≡◌, ◌++◌, List, Result, length}
 use mathlib.Core.List.{IsPrefix}
+use Rattle.std.specs.List.{AllByRecursion}
 use Rattle.store_books.specs.declared.refusal.Refusal.{Refusal}
 use Rattle.store_core.specs.Carried.{IsCarried}
-use Rattle.store_core.specs.Model.{ModelStore}
+use Rattle.store_core.specs.Commands.{opened, removed_in}
+use Rattle.store_core.specs.Model.{ModelStoreBooks}
 use Rattle.store_core.specs.Runs.{Call, Step}
+use Rattle.store_core.specs.Seen.{removed_bytes}
+use Rattle.store_core.specs.declared.command.Command.{Command}
+use Rattle.store_core.specs.declared.command.Command.TheVariants as commands
 use Rattle.store_core.specs.declared.store.questions.Reply.{Reply}
 use Rattle.store_core.specs.declared.store.questions.Reply.TheVariants as replies
 use Rattle.store_history.specs.Histories.{ModelFront}
 use Rattle.store_lease.specs.declared.stepped.Stepped.{Stepped}
 use Rattle.store_lease.specs.declared.stepped.Stepped.TheVariants as stepped
 use Rattle.store_lines.specs.Access.{took_numbers}
+use Rattle.store_shared.specs.Made.{IsFitting, Numbers, if_accepted, store_of}
 
--- A client whose front was `before` took a step from a lawful store whose journal continues what the front had seen. Afterwards the front
--- has seen the journal as the step left it, and the entry of an accepted command is its own.
-pub record TookLawful (before now : ModelFront) (call : Call) (reply : Result Reply Refusal) : Type 0 where
-  pub found : ModelStore
-  pub left : ModelStore
-  pub law : IsCarried found
-  pub since : IsPrefix before.seen found.journal
-  pub step : Step found call reply left
-  pub law_left : IsCarried left
-  pub seen : now.seen ≡ left.journal
-  pub own : now.own ≡ before.own ++ took_numbers found call reply
+-- the shared store accepted these calls: what they make of an empty one is lawful, and its journal has an entry for each; each part fits its plan
+pub record WereAccepted (limits : Numbers) (calls : List Call) : Type 0 where
+  pub law : IsCarried (store_of limits calls)
+  pub each : length (store_of limits calls).journal ≡ length calls
+  pub fit : AllByRecursion IsFitting calls
+
+-- A client whose front was `before` took a step of the store that the calls so far had made, and had seen a beginning of these. Afterwards
+-- it has seen all of them and its own call, if that was accepted: this is then the client's own.
+pub record TookStep (limits : Numbers) (before now : ModelFront) (call : Call) (reply : Result Reply Refusal) : Type 0 where
+  pub calls : List Call
+  pub since : IsPrefix before.seen calls
+  pub found : WereAccepted limits calls
+  pub step : Step (store_of limits calls) call reply (store_of limits now.seen)
+  pub left : WereAccepted limits now.seen
+  pub seen : now.seen ≡ calls ++ if_accepted call reply
+  pub own : now.own ≡ before.own ++ took_numbers (store_of limits calls) call reply
+
+-- A client whose front was `before` looked at the store. Afterwards it has seen the calls that made it.
+pub record Looked (limits : Numbers) (before now : ModelFront) : Type 0 where
+  pub since : IsPrefix before.seen now.seen
+  pub found : WereAccepted limits now.seen
+  pub own : now.own ≡ before.own
 
 -- the reply of a command under the lock
 abbrev pub stepped_seen : Stepped → Reply
 stepped_seen (stepped.Replied reply) = reply
 stepped_seen (stepped.Aborted held) = replies.Done
 stepped_seen (stepped.Forgot _) = replies.Done
+
+-- what a command took out of the store is returned, and so not dropped under the lock: the parts of an upload that it aborted, and the
+-- object that no tenant holds any more
+abbrev pub HandsOut : ModelStoreBooks → Command → Stepped → Type 0
+HandsOut old (commands.Abort upload) (stepped.Aborted held) = held ≡ opened old upload
+HandsOut old (commands.Abort upload) _ = ⊥
+HandsOut old (commands.Forget tenant address) (stepped.Forgot removed) = removed_bytes removed ≡ removed_in old address
+HandsOut old (commands.Forget tenant address) _ = ⊥
+HandsOut old _ _ = Unit {0}

@@ -1,11 +1,12 @@
 //! What a client may rely on.
 
-ghost use Rattle.store_lease.specs.Laws.{SealedIsHeld, StaysOpen, ReportedIsHeld};
+ghost use Rattle.store_lease.specs.Laws.{SealsWhatWasPut, StaysFiled, StaysPut};
 
-/// A tenant holds what it sealed until an entry of the journal says that the tenant forgets it, and an upload stays open until an entry
-/// says that it was sealed or aborted. The laws are about the journals that clients have seen; the function does nothing.
+/// What a client put stays where it put it until its upload ends; the address that a seal answers is the hash of what the upload holds; and
+/// what was sealed can be fetched, byte for byte, until a call forgets it for its tenant. The laws are about the calls that a shared store
+/// accepted, of whichever clients; the function does nothing.
 pub fn client_laws()
-    ensures sealed { SealedIsHeld }
-    ensures reported { ReportedIsHeld }
-    ensures open { StaysOpen }
+    ensures put { StaysPut }
+    ensures sealed { SealsWhatWasPut }
+    ensures filed { StaysFiled }
 {}

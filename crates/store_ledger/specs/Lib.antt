@@ -2,3 +2,4 @@
 pub mod Refusals
 pub mod Shares
 pub mod Names
+pub mod Counts

@@ -19,6 +19,8 @@ pub trait Ledgers {
     ghost calls_parts: { ℕ };
 
     ghost history: { TableId };
+
+    ghost limits: { ℕ × ℕ × ℕ };
 }
 
 impl Ledgers for Brand {
@@ -33,6 +35,8 @@ impl Ledgers for Brand {
     ghost calls_parts = { 0 };
 
     ghost history = { no_table };
+
+    ghost limits = { (0, 0, 0) };
 }
 
 /// The ledger of bytes. There are no values of this type.

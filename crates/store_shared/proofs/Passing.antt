@@ -7,7 +7,7 @@ use Rattle.std.proofs.lemmas.List.Elements.{All-append, All-cons, All-filter, Al
 use Rattle.b3_core.specs.Modes.{hash_of}
 use Rattle.b3_forest.specs.Followed.{AllNoted, ModelFollow}
 use Rattle.b3_forest.specs.Parts.{Part}
-use Rattle.store_board.specs.Drawn.{times}
+use Rattle.store_ledger.specs.Counts.{times}
 use Rattle.store_board.specs.HandOverRule.{of_giver}
 use Rattle.store_board.specs.Passes.{all_given, given_of}
 use Rattle.store_board.specs.declared.hand_over.give_pass.GivePass.{GivePass}

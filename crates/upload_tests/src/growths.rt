@@ -6,6 +6,7 @@
 //! repeated, which succeeds, as no second allocation fails.
 
 ghost use Rattle.std.specs.Prelude.{◌≡◌, ◌^◌};
+ghost use Rattle.store_shared.specs.Made.{full_limits};
 
 use crate::uploading::upload_row;
 use b3_core::Runtime;
@@ -105,6 +106,7 @@ fn sealed_in_the_end<L: Ledgers, R: Threads + Wait + Sync + AllocGlobal + Runtim
     requires bytes { (ledgers.bytes.name ≡ L.bytes_name) × (ledgers.bytes.parts ≡ L.bytes_parts) × (ledgers.bytes.parts ≡ 2 ^ 32) }
     requires calls { (ledgers.calls.name ≡ L.calls_name) × (ledgers.calls.parts ≡ L.calls_parts) × (ledgers.calls.parts ≡ 2 ^ 32) }
     requires history { ledgers.history ≡ L.history }
+    requires limits { L.limits ≡ full_limits }
 {
     let (shared, share) = Shared::<L>::new(rt.alloc(), Limits::full(), ledgers);
     open_in_the_end(rt, &shared);

@@ -1,6 +1,7 @@
 //! Commands of a store under its lock.
 
 ghost use Rattle.std.specs.Prelude.{◌≡◌, ◌^◌, ◌≤◌};
+ghost use Rattle.store_shared.specs.Made.{full_limits};
 
 use crate::hashes::PATTERN_2048;
 use crate::parts::part_at;
@@ -63,6 +64,7 @@ fn two_halves<L: Ledgers + Send + Sync, R: Threads + Wait + Sync + AllocGlobal +
     requires bytes { (ledgers.bytes.name ≡ L.bytes_name) × (ledgers.bytes.parts ≡ L.bytes_parts) × (ledgers.bytes.parts ≡ 2 ^ 32) }
     requires calls { (ledgers.calls.name ≡ L.calls_name) × (ledgers.calls.parts ≡ L.calls_parts) × (ledgers.calls.parts ≡ 2 ^ 32) }
     requires history { ledgers.history ≡ L.history }
+    requires limits { L.limits ≡ full_limits }
     requires first { first ≤ 1024 }
 {
     let one = half(rt, first);
@@ -302,6 +304,7 @@ fn one_after_another<L: Ledgers, R: Wait + AllocGlobal + Runtime + Abort>(
     requires bytes { (ledgers.bytes.name ≡ L.bytes_name) × (ledgers.bytes.parts ≡ L.bytes_parts) × (ledgers.bytes.parts ≡ 2 ^ 32) }
     requires calls { (ledgers.calls.name ≡ L.calls_name) × (ledgers.calls.parts ≡ L.calls_parts) × (ledgers.calls.parts ≡ 2 ^ 32) }
     requires history { ledgers.history ≡ L.history }
+    requires limits { L.limits ≡ full_limits }
 {
     let (shared, mut share) = Shared::<L>::new(rt.alloc(), Limits::full(), ledgers);
     sealed_after_another(rt, &shared, &mut share);

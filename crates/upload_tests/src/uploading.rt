@@ -119,6 +119,29 @@ fn beside_text<L: Ledgers, R: Abort>(
     format!(in alloc; "{}, {beside}{}", reported.as_str(), left.as_str())
 }
 
+// Uploads bytes for the last tenant, in the parts that the cut has.
+fn upload_cut<L: Ledgers, G: Gate + Sync, R: Threads + Wait + Sync + AllocGlobal + Runtime>(
+    rt: &R,
+    shared: &Shared<L>,
+    share: Share<L>,
+    gate: &G,
+    row: &[u8],
+    cut: Cut,
+) -> (Share<L>, Result<bool, UploadFault>) {
+    let tenant = TenantId::new(cut.tenants.saturating_sub(1));
+    upload_row(
+        rt,
+        rt.alloc(),
+        shared,
+        share,
+        gate,
+        tenant,
+        row,
+        cut.part_chunks,
+        cut.workers,
+    )
+}
+
 // Uploads bytes with one share, while the stranger acts with the other.
 fn side_by_side<
     L: Ledgers + Send + Sync,
@@ -135,26 +158,14 @@ fn side_by_side<
     row: &[u8],
     cut: Cut,
 ) -> ((Share<L>, Result<bool, UploadFault>), (Share<L>, Outcome)) {
-    let alloc = rt.alloc();
-    let tenant = TenantId::new(cut.tenants.saturating_sub(1));
-    let (part_chunks, workers) = (cut.part_chunks, cut.workers);
     thread::join(
         rt,
         move || -> (Share<L>, Result<bool, UploadFault>) {
-            upload_row(
-                rt,
-                alloc,
-                shared,
-                one,
-                gate,
-                tenant,
-                row,
-                part_chunks,
-                workers,
-            )
+            upload_cut(rt, shared, one, gate, row, cut)
         },
         move || -> (Share<L>, Outcome) {
-            meanwhile(rt, alloc, shared, other, signal, deed, row, workers)
+            let workers = cut.workers;
+            meanwhile(rt, rt.alloc(), shared, other, signal, deed, row, workers)
         },
     )
 }
@@ -176,6 +187,7 @@ pub(crate) fn uploaded<
     requires bytes { (ledgers.bytes.name ≡ L.bytes_name) × (ledgers.bytes.parts ≡ L.bytes_parts) × (ledgers.bytes.parts ≡ 2 ^ 32) }
     requires calls { (ledgers.calls.name ≡ L.calls_name) × (ledgers.calls.parts ≡ L.calls_parts) × (ledgers.calls.parts ≡ 2 ^ 32) }
     requires history { ledgers.history ≡ L.history }
+    requires limits { L.limits ≡ (cut.tenants, cut.entries, cut.max_workers) }
 {
     let alloc = rt.alloc();
     let limits = Limits::new(cut.tenants, cut.entries, cut.max_workers).expect(rt, "limits");

@@ -3,7 +3,7 @@ use Rattle.std.specs.Prelude.{◌≡◌, ℕ, ◌<◌, List, ◌++◌, Option, S
 use Rattle.b3_core.specs.Modes.{hash_of}
 use Rattle.b3_forest.specs.Followed.{ModelFollow, IsNoted}
 use Rattle.b3_forest.specs.Parts.{Part}
-use Rattle.store_board.specs.Drawn.{times}
+use Rattle.store_ledger.specs.Counts.{times}
 use Rattle.store_board.specs.HandOverRule.{of_giver}
 use Rattle.store_board.specs.declared.hand_over.taken.Taken.{Taken}
 use Rattle.store_ledger.specs.declared.amounts.ShareAmounts.{ShareAmounts}

@@ -1,3 +1,4 @@
+use Rattle.store_shared.specs.Made.{full_limits}
 use Rattle.engine_tests.proofs.sessions.sessions_share_a_store_and_page_its_journal.Given as goal
 
 abbrev pub ghosts-is_shared : goal.ghosts-is_shared
@@ -7,4 +8,5 @@ ghosts-is_shared g a = record {
   calls_name = a.ledgers.calls.name;
   calls_parts = a.ledgers.calls.parts;
   history = a.ledgers.history;
+  limits = full_limits;
 }

@@ -1,3 +1,4 @@
+use Rattle.store_shared.specs.Made.{full_limits}
 use Rattle.engine_tests.proofs.uploads.uploaded.Given as goal
 
 abbrev pub ghosts-upload : goal.ghosts-upload
@@ -7,4 +8,5 @@ ghosts-upload g a = record {
   calls_name = a.ledgers.calls.name;
   calls_parts = a.ledgers.calls.parts;
   history = a.ledgers.history;
+  limits = full_limits;
 }

@@ -1,13 +1,11 @@
-use Rattle.store_lease.proofs.SealedObjects.{sealed_is_held}
-use Rattle.store_lease.proofs.Opening.{stays_open}
-use Rattle.store_lease.proofs.Sealing.{reported_is_held}
+use Rattle.store_lease.proofs.Promises.{seals_what_was_put, stays_filed, stays_put}
 use Rattle.store_lease.proofs.laws.client_laws.Goals as goal
 
+pub returns-clause-put : goal.returns-clause-put
+returns-clause-put c = stays_put
+
 pub returns-clause-sealed : goal.returns-clause-sealed
-returns-clause-sealed c = sealed_is_held
+returns-clause-sealed c = seals_what_was_put
 
-pub returns-clause-reported : goal.returns-clause-reported
-returns-clause-reported c = reported_is_held
-
-pub returns-clause-open : goal.returns-clause-open
-returns-clause-open c = stays_open
+pub returns-clause-filed : goal.returns-clause-filed
+returns-clause-filed c = stays_filed

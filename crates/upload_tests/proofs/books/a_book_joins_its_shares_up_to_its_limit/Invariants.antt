@@ -8,4 +8,5 @@ ghosts-joins_up_to_its_limit g a = record {
   calls_name = a.calls.name;
   calls_parts = a.calls.parts;
   history = no_table;
+  limits = (0, 0, 0);
 }

@@ -8,4 +8,5 @@ ghosts-settles_once_joined g a = record {
   calls_name = a.calls.name;
   calls_parts = a.calls.parts;
   history = no_table;
+  limits = (0, 0, 0);
 }

@@ -1,3 +1,4 @@
+use Rattle.store_shared.specs.Made.{full_limits}
 use Rattle.upload_tests.proofs.growths.is_sealed.Given as goal
 
 abbrev pub ghosts-sealed_in_the_end : goal.ghosts-sealed_in_the_end
@@ -7,4 +8,5 @@ ghosts-sealed_in_the_end g a = record {
   calls_name = a.ledgers.calls.name;
   calls_parts = a.ledgers.calls.parts;
   history = a.ledgers.history;
+  limits = full_limits;
 }

@@ -1,3 +1,4 @@
+use Rattle.store_shared.specs.Made.{full_limits}
 use Rattle.upload_tests.proofs.shared_stores.one_upload_is_aborted_and_the_next_is_fixed.Given as goal
 
 abbrev pub ghosts-one_after_another : goal.ghosts-one_after_another
@@ -7,4 +8,5 @@ ghosts-one_after_another g a = record {
   calls_name = a.ledgers.calls.name;
   calls_parts = a.ledgers.calls.parts;
   history = a.ledgers.history;
+  limits = full_limits;
 }

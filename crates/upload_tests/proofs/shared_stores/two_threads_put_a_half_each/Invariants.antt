@@ -1,3 +1,4 @@
+use Rattle.store_shared.specs.Made.{full_limits}
 use Rattle.upload_tests.proofs.shared_stores.two_threads_put_a_half_each.Given as goal
 
 abbrev pub ghosts-two_halves : goal.ghosts-two_halves
@@ -7,4 +8,5 @@ ghosts-two_halves g a = record {
   calls_name = a.ledgers.calls.name;
   calls_parts = a.ledgers.calls.parts;
   history = a.ledgers.history;
+  limits = full_limits;
 }

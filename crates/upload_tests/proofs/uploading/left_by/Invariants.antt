@@ -7,4 +7,5 @@ ghosts-uploaded g a = record {
   calls_name = a.ledgers.calls.name;
   calls_parts = a.ledgers.calls.parts;
   history = a.ledgers.history;
+  limits = (a.cut.tenants, a.cut.entries, a.cut.max_workers);
 }
