@@ -1,6 +1,6 @@
 """python3 tests/of_tests: tests that tests/growths, tests/failures, tests/random, tests/sessions, tests/memory, tests/program, tests/pages,
-tests/clients, tests/install, tests/b3sum, tests/c and tests/soak fail when they must: with `true` or `cat` instead of the program, with a library
-that does nothing, if no growth of memory can be made to fail, and without a C compiler or a test program. tests/program and tests/clients are tried
+tests/clients, tests/install, tests/b3sum, tests/c, tests/store_c and tests/soak fail when they must: with `true` or `cat` instead of the program, with
+libraries that do nothing, if no growth of memory can be made to fail, and without a C compiler or a test program. tests/program and tests/clients are tried
 with `cat` alone. Each must end with status 1 and a last line `N passed, M failed`, where M is not 0, and where no more
 tests pass than this file says.
 
@@ -60,6 +60,9 @@ MAX_OF_B3SUM = 15
 
 MAX_OF_C = 2
 """The same of tests/c: the header is compiled, and has the names that the library exports."""
+
+MAX_OF_STORE_C = 25
+"""The same of tests/store_c, which compares the header's structs with the code's too."""
 
 MAX_OF_CLIENTS = 35
 """The same of tests/clients: a quarter of its cases need no store, such as those of arguments and of servers that end."""
@@ -200,16 +203,22 @@ def script(folder, name, *words):
     return path
 
 
-def try_library(trials, folder):
-    """A library whose functions do nothing, and report that all is well."""
-    source, made, archive = (os.path.join(folder, f"nothing.{end}") for end in ("c", "o", "a"))
-    with open(os.path.join(os.path.dirname(TESTS), "include", "b3.h"), encoding="utf-8") as header:
-        names = re.findall(r"(?m)^uint32_t (b3_\w+)\(", header.read())
+def put_nothing(folder, name):
+    """Puts a library whose functions do nothing, and report that all is well, into a folder: that of the header of this name."""
+    source, made, archive = (os.path.join(folder, f"{name}.{end}") for end in ("c", "o", "a"))
+    with open(os.path.join(os.path.dirname(TESTS), "include", f"{name}.h"), encoding="utf-8") as header:
+        names = re.findall(rf"(?m)^uint32_t ({name}_\w+)\(", header.read())
     with open(source, "w", encoding="utf-8") as file:
         file.writelines(f"unsigned {name}(void) {{ return 0; }}\n" for name in names)
     subprocess.run(["cc", "-fPIC", "-c", source, "-o", made], check=True)
     subprocess.run(["ar", "rc", archive, made], check=True)
-    trials.fails("c over a library that does nothing", [os.path.join(TESTS, "c", "run"), archive], most=MAX_OF_C)
+    return archive
+
+
+def try_libraries(trials, folder):
+    b3, b3store = (put_nothing(folder, name) for name in ("b3", "b3store"))
+    trials.fails("c over a library that does nothing", [os.path.join(TESTS, "c", "run"), b3], most=MAX_OF_C)
+    trials.fails("store_c over a library that does nothing", [os.path.join(TESTS, "store_c", "run"), b3store, b3], most=MAX_OF_STORE_C)
 
 
 def try_soak(trials, folder, mistake=None):
@@ -227,7 +236,7 @@ def main():
     trials = Trials()
     with tempfile.TemporaryDirectory() as folder, ThreadPoolExecutor() as pool:
         try_growths(trials, folder)
-        try_library(trials, folder)
+        try_libraries(trials, folder)
         runs = [pool.submit(try_program, trials, name) for name in NOT_THE_STORE]
         runs += [pool.submit(try_soak, trials, folder, mistake) for mistake in (None, *WRONG_SERVERS)]
         for run in runs:
