@@ -108,7 +108,8 @@ class Case:
         self.chance = chance
         limits = chance.choice((2, 3, MAX_TENANTS)), chance.choice((7, 20, MAX_ENTRIES, MAX_ENTRIES, MAX_ENTRIES))
         self.model, self.library, self.session = Model(*limits), Library(path, chance, *limits), Session(chance)
-        self.session.writer.store = Model(*limits)
+        self.writer = self.session.writer
+        self.writer.store = Model(*limits)
 
     def difference(self):
         """What differs, or None."""
@@ -120,10 +121,10 @@ class Case:
         return None
 
     def step(self):
-        kind = self.chance.random()
-        if self.session.writer.lines and kind < 0.1:
-            return self.both("file", self.session.writer.tenant(), self.content())
-        if self.session.writer.lines and kind < 0.15:
+        kind = self.chance.random() if self.writer.lines else 1
+        if kind < 0.1:
+            return self.both("file", self.writer.tenant(), self.content())
+        if kind < 0.15:
             return self.both("put_as", *self.other_plan())
         whole = [number for number, upload in self.model.uploads.items() if upload.end is not None and upload.missing() is None]
         if whole and kind < 0.2:
@@ -134,8 +135,7 @@ class Case:
 
     def both(self, name, *words):
         """A call that no line has, on both stores and on the one that lines speak of."""
-        reported(getattr(Model, name), self.session.writer.store, *words)
-        wanted, found = reported(getattr(self.model, name), *words), reported(getattr(self.library, name), *words)
+        _, wanted, found = (reported(getattr(store, name), *words) for store in (self.writer.store, self.model, self.library))
         return difference(name, words, wanted, found)
 
     def content(self):
@@ -144,9 +144,9 @@ class Case:
 
     def other_plan(self):
         """A part, most often for another upload than that to which it is put."""
-        number = self.session.writer.upload()
-        offset, length = self.session.writer.place_in(self.session.writer.store.uploads.get(number))
-        bound = self.chance.choice((*self.session.writer.lengths, offset + length, MAX_LENGTH, MAX_LENGTH + 1))
+        number = self.writer.upload()
+        offset, length = self.writer.place_in(self.writer.store.uploads.get(number))
+        bound = self.chance.choice((*self.writer.lengths, offset + length, MAX_LENGTH, MAX_LENGTH + 1))
         length = MAX_PART + 1024 if self.chance.random() < 0.005 else length
         return bound, self.chance.random() < 0.5, number, offset, pattern(offset, length)
 
@@ -163,7 +163,6 @@ class Case:
             if found != wanted:
                 return difference("line", (line, taken), wanted, found)
         return None
-
 
 
 def difference_of_lines(path, chance):
