@@ -17,8 +17,19 @@ def tenants(store):
     return [f"tenants {len(usages)}"] + usages
 
 
+def counts(store):
+    return [f"entries {len(store.journal)} tenants {len(store.limits)} {store.stat()[0]}"]
+
+
 def entries(store, first, most=None):
     return store.entries_from(first, most)
 
 
-QUESTIONS = {"has T ADDRESS": has, "uploads T": uploads, "tenants": tenants, "entries FROM": entries, "entries FROM COUNT": entries}
+QUESTIONS = {
+    "has T ADDRESS": has,
+    "uploads T": uploads,
+    "tenants": tenants,
+    "counts": counts,
+    "entries FROM": entries,
+    "entries FROM COUNT": entries,
+}

@@ -206,6 +206,7 @@ fn session_lines() -> &'static str {
         "\n  has T ADDRESS       the object's length",
         "\n  uploads T           the tenant's open uploads",
         "\n  tenants             what each tenant uses",
+        "\n  counts              the numbers of entries and tenants, and the store's totals",
         "\n  entries FROM        the journal's entries from number FROM on; with COUNT, at most COUNT of them",
         "\n\nExample:\n  b3store serve --at /tmp/door --sessions 4"
     )

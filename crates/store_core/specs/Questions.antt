@@ -9,6 +9,7 @@ use Rattle.store_books.specs.declared.refusal.Refusal.TheVariants.{NoMemory, NoT
 use Rattle.store_books.specs.Books.{is_absent, object_at, totals_of, upload_at}
 use Rattle.store_books.specs.Commands.{holding_refusal}
 use Rattle.store_books.specs.Questions as books
+use Rattle.store_core.specs.declared.store.questions.Counts.{Counts}
 use Rattle.store_core.specs.declared.store.questions.Question.{Question}
 use Rattle.store_core.specs.declared.store.questions.Question.TheVariants as questions
 use Rattle.store_core.specs.declared.store.questions.Reply.{Reply}
@@ -48,6 +49,10 @@ uploads_in s tenant = if is_absent s tenant then Err NoTenant else Ok (books.ope
 abbrev pub tenants_in : ModelStoreBooks → List Usage
 tenants_in s = books.usages_of length s
 
+-- the numbers of entries and of tenants, and the totals
+abbrev pub counts_of : ModelStore → Counts
+counts_of s = record { entries = length s.journal; tenants = length s.state.tenant_limits; totals = totals_of length length s.state }
+
 -- ---- questions as values
 
 -- an answer as a Reply
@@ -64,3 +69,4 @@ Answers store (questions.Holds tenant address) reply = reply ≡ as_reply replie
 Answers store (questions.Uploads tenant) reply = AnswersAs as_is (as_reply replies.Uploads (uploads_in store.state tenant)) reply
 Answers store questions.Tenants reply = AnswersAs as_is (Ok (replies.Tenants (tenants_in store.state))) reply
 Answers store questions.Totals reply = reply ≡ Ok (replies.Totals (totals_of length length store.state))
+Answers store questions.Counts reply = reply ≡ Ok (replies.Counts (counts_of store))

@@ -33,7 +33,7 @@ mod store;
 pub use command::{Command, SealReply};
 pub use laws::run_laws;
 pub use object::{Object, SharedObject};
-pub use store::{Held, Listing, Question, Reply, Sealed, Store};
+pub use store::{Counts, Held, Listing, Question, Reply, Sealed, Store};
 pub use store_books::{
     Address, BadLimits, Limits, MAX_ENTRIES, MAX_LIMIT, MAX_TENANTS, Refusal, TenantId, Totals,
     UploadId, UploadStatus, Usage,

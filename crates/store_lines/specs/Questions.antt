@@ -11,6 +11,7 @@ use Rattle.store_books.specs.declared.refusal.Refusal.{Refusal}
 use Rattle.store_books.specs.declared.totals.Totals.{Totals}
 use Rattle.store_books.specs.Refusals.{refusal_text}
 use Rattle.store_books.specs.Totals.{totals_text}
+use Rattle.store_core.specs.declared.store.questions.Counts.{Counts}
 use Rattle.store_core.specs.declared.store.questions.Question.TheVariants as questions
 use Rattle.store_core.specs.declared.store.questions.Reply.{Reply}
 use Rattle.store_core.specs.declared.store.questions.Reply.TheVariants as replies
@@ -40,7 +41,10 @@ question_of_kind kind fields =
 
 -- the question of a line that consists of one word
 abbrev pub question_of_word : List ℕ → Option Request
-question_of_word word = if bytes_eq word (codes "tenants") then Some (Asks questions.Tenants) else None
+question_of_word word =
+    if bytes_eq word (codes "tenants") then Some (Asks questions.Tenants)
+    else if bytes_eq word (codes "counts") then Some (Asks questions.Counts)
+    else None
 
 -- ---- replies: each line with its newline
 
@@ -93,6 +97,12 @@ tenants_text usages = numbered (codes "tenants ") (length usages) ++ tenant_line
 abbrev pub totals_line : Totals → List ℕ
 totals_line t = totals_text t ++ codes "\n"
 
+abbrev pub counts_front : Counts → List ℕ
+counts_front c = codes "entries " ++ (decimal c.entries ++ (codes " tenants " ++ (decimal c.tenants ++ codes " ")))
+
+abbrev pub counts_line : Counts → List ℕ
+counts_line c = counts_front c ++ totals_line c.totals
+
 abbrev pub reply_text : Reply → List ℕ
 reply_text (replies.Tenant number) = numbered (codes "tenant ") number
 reply_text (replies.Upload number plan) = numbered (codes "upload ") number
@@ -106,6 +116,7 @@ reply_text (replies.Length len) = numbered (codes "has ") len
 reply_text (replies.Uploads uploads) = uploads_text uploads
 reply_text (replies.Tenants usages) = tenants_text usages
 reply_text (replies.Totals t) = totals_line t
+reply_text (replies.Counts c) = counts_line c
 
 abbrev pub answer_text : Result Reply Refusal → List ℕ
 answer_text (Ok reply) = reply_text reply

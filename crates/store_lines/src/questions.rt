@@ -4,7 +4,7 @@ ghost use Rattle.std.specs.Prelude.{◌≡◌, IfErr, OnErr, OnOk};
 ghost use Rattle.std.specs.Io.KnownBytes.{Appends};
 ghost use Rattle.std.specs.List.{flat_map};
 ghost use Rattle.edge.specs.Output.{WroteSome};
-ghost use Rattle.store_lines.specs.Questions.{answer_text, holds_at, list_text, listed_line, object_text, open_upload_line, question_of_kind};
+ghost use Rattle.store_lines.specs.Questions.{answer_text, counts_line, holds_at, list_text, listed_line, object_text, open_upload_line, question_of_kind};
 ghost use Rattle.store_lines.specs.Questions.{question_of_word, reply_text, tenant_line, tenant_lines, tenants_text, totals_line, uploads_at};
 ghost use Rattle.store_lines.specs.Questions.{uploads_text, usage_text};
 
@@ -15,7 +15,7 @@ use crate::texts::{write_held, write_made, write_numbered, write_refusal, write_
 use edge::{Cause, number};
 use std::io::Write;
 use store_core::{
-    Address, Object, Question, Refusal, Reply, TenantId, Totals, UploadStatus, Usage,
+    Address, Counts, Object, Question, Refusal, Reply, TenantId, Totals, UploadStatus, Usage,
 };
 
 /// The question of a line that consists of one word.
@@ -24,6 +24,9 @@ pub(crate) fn question_of_word(word: &[u8]) -> Option<Request>
 {
     if word == b"tenants".as_slice() {
         return Some(Request::Asks(Question::Tenants));
+    }
+    if word == b"counts".as_slice() {
+        return Some(Request::Asks(Question::Counts));
     }
     None
 }
@@ -90,6 +93,7 @@ fn write_reply<W: Write>(writer: &mut W, reply: Reply) -> Result<(), Cause>
         Reply::Uploads(uploads) => write_uploads(writer, uploads.as_slice()),
         Reply::Tenants(usages) => write_tenants(writer, usages.as_slice()),
         Reply::Totals(totals) => write_totals(writer, totals),
+        Reply::Counts(counts) => write_counts(writer, counts),
     }
 }
 
@@ -229,4 +233,18 @@ fn write_totals<W: Write>(writer: &mut W, totals: Totals) -> Result<(), Cause>
     ensures cause { IfErr result (λ cause. cause ≡ Cause.CannotWrite) }
 {
     write_made(writer, format_args!("{totals}\n"))
+}
+
+fn write_counts<W: Write>(writer: &mut W, counts: Counts) -> Result<(), Cause>
+    ensures wrote { OnOk result (Appends (W.contents writer.old) (W.contents writer.new) (counts_line counts)) }
+    ensures failed { OnErr result (WroteSome (W.contents writer.old) (W.contents writer.new) (counts_line counts)) }
+    ensures cause { IfErr result (λ cause. cause ≡ Cause.CannotWrite) }
+{
+    let Counts {
+        entries,
+        tenants,
+        totals,
+    } = counts;
+    write_made(writer, format_args!("entries {entries} tenants {tenants} "))?;
+    write_totals(writer, totals)
 }

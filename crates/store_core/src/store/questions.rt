@@ -5,7 +5,7 @@ ghost use Rattle.std.specs.Arc.{arc_value};
 ghost use Rattle.b3_core.specs.Modes.{hash_of};
 ghost use Rattle.store_books.specs.Books.{totals_of};
 ghost use Rattle.store_books.specs.Questions.{usage_in};
-ghost use Rattle.store_core.specs.Questions.{Answers, AnswersAs, fetch_in, holds_in, list_in, plan_in, tenants_in, uploads_in};
+ghost use Rattle.store_core.specs.Questions.{Answers, AnswersAs, counts_of, fetch_in, holds_in, list_in, plan_in, tenants_in, uploads_in};
 
 use crate::command::SealReply;
 use crate::object::{Object, SharedObject};
@@ -25,6 +25,7 @@ pub enum Question {
     Uploads { tenant: TenantId },
     Tenants,
     Totals,
+    Counts,
 }
 
 /// The result of an accepted command or of a question. In contracts a reply is its own model, since each field is.
@@ -42,6 +43,15 @@ pub enum Reply {
     Uploads(Listing<UploadStatus>),
     Tenants(Listing<Usage>),
     Totals(Totals),
+    Counts(Counts),
+}
+
+/// The numbers of entries of the journal and of tenants, and the totals.
+#[derive(Clone, Copy, Debug, PartialEq, Eq)]
+pub struct Counts {
+    pub entries: u64,
+    pub tenants: u64,
+    pub totals: Totals,
 }
 
 /// The items of a list in a reply. In contracts it is their list.
@@ -89,6 +99,7 @@ impl Store {
             Question::Uploads { tenant } => Ok(Reply::Uploads(Listing::new(self.uploads(tenant)?))),
             Question::Tenants => Ok(Reply::Tenants(Listing::new(self.tenants()?))),
             Question::Totals => Ok(Reply::Totals(self.totals())),
+            Question::Counts => Ok(Reply::Counts(self.counts())),
         }
     }
 
@@ -107,6 +118,17 @@ impl Store {
         ensures { result ≡ totals_of length length self.now.state }
     {
         self.books.totals()
+    }
+
+    /// The numbers of entries and of tenants, and the totals. Time: constant.
+    pub fn counts(&self) -> Counts
+        ensures { result ≡ counts_of self.now }
+    {
+        Counts {
+            entries: self.journal().len() as u64,
+            tenants: self.books.tenants(),
+            totals: self.totals(),
+        }
     }
 
     /// An object that a tenant holds. Refusals: S1, S12, S14. Time: logarithmic in the objects and in all pairs of a tenant and an object
