@@ -73,7 +73,7 @@ extern "C" {
 #define B3STORE_NO_VALUE 64        /* The handle is closed, or keeps a value of another kind. */
 #define B3STORE_IS_OPEN 65         /* The handle is open already. */
 #define B3STORE_BAD_LIMITS 66      /* No store has such limits. */
-#define B3STORE_TRUNCATED 67       /* The lines end within the bytes of a `putb`. */
+#define B3STORE_TRUNCATED 67       /* The lines end within the bytes after a line. */
 #define B3STORE_ANSWER_LOST 68     /* Out of memory for the answer to a line. */
 #define B3STORE_TOO_MANY_LINES 69  /* 2^64-1 lines or more. */
 
@@ -107,7 +107,7 @@ static inline const char *b3store_text_of(uint32_t answer) {
     case B3STORE_NO_VALUE: return "the handle is closed, or keeps another kind of value";
     case B3STORE_IS_OPEN: return "the handle is open already";
     case B3STORE_BAD_LIMITS: return "no store has these limits";
-    case B3STORE_TRUNCATED: return "the lines end within the bytes of a putb";
+    case B3STORE_TRUNCATED: return "the lines end within the bytes after a line";
     case B3STORE_ANSWER_LOST: return "out of memory for the answer to a line";
     case B3STORE_TOO_MANY_LINES: return "too many lines";
     default: return "unknown answer";
@@ -285,10 +285,10 @@ uint32_t b3store_entries(b3store *store, uint64_t *count);
  * describes their lines. Refusal: 14. B3STORE_IS_OPEN. */
 uint32_t b3store_journal(b3store *store, uint64_t from, uint64_t count, b3store_text *text, b3store_why *why);
 
-/* Runs the lines of a session on the store, as `b3store serve` does (docs/COMMANDS.md), with the bytes after each `putb`, and has a closed
- * handle keep the text of their answers. B3STORE_TRUNCATED if the lines end within the bytes of a `putb`, which isn't run, though the lines
- * before it are; B3STORE_ANSWER_LOST if there is no memory for an answer: the lines up to that one were run, and the text is cut off. In
- * both cases the handle keeps the text. B3STORE_NO_VALUE, B3STORE_IS_OPEN, B3STORE_NO_MEMORY: no line was run. */
+/* Runs the lines of a session on the store, as `b3store serve` does (docs/COMMANDS.md), with the bytes after a line, and has a closed handle
+ * keep the text of their answers. B3STORE_TRUNCATED if the lines end within the bytes after a line: then a `putb` isn't run and a `file` is
+ * aborted, though the lines before it are run; B3STORE_ANSWER_LOST if there is no memory for an answer: the lines up to that one were run, and
+ * the text is cut off. In both cases the handle keeps the text. B3STORE_NO_VALUE, B3STORE_IS_OPEN, B3STORE_NO_MEMORY: no line was run. */
 uint32_t b3store_lines(b3store *store, const uint8_t *lines, size_t len, b3store_text *answers, uint64_t *work);
 
 #ifdef __cplusplus

@@ -1,8 +1,9 @@
 """Random sessions: the lines of random scripts, and lines with raw bytes after them, some of which are malformed or truncated."""
+from blake3 import address_of
 from questions import QUESTIONS
 from scripts import LENGTHS, NUMBERS, Writer, spoilt
 from script import pattern
-from session import session_of
+from session import file, session_of
 from store import Refused
 
 
@@ -34,6 +35,22 @@ class Session:
         except Refused:
             pass
 
+    def filing(self):
+        """A file's line, and its bytes; often those of an object that is there."""
+        chance, writer = self.chance, self.writer
+        contents = [content for content, _ in writer.store.objects.values()]
+        taken = chance.choice(contents + [pattern(0, chance.choice(LENGTHS)), chance.randbytes(chance.choice(LENGTHS))])
+        tenant, address = writer.tenant(), chance.choice((None, address_of(taken), writer.address().lower()))
+        line = f"file {tenant} {len(taken)}" if address is None else f"fileas {tenant} {address} {len(taken)}"
+        if chance.random() < 0.05:
+            self.data += spoilt(chance, line).encode() + b"\n" + taken
+            return
+        self.data += line.encode() + b"\n" + taken
+        try:
+            file(writer.store, tenant, taken, address)
+        except Refused:
+            pass
+
     def question(self):
         """One of a session's own lines without bytes after it, with values in place of the names of its fields."""
         chance, writer = self.chance, self.writer
@@ -50,8 +67,10 @@ class Session:
         kind = self.chance.random()
         if not self.writer.lines or kind < 0.5:
             self.add_line(self.writer.line())
-        elif kind < 0.75:
+        elif kind < 0.7:
             self.part()
+        elif kind < 0.8:
+            self.filing()
         else:
             self.question()
 

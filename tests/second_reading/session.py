@@ -3,9 +3,11 @@ import re
 
 from questions import QUESTIONS
 from script import ADDRESS, NUMBER, call_of
-from store import Refused, Store
+from store import MAX_PART, Refused, Store
 
-LINES = ["putb U OFFSET LEN", "fetchb T ADDRESS", "fetchb T ADDRESS FROM LEN", *QUESTIONS]
+# followed by as many raw bytes as their last field says
+WITH_BYTES = ["putb U OFFSET LEN", "file T LEN", "fileas T ADDRESS LEN"]
+LINES = [*WITH_BYTES, "fetchb T ADDRESS", "fetchb T ADDRESS FROM LEN", *QUESTIONS]
 
 
 def pattern_of(line):
@@ -29,7 +31,7 @@ def request_of(line):
 def bytes_after(line):
     """How many raw bytes follow a line."""
     form, values = request_of(line) or ("", [])
-    return values[2] if form.startswith("putb ") else 0
+    return values[-1] if form in WITH_BYTES else 0
 
 
 def text_of(lines):
@@ -60,11 +62,27 @@ def content_answer(store, tenant, address, first=0, length=None):
     return b"bytes %d\n" % len(content) + content
 
 
+def file(store, tenant, content, address=None):
+    """Files an object as a client does that puts the greatest parts, and aborts the upload after a refusal."""
+    number = int(store.begin(tenant, len(content))[0].split()[1])
+    try:
+        for offset in range(0, len(content), MAX_PART):
+            store.put(number, offset, content[offset : offset + MAX_PART])
+        return store.seal(number, address)
+    except Refused:
+        store.abort(number)
+        raise
+
+
 def answer_to(store, line, taken):
     """The answer to a line with the bytes after it, unless it is refused."""
     form, values = request_of(line) or ("", [])
     if form.startswith("putb "):
         return text_of(store.put(values[0], values[1], taken))
+    if form == "file T LEN":
+        return text_of(file(store, values[0], taken))
+    if form == "fileas T ADDRESS LEN":
+        return text_of(file(store, values[0], taken, values[1]))
     if form.startswith("fetchb "):
         return content_answer(store, *values)
     if form:

@@ -153,6 +153,35 @@ def halves_of_commands(program):
         return found + differences((server.ask("journal"), b"journal 3\ntenant 0 5000\nbegin 0 0 3\nbegin 1 0 3\n"), (server.end(), 0))
 
 
+CUT_FILES = (b"file 0 4", b"file 0 4\n", b"file 0 4\nabc", b"file 0 4000\n" + bytes(3999), b"fileas 0 " + b"0" * 64 + b" 4\nabc", b"file 0 9000\nabc")
+"""What a client can have sent when it dies, which is no whole file."""
+
+
+def none_is_open(session):
+    """Whether no upload of the tenant is open in time."""
+    end = time.monotonic() + SOON
+    while answered(session, "uploads 0") != b"uploads 0\n":
+        if time.monotonic() > end:
+            return False
+    return True
+
+
+def files_that_are_cut_off(program):
+    """A client that ends within a file has filed nothing, and no upload of its is open."""
+    with Server(program, 2) as server:
+        found = differences((server.ask("tenant 5000"), b"tenant 0\n"))
+        for cut in CUT_FILES:
+            with server.session() as session:
+                found += differences((answered(session, "has 0 " + "0" * 64), b"refused S12\n"))
+                session.send(cut)
+            with server.session() as session:
+                found += differences((none_is_open(session), True), (answered(session, "usage 0"), b"used 0 reserved 0 limit 5000\n"))
+        with server.session() as session:
+            filed, wanted = session.ask("file 0 3", b"abc", SOON), file_one(session)[1]
+            found += differences((filed.replace(b"new", b"known"), wanted), (none_is_open(session), True))
+        return found + differences((server.end(), 0))
+
+
 def answers_before_it_waits(program):
     """What was sent together is answered, in order, while the next line or the bytes of a part are only half there."""
     with Server(program, 1) as server, server.session() as session:
@@ -214,6 +243,7 @@ LONE_CASES = {
     "bad lines at the door": bad_lines_at_the_door,
     "pipes that are not there": pipes_that_are_not_there,
     "halves of commands": halves_of_commands,
+    "files that are cut off": files_that_are_cut_off,
     "answers before it waits": answers_before_it_waits,
     "the end of standard input": the_end_of_standard_input,
     "clients that say nothing": many_that_say_nothing,

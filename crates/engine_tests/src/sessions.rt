@@ -41,12 +41,12 @@ const OTHER: &[u8] =
 
 const OTHER_ANSWERS: &[u8] = b"held 3 all\nbytes 2\nbc";
 
-// A part of the second upload, pages of the journal, and its end after two more commands.
+// A part of the second upload, pages of the journal, its end after two more commands, and a file that is refused and one that is not.
 const PAGES: &[u8] =
-    b"putb 2 0 2\nabusage 0\nentries 0 2\nentries 3 2\nentries 5 9\nentries 8 1\nentries 0 0\nseal 1\nabort 2\nentries 8 3\nentries 9\n";
+    b"putb 2 0 2\nabusage 0\nentries 0 2\nentries 3 2\nentries 5 9\nentries 8 1\nentries 0 0\nseal 1\nabort 2\nentries 8 3\nentries 9\nfile 0 6\nabcdefcounts\nfileas 0 2dc99999a6aaef3f20349d2ed4057a2b54419545dabb809e6381de1bad8337e2 2\nabentries 12\n";
 
 const PAGES_ANSWERS: &[u8] =
-    b"held 2 all\nused 3 reserved 5 limit 8\njournal 2\ntenant 0 8\nbegin 0 0 3\njournal 2\nseal 0 6437b3ac38465133ffb63b75273a8db548c558465d79db03fd359c6cd5bd9d85 new\nbegin 1 0 3\njournal 3\nbegin 2 0 2\nput 1 0 3\nput 2 0 2\njournal 0\njournal 0\nknown 6437b3ac38465133ffb63b75273a8db548c558465d79db03fd359c6cd5bd9d85 3\nok\njournal 2\nseal 1 6437b3ac38465133ffb63b75273a8db548c558465d79db03fd359c6cd5bd9d85 known\nabort 2\njournal 1\nabort 2\n";
+    b"held 2 all\nused 3 reserved 5 limit 8\njournal 2\ntenant 0 8\nbegin 0 0 3\njournal 2\nseal 0 6437b3ac38465133ffb63b75273a8db548c558465d79db03fd359c6cd5bd9d85 new\nbegin 1 0 3\njournal 3\nbegin 2 0 2\nput 1 0 3\nput 2 0 2\njournal 0\njournal 0\nknown 6437b3ac38465133ffb63b75273a8db548c558465d79db03fd359c6cd5bd9d85 3\nok\njournal 2\nseal 1 6437b3ac38465133ffb63b75273a8db548c558465d79db03fd359c6cd5bd9d85 known\nabort 2\njournal 1\nabort 2\nrefused S6 free 5\nentries 10 tenants 1 objects 1 bytes 3 uploads 0 held 0 parts 0\nnew 2dc99999a6aaef3f20349d2ed4057a2b54419545dabb809e6381de1bad8337e2 2\njournal 1\nseal 3 2dc99999a6aaef3f20349d2ed4057a2b54419545dabb809e6381de1bad8337e2 new\n";
 
 // A session's share, and what it has seen.
 type Client<L> = (Share<L>, Front<L>);
@@ -70,7 +70,11 @@ fn serve_in_turn<L: Ledgers, R: Wait + AllocGlobal + Runtime>(
 fn are_whole<L: Ledgers>(locked: &mut Locked<L>, share: Share<L>, other: Share<L>) -> bool {
     let mut share = share;
     locked.join(&mut share, other);
-    locked.settle(&mut share) == Ok(Accepted { bytes: 8, calls: 3 })
+    locked.settle(&mut share)
+        == Ok(Accepted {
+            bytes: 10,
+            calls: 4,
+        })
 }
 
 // Shows the whole journal to the one that has seen more.

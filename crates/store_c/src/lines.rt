@@ -16,7 +16,7 @@ use store_core::{Entry, Refusal, Store, entry_lines};
 use store_handle::{Handle, Kept};
 use store_lines::serve_over;
 
-/// The lines end within the bytes of a `putb`, which was not run.
+/// The lines end within the bytes after a line: a `putb` was not run, or a `file` was aborted.
 const TRUNCATED: u32 = 67;
 
 /// Out of memory for an answer: the lines up to that one were run, and the text is a prefix of their answers.
@@ -26,9 +26,9 @@ const ANSWER_LOST: u32 = 68;
 const TOO_MANY_LINES: u32 = 69;
 
 /// Runs the lines of a session on a store, and has a closed handle keep the text of their answers. Returns 0; 67 if the lines end within the
-/// bytes of a `putb`, which is not run; 68 if there is no memory for an answer: then the lines up to that one were run, and the text is cut
-/// off; 14 if there is no memory before the first line, 64 if the first handle keeps no store, 65 if the second is open: then nothing
-/// changes.
+/// bytes after a line: a `putb` is then not run, and a `file` is aborted; 68 if there is no memory for an answer: then the lines up to that
+/// one were run, and the text is cut off; 14 if there is no memory before the first line, 64 if the first handle keeps no store, 65 if the
+/// second is open: then nothing changes.
 #[unsafe(no_mangle)]
 pub extern "C" fn b3store_lines(
     alloc: Global,

@@ -202,6 +202,7 @@ fn script_lines() -> &'static str {
 fn session_lines() -> &'static str {
     listed_lines!(
         "\n  putb U OFFSET LEN   a part of upload U: the LEN raw bytes after the line",
+        "\n  file T LEN          file the LEN raw bytes after the line; fileas T ADDRESS LEN, if that is their address",
         "\n  fetchb T ADDRESS    the object's bytes, raw; with FROM LEN, those of a range",
         "\n  has T ADDRESS       the object's length",
         "\n  uploads T           the tenant's open uploads",

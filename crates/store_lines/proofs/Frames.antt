@@ -5,7 +5,7 @@ use Rattle.store_core.specs.Model.{ModelStore}
 use Rattle.store_lines.specs.Requests.{request_in}
 use Rattle.store_lines.specs.Session.{AreSessionTurns, IsTurnOfRequest, SessionTurn}
 use Rattle.store_lines.specs.declared.request.Request.{Request}
-use Rattle.store_lines.specs.declared.request.Request.TheVariants.{Asks, Does, Entries, Fetch, Put, PutRaw}
+use Rattle.store_lines.specs.declared.request.Request.TheVariants.{Asks, Does, Entries, Fetch, File, Put, PutRaw}
 
 one_rest : (old new old2 new2 : ModelStore) (request : Option Request) (whole following : List ℕ) (turn turn2 : SessionTurn) (rest rest2 : List ℕ)
     → IsTurnOfRequest old request whole following turn new rest → IsTurnOfRequest old2 request whole following turn2 new2 rest2 → rest ≡ rest2
@@ -13,6 +13,7 @@ one_rest old new old2 new2 None whole following turn turn2 rest rest2 h k = h.1 
 one_rest old new old2 new2 (Some (Does command)) whole following turn turn2 rest rest2 h k = h.1 ∙ sym k.1
 one_rest old new old2 new2 (Some (Put part)) whole following turn turn2 rest rest2 h k = h.1 ∙ sym k.1
 one_rest old new old2 new2 (Some (PutRaw part)) whole following turn turn2 rest rest2 h k = h.2 ∙ sym k.2
+one_rest old new old2 new2 (Some (File filing)) whole following turn turn2 rest rest2 h k = h.2 ∙ sym k.2
 one_rest old new old2 new2 (Some (Fetch wanted)) whole following turn turn2 rest rest2 h k = h.1 ∙ sym k.1
 one_rest old new old2 new2 (Some (Asks question)) whole following turn turn2 rest rest2 h k = h.1 ∙ sym k.1
 one_rest old new old2 new2 (Some (Entries range)) whole following turn turn2 rest rest2 h k = h.1 ∙ sym k.1

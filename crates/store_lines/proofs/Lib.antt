@@ -12,6 +12,8 @@ mod Lines
 mod Parts
 pub mod Steps
 mod Puts
+mod FileParts
+mod Files
 mod Reports
 mod Serves
 mod Under

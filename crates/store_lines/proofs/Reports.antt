@@ -17,11 +17,11 @@ use Rattle.store_lines.specs.declared.answer.Answer.{Answer}
 use Rattle.store_lines.specs.Texts.{entries_text, refused_text}
 use Rattle.store_lines.specs.Questions.{answer_text}
 use Rattle.store_lines.proofs.Read.{found}
-use Rattle.store_lines.specs.Session.{SessionTurn, as_range, as_script, no_memory, ranged, raw_text, reported_as}
+use Rattle.store_lines.specs.Session.{SessionTurn, as_range, as_script, filed, no_memory, ranged, raw_text, reported_as}
 use Rattle.store_lines.specs.declared.request.EntryRange.{EntryRange}
 use Rattle.store_lines.specs.declared.request.Range.{Range}
 use Rattle.store_lines.specs.declared.request.Request.{Request}
-use Rattle.store_lines.specs.declared.request.Request.TheVariants.{Asks, Does, Entries, Fetch, Put, PutRaw}
+use Rattle.store_lines.specs.declared.request.Request.TheVariants.{Asks, Does, Entries, Fetch, File, Put, PutRaw}
 use Rattle.store_lines.specs.Access.{advance, at, SessionState, Reach, ReportedEntries, ReportedThese, Took}
 use Rattle.store_lines.specs.inner.Reporting.{AnsweredOver, ReportedOver}
 use Rattle.store_lines.specs.Turns.{IsLinkedBytes, IsLinkedCall, IsLinkedCommand, IsLinkedEntries, IsLinkedLine, IsLinkedPut, IsLinkedRequest, IsLinkedScriptLine}
@@ -97,17 +97,20 @@ plays reach old new (b ∷ line) turn command some is h = subst (λ o. IsLinkedC
 call_turn : (reach : Reach) (old new : SessionState) (line : List ℕ) (request : Request) (call : Call) (turn : SessionTurn) → 0 < length line → Some request ≡ command_at line → ((t : Turn) → IsLinkedCall reach as_script old call (reported_as as_script t) new → IsLinkedCommand reach old (Some request) t new)
     → IsLinkedCall reach as_script old call turn new → IsLinkedScriptLine reach old line turn new
 call_turn reach old new line request call no_memory some is f h = absurd h
+call_turn reach old new line request call (filed turns) some is f h = absurd h
 call_turn reach old new line request call (reported_as manner turn) some is f h = (h.0, plays reach old new line turn (Some request) some is (f turn (refl, h.1)))
 
 entries_turn : (reach : Reach) (old new : SessionState) (line : List ℕ) (range : EntryRange) (turn : SessionTurn) → 0 < length line → Some (Entries range) ≡ command_at line → IsLinkedEntries reach range old turn new → IsLinkedScriptLine reach old line turn new
 entries_turn reach old new line range no_memory some is h =
     let spelled : IsSpelled line (Entries range) = found line (Entries range) (sym is) in
     (inr (inr (h.0, subst (λ (r : EntryRange). command_at line ≡ Some (Entries r)) spelled.1 (sym is))), h.1)
+entries_turn reach old new line range (filed turns) some is h = absurd h
 entries_turn reach old new line range (reported_as manner turn) some is h = (h.0, plays reach old new line turn (Some (Entries range)) some is h.1)
 
 bytes_turn : (reach : Reach) (old new : SessionState) (line : List ℕ) (request : Request) (upload offset : ℕ) (bytes : List ℕ) (turn : SessionTurn) → 0 < length line → Some request ≡ command_at line → ((t : Turn) → IsLinkedPut reach old upload offset bytes t new → IsLinkedCommand reach old (Some request) t new)
     → IsLinkedBytes reach old upload offset bytes turn new → IsLinkedScriptLine reach old line turn new
 bytes_turn reach old new line request upload offset bytes no_memory some is f h = absurd h
+bytes_turn reach old new line request upload offset bytes (filed turns) some is f h = absurd h
 bytes_turn reach old new line request upload offset bytes (reported_as manner turn) some is f h = (h.0, plays reach old new line turn (Some request) some is (f turn h.1))
 
 -- the turn of a script's request is that of its line
@@ -116,5 +119,6 @@ script_turn reach old new line whole following rest (Does command) turn some is 
 script_turn reach old new line whole following rest (Asks question) turn some is h = (call_turn reach old new line (Asks question) _ turn some is (λ t k. k.1) h.0, h.1)
 script_turn reach old new line whole following rest (Put part) turn some is h = (bytes_turn reach old new line (Put part) part.upload part.offset part.bytes turn some is (λ t k. k) h.0, h.1)
 script_turn reach old new line whole following rest (PutRaw part) turn some is h = absurd (found line (PutRaw part) (sym is))
+script_turn reach old new line whole following rest (File filing) turn some is h = absurd (found line (File filing) (sym is))
 script_turn reach old new line whole following rest (Fetch wanted) turn some is h = absurd (found line (Fetch wanted) (sym is))
 script_turn reach old new line whole following rest (Entries range) turn some is h = (entries_turn reach old new line range turn some is h.0, h.1)

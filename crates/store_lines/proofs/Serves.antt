@@ -10,16 +10,17 @@ use Rattle.store_lines.specs.Script.{bad, skipped}
 use Rattle.store_lines.specs.declared.answer.Answer.{Answer}
 use Rattle.store_lines.specs.inner.Requests.{IsFound, IsLineOf, IsOwnOrScript}
 use Rattle.store_lines.specs.Requests.{request_in}
-use Rattle.store_lines.specs.Session.{IsShort, MayTakeMemory, SessionTurn, as_script, no_memory, reported_as, session_turn_text}
+use Rattle.store_lines.specs.Session.{IsShort, MayTakeMemory, SessionTurn, as_script, filed, no_memory, reported_as, session_turn_text}
 use Rattle.edge.specs.declared.lines.LineRead.{LineRead}
 use Rattle.store_lines.specs.declared.request.Request.{Request}
+use Rattle.store_lines.specs.declared.request.Filing.{Filing}
 use Rattle.store_lines.specs.declared.request.RawPart.{RawPart}
-use Rattle.store_lines.specs.declared.request.Request.TheVariants.{PutRaw}
+use Rattle.store_lines.specs.declared.request.Request.TheVariants.{File, PutRaw}
 use Rattle.store_lines.specs.declared.session_line.Line.{Line}
 use Rattle.store_lines.specs.declared.session_line.Line.TheVariants as lines
-use Rattle.store_lines.specs.Access.{SessionState, Reach}
-use Rattle.store_lines.specs.inner.Reporting.{ReceivesOver, ReportedOver, ServesLineOver, ServesOver, ServesReadOver, ServesRequestOver}
-use Rattle.store_lines.specs.Turns.{IsLinkedRequest, IsLinkedScriptLine, MayLack}
+use Rattle.store_lines.specs.Access.{SessionState, Reach, at}
+use Rattle.store_lines.specs.inner.Reporting.{FilesOver, Leaves, LeavesLineOver, LeavesOver, ReceivesOver, ReportedOver, ServesLineOver, ServesOver, ServesReadOver, ServesRequestOver}
+use Rattle.store_lines.specs.Turns.{IsCut, IsLinkedRequest, IsLinkedScriptLine, MayLack}
 use Rattle.store_lines.proofs.Read.{found}
 use Rattle.store_lines.proofs.Reports.{plays, put_reported, script_turn}
 
@@ -63,18 +64,72 @@ served_raw (Some following) left Wrote reach was is part got answer same h wrote
       );
     }
 
+-- a request that added nothing to the account
+pub leaves_over : (reach : Reach) (was is : SessionState → Type 0) (request : Option Request) (following : List ℕ) → Leaves reach was is → LeavesOver reach was is request following
+leaves_over reach was is request following l = record { leaves = λ before session. let k = l.leaves before session in (at before k.0, (inl (k.0, k.1.0, refl), k.1.1)) }
+
+pub leaves_now : (now : Option (List ℕ)) (reach : Reach) (was is : SessionState → Type 0) (request : Option Request) → Leaves reach was is → IfSome now (λ following. LeavesOver reach was is request following)
+leaves_now None reach was is request l = tt
+leaves_now (Some following) reach was is request l = leaves_over reach was is request following l
+
 pub served_none : (now left w : Option (List ℕ)) (reach : Reach) (was is : SessionState → Type 0) (part : RawPart) (got : Option Answer) → got ≡ None → IfSome now (λ following. ReceivesOver reach was is got part.upload part.offset part.len following left)
     → IfSome now (λ following. ServesRequestOver reach was is false (PutRaw part) following left (Appends w w))
 served_none None left w reach was is part got same h = tt
 served_none (Some following) left w reach was is part got same h =
     let h2 = subst (λ (o : Option Answer). ReceivesOver reach was is o part.upload part.offset part.len following left) same h in
+    record { serves = λ whole. (h2.0, Appends-nil w, leaves_over reach was is (Some (PutRaw part)) following h2.1, h2.2) }
+
+-- a file
+pub served_file : (now left : Option (List ℕ)) (Wrote : List ℕ → Type 0) (reach : Reach) (was is : SessionState → Type 0) (filing : Filing) (got : Option Answer) (answer : Answer) → got ≡ Some answer → IfSome now (λ following. FilesOver reach was is got filing following left) → Wrote (reported_text [] answer)
+    → IfSome now (λ following. ServesRequestOver reach was is true (File filing) following left Wrote)
+served_file None left Wrote reach was is filing got answer same h wrote = tt
+served_file (Some following) left Wrote reach was is filing got answer same h wrote =
+    let h2 = subst (λ (o : Option Answer). FilesOver reach was is o filing following left) same h in
+    record {
+      serves = λ whole. (
+        drop filing.len following,
+        (
+          h2.1,
+          record {
+            turn = filed h2.2.turns;
+            goes = λ before session. let g = h2.2.goes before session in (g.0, (g.1.0, (g.1.1, h2.0, refl)));
+            wrote = subst Wrote (h2.2.text_is []) wrote;
+          },
+        ),
+      );
+    }
+
+pub served_no_file : (now left w : Option (List ℕ)) (reach : Reach) (was is : SessionState → Type 0) (filing : Filing) (got : Option Answer) → got ≡ None → IfSome now (λ following. FilesOver reach was is got filing following left)
+    → IfSome now (λ following. ServesRequestOver reach was is false (File filing) following left (Appends w w))
+served_no_file None left w reach was is filing got same h = tt
+served_no_file (Some following) left w reach was is filing got same h =
+    let h2 = subst (λ (o : Option Answer). FilesOver reach was is o filing following left) same h in
     record { serves = λ whole. (h2.0, Appends-nil w, h2.1, h2.2) }
 
 -- ---- a line
 
 not_short : (line following : List ℕ) (request : Request) → Some request ≡ command_at line → IsShort (Some request) following → ⊥
 not_short line following (PutRaw part) is h = found line (PutRaw part) (sym is)
+not_short line following (File filing) is h = found line (File filing) (sym is)
 not_short line following _ is h = h
+
+not_cut : (reach : Reach) (old new : SessionState) (line following : List ℕ) (request : Request) → Some request ≡ command_at line → IsCut reach old (Some request) following new → ⊥
+not_cut reach old new line following (File filing) is h = found line (File filing) (sym is)
+not_cut reach old new line following _ is h = h
+
+has_left : (whole following : List ℕ) (reach : Reach) (was is : SessionState → Type 0) (request : Request) → IsOwnOrScript whole (lines.Has request) → LeavesOver reach was is (Some request) following → LeavesOver reach was is (request_in whole) following
+has_left whole following reach was is request (inl own) l = subst (λ (q : Option Request). LeavesOver reach was is q following) own l
+has_left whole following reach was is request (inr of) l =
+    let read : (0 < length (strip_last 10 whole)) × (Some request ≡ command_at (strip_last 10 whole)) = of.1 in
+    record {
+      leaves = λ before session.
+          let k = l.leaves before session in
+          (k.0, (elim k.1.0 [ inl kept ↦ inl kept | inr cut ↦ absurd (not_cut reach before k.0 (strip_last 10 whole) following request read.1 cut) ], k.1.1));
+    }
+
+pub left_has : (now : Option (List ℕ)) (reach : Reach) (was is : SessionState → Type 0) (line : Line) (request : Request) → line ≡ lines.Has request → IfSome now (λ following. LeavesOver reach was is (Some request) following) → IfSome now (λ following. LeavesLineOver reach was is line following)
+left_has None reach was is line request same l = tt
+left_has (Some following) reach was is line request same l = record { leaves = λ whole own. has_left whole following reach was is request (subst (IsOwnOrScript whole) same own) l }
 
 has_served : (is_whole : Bool) (whole following : List ℕ) (left : Option (List ℕ)) (Wrote : List ℕ → Type 0) (reach : Reach) (was is : SessionState → Type 0) (request : Request) → IsOwnOrScript whole (lines.Has request) → ServesOver reach was is is_whole (Some request) whole following left Wrote
     → ServesOver reach was is is_whole (request_in whole) whole following left Wrote

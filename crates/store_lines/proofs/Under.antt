@@ -17,7 +17,10 @@ use Rattle.store_lines.specs.Session.{SessionTurn, session_turn_text}
 use Rattle.edge.specs.Lines.{HasNewline}
 use Rattle.edge.specs.declared.lines.LineRead.{LineRead}
 use Rattle.store_lines.specs.Access.{SessionState, Reach}
-use Rattle.store_lines.specs.inner.Reporting.{Leaves, ServesOver, ServesReadOver}
+use Rattle.store_lines.specs.declared.request.Request.{Request}
+use Rattle.store_lines.specs.declared.session_line.Line.{Line}
+use Rattle.store_lines.specs.inner.Requests.{IsFound}
+use Rattle.store_lines.specs.inner.Reporting.{LeavesLineOver, LeavesOver, ServesOver, ServesReadOver}
 use Rattle.store_lines.specs.Turns.{AreLinkedTurns, IsLinkedFirstLine, ServedAllOver, ServedCutOver, ServedOver, ServedSomeOver}
 
 -- the lines before the rest were served: what they came to, and what was written
@@ -38,8 +41,24 @@ text_more : (turns : List SessionTurn) (turn : SessionTurn) → flat_map session
 text_more turns turn = flat_map-append session_turn_text turns (turn ∷ []) ∙ ap (λ xs. flat_map session_turn_text turns ++ xs) (append-nil (session_turn_text turn))
 
 -- nothing is done between two lines
-pub rests : (reach : Reach) (is : SessionState → Type 0) → Leaves reach is is
-rests reach is = record { leaves = λ before session. (before.store, (inl refl, session)) }
+rests : (reach : Reach) (is : SessionState → Type 0) (request : Option Request) (following : List ℕ) → LeavesOver reach is is request following
+rests reach is request following = record { leaves = λ before session. (before, (inl (before.store, inl refl, refl), session)) }
+
+-- what the first line of the rest left, which was not answered
+abbrev pub LeftBy : Reach → (SessionState → Type 0) → (SessionState → Type 0) → List ℕ → Type 0
+LeftBy reach was is rest = LeavesOver reach was is (request_in (take_through 10 rest)) (drop_through 10 rest)
+
+pub unread : (reach : Reach) (is : SessionState → Type 0) (now : Option (List ℕ)) → IfSome now (λ rest. LeftBy reach is is rest)
+unread reach is None = tt
+unread reach is (Some rest) = rests reach is (request_in (take_through 10 rest)) (drop_through 10 rest)
+
+-- what a line left that was read like this
+pub left_read : (reach : Reach) (was is : SessionState → Type 0) (now then : Option (List ℕ)) (read : LineRead) (kept : List ℕ) (line : Line) → IsFound read kept line → IfSome now (λ left. IsSessionLine (take_through 10 left) read kept) → DropsThrough now then 10
+    → IfSome then (λ following. LeavesLineOver reach was is line following) → IfSome now (λ rest. LeftBy reach was is rest)
+left_read reach was is None then read kept line f r drops l = tt
+left_read reach was is (Some rest) then read kept line f r drops l =
+    let l2 = subst (λ (o : Option (List ℕ)). IfSome o (λ following. LeavesLineOver reach was is line following)) drops l in
+    l2.leaves (take_through 10 rest) (f.is (take_through 10 rest) r)
 
 pub begun : (reach : Reach) (was : SessionState → Type 0) (old w : Option (List ℕ)) → IfSome old (IsUnder reach was was old w w)
 begun reach was None w = tt
@@ -48,20 +67,22 @@ begun reach was (Some input) w = record { rest = input; left = refl; turns = [];
 answered : (reach : Reach) (was is : SessionState → Type 0) (now w1 w2 : Option (List ℕ)) (input : List ℕ) (h : IsUnder reach was is now w1 w2 input) → ServedOver reach was is input (flat_map session_turn_text h.turns) h.rest
 answered reach was is now w1 w2 input h = record {
   turns = h.turns;
-  plays = λ start session. let p = h.plays start session in (p.0, (p.1.1, (p.0.store, (inl refl, p.1.0))));
+  plays = λ start session. let p = h.plays start session in (p.0, (p.1.1, (p.0, (inl (p.0.store, inl refl, refl), p.1.0))));
   text_is = refl;
 }
 
-answered_cut : (reach : Reach) (was mid is : SessionState → Type 0) (now w1 w2 : Option (List ℕ)) (input : List ℕ) (h : IsUnder reach was mid now w1 w2 input) → Leaves reach mid is → ServedOver reach was is input (flat_map session_turn_text h.turns) h.rest
+answered_cut : (reach : Reach) (was mid is : SessionState → Type 0) (now w1 w2 : Option (List ℕ)) (input : List ℕ) (h : IsUnder reach was mid now w1 w2 input) → LeftBy reach mid is h.rest → ServedOver reach was is input (flat_map session_turn_text h.turns) h.rest
 answered_cut reach was mid is now w1 w2 input h l = record {
   turns = h.turns;
   plays = λ start session. let p = h.plays start session in (p.0, (p.1.1, l.leaves p.0 p.1.0));
   text_is = refl;
 }
 
-pub stopped : (reach : Reach) (was mid is : SessionState → Type 0) (old now w1 w2 : Option (List ℕ)) → IfSome old (IsUnder reach was mid now w1 w2) → Leaves reach mid is → IfSome old (λ input. ServedSomeOver reach was is input w1 w2)
+pub stopped : (reach : Reach) (was mid is : SessionState → Type 0) (old now w1 w2 : Option (List ℕ)) → IfSome old (IsUnder reach was mid now w1 w2) → IfSome now (λ rest. LeftBy reach mid is rest) → IfSome old (λ input. ServedSomeOver reach was is input w1 w2)
 stopped reach was mid is None now w1 w2 h l = tt
-stopped reach was mid is (Some input) now w1 w2 h l = record { output = flat_map session_turn_text h.turns; rest = h.rest; answered = answered_cut reach was mid is now w1 w2 input h l; wrote = h.wrote }
+stopped reach was mid is (Some input) now w1 w2 h l =
+    let left : LeftBy reach mid is h.rest = subst (λ (o : Option (List ℕ)). IfSome o (λ rest. LeftBy reach mid is rest)) h.left l in
+    record { output = flat_map session_turn_text h.turns; rest = h.rest; answered = answered_cut reach was mid is now w1 w2 input h left; wrote = h.wrote }
 
 pub at_end : (reach : Reach) (was is : SessionState → Type 0) (old now w1 w2 : Option (List ℕ)) (read : LineRead) (kept : List ℕ) → IfSome old (IsUnder reach was is now w1 w2) → IfSome now (λ left. IsSessionLine (take_through 10 left) read kept) → read.count ≡ 0
     → IfSome old (λ input. ServedAllOver reach was is input w1 w2 verdicts.Good)
@@ -188,7 +209,7 @@ cut_off reach was mid is (Some input) now then left w1 w2 w3 read kept ended h r
         plays = λ start session.
             let p = h.plays start session in
             let g = t.goes p.0 p.1.0 in
-            (g.0, (more_play reach start p.0 g.0 input h.rest served1.0 h.turns t.turn p.1.1 (some_left h.rest read kept read2 some, (λ needs. read2.ended (ended needs)), g.1.1), (g.0.store, (inl refl, g.1.0))));
+            (g.0, (more_play reach start p.0 g.0 input h.rest served1.0 h.turns t.turn p.1.1 (some_left h.rest read kept read2 some, (λ needs. read2.ended (ended needs)), g.1.1), (g.0, (inl (g.0.store, inl refl, refl), g.1.0))));
         text_is = refl;
       };
       wrote = subst (λ (x : List ℕ). WroteSome w1 w3 x) (sym (text_more h.turns t.turn)) (some_after w1 w2 w3 (flat_map session_turn_text h.turns) (session_turn_text t.turn) h.wrote t.wrote);

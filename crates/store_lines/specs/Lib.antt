@@ -6,6 +6,7 @@ pub mod Script
 pub mod Lines
 pub mod Spelling
 pub mod Requests
+pub mod Filing
 pub mod Session
 pub mod Access
 pub mod Turns

@@ -7,12 +7,27 @@ use Rattle.store_lines.specs.Grammar.{address_of_digits}
 use Rattle.store_lines.specs.Questions.{question_of_kind, question_of_word}
 use Rattle.store_lines.specs.Lines.{max_request}
 use Rattle.store_lines.specs.declared.request.Request.{Request}
-use Rattle.store_lines.specs.declared.request.Request.TheVariants.{Entries, Fetch, PutRaw}
+use Rattle.store_lines.specs.declared.request.Request.TheVariants.{Entries, Fetch, File, PutRaw}
 
 abbrev pub raw_put_at : List ℕ → Option Request
 raw_put_at fields = do
   numbers ← three_numbers_at fields
   Some (PutRaw (record { upload = numbers.0; offset = numbers.1; len = numbers.2 }))
+
+-- a tenant and a length, and between them the address, if it is given
+abbrev pub file_at : List ℕ → Option Request
+file_at fields = do
+  numbers ← two_numbers_at fields
+  Some (File (record { tenant = numbers.0; address = None; len = numbers.1 }))
+
+abbrev pub file_as_at : List ℕ → Option Request
+file_as_at fields = do
+  cut ← split_at space fields
+  tenant ← number_at cut.0
+  others ← split_at space cut.1
+  address ← address_of_digits others.0
+  len ← number_at others.1
+  Some (File (record { tenant = tenant; address = Some address; len = len }))
 
 -- an address, or an address and a range of its object's bytes
 abbrev pub fetch_of : ℕ → List ℕ → Option (List ℕ × List ℕ) → Option Request
@@ -47,6 +62,8 @@ entries_at fields = entries_of fields (split_at space fields)
 unfoldable pub request_of_kind : List ℕ → List ℕ → Option Request
 request_of_kind kind fields =
     if bytes_eq kind (codes "putb") then raw_put_at fields
+    else if bytes_eq kind (codes "file") then file_at fields
+    else if bytes_eq kind (codes "fileas") then file_as_at fields
     else if bytes_eq kind (codes "fetchb") then fetch_at fields
     else if bytes_eq kind (codes "entries") then entries_at fields
     else question_of_kind kind fields

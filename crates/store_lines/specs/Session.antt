@@ -17,6 +17,7 @@ use Rattle.store_core.specs.Runs.{Call, Run, ask, change}
 use Rattle.store_core.specs.declared.store.questions.Reply.{Reply}
 use Rattle.store_core.specs.declared.store.questions.Reply.TheVariants as replies
 use Rattle.store_core.specs.declared.store.questions.Question.TheVariants as questions
+use Rattle.store_lines.specs.Filing.{FileTurn, IsFiled, outcome_of, turns_of}
 use Rattle.store_lines.specs.Lines.{IsPutLine}
 use Rattle.store_lines.specs.Script.{IsTurnOfPut, range_entries, widest_start}
 use Rattle.store_lines.specs.Script as script
@@ -25,9 +26,10 @@ use Rattle.store_lines.specs.Questions.{reply_text}
 use Rattle.store_lines.specs.Lines.{max_request}
 use Rattle.store_lines.specs.Requests.{request_in}
 use Rattle.store_lines.specs.declared.request.EntryRange.{EntryRange}
+use Rattle.store_lines.specs.declared.request.Filing.{Filing}
 use Rattle.store_lines.specs.declared.request.Range.{Range}
 use Rattle.store_lines.specs.declared.request.Request.{Request}
-use Rattle.store_lines.specs.declared.request.Request.TheVariants.{Asks, Does, Entries, Fetch, Put, PutRaw}
+use Rattle.store_lines.specs.declared.request.Request.TheVariants.{Asks, Does, Entries, Fetch, File, Put, PutRaw}
 
 -- ---- answers
 
@@ -36,10 +38,11 @@ pub data Manner : Type 0 where
   as_script : Manner
   as_range : Option Range → Manner
 
--- the turn of a line: out of memory for it, or the turn of a script's line, written in a manner
+-- the turn of a line: out of memory for it; the turn of a script's line, written in a manner; or the turns of a file
 pub data SessionTurn : Type 0 where
   no_memory : SessionTurn
   reported_as : Manner → script.Turn → SessionTurn
+  filed : FileTurn → SessionTurn
 
 -- the requested bytes of an object, truncated at its end
 abbrev pub ranged : Option Range → List ℕ → List ℕ
@@ -63,6 +66,7 @@ abbrev pub session_turn_text : SessionTurn → List ℕ
 session_turn_text no_memory = refused_text (refusal_text refusals.NoMemory)
 session_turn_text (reported_as as_script turn) = script.turn_text turn
 session_turn_text (reported_as (as_range range) turn) = reported_by (range_text range) turn
+session_turn_text (filed turns) = script.turn_text (outcome_of turns)
 
 -- ---- one line
 
@@ -74,11 +78,13 @@ MayTakeMemory line = (max_request ≤ length line) ⊎ IsPutLine line
 abbrev pub IsTurnOfScriptLine : ModelStore → List ℕ → SessionTurn → ModelStore → Type 0
 IsTurnOfScriptLine old line no_memory new = MayTakeMemory line × (new ≡ old)
 IsTurnOfScriptLine old line (reported_as manner turn) new = (manner ≡ as_script) × script.IsTurnOf old line turn new
+IsTurnOfScriptLine old line (filed turns) new = ⊥
 
 -- a turn with this property is written in this manner
 abbrev pub IsReportedAs : Manner → (script.Turn → Type 0) → SessionTurn → Type 0
 IsReportedAs manner Is no_memory = ⊥
 IsReportedAs manner Is (reported_as reported turn) = (reported ≡ manner) × Is turn
+IsReportedAs manner Is (filed turns) = ⊥
 
 -- one step, with its answer written in this manner
 abbrev pub IsTurnOfCall : Manner → ModelStore → Call → SessionTurn → ModelStore → Type 0
@@ -92,19 +98,30 @@ IsTurnOfEntries old range turn new = IsReportedAs as_script (λ t. (t ≡ script
 abbrev pub IsTurnOfBytes : ModelStore → ℕ → ℕ → List ℕ → SessionTurn → ModelStore → Type 0
 IsTurnOfBytes old upload offset bytes turn new = IsReportedAs as_script (λ t. IsTurnOfPut old upload offset bytes (plan_in old.state upload) t new) turn
 
--- The turn of a line with this request, its effect, and the bytes that remain after it. A raw part takes its bytes, whatever its turn.
+-- a part's put
+abbrev pub IsPartPut : ModelStore → ℕ → ℕ → List ℕ → script.Turn → ModelStore → Type 0
+IsPartPut old upload offset bytes turn new = IsTurnOfPut old upload offset bytes (plan_in old.state upload) turn new
+
+-- the bytes are filed by the steps of a script
+abbrev pub IsTurnOfFile : ModelStore → Filing → List ℕ → SessionTurn → ModelStore → Type 0
+IsTurnOfFile old filing bytes (filed turns) new = IsFiled script.IsTurnOfStep IsPartPut filing bytes old turns new
+IsTurnOfFile old filing bytes _ new = ⊥
+
+-- The turn of a line with this request, its effect, and the bytes that remain after it. A raw part and a file take their bytes, whatever their turn.
 abbrev pub IsTurnOfRequest : ModelStore → Option Request → List ℕ → List ℕ → SessionTurn → ModelStore → List ℕ → Type 0
 IsTurnOfRequest old None whole following turn new rest = IsTurnOfScriptLine old (strip_last 10 whole) turn new × (rest ≡ following)
 IsTurnOfRequest old (Some (Does command)) whole following turn new rest = IsTurnOfCall as_script old (change command) turn new × (rest ≡ following)
 IsTurnOfRequest old (Some (Asks question)) whole following turn new rest = IsTurnOfCall as_script old (ask question) turn new × (rest ≡ following)
 IsTurnOfRequest old (Some (Put part)) whole following turn new rest = IsTurnOfBytes old part.upload part.offset part.bytes turn new × (rest ≡ following)
 IsTurnOfRequest old (Some (PutRaw part)) whole following turn new rest = IsTurnOfBytes old part.upload part.offset (take part.len following) turn new × (part.len ≤ length following) × (rest ≡ drop part.len following)
+IsTurnOfRequest old (Some (File filing)) whole following turn new rest = IsTurnOfFile old filing following turn new × (filing.len ≤ length following) × (rest ≡ drop filing.len following)
 IsTurnOfRequest old (Some (Fetch wanted)) whole following turn new rest = IsTurnOfCall (as_range wanted.range) old (ask (questions.Fetch wanted.tenant wanted.address)) turn new × (rest ≡ following)
 IsTurnOfRequest old (Some (Entries range)) whole following turn new rest = IsTurnOfEntries old range turn new × (rest ≡ following)
 
 -- the request's bytes are truncated
 abbrev pub IsShort : Option Request → List ℕ → Type 0
 IsShort (Some (PutRaw part)) following = length following < part.len
+IsShort (Some (File filing)) following = length following < filing.len
 IsShort _ following = ⊥
 
 -- the turn of the first line of the input
@@ -123,11 +140,13 @@ abbrev pub session_calls : List SessionTurn → List Call
 session_calls [] = []
 session_calls (no_memory ∷ turns) = session_calls turns
 session_calls (reported_as manner turn ∷ turns) = script.calls_of (turn ∷ []) ++ session_calls turns
+session_calls (filed steps ∷ turns) = script.calls_of (turns_of steps) ++ session_calls turns
 
 abbrev pub session_replies : List SessionTurn → List (Result Reply Refusal)
 session_replies [] = []
 session_replies (no_memory ∷ turns) = session_replies turns
 session_replies (reported_as manner turn ∷ turns) = script.replies_of (turn ∷ []) ++ session_replies turns
+session_replies (filed steps ∷ turns) = script.replies_of (turns_of steps) ++ session_replies turns
 
 -- The lines of a prefix of the input were answered in order, from the empty store: their turns, and the bytes that remain after them. The
 -- steps among them are a run of the store, and the invariant of a store holds after it.
@@ -139,7 +158,7 @@ pub record AreServed (input output rest : List ℕ) : Type 0 where
   pub law : IsCarried end
   pub text_is : output ≡ flat_map session_turn_text turns
 
--- no bytes remain; or a part whose bytes are truncated
+-- no bytes remain; or a part or a file whose bytes are truncated
 abbrev pub Ends : Verdict → List ℕ → Type 0
 Ends verdicts.Good rest = rest ≡ []
 Ends verdicts.Refused rest = IsShort (request_in (take_through 10 rest)) (drop_through 10 rest)

@@ -1,5 +1,5 @@
 -- A session over a store that others may change between its steps: its lines, and their answers.
-use Rattle.std.specs.Prelude.{◌≡◌, ◌+◌, ◌++◌, ◌<◌, ◌≤◌, ◌⊎◌, ℕ, true, List, [], ◌∷◌, Option, Some, None, Result, Ok, Err, drop, length, take}
+use Rattle.std.specs.Prelude.{◌≡◌, ◌+◌, ◌++◌, ◌<◌, ◌≤◌, ◌⊎◌, ℕ, true, false, List, [], ◌∷◌, Option, Some, None, Result, Ok, Err, drop, length, take}
 use Rattle.std.specs.List.{flat_map}
 use Rattle.std.specs.Io.BufRead.{drop_through, strip_last, take_through}
 use Rattle.std.specs.Io.KnownBytes.{Appends}
@@ -13,15 +13,17 @@ use Rattle.store_core.specs.Runs.{Call, ask, change, put}
 use Rattle.store_core.specs.declared.store.questions.Question.TheVariants as questions
 use Rattle.store_lines.specs.Grammar.{command_at, whole_journal}
 use Rattle.store_lines.specs.declared.request.Request.{Request}
-use Rattle.store_lines.specs.declared.request.Request.TheVariants.{Asks, Does, Entries, Fetch, Put, PutRaw}
+use Rattle.store_lines.specs.declared.request.Request.TheVariants.{Asks, Does, Entries, Fetch, File, Put, PutRaw}
+use Rattle.store_lines.specs.Filing.{FileTurn, IsAborted, IsFiled, IsPartlyPut, is_accepted, outcome_of}
 use Rattle.store_lines.specs.Lines.{IsPutLine}
 use Rattle.store_lines.specs.Script.{IsTurnOfStep, Turn, bad, listed, range_entries, skipped, took, unmade, unplanned}
 use Rattle.edge.specs.Lines.{HasNewline}
 use Rattle.edge.specs.Output.{WroteSome}
 use Rattle.store_lines.specs.Lines.{max_request}
 use Rattle.store_lines.specs.Requests.{request_in}
-use Rattle.store_lines.specs.Session.{Ends, Manner, SessionTurn, as_range, as_script, no_memory, session_turn_text, reported_as}
+use Rattle.store_lines.specs.Session.{Ends, Manner, SessionTurn, as_range, as_script, filed, no_memory, session_turn_text, reported_as}
 use Rattle.store_lines.specs.declared.request.EntryRange.{EntryRange}
+use Rattle.store_lines.specs.declared.request.Filing.{Filing}
 use Rattle.store_upload.specs.Uploads.{UploadPlan, part_fault}
 use Rattle.store_upload.specs.declared.refusal.PartFault.{PartFault}
 use Rattle.store_upload.specs.declared.refusal.PartFault.TheVariants as faults
@@ -90,20 +92,32 @@ MayLack reach line = (max_request ≤ length line) ⊎ (IsPutLine line ⊎ (reac
 abbrev pub IsLinkedScriptLine : Reach → SessionState → List ℕ → SessionTurn → SessionState → Type 0
 IsLinkedScriptLine reach old line no_memory new = MayLack reach line × (new ≡ old)
 IsLinkedScriptLine reach old line (reported_as manner turn) new = (manner ≡ as_script) × IsLinkedLine reach old line turn new
+IsLinkedScriptLine reach old line (filed turns) new = ⊥
 
 -- one step, with its answer written in a manner
 abbrev pub IsLinkedCall : Reach → Manner → SessionState → Call → SessionTurn → SessionState → Type 0
 IsLinkedCall reach manner old call no_memory new = ⊥
 IsLinkedCall reach manner old call (reported_as reported turn) new = (reported ≡ manner) × IsLinkedStep reach old call turn new
+IsLinkedCall reach manner old call (filed turns) new = ⊥
 
 -- the journal's entries, for which an allocation may fail
 abbrev pub IsLinkedEntries : Reach → EntryRange → SessionState → SessionTurn → SessionState → Type 0
 IsLinkedEntries reach range old no_memory new = reach.lacks × (new ≡ old)
 IsLinkedEntries reach range old (reported_as reported turn) new = (reported ≡ as_script) × IsLinkedListing reach old range turn new
+IsLinkedEntries reach range old (filed turns) new = ⊥
 
 abbrev pub IsLinkedBytes : Reach → SessionState → ℕ → ℕ → List ℕ → SessionTurn → SessionState → Type 0
 IsLinkedBytes reach old upload offset bytes no_memory new = ⊥
 IsLinkedBytes reach old upload offset bytes (reported_as reported turn) new = (reported ≡ as_script) × IsLinkedPut reach old upload offset bytes turn new
+IsLinkedBytes reach old upload offset bytes (filed turns) new = ⊥
+
+-- the steps of a file, each from a state that is linked to what the one before it left
+abbrev pub AreLinkedSteps : Reach → Filing → List ℕ → SessionState → FileTurn → SessionState → Type 0
+AreLinkedSteps reach filing bytes old turns new = IsFiled (IsLinkedStep reach) (IsLinkedPut reach) filing bytes old turns new
+
+abbrev pub IsLinkedFile : Reach → SessionState → Filing → List ℕ → SessionTurn → SessionState → Type 0
+IsLinkedFile reach old filing bytes (filed turns) new = AreLinkedSteps reach filing bytes old turns new
+IsLinkedFile reach old filing bytes _ new = ⊥
 
 -- the turn of a line with this request, its effect, and the bytes that remain after it
 abbrev pub IsLinkedRequest : Reach → SessionState → Option Request → List ℕ → List ℕ → SessionTurn → SessionState → List ℕ → Type 0
@@ -112,6 +126,7 @@ IsLinkedRequest reach old (Some (Does command)) whole following turn new rest = 
 IsLinkedRequest reach old (Some (Asks question)) whole following turn new rest = IsLinkedCall reach as_script old (ask question) turn new × (rest ≡ following)
 IsLinkedRequest reach old (Some (Put part)) whole following turn new rest = IsLinkedBytes reach old part.upload part.offset part.bytes turn new × (rest ≡ following)
 IsLinkedRequest reach old (Some (PutRaw part)) whole following turn new rest = IsLinkedBytes reach old part.upload part.offset (take part.len following) turn new × (part.len ≤ length following) × (rest ≡ drop part.len following)
+IsLinkedRequest reach old (Some (File filing)) whole following turn new rest = IsLinkedFile reach old filing following turn new × (filing.len ≤ length following) × (rest ≡ drop filing.len following)
 IsLinkedRequest reach old (Some (Fetch wanted)) whole following turn new rest = IsLinkedCall reach (as_range wanted.range) old (ask (questions.Fetch wanted.tenant wanted.address)) turn new × (rest ≡ following)
 IsLinkedRequest reach old (Some (Entries range)) whole following turn new rest = IsLinkedEntries reach range old turn new × (rest ≡ following)
 
@@ -120,7 +135,7 @@ IsLinkedFirstLine reach old input turn new rest = (0 < length input) × (reach.n
 
 -- ---- a session
 
--- no bytes remain; or a part whose bytes are truncated, or a line without the newline that it needs
+-- no bytes remain; or a part or a file whose bytes are truncated, or a line without the newline that it needs
 abbrev pub EndsOver : Reach → Verdict → List ℕ → Type 0
 EndsOver reach verdicts.Good rest = rest ≡ []
 EndsOver reach verdicts.Refused rest = Ends verdicts.Refused rest ⊎ ((reach.needs_newline ≡ true) × (0 < length rest) × (HasNewline (take_through 10 rest) → ⊥))
@@ -130,10 +145,35 @@ abbrev pub AreLinkedTurns : Reach → SessionState → List ℕ → List Session
 AreLinkedTurns reach old input [] new rest = (new ≡ old) × (rest ≡ input)
 AreLinkedTurns reach old input (turn ∷ turns) new rest = (mid : SessionState) × (following : List ℕ) × IsLinkedFirstLine reach old input turn mid following × AreLinkedTurns reach mid following turns new rest
 
--- lines of a prefix of the input were answered in order, whatever was left before the session; the account is the session's own in the end
+-- Some parts of a file were put, and it was aborted.
+pub record IsCutShort (reach : Reach) (old : SessionState) (filing : Filing) (bytes : List ℕ) (new : SessionState) : Type 0 where
+  pub upload : ℕ
+  pub begin : Turn
+  pub puts : List Turn
+  pub abort : Turn
+  pub mid : SessionState
+  pub left : ModelStore
+  pub begun : IsPartlyPut (IsLinkedStep reach) (IsLinkedPut reach) filing bytes old upload begin puts mid
+  pub since : IsSince reach mid.store left
+  pub aborted : IsAborted (IsLinkedStep reach) (IsLinkedPut reach) (at mid left) upload abort new
+
+-- or it was refused
+abbrev pub IsCutFile : Reach → SessionState → Filing → List ℕ → SessionState → Type 0
+IsCutFile reach old filing bytes new = IsCutShort reach old filing bytes new ⊎ ((turns : FileTurn) × (is_accepted (outcome_of turns) ≡ false) × AreLinkedSteps reach filing bytes old turns new)
+
+-- what a request leaves that isn't answered: a file whose bytes did not all arrive may have been begun
+abbrev pub IsCut : Reach → SessionState → Option Request → List ℕ → SessionState → Type 0
+IsCut reach old (Some (File filing)) following new = IsCutFile reach old filing following new
+IsCut reach old _ following new = ⊥
+
+abbrev pub IsLeft : Reach → SessionState → Option Request → List ℕ → SessionState → Type 0
+IsLeft reach old request following new = ((left : ModelStore) × IsSince reach old.store left × (new ≡ at old left)) ⊎ IsCut reach old request following new
+
+-- Lines of a prefix of the input were answered in order, whatever was left before the session. The account is the session's own in the end,
+-- with what the next line left that isn't answered.
 pub record ServedOver (reach : Reach) (was is : SessionState → Type 0) (input output rest : List ℕ) : Type 0 where
   pub turns : List SessionTurn
-  pub plays : (start : SessionState) → was start → (end : SessionState) × (AreLinkedTurns reach start input turns end rest × ((left : ModelStore) × (IsSince reach end.store left × is (at end left))))
+  pub plays : (start : SessionState) → was start → (end : SessionState) × (AreLinkedTurns reach start input turns end rest × ((last : SessionState) × (IsLeft reach end (request_in (take_through 10 rest)) (drop_through 10 rest) last × is last)))
   pub text_is : output ≡ flat_map session_turn_text turns
 
 -- the writer grew by the answers to the lines of a prefix of the input

@@ -3,7 +3,7 @@
 ghost use Rattle.std.specs.Prelude.{◌≡◌, ◌<◌, IfErr, IfOk, OnErr, OnOk};
 ghost use Rattle.std.specs.Io.KnownBytes.{Appends};
 ghost use Rattle.edge.specs.Output.{WroteSome};
-ghost use Rattle.store_lines.specs.inner.Answers.{Answered, AnswersRead, PutsRead, reported_ending, reported_text};
+ghost use Rattle.store_lines.specs.inner.Answers.{Answered, AnswersRead, PutsRead, is_good, reported_ending, reported_text};
 ghost use Rattle.store_lines.specs.Lines.{IsPutLine};
 ghost use Rattle.store_lines.specs.Script.{IsTurnOf, fault_ending, reply_ending};
 ghost use Rattle.std.specs.Io.BufRead.{strip_last};
@@ -45,6 +45,16 @@ impl Answer {
             Answer::Bad => Ending::Refused,
             Answer::Unmade(fault) => fault_ending(*fault),
             Answer::Replied(reply) => reply_ending(reply),
+        }
+    }
+
+    /// Whether a run may end well with this answer.
+    pub(crate) fn is_good(&self) -> bool
+        ensures { result ≡ is_good (reported_ending self.now) }
+    {
+        match self.ending() {
+            Ending::Good => true,
+            Ending::Refused | Ending::OutOfMemory => false,
         }
     }
 
@@ -133,6 +143,8 @@ fn answer_line(
         Some(Request::Asks(question)) => Ok(Answer::Replied(store.ask(question))),
         Some(Request::Entries(range)) => Ok(Answer::Entries(range)),
         Some(Request::Put(part)) => Ok(put_bytes(alloc, store, part, work)),
-        None | Some(Request::PutRaw(_)) | Some(Request::Fetch(_)) => Ok(Answer::Bad),
+        None | Some(Request::PutRaw(_)) | Some(Request::File(_)) | Some(Request::Fetch(_)) => Ok(
+            Answer::Bad,
+        ),
     }
 }

@@ -11,7 +11,10 @@
 //! A `put` asks for the upload's plan first (S7), then makes the part (F2 to F6), then puts it; running out of memory while the part is
 //! made is S14.
 //!
-//! The bytes after a `putb` are read whatever its answer is, so that a client may send ahead. If an allocation fails for a line or for
+//! A `file` begins an upload, puts the bytes that follow it, and seals, as the commands do that a client would send for this; its answer is
+//! that of the seal, or the first refusal, after which the upload is aborted (`specs/Filing.antt`).
+//!
+//! The bytes after a line are read whatever its answer is, so that a client may send ahead. If an allocation fails for a line or for
 //! bytes, the answer is `refused S14`, and the session continues: only a failed read or write ends it.
 //!
 //! `serve_over` does the same over a store that a session accesses through an `Access`, and that others may change between two of its
@@ -31,6 +34,7 @@ mod answer;
 mod answering;
 mod digits;
 mod ending;
+mod filing;
 mod giving;
 mod laws;
 mod own;

@@ -101,8 +101,12 @@ pub(crate) fn receive<A: Access, R: BufRead>(
     Ok(Some(put_made(alloc, access, &plan, part, work)))
 }
 
-// Drops `len` bytes, and answers.
-fn dropped<R: BufRead>(reader: &mut R, len: u64, answer: Answer) -> Result<Option<Answer>, Cause>
+/// Drops `len` bytes, and answers.
+pub(crate) fn dropped<R: BufRead>(
+    reader: &mut R,
+    len: u64,
+    answer: Answer,
+) -> Result<Option<Answer>, Cause>
     ensures dropped { IfOk result (λ given. IfSome (R.Read.remaining reader.old) (λ following. Dropped given answer len following (R.Read.remaining reader.new))) }
     ensures cause { IfErr result (λ cause. cause ≡ Cause.CannotRead) }
 {

@@ -2,7 +2,7 @@
 
 ghost use Rattle.std.specs.Prelude.{◌≡◌};
 ghost use Rattle.edge.specs.Fields.{split_at};
-ghost use Rattle.store_lines.specs.Requests.{entries_at, fetch_at, fetch_of, raw_put_at, request_at, request_of_kind};
+ghost use Rattle.store_lines.specs.Requests.{entries_at, fetch_at, fetch_of, file_as_at, file_at, raw_put_at, request_at, request_of_kind};
 ghost use Rattle.store_lines.specs.inner.Requests.{AsksFor};
 
 use crate::answer::without_end;
@@ -53,6 +53,14 @@ pub(crate) struct RawPart {
     pub len: u64,
 }
 
+/// An object whose bytes follow the line of its request: its tenant, its length, and the address that it must have, if that is given.
+#[derive(Clone, Copy, Debug, PartialEq, Eq)]
+pub(crate) struct Filing {
+    pub tenant: TenantId,
+    pub address: Option<Address>,
+    pub len: u64,
+}
+
 /// The bytes of a part that a line states. In contracts they are their list.
 #[derive(Drop)]
 pub(crate) struct PartBytes {
@@ -92,6 +100,8 @@ pub(crate) enum Request {
     Put(Part),
     /// Put the bytes that follow the line.
     PutRaw(RawPart),
+    /// File the bytes that follow the line.
+    File(Filing),
     /// Fetch bytes of an object, and write them as they are.
     Fetch(Wanted),
     /// Write entries of the journal.
@@ -127,6 +137,12 @@ fn request_of_kind(kind: &[u8], fields: &[u8]) -> Option<Request>
     if kind == b"putb".as_slice() {
         return put(fields);
     }
+    if kind == b"file".as_slice() {
+        return file(fields);
+    }
+    if kind == b"fileas".as_slice() {
+        return file_as(fields);
+    }
     if kind == b"fetchb".as_slice() {
         return fetch(fields);
     }
@@ -143,6 +159,32 @@ fn put(fields: &[u8]) -> Option<Request>
     Some(Request::PutRaw(RawPart {
         upload: UploadId::new(upload),
         offset,
+        len,
+    }))
+}
+
+fn file(fields: &[u8]) -> Option<Request>
+    ensures { result ≡ file_at fields.now }
+{
+    let (tenant, len) = two_numbers(fields)?;
+    Some(Request::File(Filing {
+        tenant: TenantId::new(tenant),
+        address: None,
+        len,
+    }))
+}
+
+fn file_as(fields: &[u8]) -> Option<Request>
+    ensures { result ≡ file_as_at fields.now }
+{
+    let (tenant, others) = split_at(fields, b' ')?;
+    let tenant = number(tenant)?;
+    let (digits, len) = split_at(others, b' ')?;
+    let address = address(digits)?;
+    let len = number(len)?;
+    Some(Request::File(Filing {
+        tenant: TenantId::new(tenant),
+        address: Some(address),
         len,
     }))
 }

@@ -1,6 +1,6 @@
 //! The engine.
 
-ghost use Rattle.std.specs.Prelude.{◌≡◌, ◌≢◌, ◌<◌, ◌≤◌, false, true, IfErr, IfOk, IfSome, OnOk, Err, vec_capacity};
+ghost use Rattle.std.specs.Prelude.{◌≡◌, ◌≢◌, ◌<◌, ◌≤◌, false, true, IfErr, IfOk, IfSome, OnOk, Err, Some, vec_capacity};
 ghost use Rattle.std.specs.Io.BufRead.{DropsThrough, take_through};
 ghost use Rattle.std.specs.Io.KnownBytes.{Appends, IsAtEnd};
 ghost use Rattle.edge.specs.Output.{WroteSome};
@@ -8,11 +8,12 @@ ghost use Rattle.store_lines.specs.Lines.{max_request};
 ghost use Rattle.store_lines.specs.inner.Requests.{IsSessionLine};
 ghost use Rattle.store_lines.specs.Session.{ServedAll, ServedCut, ServedSome};
 ghost use Rattle.store_lines.specs.Turns.{ServedAllOver, ServedCutOver, ServedSomeOver};
-ghost use Rattle.store_lines.specs.inner.Reporting.{Leaves, ServesLineOver, ServesRequestOver};
+ghost use Rattle.store_lines.specs.inner.Reporting.{LeavesLineOver, LeavesOver, ServesLineOver, ServesRequestOver};
 
 use crate::access::Access;
 use crate::answer::{Answer, MAX_LINE};
 use crate::answering::{give, give_entries, report};
+use crate::filing::file;
 use crate::giving::refuse;
 use crate::receiving::{put_bytes, receive};
 use crate::request::{MAX_REQUEST, Request};
@@ -23,9 +24,9 @@ use std::alloc::Global;
 use std::io::{BufRead, Write};
 use store_core::{Limits, Refusal, Store};
 
-/// Runs a session on an empty store with the widest limits: reads it line by line, with the bytes after a `putb`, and writes the answer
+/// Runs a session on an empty store with the widest limits: reads it line by line, with the bytes after a line, and writes the answer
 /// when these were read. The writer is flushed after each answer. Returns `Good` at the end of the input, or `Refused` if the input ends
-/// within the bytes of a `putb`, which is not run.
+/// within the bytes after a line: a `putb` is then not put, and a `file` is aborted.
 ///
 /// It stops at the first failed read or write. After 2^64-1 lines it stops reading, as std's readers do. Compressions are counted in
 /// `work`.
@@ -35,7 +36,7 @@ pub fn serve<R: BufRead, W: Write>(
     writer: &mut W,
     work: &mut Work,
 ) -> Result<Verdict, Cause>
-    // The writer grew by the answers to all lines, except for a `putb` that is truncated by the end of the input.
+    // The writer grew by the answers to all lines, except for one whose bytes are truncated by the end of the input.
     ensures written { IfOk result (λ verdict. IfSome (R.Read.remaining reader.old) (λ input. ServedAll input (W.contents writer.old) (W.contents writer.new) verdict)) }
     ensures end { OnOk result (IfSome (R.Read.remaining reader.old) (λ _. IsAtEnd (R.Read.remaining reader.new))) }
     // After a failed read it grew by the answers to a prefix of the lines.
@@ -49,9 +50,9 @@ pub fn serve<R: BufRead, W: Write>(
     serve_over(alloc, &mut store, reader, writer, work)
 }
 
-/// Runs a session over any access to a store: reads it line by line, with the bytes after a `putb`, and writes the answer when these were
+/// Runs a session over any access to a store: reads it line by line, with the bytes after a line, and writes the answer when these were
 /// read. The writer is flushed after each answer. Returns `Good` at the end of the input, or `Refused` if the input ends within the bytes
-/// of a `putb`, which is not put, or within a line that needs a newline, which is not run.
+/// after a line, where a `putb` is not put and a `file` is aborted, or within a line that needs a newline, which is not run.
 ///
 /// It stops at the first failed read or write. After 2^64-1 lines it stops reading, as std's readers do. Compressions are counted in
 /// `work`.
@@ -127,7 +128,8 @@ fn serve_line<A: Access, R: BufRead, W: Write>(
         (λ following. ServesLineOver A.reach (A.stands access.old) (A.stands access.new) true line following
         (R.Read.remaining reader.new) (WroteSome (W.contents writer.old) (W.contents writer.new))) }
     ensures unwritten { result ≡ Err Cause.CannotRead → writer.new ≡ writer.old }
-    ensures left { result ≡ Err Cause.CannotRead → Leaves A.reach (A.stands access.old) (A.stands access.new) }
+    ensures left { result ≡ Err Cause.CannotRead → IfSome (R.Read.remaining reader.old)
+        (λ following. LeavesLineOver A.reach (A.stands access.old) (A.stands access.new) line following) }
     ensures cause { IfErr result (λ cause. cause ≢ Cause.OutOfMemory) }
 {
     match line {
@@ -155,7 +157,8 @@ fn serve_request<A: Access, R: BufRead, W: Write>(
         (λ following. ServesRequestOver A.reach (A.stands access.old) (A.stands access.new) true request following
         (R.Read.remaining reader.new) (WroteSome (W.contents writer.old) (W.contents writer.new))) }
     ensures unwritten { result ≡ Err Cause.CannotRead → writer.new ≡ writer.old }
-    ensures left { result ≡ Err Cause.CannotRead → Leaves A.reach (A.stands access.old) (A.stands access.new) }
+    ensures left { result ≡ Err Cause.CannotRead → IfSome (R.Read.remaining reader.old)
+        (λ following. LeavesOver A.reach (A.stands access.old) (A.stands access.new) (Some request) following) }
     ensures cause { IfErr result (λ cause. cause ≢ Cause.OutOfMemory) }
 {
     match request {
@@ -172,6 +175,10 @@ fn serve_request<A: Access, R: BufRead, W: Write>(
             report(writer, answer)?;
         }
         Request::PutRaw(part) => match receive(alloc, access, reader, part, work)? {
+            Some(answer) => report(writer, answer)?,
+            None => return Ok(false),
+        },
+        Request::File(filing) => match file(alloc, access, reader, filing, work)? {
             Some(answer) => report(writer, answer)?,
             None => return Ok(false),
         },

@@ -1,5 +1,5 @@
 -- What code says of a line that was read, and of the answer to it.
-use Rattle.std.specs.Prelude.{◌≡◌, ℕ, List, [], codes, length, take}
+use Rattle.std.specs.Prelude.{◌≡◌, ℕ, Bool, true, false, List, [], codes, length, take}
 use Rattle.std.specs.Io.BufRead.{strip_last}
 use Rattle.std.specs.Io.Iter.{u64_saturate}
 use Rattle.store_core.specs.Model.{ModelStore}
@@ -28,6 +28,11 @@ reported_ending answers.Bad = endings.Refused
 reported_ending (answers.Unmade fault) = fault_ending fault
 reported_ending (answers.Replied reply) = reply_ending reply
 reported_ending (answers.Entries range) = endings.Good
+
+-- whether a run may end well with it
+abbrev pub is_good : Ending → Bool
+is_good endings.Good = true
+is_good _ = false
 
 -- a turn with this property, with its answer and its ending
 pub record Answered (Is : Turn → Type 0) (text : List ℕ) (ending : Ending) : Type 0 where

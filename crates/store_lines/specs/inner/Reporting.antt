@@ -1,23 +1,44 @@
 -- Definitions for private functions.
-use Rattle.std.specs.Prelude.{◌≡◌, ◌<◌, ◌≤◌, ℕ, Bool, true, false, List, [], Option, Some, None, drop, length, take}
+use Rattle.std.specs.Prelude.{◌≡◌, ◌*◌, ◌-◌, ◌<◌, ◌≤◌, ℕ, Bool, true, false, List, [], Option, Some, None, Ok, drop, length, min, take}
 use Rattle.std.specs.Io.KnownBytes.{IsAtEnd}
 use Rattle.store_core.specs.Model.{ModelStore}
+use Rattle.store_core.specs.declared.store.questions.Reply.{Reply}
+use Rattle.store_core.specs.declared.store.questions.Reply.TheVariants as replies
 use Rattle.store_journal.specs.declared.entry.Entry.{Entry}
 use Rattle.store_lines.specs.inner.Answers.{reported_ending, reported_text}
 use Rattle.store_lines.specs.Script.{Turn, turn_ending, turn_text}
 use Rattle.store_lines.specs.declared.answer.Answer.{Answer}
+use Rattle.store_lines.specs.declared.answer.Answer.TheVariants as answers
 use Rattle.store_lines.specs.inner.Requests.{IsOwnOrScript, IsSessionLine}
 use Rattle.store_lines.specs.declared.session_line.Line.{Line}
 use Rattle.store_lines.specs.Requests.{request_in}
 use Rattle.store_lines.specs.Session.{IsShort, SessionTurn, session_turn_text}
 use Rattle.edge.specs.declared.lines.LineRead.{LineRead}
+use Rattle.store_lines.specs.Filing.{ArePut, FileTurn, IsOutcome, is_accepted, outcome_of}
+use Rattle.store_lines.specs.declared.filing.Filled.{Filled}
+use Rattle.store_lines.specs.declared.filing.Filled.TheVariants as filled
+use Rattle.store_lines.specs.declared.request.Filing.{Filing}
 use Rattle.store_lines.specs.declared.request.Request.{Request}
+use Rattle.store_lines.specs.declared.request.Request.TheVariants.{File}
 use Rattle.store_lines.specs.Access.{IsSince, Reach, SessionState, at}
-use Rattle.store_lines.specs.Turns.{IsLinkedPut, IsLinkedRequest}
+use Rattle.store_upload.specs.Uploads.{max_part_bytes}
+use Rattle.store_lines.specs.Turns.{AreLinkedSteps, IsLeft, IsLinkedPut, IsLinkedRequest, IsLinkedStep}
 
 -- nothing was added to the account
 pub record Leaves (reach : Reach) (was is : SessionState → Type 0) : Type 0 where
   pub leaves : (before : SessionState) → was before → (left : ModelStore) × (IsSince reach before.store left × is (at before left))
+
+-- the request on a line was not answered
+pub record LeavesOver (reach : Reach) (was is : SessionState → Type 0) (request : Option Request) (following : List ℕ) : Type 0 where
+  pub leaves : (before : SessionState) → was before → (after : SessionState) × (IsLeft reach before request following after × is after)
+
+-- the same for a line, whatever its bytes are
+pub record LeavesLineOver (reach : Reach) (was is : SessionState → Type 0) (line : Line) (following : List ℕ) : Type 0 where
+  pub leaves : (whole : List ℕ) → IsOwnOrScript whole line → LeavesOver reach was is (request_in whole) following
+
+-- the same for a line that was read like this
+pub record LeavesReadOver (reach : Reach) (was is : SessionState → Type 0) (read : LineRead) (kept following : List ℕ) : Type 0 where
+  pub leaves : (whole : List ℕ) → IsSessionLine whole read kept → LeavesOver reach was is (request_in whole) following
 
 -- a turn was answered: it is the turn for each state that may have been left before, and its text was written, or some of it
 pub record ReportedOver (was is : SessionState → Type 0) (Is : SessionState → SessionTurn → SessionState → Type 0) (Wrote : List ℕ → Type 0) : Type 0 where
@@ -35,7 +56,7 @@ pub record AnsweredOver (was is : SessionState → Type 0) (Is : SessionState �
 -- one line was served, or its bytes are truncated by the end of the input
 abbrev pub ServesOver : Reach → (SessionState → Type 0) → (SessionState → Type 0) → Bool → Option Request → List ℕ → List ℕ → Option (List ℕ) → (List ℕ → Type 0) → Type 0
 ServesOver reach was is true request whole following left Wrote = (rest : List ℕ) × ((left ≡ Some rest) × ReportedOver was is (λ before turn after. IsLinkedRequest reach before request whole following turn after rest) Wrote)
-ServesOver reach was is false request whole following left Wrote = IsShort request following × Wrote [] × Leaves reach was is × IsAtEnd left
+ServesOver reach was is false request whole following left Wrote = IsShort request following × Wrote [] × LeavesOver reach was is request following × IsAtEnd left
 
 -- the same for a request, whatever line spelled it
 pub record ServesRequestOver (reach : Reach) (was is : SessionState → Type 0) (is_whole : Bool) (request : Request) (following : List ℕ) (left : Option (List ℕ)) (Wrote : List ℕ → Type 0) : Type 0 where
@@ -54,3 +75,62 @@ abbrev pub ReceivesOver : Reach → (SessionState → Type 0) → (SessionState 
 ReceivesOver reach was is None upload offset len following left = (length following < len) × Leaves reach was is × IsAtEnd left
 ReceivesOver reach was is (Some answer) upload offset len following left =
     (len ≤ length following) × (left ≡ Some (drop len following)) × AnsweredOver was is (λ before turn after. IsLinkedPut reach before upload offset (take len following) turn after) answer
+
+-- ---- a file
+
+-- the reply of a command that begins an upload: it has this number
+abbrev pub NamesUpload : Reply → ℕ → Type 0
+NamesUpload (replies.Upload upload plan) number = number ≡ upload
+NamesUpload _ number = ⊥
+
+-- the reply has one
+abbrev pub IsOfUpload : Reply → Type 0
+IsOfUpload (replies.Upload upload plan) = Unit {0}
+IsOfUpload _ = ⊥
+
+-- its steps were taken, and answered like this
+pub record FiledOver (was is : SessionState → Type 0) (Are : SessionState → FileTurn → SessionState → Type 0) (answer : Answer) : Type 0 where
+  pub turns : FileTurn
+  pub goes : (before : SessionState) → was before → (after : SessionState) × (is after × Are before turns after)
+  pub text_is : (entries : List Entry) → reported_text entries answer ≡ turn_text (outcome_of turns)
+
+-- its bytes were taken, or they are truncated
+abbrev pub FilesOver : Reach → (SessionState → Type 0) → (SessionState → Type 0) → Option Answer → Filing → List ℕ → Option (List ℕ) → Type 0
+FilesOver reach was is None filing following left = (length following < filing.len) × LeavesOver reach was is (Some (File filing)) following × IsAtEnd left
+FilesOver reach was is (Some answer) filing following left =
+    (filing.len ≤ length following) × (left ≡ Some (drop filing.len following)) × FiledOver was is (λ before turns after. AreLinkedSteps reach filing following before turns after) answer
+
+abbrev pub AreLinkedPuts : Reach → Filing → List ℕ → ℕ → SessionState → List Turn → SessionState → Type 0
+AreLinkedPuts reach filing bytes upload old puts new = ArePut (IsLinkedStep reach) (IsLinkedPut reach) filing bytes upload old 0 puts new
+
+-- the number of bytes of that many parts
+abbrev pub bytes_before : ℕ → ℕ → ℕ
+bytes_before len number = min len (number * max_part_bytes)
+
+-- that many parts were put
+pub record PutsOver (reach : Reach) (was is : SessionState → Type 0) (filing : Filing) (upload number : ℕ) (following : List ℕ) (left : Option (List ℕ)) : Type 0 where
+  pub puts : List Turn
+  pub count : length puts ≡ number
+  pub goes : (before : SessionState) → was before → (after : SessionState) × (is after × AreLinkedPuts reach filing following upload before puts after)
+  pub arrived : bytes_before filing.len number ≤ length following
+  pub left_is : left ≡ Some (drop (bytes_before filing.len number) following)
+
+-- some parts were put, and no more
+pub record StopsOver (reach : Reach) (was is : SessionState → Type 0) (filing : Filing) (upload : ℕ) (following : List ℕ) : Type 0 where
+  pub puts : List Turn
+  pub goes : (before : SessionState) → was before → (mid : SessionState) × (left : ModelStore) × AreLinkedPuts reach filing following upload before puts mid × IsSince reach mid.store left × is (at mid left)
+
+-- after them, the upload was sealed, or that or the next part was refused
+pub record OutcomeOver (reach : Reach) (was is : SessionState → Type 0) (filing : Filing) (upload : ℕ) (following : List ℕ) (accepted : Bool) (answer : Answer) : Type 0 where
+  pub puts : List Turn
+  pub outcome : Turn
+  pub goes : (before : SessionState) → was before → (mid : SessionState) × (then : SessionState) × AreLinkedPuts reach filing following upload before puts mid
+      × IsOutcome (IsLinkedStep reach) (IsLinkedPut reach) filing following mid upload (length puts) outcome then × is then × (is_accepted outcome ≡ accepted)
+  pub text_is : (entries : List Entry) → reported_text entries answer ≡ turn_text outcome
+
+abbrev pub FillsOver : Reach → (SessionState → Type 0) → (SessionState → Type 0) → Filled → Filing → ℕ → List ℕ → Option (List ℕ) → Type 0
+FillsOver reach was is (filled.Sealed reply) filing upload following left =
+    (filing.len ≤ length following) × (left ≡ Some (drop filing.len following)) × OutcomeOver reach was is filing upload following true (answers.Replied (Ok reply))
+FillsOver reach was is (filled.Refused answer count) filing upload following left =
+    (count ≤ filing.len) × (filing.len - count ≤ length following) × (left ≡ Some (drop (filing.len - count) following)) × OutcomeOver reach was is filing upload following false answer
+FillsOver reach was is filled.Truncated filing upload following left = (length following < filing.len) × StopsOver reach was is filing upload following × IsAtEnd left

@@ -2,7 +2,7 @@ use Rattle.std.proofs.Common.{rules, ◌≡◌, true}
 use Rattle.std.specs.Io.KnownBytes.{Appends}
 use Rattle.edge.specs.Output.{WroteSome}
 use Rattle.store_lines.specs.declared.session_line.Line.TheVariants as lines
-use Rattle.store_lines.proofs.Serves.{served_bad, served_empty, served_has, served_has_ok, served_lost}
+use Rattle.store_lines.proofs.Serves.{left_has, served_bad, served_empty, served_has, served_has_ok, served_lost}
 use Rattle.store_lines.proofs.serving.serve_line.Goals as goal
 
 pub returns-in-Has-clause-served : goal.returns-in-Has-clause-served
@@ -14,6 +14,11 @@ pub returns-in-Has-clause-failed : goal.returns-in-Has-clause-failed
 returns-in-Has-clause-failed g c = λ failed.
     let same : c.args.line ≡ lines.Has c.in-Has.request = search rules in
     served_has true (g.R.Read.remaining c.args.reader.now) (g.R.Read.remaining c.serve_request.new.reader) (WroteSome (g.W.Write.contents c.args.writer.now) (g.W.Write.contents c.serve_request.new.writer)) g.A.Access.reach (g.A.Access.stands c.args.access.now) (g.A.Access.stands c.serve_request.new.access) c.args.line c.in-Has.request same (c.serve_request.ensures.failed failed)
+
+pub returns-in-Has-clause-left : goal.returns-in-Has-clause-left
+returns-in-Has-clause-left g c = λ failed.
+    let same : c.args.line ≡ lines.Has c.in-Has.request = search rules in
+    left_has (g.R.Read.remaining c.args.reader.now) g.A.Access.reach (g.A.Access.stands c.args.access.now) (g.A.Access.stands c.serve_request.new.access) c.args.line c.in-Has.request same (c.serve_request.ensures.left failed)
 
 pub returns-in_ok-report-in-Empty-clause-served : goal.returns-in_ok-report-in-Empty-clause-served
 returns-in_ok-report-in-Empty-clause-served g c =

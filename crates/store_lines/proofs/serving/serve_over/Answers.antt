@@ -7,7 +7,7 @@ use Rattle.store_lines.specs.Lines.{max_request}
 use Rattle.store_lines.specs.inner.Requests.{IsFound}
 use Rattle.store_lines.specs.Turns.{ServedSomeOver}
 use Rattle.store_lines.proofs.Serves.{served_read}
-use Rattle.store_lines.proofs.Under.{all_read, at_cut, at_end, begun, cut_off, rests, truncated, stopped, turned, unended}
+use Rattle.store_lines.proofs.Under.{all_read, at_cut, at_end, begun, cut_off, left_read, truncated, stopped, turned, unended, unread}
 use Rattle.store_lines.proofs.serving.serve_over.Goals as goal
 
 pub loop-init : goal.loop-init
@@ -16,7 +16,7 @@ loop-init g c =
     (begun g.A.Access.reach (g.A.Access.stands c.args.access.now) (g.R.Read.remaining c.args.reader.now) (g.W.Write.contents c.args.writer.now), room)
 
 pub returns-in_err-read-clause-read : goal.returns-in_err-read-clause-read
-returns-in_err-read-clause-read g c = λ is. stopped g.A.Access.reach (g.A.Access.stands c.args.access.now) (g.A.Access.stands c.loop.access) (g.A.Access.stands c.loop.access) (g.R.Read.remaining c.args.reader.now) (g.R.Read.remaining c.loop.reader) (g.W.Write.contents c.args.writer.now) (g.W.Write.contents c.loop.writer) c.loop.invariant.0 (rests g.A.Access.reach (g.A.Access.stands c.loop.access))
+returns-in_err-read-clause-read g c = λ is. stopped g.A.Access.reach (g.A.Access.stands c.args.access.now) (g.A.Access.stands c.loop.access) (g.A.Access.stands c.loop.access) (g.R.Read.remaining c.args.reader.now) (g.R.Read.remaining c.loop.reader) (g.W.Write.contents c.args.writer.now) (g.W.Write.contents c.loop.writer) c.loop.invariant.0 (unread g.A.Access.reach (g.A.Access.stands c.loop.access) (g.R.Read.remaining c.loop.reader))
 
 pub returns-then-read-eq0-clause-written : goal.returns-then-read-eq0-clause-written
 returns-then-read-eq0-clause-written g c =
@@ -35,7 +35,11 @@ returns-in_err-serve_line-clause-read g c = λ is.
     let was = g.A.Access.stands c.args.access.now in
     let now = g.A.Access.stands c.serve_line.new.access in
     let failed : c.serve_line.result ≡ Err causes.CannotRead = search rules in
-    let before = stopped reach was (g.A.Access.stands c.loop.access) now (g.R.Read.remaining c.args.reader.now) (g.R.Read.remaining c.loop.reader) (g.W.Write.contents c.args.writer.now) (g.W.Write.contents c.loop.writer) c.loop.invariant.0 (c.serve_line.ensures.left failed) in
+    let mid = g.A.Access.stands c.loop.access in
+    let kept : c.as_slice.result.now ≡ c.next_line.new.line.items = search rules in
+    let found = subst (λ (k : List ℕ). IsFound c.in_ok-read.read k c.line_of-found.result) kept c.line_of-found.ensures in
+    let left = left_read reach mid now (g.R.Read.remaining c.loop.reader) (g.R.Read.remaining c.next_line.new.reader) c.in_ok-read.read c.next_line.new.line.items c.line_of-found.result found c.in_ok-read.ensures.read c.in_ok-read.ensures.rest (c.serve_line.ensures.left failed) in
+    let before = stopped reach was mid now (g.R.Read.remaining c.args.reader.now) (g.R.Read.remaining c.loop.reader) (g.W.Write.contents c.args.writer.now) (g.W.Write.contents c.loop.writer) c.loop.invariant.0 left in
     subst (λ w. IfSome (g.R.Read.remaining c.args.reader.now) (λ input. ServedSomeOver reach was now input (g.W.Write.contents c.args.writer.now) (g.W.Write.contents w))) (sym same) before
 
 pub returns-in_err-serve_line-clause-failed : goal.returns-in_err-serve_line-clause-failed
@@ -104,4 +108,4 @@ loop-preserved g c =
     )
 
 pub returns-clause-read : goal.returns-clause-read
-returns-clause-read g c = λ is. stopped g.A.Access.reach (g.A.Access.stands c.args.access.now) (g.A.Access.stands c.loop.access) (g.A.Access.stands c.loop.access) (g.R.Read.remaining c.args.reader.now) (g.R.Read.remaining c.loop.reader) (g.W.Write.contents c.args.writer.now) (g.W.Write.contents c.loop.writer) c.loop.invariant.0 (rests g.A.Access.reach (g.A.Access.stands c.loop.access))
+returns-clause-read g c = λ is. stopped g.A.Access.reach (g.A.Access.stands c.args.access.now) (g.A.Access.stands c.loop.access) (g.A.Access.stands c.loop.access) (g.R.Read.remaining c.args.reader.now) (g.R.Read.remaining c.loop.reader) (g.W.Write.contents c.args.writer.now) (g.W.Write.contents c.loop.writer) c.loop.invariant.0 (unread g.A.Access.reach (g.A.Access.stands c.loop.access) (g.R.Read.remaining c.loop.reader))

@@ -6,11 +6,11 @@ use Rattle.store_core.specs.Runs.{ask, change}
 use Rattle.store_core.specs.declared.store.questions.Question.TheVariants as questions
 use Rattle.store_lines.specs.Session.{as_range, as_script}
 use Rattle.store_lines.specs.declared.request.Request.{Request}
-use Rattle.store_lines.specs.declared.request.Request.TheVariants.{Asks, Does, Entries, Fetch, Put, PutRaw}
+use Rattle.store_lines.specs.declared.request.Request.TheVariants.{Asks, Does, Entries, Fetch, File, Put, PutRaw}
 use Rattle.store_lines.specs.inner.Reporting.{ServesRequestOver}
 use Rattle.store_lines.specs.Turns.{IsLinkedBytes, IsLinkedCall, IsLinkedEntries, IsLinkedRequest}
 use Rattle.store_lines.proofs.Reports.{put_reported, replied}
-use Rattle.store_lines.proofs.Serves.{served_by, served_raw}
+use Rattle.store_lines.proofs.Serves.{served_by, served_file, served_raw}
 use Rattle.store_lines.proofs.serving.serve_request.Goals as goal
 
 pub returns-in_ok-report-in-Does-clause-served : goal.returns-in_ok-report-in-Does-clause-served
@@ -114,6 +114,36 @@ returns-in_err-report-in-Some-clause-failed g c = λ failed.
     let given : got ≡ Some c.in-Some.answer = search rules in
     subst (λ (q : Request). IfSome now (λ following. ServesRequestOver reach was is true q following left Wrote)) (sym same)
     (served_raw now left Wrote reach was is part got c.in-Some.answer given c.in_ok-answer-in-PutRaw.ensures.received c.in_err-report-in-Some.ensures.failed)
+
+pub returns-in_ok-report-in-Some-2-clause-served : goal.returns-in_ok-report-in-Some-2-clause-served
+returns-in_ok-report-in-Some-2-clause-served g c =
+    let reach = g.A.Access.reach in
+    let was = g.A.Access.stands c.args.access.now in
+    let is = g.A.Access.stands c.file.new.access in
+    let now = g.R.Read.remaining c.args.reader.now in
+    let left = g.R.Read.remaining c.file.new.reader in
+    let Wrote = Appends (g.W.Write.contents c.args.writer.now) (g.W.Write.contents c.report-in-Some-2.new.writer) in
+    let filing = c.in-File.filing in
+    let got = c.in_ok-answer-in-File.field-0 in
+    let same : c.args.request ≡ File filing = search rules in
+    let given : got ≡ Some c.in-Some-2.answer = search rules in
+    subst (λ (q : Request). IfSome now (λ following. ServesRequestOver reach was is true q following left Wrote)) (sym same)
+    (served_file now left Wrote reach was is filing got c.in-Some-2.answer given c.in_ok-answer-in-File.ensures.filed c.in_ok-report-in-Some-2.ensures.wrote)
+
+pub returns-in_err-report-in-Some-2-clause-failed : goal.returns-in_err-report-in-Some-2-clause-failed
+returns-in_err-report-in-Some-2-clause-failed g c = λ failed.
+    let reach = g.A.Access.reach in
+    let was = g.A.Access.stands c.args.access.now in
+    let is = g.A.Access.stands c.file.new.access in
+    let now = g.R.Read.remaining c.args.reader.now in
+    let left = g.R.Read.remaining c.file.new.reader in
+    let Wrote = WroteSome (g.W.Write.contents c.args.writer.now) (g.W.Write.contents c.report-in-Some-2.new.writer) in
+    let filing = c.in-File.filing in
+    let got = c.in_ok-answer-in-File.field-0 in
+    let same : c.args.request ≡ File filing = search rules in
+    let given : got ≡ Some c.in-Some-2.answer = search rules in
+    subst (λ (q : Request). IfSome now (λ following. ServesRequestOver reach was is true q following left Wrote)) (sym same)
+    (served_file now left Wrote reach was is filing got c.in-Some-2.answer given c.in_ok-answer-in-File.ensures.filed c.in_err-report-in-Some-2.ensures.failed)
 
 pub returns-in_ok-give-in-Fetch-clause-served : goal.returns-in_ok-give-in-Fetch-clause-served
 returns-in_ok-give-in-Fetch-clause-served g c =
