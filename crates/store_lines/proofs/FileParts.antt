@@ -1,30 +1,23 @@
 -- Filing the bytes after a line, part by part.
-use Rattle.std.proofs.Common.{◌≡◌, ◌∙◌, ◌+◌, ◌*◌, ◌-◌, ◌<◌, ◌≤◌, ◌++◌, ◌∷◌, [], ℕ, Bool, true, false, List, Some, None, Option, Ok, Err, Result, ap, arith, drop, inl, inr, length, min, refl, subst, sym, take}
+use Rattle.std.proofs.Common.{◌≡◌, ◌∙◌, ◌+◌, ◌*◌, ◌-◌, ◌<◌, ◌≤◌, ◌++◌, ◌∷◌, [], ℕ, true, false, List, Some, None, Option, Ok, Err, Result, ap, arith, drop, inr, length, refl, subst, sym}
 use Rattle.std.specs.Prelude.{IfSome}
 use Rattle.std.specs.Io.KnownBytes.{IsAtEnd}
 use Rattle.std.proofs.lemmas.List.{drop-drop, length-append, length-drop}
 use Rattle.b3_forest.specs.Parts.{ModelPrepared, planned}
 use Rattle.store_books.specs.declared.refusal.Refusal.{Refusal}
 use Rattle.store_books.specs.declared.refusal.Refusal.TheVariants as refusals
-use Rattle.store_core.specs.Commands.{begin_in}
-use Rattle.store_core.specs.Model.{ModelStore}
 use Rattle.store_core.specs.Questions.{plan_in}
-use Rattle.store_core.specs.Runs.{Call, Step, change}
-use Rattle.store_core.specs.declared.command.Command.TheVariants as commands
-use Rattle.store_core.specs.declared.store.questions.Reply.{Reply}
-use Rattle.store_core.specs.declared.store.questions.Reply.TheVariants as replies
-use Rattle.store_journal.specs.declared.entry.Entry.{Entry}
-use Rattle.store_lines.specs.Access.{IsSince, Reach, SessionState, Took, advance, at}
+use Rattle.store_lines.specs.Access.{Reach, SessionState, at}
 use Rattle.store_lines.specs.Filing.{ArePut, is_accepted, numbered_part, part_len}
-use Rattle.store_lines.specs.Script.{Turn, bad, fault_ending, listed, refusal_ending, skipped, took, turn_ending, turn_text, unmade, unplanned}
+use Rattle.store_lines.specs.Script.{Turn, bad, fault_ending, listed, refusal_ending, skipped, took, turn_ending, unmade, unplanned}
 use Rattle.store_lines.specs.Turns.{IsLinkedMade, IsLinkedPart, IsLinkedPlan, IsLinkedPut, IsLinkedStep}
 use Rattle.store_lines.specs.declared.answer.Answer.{Answer}
 use Rattle.store_lines.specs.declared.ending.Ending.{Ending}
 use Rattle.store_lines.specs.declared.ending.Ending.TheVariants as endings
 use Rattle.store_lines.specs.declared.request.Filing.{Filing}
-use Rattle.store_lines.specs.inner.Answers.{is_good, reported_ending, reported_text}
+use Rattle.store_lines.specs.inner.Answers.{is_good, reported_ending}
 use Rattle.store_lines.specs.declared.filing.Filled.TheVariants as filled
-use Rattle.store_lines.specs.inner.Reporting.{AnsweredOver, FillsOver, Leaves, OutcomeOver, PutsOver, ReceivesOver, StopsOver, bytes_before}
+use Rattle.store_lines.specs.inner.Reporting.{FillsOver, Leaves, OutcomeOver, PutsOver, ReceivesOver, StopsOver, bytes_before}
 use Rattle.store_upload.specs.Uploads.{UploadPlan, max_part_bytes, part_fault}
 use Rattle.store_upload.specs.declared.refusal.PartFault.{PartFault}
 use Rattle.store_upload.specs.declared.refusal.PartFault.TheVariants as faults

@@ -1,16 +1,16 @@
 -- What becomes of a file.
-use Rattle.std.proofs.Common.{◌≡◌, ◌∙◌, ◌+◌, ◌*◌, ◌-◌, ◌<◌, ◌≤◌, ◌∷◌, [], ℕ, Bool, true, false, List, Some, None, Option, Ok, Err, Result, ap, arith, drop, inl, inr, length, refl, subst, sym}
+use Rattle.std.proofs.Common.{◌≡◌, ◌∙◌, ◌+◌, ◌*◌, ◌-◌, ◌≤◌, ◌∷◌, [], ℕ, Bool, true, false, List, Some, None, Option, Ok, Err, Result, ap, arith, drop, inl, inr, length, refl, subst, sym}
 use Rattle.std.specs.Prelude.{IfOk, IfSome, OnErr}
 use Rattle.std.proofs.lemmas.List.{drop-drop, length-drop}
 use Rattle.store_books.specs.declared.refusal.Refusal.{Refusal}
 use Rattle.store_core.specs.Commands.{Acceptance, StepsAs, as_is, begin_in}
 use Rattle.store_core.specs.Model.{ModelStore}
-use Rattle.store_core.specs.Runs.{Call, Step, change, replied}
+use Rattle.store_core.specs.Runs.{Call, change, replied}
 use Rattle.store_core.specs.declared.command.Command.TheVariants as commands
 use Rattle.store_core.specs.declared.store.questions.Reply.{Reply}
 use Rattle.store_core.specs.declared.store.questions.Reply.TheVariants as replies
 use Rattle.store_lines.specs.Access.{Reach, SessionState, Took, advance, at}
-use Rattle.store_lines.specs.Filing.{FileTurn, IsOver, begun, closing, is_accepted, opening, unbegun}
+use Rattle.store_lines.specs.Filing.{IsOver, begun, closing, is_accepted, opening, unbegun}
 use Rattle.store_lines.specs.Script.{Turn, took}
 use Rattle.store_lines.specs.Turns.{AreLinkedSteps, IsLinkedPut, IsLinkedStep}
 use Rattle.store_lines.specs.declared.answer.Answer.{Answer}

@@ -1,4 +1,4 @@
-use Rattle.std.proofs.Common.{Err, Ok, Option, Result, ℕ, List, subst}
+use Rattle.std.proofs.Common.{subst}
 use Rattle.std.specs.Prelude.{IfSome}
 use Rattle.store_lines.specs.declared.filing.Filled.{Filled}
 use Rattle.store_lines.specs.inner.Reporting.{FillsOver}

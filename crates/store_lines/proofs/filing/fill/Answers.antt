@@ -1,11 +1,10 @@
-use Rattle.std.proofs.Common.{rules, ◌≡◌, ◌*◌, ◌-◌, ◌<◌, ◌≤◌, Bool, true, false, List, None, Some, Ok, Err, Option, arith, refl, subst}
-use Rattle.std.specs.Prelude.{IfSome}
+use Rattle.std.proofs.Common.{rules, ◌≡◌, ◌*◌, ◌<◌, ◌≤◌, true, false, Some, Ok, Err, arith, refl, subst}
 use Rattle.store_core.specs.Runs.{change}
 use Rattle.store_core.specs.declared.command.Command.{Command}
 use Rattle.store_lines.specs.Access.{Took}
 use Rattle.store_lines.specs.Filing.{part_len}
 use Rattle.store_lines.specs.inner.Answers.{is_good, reported_ending}
-use Rattle.store_lines.proofs.FileParts.{cut_at, no_puts, puts_on, refused_at, stops}
+use Rattle.store_lines.proofs.FileParts.{no_puts, puts_on, refused_at}
 use Rattle.store_lines.proofs.Files.{filled_refused, filled_sealed}
 use Rattle.store_upload.specs.Uploads.{max_part_bytes}
 use Rattle.store_lines.proofs.filing.fill.Goals as goal

@@ -2,7 +2,7 @@ use Rattle.std.proofs.Common.{rules, ◌≡◌, true}
 use Rattle.std.specs.Io.KnownBytes.{Appends}
 use Rattle.edge.specs.Output.{WroteSome}
 use Rattle.store_lines.specs.declared.session_line.Line.TheVariants as lines
-use Rattle.store_lines.proofs.Serves.{left_has, served_bad, served_empty, served_has, served_has_ok, served_lost}
+use Rattle.store_lines.proofs.Serves.{left_has, served_bad, served_empty, served_has, served_has_ok}
 use Rattle.store_lines.proofs.serving.serve_line.Goals as goal
 
 pub returns-in-Has-clause-served : goal.returns-in-Has-clause-served
