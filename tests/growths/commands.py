@@ -55,9 +55,11 @@ has 0 {address_of(b"a" * 2049)}
 fetchb 0 {address_of(b"a" * 2049)} 1000 1040
 list 0
 tenants
+counts
 entries 3
 entries 1 2
-""".encode()
+file 0 1025
+{"b" * 1025}""".encode()
 
 
 class Answer(typing.NamedTuple):
