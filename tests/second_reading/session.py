@@ -1,4 +1,5 @@
 """Reads a session's input as docs/FORMATS.md and docs/COMMANDS.md define it, and answers it by the model."""
+import contextlib
 import re
 
 from questions import QUESTIONS
@@ -70,7 +71,8 @@ def file(store, tenant, content, address=None):
             store.put(number, offset, content[offset : offset + MAX_PART])
         return store.seal(number, address)
     except Refused:
-        store.abort(number)
+        with contextlib.suppress(Refused):
+            store.abort(number)
         raise
 
 
