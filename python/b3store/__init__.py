@@ -22,13 +22,13 @@ if TYPE_CHECKING:
     from .store import Store
     from .transfers import StoredObject, Upload
     from .values import (
-        CHUNK_LEN, MAX_LIMIT, MAX_NUMBER, MAX_PART_LEN, MAX_SESSIONS, MAX_UPLOAD_LEN, PART_LEN, RANGE_LEN, REFUSALS, Ended, Filed, Held, ObjectRow,
-        OpenUpload, Refused, StoreError, Totals, Usage,
+        CHUNK_LEN, MAX_LIMIT, MAX_NUMBER, MAX_PART_LEN, MAX_SESSIONS, MAX_UPLOAD_LEN, PART_LEN, RANGE_LEN, REFUSALS, Counts, Ended, Filed, Held,
+        ObjectRow, OpenUpload, Refused, StoreError, Totals, Usage,
     )
 
 __all__ = [
     "CHUNK_LEN", "MAX_LIMIT", "MAX_NUMBER", "MAX_PART_LEN", "MAX_SESSIONS", "MAX_UPLOAD_LEN", "PART_LEN", "RANGE_LEN", "REFUSALS",
-    "AsyncStore", "Client", "Ended", "Filed", "Held", "ObjectRow", "OpenUpload", "Refused", "Store", "StoreError", "StoredObject", "Totals",
+    "AsyncStore", "Client", "Counts", "Ended", "Filed", "Held", "ObjectRow", "OpenUpload", "Refused", "Store", "StoreError", "StoredObject", "Totals",
     "Upload", "Usage",
 ]
 __version__ = "1.0"

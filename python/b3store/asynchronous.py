@@ -6,7 +6,7 @@ from types import TracebackType
 from typing import Any, AsyncIterator, BinaryIO, Callable, Dict, List, Optional, Type, TypeVar, Union
 
 from .transfers import Transfers
-from .values import MAX_SESSIONS, MAX_UPLOAD_LEN, RANGE_LEN, Buffer, Ended, Filed, Held, OpenUpload, Totals, Usage, check_number
+from .values import MAX_SESSIONS, MAX_UPLOAD_LEN, RANGE_LEN, Buffer, Counts, Ended, Filed, Held, OpenUpload, Totals, Usage, check_number
 
 Value = TypeVar("Value")
 
@@ -119,6 +119,10 @@ class AsyncStore:
     async def tenants(self) -> Dict[int, Usage]:
         """See `Store.tenants`."""
         return await self.run(self.store.tenants)
+
+    async def counts(self) -> Counts:
+        """See `Store.counts`."""
+        return await self.run(self.store.counts)
 
     async def stat(self) -> Totals:
         """See `Store.stat`."""

@@ -4,7 +4,7 @@ from typing import Callable, Dict, Iterable, Iterator, List, Optional, Sequence,
 
 from .sessions import MAX_FILED_AHEAD, Kinds, Session, Sessions, not_blocking, write_all, write_slowly
 from .values import (
-    MAX_UPLOAD_LEN, PART_LEN, RANGE_LEN, Buffer, Filed, Held, ObjectRow, OpenUpload, Refused, Totals, Usage, check_address, check_bytes, check_number,
+    MAX_UPLOAD_LEN, PART_LEN, RANGE_LEN, Buffer, Counts, Filed, Held, ObjectRow, OpenUpload, Refused, Totals, Usage, check_address, check_bytes, check_number,
     check_room, check_seconds, half_of_memory, parse_asked, parse_count, parse_digits, parse_held, parse_labelled, parse_length, parse_number, parse_object,
     parse_open_upload, parse_usage,
 )
@@ -74,10 +74,11 @@ class Commands(Sessions):
         """Files content of up to MAX_PART_LEN bytes in one turn; `upload` has no maximum. If an address is given, content with another address is refused.
         Refusals: those of `begin`, `put` and `seal_as`; after a refusal the upload is aborted."""
         view, address = check_bytes(content), None if address is None else check_address(address)
-        begin = f"begin {check_number('tenant', tenant)} {view.nbytes}"
+        tenant = check_number("tenant", tenant)
         if self._next_upload is None:
-            return self._in_turn(lambda session: file_begun(session, session.ask("upload", begin), view, address))
-        return self._in_turn(lambda session: self._file_ahead(session, begin, view, address))
+            line = f"file {tenant} {view.nbytes}" if address is None else f"fileas {tenant} {address} {view.nbytes}"
+            return self._talk(lambda session, words: parse_asked(words, address, view.nbytes), ("new", "known"), line, view)
+        return self._in_turn(lambda session: self._file_ahead(session, f"begin {tenant} {view.nbytes}", view, address))
 
     def file_all(self, tenant: int, contents: Sequence[Buffer]) -> List[Filed]:
         """Files several contents, each as `file` does. A `Store` with one session takes one turn for many of them, so for small ones this is several times
@@ -207,6 +208,10 @@ class Commands(Sessions):
         """Returns how many bytes each tenant uses and reserves, and its limit, by number."""
         return self._table(lambda tenant, *row: (parse_digits(tenant), parse_usage([*row])), "tenants", "tenants")
 
+    def counts(self) -> Counts:
+        """Returns how many entries the journal has and how many tenants there are, and what the store contains, at one moment."""
+        return self._ask(lambda words: Counts(*parse_labelled(words, ["tenants", *Totals._fields])), "entries", "counts")
+
     def stat(self) -> Totals:
         """Returns what the store contains."""
         return self._ask(lambda words: Totals(*parse_labelled(words, ["bytes", "uploads", "held", "parts"])), "objects", "stat")
@@ -335,16 +340,3 @@ def check_begun(answers: List[List[str]], expected: int) -> None:
     """Checks the number of an upload in the first answer, unless all are refusals. Raises ValueError."""
     if answers and parse_number(answers[0]) != expected:
         raise ValueError(f"upload {answers[0][0]} instead of {expected}")
-
-
-def file_begun(session: Session, begun: List[str], content: memoryview, address: Optional[str]) -> Filed:
-    """Files content as an upload that has begun, by commands that are sent together."""
-    number = parse_number(begun)
-    put, seal = put_and_seal(number, content, address)
-    session.write(put, content, seal)
-    kinds: List[Kinds] = [*["held"] * bool(content.nbytes), ("new", "known")]
-    answers, refusals = session.answers(kinds)
-    if refusals:
-        session.ask("ok", f"abort {number}")
-        raise refusals[0]
-    return parse_asked(answers[-1], address, content.nbytes)

@@ -133,6 +133,18 @@ class Totals(NamedTuple):
     """The number of parts that open uploads have."""
 
 
+class Counts(NamedTuple):
+    """How many entries a store's journal has and how many tenants there are, and what the store contains."""
+
+    entries: int
+    tenants: int
+    objects: int
+    bytes: int
+    uploads: int
+    held: int
+    parts: int
+
+
 class OpenUpload(NamedTuple):
     """An upload that is neither sealed nor aborted."""
 

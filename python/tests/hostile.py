@@ -31,7 +31,7 @@ class Number:
 
 def answers_that_lie():
     """Each is noticed at once, and ends the connection."""
-    found, filed, sink = [], (b"upload 0\n", b"held 3 all\nnew %s %d\n"), os.open(os.devnull, os.O_WRONLY)
+    found, begun, sink = [], b"upload 0\n", os.open(os.devnull, os.O_WRONLY)
     cases = (
         ([b"has 100\n", b"bytes 10\n0123456789"], lambda store: store.open(0, ABC).read()),
         ([b"has 3\n", b"bytes 2\nab"], lambda store: store.open(0, ABC, 0).readinto(bytearray(9))),
@@ -41,11 +41,11 @@ def answers_that_lie():
         ([b"list 2\n%s 3\n%s 3\n" % (ABC.encode(), ABC.encode())], lambda store: store.list(0)),
         ([b"tenants 2\n0 1 0 2\n0 1 0 2\n"], lambda store: store.tenants()),
         ([b"refused S11 address %s\n" % ABC.upper().encode()], lambda store: store.seal_as(0, FOUR)),
-        ([filed[0], filed[1] % (FOUR.encode(), 3)], lambda store: store.file(0, b"abc", ABC)),
-        ([filed[0], filed[1] % (ABC.encode(), 4)], lambda store: store.file(0, b"abc")),
+        ([b"new %s 3\n" % FOUR.encode()], lambda store: store.file(0, b"abc", ABC)),
+        ([b"new %s 4\n" % ABC.encode()], lambda store: store.file(0, b"abc")),
         ([b"new %s 3\n" % FOUR.encode()], lambda store: store.seal_as(0, ABC)),
-        ([filed[0], b"held 3 all\n", b"new %s 4\n" % ABC.encode()], lambda store: writes(store, b"abc")),
-        ([filed[0], b"held 3 all\n", b"new %s 4\n" % ABC.encode()], lambda store: writes(store, b"abc", ABC)),
+        ([begun, b"held 3 all\n", b"new %s 4\n" % ABC.encode()], lambda store: writes(store, b"abc")),
+        ([begun, b"held 3 all\n", b"new %s 4\n" % ABC.encode()], lambda store: writes(store, b"abc", ABC)),
         ([b"x" * MAX_LINE_LEN], lambda store: store.stat()),
         ([b"x" * MAX_LINE_LEN], lambda store: store.fetch_to(0, ABC, sink)),
         ([b"bytes %d\n" % (1 << 63)], lambda store: store.fetch(0, ABC, 0, (1 << 64) - 1)),
