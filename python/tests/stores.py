@@ -32,7 +32,8 @@ def each_command():
             (store.uploads(0), [OpenUpload(1, 2048, None, 1024)]), (store.usage(0), Usage(3, 2048, 4096)), (store.fix(1, 1024), None),
             (store.uploads(0), [OpenUpload(1, 2048, 1024, 1024)]), (store.limit(0, 2000), None), (store.tenant(5), 1),
             (store.tenants(), {0: Usage(3, 1024, 2000), 1: Usage(0, 0, 5)}), (store.stat(), Totals(1, 3, 1, 1024, 1)),
-            (store.counts(), Counts(9, 2, 1, 3, 1, 1024, 1)), (store.abort(1), None), (store.file(1, b"abc"), Filed(False, ABC, 3)), (store.forget(0, ABC), None), (store.list(0), {}),
+            (store.counts(), Counts(9, 2, 1, 3, 1, 1024, 1)),
+            (store.abort(1), None), (store.file(1, b"abc"), Filed(False, ABC, 3)), (store.forget(0, ABC), None), (store.list(0), {}),
             (b"".join(store.ranges(1, ABC, 2)), b"abc"), (store.tenant(), 2), (store.usage(2), Usage(0, 0, half_of_memory())), (store.close(), 0),
         )
     return found
